@@ -1,0 +1,11 @@
+pub mod Layouts
+pub mod Fields
+pub mod Loops
+pub mod Bodies
+pub mod BackMessages
+pub mod Rests
+pub mod Streams
+pub mod Rows
+pub mod FrontMessages
+pub mod Encoding
+pub mod Packets

@@ -1,0 +1,92 @@
+-- Worked examples, computed from the definitions alone but where a rest has to be judged.
+use Rattle.std.proofs.Common.{◌≡◌, [], ◌∷◌, Some, None, refl, arith, lit≤}
+use Rattle.std.specs.Prelude.{pos, negsuc}
+use Rattle.std.proofs.lemmas.Int.{ints}
+use Rattle.pg_wire.specs.declared.fault.EncodeFault.TheVariants as faults
+use Rattle.pg_wire.specs.declared.fault.WireFault.TheVariants as wire
+use Rattle.pg_wire.specs.declared.message.Status.TheVariants.{Idle}
+use Rattle.pg_wire.specs.declared.backend.kind.BackKind.TheVariants as kinds
+use Rattle.pg_wire.specs.declared.message.BackMessage.TheVariants.{AuthOk, AuthOther, Ready, RowDescription, DataRow, CommandComplete, ErrorResponse}
+use Rattle.pg_wire.specs.Direction.{spelling, encode_fault}
+use Rattle.pg_wire.specs.Backend.{backend}
+use Rattle.pg_wire.specs.Stream.{IsStream, IsFaulty, IsOpen}
+use Rattle.pg_wire.specs.Private.BackReader.{back_message_of}
+use Rattle.pg_wire.specs.Private.Reader.{counted_at, times_at, value_at}
+use Rattle.pg_wire.proofs.BackMessages.{is_tag, no_tag, read_none}
+use Rattle.pg_wire.proofs.Rests.{short_open, bad_fault}
+
+-- ---- spellings
+
+auth_ok : spelling backend AuthOk ≡ 0x52 ∷ 0 ∷ 0 ∷ 0 ∷ 8 ∷ 0 ∷ 0 ∷ 0 ∷ 0 ∷ []
+auth_ok = refl
+
+row_of_one : spelling backend (DataRow (Some (0x31 ∷ []) ∷ [])) ≡ 0x44 ∷ 0 ∷ 0 ∷ 0 ∷ 0x0B ∷ 0 ∷ 1 ∷ 0 ∷ 0 ∷ 0 ∷ 1 ∷ 0x31 ∷ []
+row_of_one = refl
+
+command : spelling backend (CommandComplete (0x53 ∷ 0x45 ∷ 0x4C ∷ 0x45 ∷ 0x43 ∷ 0x54 ∷ 0x20 ∷ 0x31 ∷ [])) ≡ 0x43 ∷ 0 ∷ 0 ∷ 0 ∷ 0x0D ∷ 0x53 ∷ 0x45 ∷ 0x4C ∷ 0x45 ∷ 0x43 ∷ 0x54 ∷ 0x20 ∷ 0x31 ∷ 0 ∷ []
+command = refl
+
+null_and_empty : spelling backend (DataRow (None ∷ Some [] ∷ [])) ≡ 0x44 ∷ 0 ∷ 0 ∷ 0 ∷ 0x0E ∷ 0 ∷ 2 ∷ 0xFF ∷ 0xFF ∷ 0xFF ∷ 0xFF ∷ 0 ∷ 0 ∷ 0 ∷ 0 ∷ []
+null_and_empty = refl
+
+ready_idle : spelling backend (Ready Idle) ≡ 0x5A ∷ 0 ∷ 0 ∷ 0 ∷ 5 ∷ 0x49 ∷ []
+ready_idle = refl
+
+one_column : spelling backend (RowDescription (record { name = 0x6E ∷ []; table_oid = 0; attribute = pos 0; type_oid = 23; size = pos 4; modifier = negsuc 0; format = pos 0 } ∷ [])) ≡ 0x54 ∷ 0 ∷ 0 ∷ 0 ∷ 0x1A ∷ 0 ∷ 1 ∷ 0x6E ∷ 0 ∷ 0 ∷ 0 ∷ 0 ∷ 0 ∷ 0 ∷ 0 ∷ 0 ∷ 0 ∷ 0 ∷ 0x17 ∷ 0 ∷ 4 ∷ 0xFF ∷ 0xFF ∷ 0xFF ∷ 0xFF ∷ 0 ∷ 0 ∷ []
+one_column = refl
+
+canceled : spelling backend (ErrorResponse (record { code = 0x43; value = 0x35 ∷ 0x37 ∷ 0x30 ∷ 0x31 ∷ 0x34 ∷ [] } ∷ record { code = 0x4D; value = 0x6E ∷ 0x6F ∷ [] } ∷ [])) ≡ 0x45 ∷ 0 ∷ 0 ∷ 0 ∷ 0x10 ∷ 0x43 ∷ 0x35 ∷ 0x37 ∷ 0x30 ∷ 0x31 ∷ 0x34 ∷ 0 ∷ 0x4D ∷ 0x6E ∷ 0x6F ∷ 0 ∷ 0 ∷ []
+canceled = refl
+
+-- ---- what has no spelling
+
+reserved : encode_fault backend (AuthOther (pos 3) []) ≡ Some faults.ReservedCode
+reserved = refl
+
+zero_in_text : encode_fault backend (CommandComplete (0 ∷ [])) ≡ Some faults.HasZero
+zero_in_text = refl
+
+-- ---- streams
+
+two_messages : IsStream backend 64 (0x52 ∷ 0 ∷ 0 ∷ 0 ∷ 8 ∷ 0 ∷ 0 ∷ 0 ∷ 0 ∷ 0x5A ∷ 0 ∷ 0 ∷ 0 ∷ 5 ∷ 0x49 ∷ 0x5A ∷ 0 ∷ []) (AuthOk ∷ Ready Idle ∷ []) (0x5A ∷ 0 ∷ [])
+two_messages = record {
+  whole = refl;
+  each = (record { spelled = record { of_type = tt; no_fault = refl }; limited = lit≤ tt }, (record { spelled = record { of_type = tt; no_fault = refl }; limited = lit≤ tt }, tt));
+}
+
+four_bytes : IsOpen backend 64 (0x21 ∷ 0 ∷ 0 ∷ 0 ∷ [])
+four_bytes = short_open backend 64 (0x21 ∷ 0 ∷ 0 ∷ 0 ∷ []) (omega arith)
+
+unknown_tag : IsFaulty backend 64 (0x21 ∷ 0 ∷ 0 ∷ 0 ∷ 4 ∷ []) (wire.UnknownTag 33)
+unknown_tag = (pos 4, record { there = omega arith; tag_is = refl; length_is = refl }, no_tag 33 refl)
+
+short_length : IsFaulty backend 64 (0x5A ∷ 0 ∷ 0 ∷ 0 ∷ 3 ∷ []) (wire.ShortLength (pos 3))
+short_length = (90, record { there = omega arith; tag_is = refl; length_is = refl }, is_tag 90 kinds.Ready refl, omega (arith, ints))
+
+long_length : IsFaulty backend 64 (0x44 ∷ 0 ∷ 0 ∷ 0 ∷ 0x41 ∷ []) (wire.LongLength (pos 65))
+long_length = (68, record { there = omega arith; tag_is = refl; length_is = refl }, is_tag 68 kinds.DataRow refl, omega (arith, ints))
+
+-- a whole message whose body no message of its tag has
+bad_status : IsFaulty backend 64 (0x5A ∷ 0 ∷ 0 ∷ 0 ∷ 5 ∷ 0x58 ∷ []) (wire.BadBody 90)
+unfolding back_message_of
+bad_status = bad_fault backend 64 (0x5A ∷ 0 ∷ 0 ∷ 0 ∷ 5 ∷ 0x58 ∷ []) 90 5 1
+    (record { head = record { there = omega arith; tag_is = refl; length_is = refl }; known = is_tag 90 kinds.Ready refl; not_short = omega arith; not_long = omega arith; there = omega arith })
+    refl (read_none 90 kinds.Ready (0x58 ∷ []) refl refl)
+
+byte_after : IsFaulty backend 64 (0x5A ∷ 0 ∷ 0 ∷ 0 ∷ 6 ∷ 0x49 ∷ 0x49 ∷ []) (wire.BadBody 90)
+unfolding back_message_of
+byte_after = bad_fault backend 64 (0x5A ∷ 0 ∷ 0 ∷ 0 ∷ 6 ∷ 0x49 ∷ 0x49 ∷ []) 90 6 2
+    (record { head = record { there = omega arith; tag_is = refl; length_is = refl }; known = is_tag 90 kinds.Ready refl; not_short = omega arith; not_long = omega arith; there = omega arith })
+    refl (read_none 90 kinds.Ready (0x49 ∷ 0x49 ∷ []) refl refl)
+
+no_zero_byte : IsFaulty backend 64 (0x43 ∷ 0 ∷ 0 ∷ 0 ∷ 6 ∷ 0x4F ∷ 0x4B ∷ []) (wire.BadBody 67)
+unfolding back_message_of
+no_zero_byte = bad_fault backend 64 (0x43 ∷ 0 ∷ 0 ∷ 0 ∷ 6 ∷ 0x4F ∷ 0x4B ∷ []) 67 6 2
+    (record { head = record { there = omega arith; tag_is = refl; length_is = refl }; known = is_tag 67 kinds.CommandComplete refl; not_short = omega arith; not_long = omega arith; there = omega arith })
+    refl (read_none 67 kinds.CommandComplete (0x4F ∷ 0x4B ∷ []) refl refl)
+
+below_null : IsFaulty backend 64 (0x44 ∷ 0 ∷ 0 ∷ 0 ∷ 0x0A ∷ 0 ∷ 1 ∷ 0xFF ∷ 0xFF ∷ 0xFF ∷ 0xFE ∷ []) (wire.BadBody 68)
+unfolding back_message_of counted_at times_at value_at
+below_null = bad_fault backend 64 (0x44 ∷ 0 ∷ 0 ∷ 0 ∷ 0x0A ∷ 0 ∷ 1 ∷ 0xFF ∷ 0xFF ∷ 0xFF ∷ 0xFE ∷ []) 68 10 6
+    (record { head = record { there = omega arith; tag_is = refl; length_is = refl }; known = is_tag 68 kinds.DataRow refl; not_short = omega arith; not_long = omega arith; there = omega arith })
+    refl (read_none 68 kinds.DataRow (0 ∷ 1 ∷ 0xFF ∷ 0xFF ∷ 0xFF ∷ 0xFE ∷ []) refl refl)

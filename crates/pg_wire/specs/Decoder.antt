@@ -1,0 +1,52 @@
+-- A decoder as its callers see it, what its calls do, and what it was given and has given.
+use Rattle.std.specs.Prelude.{ℕ, ◌≡◌, ◌<◌, ◌+◌, ◌++◌, ◌∷◌, [], ◌⊎◌, List, length, Option, Some, None, Result, Ok, Err}
+use Rattle.pg_wire.specs.declared.fault.WireFault.{WireFault}
+use Rattle.pg_wire.specs.declared.fault.WireFault.TheVariants as wire
+use Rattle.pg_wire.specs.Direction.{Direction, spelling}
+use Rattle.pg_wire.specs.Stream.{IsWithin, IsStream, IsWhole, IsFaulty, IsOpen}
+
+-- the bytes that it was given and has made no message of, its limit, and the fault that it found
+pub record DecoderState : Type 0 where
+  pub kept : List ℕ
+  pub limit : ℕ
+  pub fault : Option WireFault
+
+-- A fault that is answered for good. Want of memory passes.
+abbrev pub Stays : Option WireFault → Type 0
+Stays None = Unit {0}
+Stays (Some wire.Memory) = ⊥
+Stays (Some f) = Unit {0}
+
+-- Where a fault was found, the rest has it.
+abbrev pub FaultHolds : {M : Type 0} → Direction M → ℕ → List ℕ → Option WireFault → Type 0
+FaultHolds d limit rest None = Unit {0}
+FaultHolds d limit rest (Some f) = IsFaulty d limit rest f
+
+-- The decoder was given these bytes, and has given these messages.
+pub record HasTaken {M : Type 0} (d : Direction M) (s : DecoderState) (pushed : List ℕ) (given : List M) : Type 0 where
+  pub stream : IsStream d s.limit pushed given s.kept
+  pub fault : FaultHolds d s.limit s.kept s.fault
+
+-- A push keeps the whole piece, or refuses it and changes nothing: with the fault that was found, or for want of memory,
+-- which a piece without bytes never meets.
+abbrev pub Pushes : DecoderState → List ℕ → Result Unit WireFault → DecoderState → Type 0
+Pushes old piece (Ok x) new = (old.fault ≡ None) × (new ≡ record old { kept = old.kept ++ piece })
+Pushes old piece (Err wire.Memory) new = (old.fault ≡ None) × (0 < length piece) × (new ≡ old)
+Pushes old piece (Err f) new = (old.fault ≡ Some f) × (new ≡ old)
+
+-- A message is all there by its length field. Memory is wanted for nothing else, so never where the rest is open.
+abbrev pub WantsMemory : {M : Type 0} → Direction M → ℕ → List ℕ → Type 0
+WantsMemory d limit rest = (t : ℕ) × (len : ℕ) × IsWhole d limit rest t len
+
+-- A call of next gives the message at the beginning of the rest, None where the rest is open, or the rest's fault.
+abbrev pub Takes : {M : Type 0} → Direction M → DecoderState → Result (Option M) WireFault → DecoderState → Type 0
+Takes d old (Ok None) new = (old.fault ≡ None) × (new ≡ old) × IsOpen d old.limit old.kept × (length old.kept < old.limit + 1)
+Takes d old (Ok (Some m)) new = (old.fault ≡ None) × IsWithin d old.limit m × (old.kept ≡ spelling d m ++ new.kept) × (new ≡ record old { kept = new.kept })
+Takes d old (Err wire.Memory) new = (old.fault ≡ None) × (new ≡ old) × WantsMemory d old.limit old.kept
+Takes d old (Err f) new = ((old.fault ≡ Some f) × (new ≡ old)) ⊎ ((old.fault ≡ None) × (new ≡ record old { fault = Some f }) × IsFaulty d old.limit old.kept f)
+
+-- the messages given, after a call of next
+abbrev pub given_after : {M : Type 0} → List M → Result (Option M) WireFault → List M
+given_after given (Ok None) = given
+given_after given (Ok (Some m)) = given ++ m ∷ []
+given_after given (Err f) = given

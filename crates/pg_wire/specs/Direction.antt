@@ -1,0 +1,48 @@
+-- A direction of the protocol: a tagged message as bytes, and which messages have no spelling
+-- (Frontend/Backend Protocol, "Message Formats").
+use Rattle.std.specs.Prelude.{ℕ, ◌≡◌, ◌+◌, ◌++◌, ◌∷◌, nat_lt, if◌then◌else◌, Bool, List, length, Option, Some, None}
+use Rattle.std.specs.Int.{w32, to_be_bytes}
+use Rattle.pg_wire.specs.declared.fault.EncodeFault.{EncodeFault}
+use Rattle.pg_wire.specs.declared.fault.EncodeFault.TheVariants as faults
+
+-- What the messages of a direction are made of: the first byte, what stands behind the length field, whether the numbers
+-- are of their types (as all numbers of a program are), and the tests that a message with a spelling doesn't meet.
+pub record Direction (M : Type 0) : Type 1 where
+  pub tag : M → ℕ
+  pub body : M → List ℕ
+  pub IsOfType : M → Type 0
+  pub has_zero : M → Bool
+  pub has_too_many : M → Bool
+  pub has_reserved_code : M → Bool
+
+-- the length field: it counts itself and the body
+abbrev pub length_field : {M : Type 0} → Direction M → M → ℕ
+length_field d m = 4 + length (d.body m)
+
+-- the greatest length field
+abbrev pub longest : ℕ
+longest = 1073741823
+
+-- a tagged message as bytes: its tag, its length field, its body
+abbrev pub tagged : ℕ → List ℕ → List ℕ
+tagged t bytes = t ∷ to_be_bytes w32 (4 + length bytes) ++ bytes
+
+abbrev pub spelling : {M : Type 0} → Direction M → M → List ℕ
+spelling d m = tagged (d.tag m) (d.body m)
+
+-- why there is no spelling: the first of these that holds
+abbrev pub fault_of : Bool → Bool → Bool → ℕ → Option EncodeFault
+fault_of zero too_many reserved size =
+    if zero then Some faults.HasZero
+    else if too_many then Some faults.TooMany
+    else if reserved then Some faults.ReservedCode
+    else if nat_lt longest (4 + size) then Some faults.TooLong
+    else None
+
+abbrev pub encode_fault : {M : Type 0} → Direction M → M → Option EncodeFault
+encode_fault d m = fault_of (d.has_zero m) (d.has_too_many m) (d.has_reserved_code m) (length (d.body m))
+
+-- What has a spelling.
+pub record HasSpelling {M : Type 0} (d : Direction M) (m : M) : Type 0 where
+  pub of_type : d.IsOfType m
+  pub no_fault : encode_fault d m ≡ None

@@ -1,0 +1,48 @@
+-- A decoder of first packets as its callers see it, what its calls do, and what it was given and has given.
+use Rattle.std.specs.Prelude.{ℕ, ℤ, ◌≡◌, ◌<◌, ◌++◌, ◌∷◌, [], ◌⊎◌, Bool, true, false, List, length, Option, Some, None, Result, Ok, Err}
+use Rattle.pg_wire.specs.declared.fault.WireFault.{WireFault}
+use Rattle.pg_wire.specs.declared.fault.WireFault.TheVariants as wire
+use Rattle.pg_wire.specs.declared.message.First.{First}
+use Rattle.pg_wire.specs.First.{IsPacket, packet, is_last, IsBeginning, longest_packet, IsWholePacket, IsFaultyPacket, IsOpenPacket}
+
+-- the bytes that it was given and has made no packet of, whether the last packet was given, and the fault that it found
+pub record FirstState : Type 0 where
+  pub kept : List ℕ
+  pub ended : Bool
+  pub fault : Option WireFault
+
+-- Where a fault was found, the rest has it, and the packets have not ended.
+abbrev pub PacketFaultHolds : FirstState → Option WireFault → Type 0
+PacketFaultHolds s None = Unit {0}
+PacketFaultHolds s (Some f) = (s.ended ≡ false) × IsFaultyPacket s.kept f
+
+-- The decoder was given these bytes, and has given these packets.
+pub record HasBegun (s : FirstState) (pushed : List ℕ) (given : List First) : Type 0 where
+  pub beginning : IsBeginning pushed given s.ended s.kept
+  pub fault : PacketFaultHolds s s.fault
+
+-- A push keeps the whole piece, or refuses it and changes nothing: with the fault that was found, or for want of memory,
+-- which a piece without bytes never meets.
+abbrev pub FirstPushes : FirstState → List ℕ → Result Unit WireFault → FirstState → Type 0
+FirstPushes old piece (Ok x) new = (old.fault ≡ None) × (new ≡ record old { kept = old.kept ++ piece })
+FirstPushes old piece (Err wire.Memory) new = (old.fault ≡ None) × (0 < length piece) × (new ≡ old)
+FirstPushes old piece (Err f) new = (old.fault ≡ Some f) × (new ≡ old)
+
+-- Where None is answered, the packets have ended, or the rest is open and short of a packet.
+abbrev pub NoMorePackets : Bool → List ℕ → Type 0
+NoMorePackets true rest = Unit {0}
+NoMorePackets false rest = IsOpenPacket rest × (length rest < longest_packet)
+
+-- A call of next gives the packet at the beginning of the rest, None where the rest is open or the packets have ended, or the
+-- rest's fault. Memory is wanted only for a packet that is all there by its length.
+abbrev pub FirstTakes : FirstState → Result (Option First) WireFault → FirstState → Type 0
+FirstTakes old (Ok None) new = (old.fault ≡ None) × (new ≡ old) × NoMorePackets old.ended old.kept
+FirstTakes old (Ok (Some p)) new = (old.fault ≡ None) × (old.ended ≡ false) × IsPacket p × (old.kept ≡ packet p ++ new.kept) × (new ≡ record old { kept = new.kept; ended = is_last p })
+FirstTakes old (Err wire.Memory) new = (old.fault ≡ None) × (old.ended ≡ false) × (new ≡ old) × (c : ℤ) × (len : ℕ) × IsWholePacket old.kept c len
+FirstTakes old (Err f) new = ((old.fault ≡ Some f) × (new ≡ old)) ⊎ ((old.fault ≡ None) × (old.ended ≡ false) × (new ≡ record old { fault = Some f }) × IsFaultyPacket old.kept f)
+
+-- the packets given, after a call of next
+abbrev pub packets_after : List First → Result (Option First) WireFault → List First
+packets_after given (Ok None) = given
+packets_after given (Ok (Some p)) = given ++ p ∷ []
+packets_after given (Err f) = given

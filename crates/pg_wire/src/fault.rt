@@ -1,0 +1,79 @@
+//! Why a message was not written, or not read.
+
+ghost use Rattle.std.specs.Prelude.{◌≡◌};
+ghost use Rattle.pg_wire.specs.declared.fault.BodyFault.TheVariants.{Memory};
+
+use std::alloc::{AllocError, AllocFailed};
+use thiserror::Error;
+
+/// Why an encoder refused a message: the first of these that holds. The buffer is then as it was.
+#[derive(Clone, Copy, Debug, PartialEq, Eq, Error)]
+pub enum EncodeFault {
+    /// A String holds a zero byte, or the code of an error field is 0.
+    #[error("E1 HasZero")]
+    HasZero,
+    /// A name of a startup packet's parameter is empty.
+    #[error("E2 EmptyName")]
+    EmptyName,
+    /// A list with a 16-bit count has more than 65,535 elements.
+    #[error("E3 TooMany")]
+    TooMany,
+    /// An AuthOther has the code 0, 3 or 5, which other messages have.
+    #[error("E6 ReservedCode")]
+    ReservedCode,
+    /// The length field would pass 1,073,741,823, or 10,000 for a startup packet.
+    #[error("E4 TooLong")]
+    TooLong,
+    /// The buffer could not grow.
+    #[error("E5 Memory")]
+    Memory,
+}
+
+/// What stands in the place of a next message: the first of these that holds. After any of them but Memory the decoder
+/// answers it for good; after Memory it is unchanged.
+#[derive(Clone, Copy, Debug, PartialEq, Eq, Error)]
+pub enum WireFault {
+    /// Five bytes are there, and no message has this tag. First packets have no tag.
+    #[error("W1 UnknownTag {0}")]
+    UnknownTag(u8),
+    /// The length field, this number, is below 4, or below 8 for a first packet.
+    #[error("W2 ShortLength {0}")]
+    ShortLength(i32),
+    /// The length field, this number, is above the decoder's limit, or above 10,000 for a first packet.
+    #[error("W3 LongLength {0}")]
+    LongLength(i32),
+    /// Eight bytes of a first packet are there, and no packet has this code.
+    #[error("W5 BadFirst {0}")]
+    BadFirst(i32),
+    /// The message of this tag is whole, and its body isn't of the layout. The tag of a first packet is 0.
+    #[error("W4 BadBody {0}")]
+    BadBody(u8),
+    /// Memory was refused.
+    #[error("W6 Memory")]
+    Memory,
+}
+
+/// Why no message was made of a body.
+#[derive(Clone, Copy, Debug, PartialEq, Eq)]
+pub enum BodyFault {
+    /// No message has this tag and this body.
+    Bad,
+    /// Memory was refused.
+    Memory,
+}
+
+impl From<AllocError> for BodyFault {
+    ghost from_gives = { λ _ e. e ≡ Memory };
+
+    fn from(_e: AllocError) -> BodyFault {
+        BodyFault::Memory
+    }
+}
+
+impl<T: Drop> From<AllocFailed<T>> for BodyFault {
+    ghost from_gives = { λ _ e. e ≡ Memory };
+
+    fn from(_e: AllocFailed<T>) -> BodyFault {
+        BodyFault::Memory
+    }
+}

@@ -1,0 +1,225 @@
+//! First packets, taken in pieces.
+
+mod kind;
+
+ghost use Rattle.std.specs.Prelude.{◌≡◌, ◌<◌, ◌≤◌, ◌++◌, [], List, ℕ, length, None, Some, OnOk, MatchOption, true, false};
+ghost use Rattle.pg_wire.specs.declared.message.First.{First};
+ghost use Rattle.pg_wire.specs.First.{PacketHead, PacketCode, is_last};
+ghost use Rattle.pg_wire.specs.FirstDecoder.{HasBegun, FirstPushes, FirstTakes, packets_after};
+ghost use Rattle.pg_wire.specs.Decoder.{HasTaken};
+ghost use Rattle.pg_wire.specs.Frontend.{frontend};
+ghost use Rattle.pg_wire.specs.Private.Reader.{Gives};
+ghost use Rattle.pg_wire.specs.Private.FirstReader.{first_of, JudgesPacket, FindsPacket};
+
+use crate::buffer::Buffer;
+use crate::decoder::FrontDecoder;
+use crate::fault::{BodyFault, WireFault};
+use crate::message::First;
+use crate::reader::{ended, i32_at, terminated};
+use kind::FirstKind;
+use std::alloc::Global;
+use std::marker::Model;
+
+/// The greatest length of a packet.
+const LONGEST: i32 = 10_000;
+
+/// What the head of a rest says.
+pub enum JudgedPacket {
+    Open,
+    Faulty(WireFault),
+    /// A packet of this kind, with this length, is all there.
+    Whole(FirstKind, usize),
+}
+
+/// The length, once four bytes are there.
+fn head(rest: &[u8]) -> Option<i32>
+    ensures { MatchOption result (length rest.now < 4) (PacketHead rest.now) }
+{
+    match rest {
+        [a, b, c, d, ..] => Some(i32::from_be_bytes([*a, *b, *c, *d])),
+        _ => None,
+    }
+}
+
+/// The code, once eight bytes are there.
+fn code(rest: &[u8]) -> Option<i32>
+    ensures { MatchOption result (length rest.now < 8) (PacketCode rest.now) }
+{
+    match rest {
+        [_, _, _, _, a, b, c, d, ..] => Some(i32::from_be_bytes([*a, *b, *c, *d])),
+        _ => None,
+    }
+}
+
+fn judge(rest: &[u8]) -> JudgedPacket
+    ensures { JudgesPacket rest.now result }
+{
+    let Some(len) = head(rest) else {
+        return JudgedPacket::Open;
+    };
+    if len < 8 {
+        return JudgedPacket::Faulty(WireFault::ShortLength(len));
+    }
+    if len > LONGEST {
+        return JudgedPacket::Faulty(WireFault::LongLength(len));
+    }
+    let Some(code) = code(rest) else {
+        return JudgedPacket::Open;
+    };
+    let Some(kind) = FirstKind::of(code) else {
+        return JudgedPacket::Faulty(WireFault::BadFirst(code));
+    };
+    let len = len as usize;
+    if rest.len() < len {
+        JudgedPacket::Open
+    } else {
+        JudgedPacket::Whole(kind, len)
+    }
+}
+
+/// The packet of this kind with this content, all of it.
+fn packet(alloc: Global, kind: FirstKind, content: &[u8]) -> Result<First, BodyFault>
+    ensures { Gives (λ p. p) result (first_of kind content.now) }
+{
+    match kind {
+        FirstKind::Startup => {
+            let (pairs, rest) = terminated(alloc, content)?;
+            ended(First::Startup(pairs), rest)
+        }
+        FirstKind::Cancel => {
+            let (process, rest) = i32_at(content)?;
+            let (secret, rest) = i32_at(rest)?;
+            ended(First::Cancel { process, secret }, rest)
+        }
+        FirstKind::Ssl => ended(First::Ssl, content),
+        FirstKind::Gss => ended(First::Gss, content),
+    }
+}
+
+/// The packet at the beginning of a rest, and how many bytes it takes.
+fn find(alloc: Global, rest: &[u8]) -> Result<Option<(First, usize)>, WireFault>
+    ensures { FindsPacket rest.now result }
+{
+    match judge(rest) {
+        JudgedPacket::Open => Ok(None),
+        JudgedPacket::Faulty(fault) => Err(fault),
+        JudgedPacket::Whole(kind, len) => match packet(alloc, kind, &rest[8..len]) {
+            Ok(packet) => Ok(Some((packet, len))),
+            Err(BodyFault::Bad) => Err(WireFault::BadBody(0)),
+            Err(BodyFault::Memory) => Err(WireFault::Memory),
+        },
+    }
+}
+
+/// Whether no first packet comes behind this one.
+fn is_last(packet: &First) -> bool
+    ensures { result ≡ is_last packet.now }
+{
+    matches!(packet, First::Startup(_) | First::Cancel { .. })
+}
+
+/// Takes what a frontend begins a connection with in any pieces, and gives its first packets: any number of Ssl and Gss, and
+/// then a Startup or a Cancel.
+///
+/// What comes behind those is kept for [`into_front`](FirstDecoder::into_front). Until the last packet was given, fewer than
+/// 10,000 bytes are kept after each None. A fault stands in the place of a packet, and is answered for good from then on.
+#[derive(Drop)]
+pub struct FirstDecoder {
+    alloc: Global,
+    buffer: Buffer,
+    ended: bool,
+    fault: Option<WireFault>,
+}
+
+impl Model for FirstDecoder {
+    ghost use Rattle.pg_wire.specs.Decoder.{Stays};
+    ghost use Rattle.pg_wire.specs.FirstDecoder.{FirstState};
+
+    ghost Value = { FirstState };
+
+    ghost view = { λ d. record { kept = d.buffer; ended = d.ended; fault = d.fault } };
+
+    ghost invariant = { λ d. Stays d.fault };
+}
+
+impl FirstDecoder {
+    /// A decoder that was given nothing yet.
+    pub fn new(alloc: Global) -> FirstDecoder
+        ensures value { result ≡ record { kept = []; ended = false; fault = None } }
+        ensures begun { HasBegun result [] [] }
+    {
+        FirstDecoder {
+            alloc,
+            buffer: Buffer::new(alloc),
+            ended: false,
+            fault: None,
+        }
+    }
+
+    /// How many bytes are kept: those that were pushed and have not been given as packets.
+    pub fn kept(&self) -> usize
+        ensures { result ≡ length self.now.kept }
+    {
+        self.buffer.len()
+    }
+
+    /// Takes the next piece, all of it. A fault that `next` has found is answered, and after Memory nothing of the piece was
+    /// taken and the decoder is unchanged. A piece without bytes wants no memory.
+    pub fn push(&mut self, piece: &[u8]) -> Result<(), WireFault>
+        ensures call { FirstPushes self.old piece.now result self.new }
+        ensures begun { OnOk result ((pushed : List ℕ) (given : List First) → HasBegun self.old pushed given → HasBegun self.new (pushed ++ piece.now) given) }
+    {
+        if let Some(fault) = self.fault {
+            return Err(fault);
+        }
+        match self.buffer.push(piece) {
+            Ok(()) => Ok(()),
+            Err(_) => Err(WireFault::Memory),
+        }
+    }
+
+    /// The next packet, or None where more bytes are to come or the last packet was given. A fault is found where no more
+    /// packets stand before it, and is then answered for good. Memory is answered only for a packet that is whole, and leaves
+    /// the decoder unchanged.
+    pub fn next(&mut self) -> Result<Option<First>, WireFault>
+        ensures call { FirstTakes self.old result self.new }
+        ensures begun { (pushed : List ℕ) (given : List First) → HasBegun self.old pushed given → HasBegun self.new pushed (packets_after given result) }
+    {
+        if let Some(fault) = self.fault {
+            return Err(fault);
+        }
+        if self.ended {
+            return Ok(None);
+        }
+        match find(self.alloc, self.buffer.as_slice()) {
+            Ok(None) => Ok(None),
+            Ok(Some((packet, len))) => {
+                self.buffer.take(len);
+                self.ended = is_last(&packet);
+                Ok(Some(packet))
+            }
+            Err(WireFault::Memory) => Err(WireFault::Memory),
+            Err(fault) => {
+                self.fault = Some(fault);
+                Err(fault)
+            }
+        }
+    }
+
+    /// A decoder of the messages behind the first packets, which takes messages with a length field of at most `limit`, from
+    /// 64 to 1,073,741,823. It has the bytes that are kept, and answers the fault that was found, if one was. It takes no
+    /// memory.
+    pub fn into_front(self, limit: u32) -> FrontDecoder
+        requires { (64 ≤ limit) × (limit ≤ 1073741823) }
+        ensures value { result ≡ record { kept = self.kept; limit = limit; fault = self.fault } }
+        ensures taken { self.fault ≡ None → HasTaken frontend result self.kept [] }
+    {
+        let FirstDecoder {
+            alloc,
+            buffer,
+            ended: _,
+            fault,
+        } = self;
+        FrontDecoder::resume(alloc, buffer, limit, fault)
+    }
+}

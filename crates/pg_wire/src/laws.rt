@@ -1,0 +1,61 @@
+//! Laws of the formats: each function does nothing, and its contract is the law.
+
+ghost use Rattle.pg_wire.specs.Laws.{OneSpelling, OneReading, FaultyBeginsNone, OneFault, RoundTrip, OnePacket, OneBeginning, FaultyBeginsNoPacket, OnePacketFault, PacketsAgain};
+
+use crate::direction::Message;
+
+/// No message has the bytes of another, and none begins another.
+pub fn one_spelling<M: Message>()
+    ensures { OneSpelling M.direction }
+{
+    M::one_to_one();
+}
+
+/// Two readings of the same bytes differ only in how far they go.
+pub fn one_reading<M: Message>()
+    ensures { OneReading M.direction }
+{
+    M::one_to_one();
+}
+
+/// A faulty rest begins no message.
+pub fn faulty_begins_none<M: Message>()
+    ensures { FaultyBeginsNone M.direction }
+{}
+
+/// A rest is faulty for one reason at most.
+pub fn one_fault<M: Message>()
+    ensures { OneFault M.direction }
+{}
+
+/// What encoders wrote is read as what was meant, however far the reading goes.
+pub fn round_trip<M: Message>()
+    ensures { RoundTrip M.direction }
+{
+    M::one_to_one();
+}
+
+/// No first packet has the bytes of another, and none begins another.
+pub fn one_packet()
+    ensures { OnePacket }
+{}
+
+/// Two readings of what a connection begins with differ only in how far they go.
+pub fn one_beginning()
+    ensures { OneBeginning }
+{}
+
+/// A rest that is faulty for a first packet begins none.
+pub fn faulty_begins_no_packet()
+    ensures { FaultyBeginsNoPacket }
+{}
+
+/// A rest is faulty for one reason at most, as that of a first packet too.
+pub fn one_packet_fault()
+    ensures { OnePacketFault }
+{}
+
+/// First packets that encoders wrote are read as what was meant, however far the reading goes.
+pub fn packets_again()
+    ensures { PacketsAgain }
+{}

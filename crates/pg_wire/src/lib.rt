@@ -1,0 +1,34 @@
+//! The messages of the PostgreSQL Frontend/Backend Protocol 3.0, as bytes.
+//!
+//! An encoder appends the one spelling of a message to a buffer ([`backend`]). A decoder takes a stream in any pieces and
+//! gives exactly its messages ([`BackDecoder`]). The functions of [`laws`] say what spellings and streams have in common.
+#![tactic(auto)]
+
+mod appender;
+pub mod backend;
+mod buffer;
+mod decoder;
+mod direction;
+mod fault;
+mod field;
+mod first;
+pub mod frontend;
+pub mod laws;
+mod link;
+mod message;
+mod part;
+mod reader;
+mod writer;
+
+pub use decoder::{BackDecoder, Decoder, FrontDecoder};
+pub use direction::Message;
+pub use fault::{BodyFault, EncodeFault, WireFault};
+pub use first::FirstDecoder;
+pub use link::{LinkFault, Over, Sink, Source};
+pub use message::{
+    BackMessage, Column, CopyHead, ErrorField, Fields, First, FrontMessage, Status, Target, Values,
+};
+pub use pg_seq::Seq;
+
+#[cfg(test)]
+mod tests;

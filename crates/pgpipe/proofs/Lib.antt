@@ -1,0 +1,5 @@
+pub mod Decimals
+pub mod Pieces
+pub mod Progress
+pub mod Runs
+pub mod Settling

@@ -1,0 +1,70 @@
+//! How the program fails.
+
+ghost use Rattle.std.specs.Prelude.{◌≡◌, ◌≢◌};
+ghost use Rattle.std.specs.IoError.{error_kind};
+ghost use Rattle.pgpipe.specs.Failing.{status_of, Results};
+
+use crate::show::{Shown, ToolFault};
+use pg_wire::WireFault;
+use std::io;
+use std::io::ErrorKind;
+use thiserror::Error;
+
+/// Why the program ends with a status other than 0.
+#[derive(Debug, Drop, Error)]
+pub enum Failure {
+    /// A word is no text.
+    #[error("a word is not UTF-8")]
+    NotUtf8,
+    /// The input ends with so many bytes that are no whole message.
+    #[error("rest {0}")]
+    Rest(usize),
+    /// The input has a fault.
+    #[error("{0}")]
+    Fault(WireFault),
+    /// A stream failed.
+    #[error("device")]
+    Device,
+    /// Memory was refused.
+    #[error("memory")]
+    Memory,
+}
+
+impl Failure {
+    /// The exit status.
+    pub fn status(&self) -> u8
+        ensures { result ≡ status_of self.now }
+    {
+        match self {
+            Failure::NotUtf8 => 1,
+            Failure::Rest(_) => 2,
+            Failure::Fault(_) => 2,
+            Failure::Device => 3,
+            Failure::Memory => 4,
+        }
+    }
+}
+
+/// What it means that the words of the command line can't be had.
+pub fn words_failure(error: &io::Error) -> Failure
+    ensures memory { error_kind error.now ≡ ErrorKind.OutOfMemory → result ≡ Failure.Memory }
+    ensures text { error_kind error.now ≢ ErrorKind.OutOfMemory → result ≡ Failure.NotUtf8 }
+{
+    match error.kind() {
+        ErrorKind::OutOfMemory => Failure::Memory,
+        _ => Failure::NotUtf8,
+    }
+}
+
+/// What an answer of `show` means for the program: only a whole stream is a success.
+pub fn result_of(answer: Result<Shown, ToolFault>) -> Result<(), Failure>
+    ensures { Results answer result }
+{
+    match answer {
+        Ok(Shown::Whole) => Ok(()),
+        Ok(Shown::Rest(count)) => Err(Failure::Rest(count)),
+        Ok(Shown::Fault(fault)) => Err(Failure::Fault(fault)),
+        Err(ToolFault::Device) => Err(Failure::Device),
+        Err(ToolFault::Memory) => Err(Failure::Memory),
+    }
+}

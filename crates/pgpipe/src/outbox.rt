@@ -1,0 +1,160 @@
+//! Text that is collected and then sent in large pieces.
+
+ghost use Rattle.std.specs.Prelude.{◌≡◌, ◌≤◌, ◌+◌, ◌*◌, ◌++◌, [], length, ◌∷◌, OnOk, IfOk};
+ghost use Rattle.std.specs.Fmt.{decimal};
+ghost use Rattle.pgpipe.specs.Lines.{hexadecimal, body_text, line_of};
+ghost use Rattle.pgpipe.specs.Sending.{Puts};
+
+use crate::line::{write_decimal, write_hexadecimal};
+use pg_wire::{LinkFault, Sink};
+use std::alloc::{AllocError, Global};
+use std::marker::Model;
+
+/// How many bytes are collected before they are sent.
+pub const ROOM: usize = 65_536;
+
+// Sends all the bytes. Where the sink fails a beginning was sent.
+fn send_all<K: Sink>(bytes: &[u8], sink: &mut K) -> Result<(), LinkFault>
+    ensures { Puts K.takes K.failures bytes.now sink.old [] result [] sink.new }
+{
+    let mut rest = bytes;
+    while !rest.is_empty() {
+        let count = sink.send(rest)?;
+        rest = rest.split_at(count).1;
+    }
+    Ok(())
+}
+
+/// Collects text, and sends it in large pieces. It takes memory only when it is made.
+#[derive(Drop)]
+pub struct Outbox {
+    buf: Vec<u8>,
+    filled: usize,
+}
+
+impl Model for Outbox {
+    ghost use Rattle.std.specs.Prelude.{◌≡◌, ◌≤◌, ℕ, List, take, vec_len};
+
+    ghost Value = { List ℕ };
+
+    ghost view = { λ o. take o.filled o.buf.items };
+
+    ghost invariant = { λ o. (o.filled ≤ 65536) × (vec_len o.buf ≡ 65536) };
+}
+
+impl Outbox {
+    /// Nothing is collected.
+    pub fn new(alloc: Global) -> Result<Outbox, AllocError>
+        ensures { IfOk result (λ o. o ≡ []) }
+    {
+        Ok(Outbox {
+            buf: vec![in alloc; 0; ROOM]?,
+            filled: 0,
+        })
+    }
+
+    /// Sends all that was collected. Where the sink fails a beginning was sent.
+    pub fn flush<K: Sink>(&mut self, sink: &mut K) -> Result<(), LinkFault>
+        ensures puts { Puts K.takes K.failures self.old sink.old [] result self.new sink.new }
+        ensures nothing_left { OnOk result (self.new ≡ []) }
+    {
+        send_all(&self.buf[..self.filled], sink)?;
+        self.filled = 0;
+        Ok(())
+    }
+
+    // Sends what was collected, unless there is room for so many bytes.
+    fn make_room<K: Sink>(&mut self, size: usize, sink: &mut K) -> Result<(), LinkFault>
+        requires { size ≤ 65536 }
+        ensures puts { Puts K.takes K.failures self.old sink.old [] result self.new sink.new }
+        ensures room { OnOk result (length self.new + size ≤ 65536) }
+    {
+        if ROOM - self.filled < size {
+            return self.flush(sink);
+        }
+        Ok(())
+    }
+
+    // Collects bytes for which there is room.
+    fn put(&mut self, bytes: &[u8])
+        requires { length self.old + length bytes.now ≤ 65536 }
+        ensures { self.new ≡ self.old ++ bytes.now }
+    {
+        let end = self.filled + bytes.len();
+        self.buf[self.filled..end].copy_from_slice(bytes);
+        self.filled = end;
+    }
+
+    // Collects bytes in hexadecimal, for which there is room.
+    fn put_hexadecimal(&mut self, bytes: &[u8])
+        requires { length self.old + 2 * length bytes.now ≤ 65536 }
+        ensures { self.new ≡ self.old ++ hexadecimal bytes.now }
+    {
+        let end = self.filled + 2 * bytes.len();
+        write_hexadecimal(bytes, &mut self.buf[self.filled..end]);
+        self.filled = end;
+    }
+
+    // How many bytes more can be collected.
+    fn room(&self) -> usize
+        ensures { result + length self.now ≡ 65536 }
+    {
+        ROOM - self.filled
+    }
+
+    // Puts bytes in hexadecimal, however many.
+    fn put_all<K: Sink>(&mut self, bytes: &[u8], sink: &mut K) -> Result<(), LinkFault>
+        ensures { Puts K.takes K.failures self.old sink.old (hexadecimal bytes.now) result self.new sink.new }
+    {
+        let mut rest = bytes;
+        while !rest.is_empty() {
+            self.make_room(2, sink)?;
+            let (now, later) = rest.split_at(rest.len().min(self.room() / 2));
+            self.put_hexadecimal(now);
+            rest = later;
+        }
+        Ok(())
+    }
+
+    // Puts the body of a message.
+    fn put_body<K: Sink>(&mut self, body: &[u8], sink: &mut K) -> Result<(), LinkFault>
+        ensures { Puts K.takes K.failures self.old sink.old (body_text body.now) result self.new sink.new }
+    {
+        if body.is_empty() {
+            self.make_room(1, sink)?;
+            self.put(b"-");
+            return Ok(());
+        }
+        self.put_all(body, sink)
+    }
+
+    // Puts what stands before the body: the tag and the length field.
+    fn put_head<K: Sink>(&mut self, tag: u8, length: u32, sink: &mut K) -> Result<(), LinkFault>
+        ensures { Puts K.takes K.failures self.old sink.old ((tag ∷ 32 ∷ []) ++ decimal length ++ (32 ∷ [])) result self.new sink.new }
+    {
+        let mut digits = [0; 10];
+        let start = write_decimal(length, &mut digits);
+        self.make_room(13, sink)?;
+        self.put(&[tag, b' ']);
+        self.put(&digits[start..]);
+        self.put(b" ");
+        Ok(())
+    }
+
+    /// Puts the line for a tag, a length field and a body. Where the sink fails a beginning was sent.
+    pub fn put_line<K: Sink>(
+        &mut self,
+        tag: u8,
+        length: u32,
+        body: &[u8],
+        sink: &mut K,
+    ) -> Result<(), LinkFault>
+        ensures { Puts K.takes K.failures self.old sink.old (line_of tag length body.now) result self.new sink.new }
+    {
+        self.put_head(tag, length, sink)?;
+        self.put_body(body, sink)?;
+        self.make_room(1, sink)?;
+        self.put(b"\n");
+        Ok(())
+    }
+}

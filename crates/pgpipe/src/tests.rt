@@ -1,0 +1,192 @@
+use crate::failure::Failure;
+use crate::show::{Shown, ToolFault, show};
+use crate::words::task_of;
+use pg_wire::{LinkFault, Sink, Source, WireFault};
+use std::alloc::Global;
+use std::test::Fail;
+
+// Bytes that come five at a time, and fail once.
+#[derive(Drop)]
+struct Pieces<'a> {
+    bytes: &'a [u8],
+    calls: u64,
+    fails_at: u64,
+    failures: u64,
+}
+
+impl<'a> Source for Pieces<'a> {
+    ghost failures = { λ s. s.failures };
+
+    ghost gives = { λ _ _ _. Unit {0} };
+
+    ghost has_ended = { λ _. Unit {0} };
+
+    fn receive(&mut self, into: &mut [u8]) -> Result<usize, LinkFault> {
+        self.calls = self.calls.saturating_add(1);
+        if self.calls == self.fails_at {
+            self.failures = self.failures.saturating_add(1);
+            return Err(LinkFault);
+        }
+        let count = self.bytes.len().min(into.len()).min(5);
+        let (piece, rest) = self.bytes.split_at(count);
+        into.split_at_mut(count).0.copy_from_slice(piece);
+        self.bytes = rest;
+        Ok(count)
+    }
+}
+
+// Text that is taken seven bytes at a time, and fails once.
+#[derive(Drop)]
+struct Paper {
+    text: Vec<u8>,
+    calls: u64,
+    fails_at: u64,
+    failures: u64,
+}
+
+impl Sink for Paper {
+    ghost failures = { λ s. s.failures };
+
+    ghost takes = { λ _ _ _. Unit {0} };
+
+    fn send(&mut self, piece: &[u8]) -> Result<usize, LinkFault> {
+        self.calls = self.calls.saturating_add(1);
+        let count = piece.len().min(7);
+        if self.calls == self.fails_at || self.text.extend_from_slice(&piece[..count]).is_err() {
+            self.failures = self.failures.saturating_add(1);
+            return Err(LinkFault);
+        }
+        Ok(count)
+    }
+}
+
+fn source_of(bytes: &[u8], fails_at: u64) -> Pieces<'_> {
+    Pieces {
+        bytes,
+        calls: 0,
+        fails_at,
+        failures: 0,
+    }
+}
+
+fn sink_of(alloc: Global, fails_at: u64) -> Paper {
+    Paper {
+        text: Vec::new(alloc),
+        calls: 0,
+        fails_at,
+        failures: 0,
+    }
+}
+
+// ReadyForQuery, CopyData of two bytes, CopyDone
+const STREAM: &[u8] = b"Z\0\0\0\x05Id\0\0\0\x06\x0f\xffc\0\0\0\x04";
+
+const LINES: &[u8] = b"Z 5 49\nd 6 0fff\nc 4 -\n";
+
+#[test]
+fn a_whole_stream(rt: HostRuntime) {
+    let mut source = source_of(STREAM, 0);
+    let mut sink = sink_of(rt.alloc(), 0);
+    assert_eq!(rt; show(rt.alloc(), &mut source, &mut sink), Ok(Shown::Whole));
+    assert_eq!(rt; sink.text.as_slice(), LINES);
+}
+
+#[test]
+fn a_source_that_fails(rt: HostRuntime) {
+    for call in 1..6 {
+        let mut source = source_of(STREAM, call);
+        let mut sink = sink_of(rt.alloc(), 0);
+        assert_eq!(rt;
+            show(rt.alloc(), &mut source, &mut sink),
+            Err(ToolFault::Device),
+            "at {call}"
+        );
+        assert!(rt; LINES.starts_with(sink.text.as_slice()), "at {call}");
+        assert_eq!(rt; source.failures, 1);
+    }
+}
+
+#[test]
+fn a_sink_that_fails(rt: HostRuntime) {
+    for call in 1..5 {
+        let mut source = source_of(STREAM, 0);
+        let mut sink = sink_of(rt.alloc(), call);
+        assert_eq!(rt;
+            show(rt.alloc(), &mut source, &mut sink),
+            Err(ToolFault::Device),
+            "at {call}"
+        );
+        assert_eq!(rt; sink.text.len() as u64, 7 * (call - 1));
+        assert!(rt; LINES.starts_with(sink.text.as_slice()), "at {call}");
+    }
+}
+
+#[test]
+fn no_message(rt: HostRuntime) {
+    let mut sink = sink_of(rt.alloc(), 0);
+    assert_eq!(rt;
+        show(rt.alloc(), &mut source_of(b"", 0), &mut sink),
+        Ok(Shown::Whole)
+    );
+    assert_eq!(rt;
+        show(rt.alloc(), &mut source_of(b"Z\0\0", 0), &mut sink),
+        Ok(Shown::Rest(3))
+    );
+    assert!(rt; sink.text.is_empty());
+}
+
+#[test]
+fn lines_before_a_fault_and_a_rest(rt: HostRuntime) {
+    let mut sink = sink_of(rt.alloc(), 0);
+    let mut source = source_of(b"Z\0\0\0\x05I!\0\0\0\x04", 0);
+    let fault = Shown::Fault(WireFault::UnknownTag(33));
+    assert_eq!(rt; show(rt.alloc(), &mut source, &mut sink), Ok(fault));
+    assert_eq!(rt; sink.text.as_slice(), b"Z 5 49\n".as_slice());
+    let mut source = source_of(b"c\0\0\0\x04Z\0\0\0\x05", 0);
+    assert_eq!(rt;
+        show(rt.alloc(), &mut source, &mut sink),
+        Ok(Shown::Rest(5))
+    );
+    assert_eq!(rt; sink.text.as_slice(), b"Z 5 49\nc 4 -\n".as_slice());
+}
+
+// A line that is longer than what is collected at once.
+#[test]
+fn a_long_message(rt: HostRuntime) -> Result<(), Fail> {
+    let mut bytes = Vec::from_slice(rt.alloc(), b"d\0\x01\x86\xa4")?;
+    for _ in 0..100_000 {
+        bytes.push(0xa7)?;
+    }
+    let mut sink = sink_of(rt.alloc(), 0);
+    let mut source = source_of(bytes.as_slice(), 0);
+    assert_eq!(rt; show(rt.alloc(), &mut source, &mut sink), Ok(Shown::Whole));
+    assert_eq!(rt; sink.text.len(), 200_010);
+    assert!(rt; sink.text.as_slice().starts_with(b"d 100004 a7a7"));
+    assert!(rt; sink.text.as_slice().ends_with(b"a7\n"));
+    Ok(())
+}
+
+#[test]
+fn words(rt: HostRuntime) -> Result<(), Fail> {
+    for (word, is_task) in [("show", true), ("shown", false), ("--help", false)] {
+        let mut words = Vec::new(rt.alloc());
+        words.push(String::from_str(rt.alloc(), "pgpipe")?)?;
+        assert!(rt; task_of(rt.alloc(), words.as_slice()).is_ok());
+        words.push(String::from_str(rt.alloc(), word)?)?;
+        assert_eq!(rt;
+            task_of(rt.alloc(), words.as_slice()).is_ok(),
+            is_task,
+            "{word}"
+        );
+    }
+    Ok(())
+}
+
+#[test]
+fn texts(rt: HostRuntime) -> Result<(), Fail> {
+    let text = Failure::Rest(3).to_string(rt.alloc())?;
+    assert_eq!(rt; text.as_str(), "rest 3");
+    assert_eq!(rt; Failure::Device.to_string(rt.alloc())?.as_str(), "device");
+    assert_eq!(rt; ToolFault::Memory.to_string(rt.alloc())?.as_str(), "memory");
+    Ok(())
+}

@@ -1,0 +1,2 @@
+-- How a vector is written.
+pub mod Vector

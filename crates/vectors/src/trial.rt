@@ -1,0 +1,169 @@
+//! What a decoder makes of the bytes of a vector, however they are cut, and an encoder of the message.
+
+use crate::subject::Subject;
+use pg_wire::{EncodeFault, WireFault};
+use std::alloc::Global;
+use std::fmt;
+use std::fmt::Debug;
+use thiserror::Error;
+
+/// What a decoder answers for the bytes of a vector.
+#[derive(Debug, PartialEq, Drop)]
+pub enum Reading<M> {
+    /// More bytes are to come.
+    Open,
+    Message(M),
+    Refused(WireFault),
+}
+
+impl<M: Debug> fmt::Display for Reading<M> {
+    fn fmt<W: fmt::Write>(&self, f: &mut fmt::Formatter<W>) -> fmt::Result {
+        match self {
+            Reading::Open => write!(f, "open"),
+            Reading::Message(message) => write!(f, "ok {message:?}"),
+            Reading::Refused(fault) => write!(f, "bad {fault}"),
+        }
+    }
+}
+
+/// How the bytes of a vector are cut into pieces.
+#[derive(Clone, Copy, Debug)]
+pub enum Cut {
+    Nowhere,
+    Everywhere,
+    At(usize),
+}
+
+impl fmt::Display for Cut {
+    fn fmt<W: fmt::Write>(&self, f: &mut fmt::Formatter<W>) -> fmt::Result {
+        match self {
+            Cut::Nowhere => write!(f, "in one piece"),
+            Cut::Everywhere => write!(f, "a byte at a time"),
+            Cut::At(place) => write!(f, "cut at {place}"),
+        }
+    }
+}
+
+/// What a decoder or an encoder did wrong.
+#[derive(Clone, Copy, Debug, Error)]
+pub enum Flaw {
+    #[error("{0}: an answer came before the last byte")]
+    Early(Cut),
+    #[error("{0}: the decoder keeps {1} bytes")]
+    Keeps(Cut, usize),
+    #[error("{0}: the decoder answers something else after the last byte")]
+    Unsteady(Cut),
+    #[error("{0}: the reading is not that of one piece")]
+    Differs(Cut),
+    #[error("the message is not encoded: {0}")]
+    Unwritten(EncodeFault),
+    #[error("the message is encoded as other bytes")]
+    Respelled,
+    #[error("out of memory")]
+    Memory,
+}
+
+/// The reading of what a decoder answers next.
+fn reading_of<M>(answer: Result<Option<M>, WireFault>) -> Result<Reading<M>, Flaw> {
+    match answer {
+        Ok(None) => Ok(Reading::Open),
+        Ok(Some(message)) => Ok(Reading::Message(message)),
+        Err(WireFault::Memory) => Err(Flaw::Memory),
+        Err(fault) => Ok(Reading::Refused(fault)),
+    }
+}
+
+/// What the decoder answers once it has this piece too.
+fn feed<D: Subject>(decoder: &mut D, piece: &[u8]) -> Result<Reading<D::Item>, Flaw> {
+    match decoder.push(piece) {
+        Ok(()) => reading_of(decoder.next()),
+        Err(fault) => reading_of(Err(fault)),
+    }
+}
+
+/// Gives the decoder a piece behind which more is to come, so that it has no answer yet.
+fn feed_part<D: Subject>(decoder: &mut D, piece: &[u8], cut: Cut) -> Result<(), Flaw> {
+    match feed(decoder, piece)? {
+        Reading::Open => Ok(()),
+        _ => Err(Flaw::Early(cut)),
+    }
+}
+
+/// What a new decoder answers with the last of the bytes, and not before.
+fn read<D: Subject>(decoder: &mut D, bytes: &[u8], cut: Cut) -> Result<Reading<D::Item>, Flaw> {
+    match cut {
+        Cut::Nowhere => feed(decoder, bytes),
+        Cut::At(place) => {
+            let (first, second) = bytes.split_at_checked(place).unwrap_or((bytes, &[]));
+            feed_part(decoder, first, cut)?;
+            feed(decoder, second)
+        }
+        Cut::Everywhere => match bytes.split_last() {
+            None => feed(decoder, bytes),
+            Some((last, before)) => {
+                for byte in before {
+                    feed_part(decoder, &[*byte], cut)?;
+                }
+                feed(decoder, &[*last])
+            }
+        },
+    }
+}
+
+/// Demands that the decoder keeps nothing behind a message, and answers a fault for good.
+fn check_end<D: Subject>(
+    decoder: &mut D,
+    found: &Reading<D::Item>,
+    len: usize,
+    cut: Cut,
+) -> Result<(), Flaw> {
+    let (kept, later) = match found {
+        Reading::Open => (len, Reading::Open),
+        Reading::Message(_) => (0, Reading::Open),
+        Reading::Refused(fault) => (len, Reading::Refused(*fault)),
+    };
+    if decoder.kept() != kept {
+        return Err(Flaw::Keeps(cut, decoder.kept()));
+    }
+    if reading_of(decoder.next())? != later || feed(decoder, &[])? != later {
+        return Err(Flaw::Unsteady(cut));
+    }
+    Ok(())
+}
+
+/// Reads the bytes by a new decoder.
+fn read_cut<D: Subject>(alloc: Global, bytes: &[u8], cut: Cut) -> Result<Reading<D::Item>, Flaw> {
+    let mut decoder = D::begin(alloc);
+    let found = read(&mut decoder, bytes, cut)?;
+    check_end(&mut decoder, &found, bytes.len(), cut)?;
+    Ok(found)
+}
+
+/// Demands that the encoder, if there is one, writes the message as these bytes.
+fn check_spelling<D: Subject>(alloc: Global, message: &D::Item, bytes: &[u8]) -> Result<(), Flaw> {
+    let mut written = Vec::new(alloc);
+    match D::encode(message, &mut written) {
+        Ok(false) => Ok(()),
+        Ok(true) if written.as_slice() == bytes => Ok(()),
+        Ok(true) => Err(Flaw::Respelled),
+        Err(EncodeFault::Memory) => Err(Flaw::Memory),
+        Err(fault) => Err(Flaw::Unwritten(fault)),
+    }
+}
+
+/// The one reading of the bytes, whole and however they are cut. A message is encoded as the very bytes.
+pub fn judge<D: Subject>(alloc: Global, bytes: &[u8]) -> Result<Reading<D::Item>, Flaw> {
+    let whole = read_cut::<D>(alloc, bytes, Cut::Nowhere)?;
+    if read_cut::<D>(alloc, bytes, Cut::Everywhere)? != whole {
+        return Err(Flaw::Differs(Cut::Everywhere));
+    }
+    for place in 0..bytes.len() {
+        if read_cut::<D>(alloc, bytes, Cut::At(place))? != whole {
+            return Err(Flaw::Differs(Cut::At(place)));
+        }
+    }
+    if let Reading::Message(message) = &whole {
+        check_spelling::<D>(alloc, message, bytes)?;
+    }
+    Ok(whole)
+}
