@@ -1,5 +1,5 @@
 -- Worked examples, computed from the definitions alone but where a rest has to be judged.
-use Rattle.std.proofs.Common.{◌≡◌, [], ◌∷◌, Some, None, refl, arith, lit≤}
+use Rattle.std.proofs.Common.{◌≡◌, true, [], ◌∷◌, Some, None, refl, arith, lit≤}
 use Rattle.std.specs.Prelude.{pos, negsuc}
 use Rattle.std.proofs.lemmas.Int.{ints}
 use Rattle.pg_wire.specs.declared.fault.EncodeFault.TheVariants as faults
@@ -7,11 +7,16 @@ use Rattle.pg_wire.specs.declared.fault.WireFault.TheVariants as wire
 use Rattle.pg_wire.specs.declared.message.Status.TheVariants.{Idle}
 use Rattle.pg_wire.specs.declared.backend.kind.BackKind.TheVariants as kinds
 use Rattle.pg_wire.specs.declared.message.BackMessage.TheVariants.{AuthOk, AuthOther, Ready, RowDescription, DataRow, CommandComplete, ErrorResponse}
+use Rattle.pg_wire.specs.declared.message.FrontMessage.TheVariants.{Query, Bind}
+use Rattle.pg_wire.specs.declared.message.First.TheVariants as first
 use Rattle.pg_wire.specs.Direction.{spelling, encode_fault}
+use Rattle.pg_wire.specs.Frontend.{frontend}
+use Rattle.pg_wire.specs.First.{packet, packet_fault, IsBeginning, IsFaultyPacket}
 use Rattle.pg_wire.specs.Backend.{backend}
 use Rattle.pg_wire.specs.Stream.{IsStream, IsFaulty, IsOpen}
 use Rattle.pg_wire.specs.Private.BackReader.{back_message_of}
 use Rattle.pg_wire.specs.Private.Reader.{counted_at, times_at, value_at}
+use Rattle.pg_wire.proofs.Packets.{no_code}
 use Rattle.pg_wire.proofs.BackMessages.{is_tag, no_tag, read_none}
 use Rattle.pg_wire.proofs.Rests.{short_open, bad_fault}
 
@@ -90,3 +95,42 @@ unfolding back_message_of counted_at times_at value_at
 below_null = bad_fault backend 64 (0x44 ∷ 0 ∷ 0 ∷ 0 ∷ 0x0A ∷ 0 ∷ 1 ∷ 0xFF ∷ 0xFF ∷ 0xFF ∷ 0xFE ∷ []) 68 10 6
     (record { head = record { there = omega arith; tag_is = refl; length_is = refl }; known = is_tag 68 kinds.DataRow refl; not_short = omega arith; not_long = omega arith; there = omega arith })
     refl (read_none 68 kinds.DataRow (0 ∷ 1 ∷ 0xFF ∷ 0xFF ∷ 0xFF ∷ 0xFE ∷ []) refl refl)
+
+-- ---- the frontend's messages and first packets
+
+query : spelling frontend (Query (0x53 ∷ 0x45 ∷ 0x4C ∷ 0x45 ∷ 0x43 ∷ 0x54 ∷ 0x20 ∷ 0x31 ∷ [])) ≡ 0x51 ∷ 0 ∷ 0 ∷ 0 ∷ 0x0D ∷ 0x53 ∷ 0x45 ∷ 0x4C ∷ 0x45 ∷ 0x43 ∷ 0x54 ∷ 0x20 ∷ 0x31 ∷ 0 ∷ []
+query = refl
+
+one_null : spelling frontend (Bind [] [] [] (None ∷ []) []) ≡ 0x42 ∷ 0 ∷ 0 ∷ 0 ∷ 0x10 ∷ 0 ∷ 0 ∷ 0 ∷ 0 ∷ 0 ∷ 1 ∷ 0xFF ∷ 0xFF ∷ 0xFF ∷ 0xFF ∷ 0 ∷ 0 ∷ []
+one_null = refl
+
+user_u : packet (first.Startup ((0x75 ∷ 0x73 ∷ 0x65 ∷ 0x72 ∷ [], 0x75 ∷ []) ∷ [])) ≡ 0 ∷ 0 ∷ 0 ∷ 0x10 ∷ 0 ∷ 3 ∷ 0 ∷ 0 ∷ 0x75 ∷ 0x73 ∷ 0x65 ∷ 0x72 ∷ 0 ∷ 0x75 ∷ 0 ∷ 0 ∷ []
+user_u = refl
+
+cancel : packet (first.Cancel (pos 1) (pos 2)) ≡ 0 ∷ 0 ∷ 0 ∷ 0x10 ∷ 4 ∷ 0xD2 ∷ 0x16 ∷ 0x2E ∷ 0 ∷ 0 ∷ 0 ∷ 1 ∷ 0 ∷ 0 ∷ 0 ∷ 2 ∷ []
+cancel = refl
+
+ssl : packet first.Ssl ≡ 0 ∷ 0 ∷ 0 ∷ 8 ∷ 4 ∷ 0xD2 ∷ 0x16 ∷ 0x2F ∷ []
+ssl = refl
+
+empty_name : packet_fault (first.Startup (([], 0x75 ∷ []) ∷ [])) ≡ Some faults.EmptyName
+empty_name = refl
+
+zero_in_query : encode_fault frontend (Query (0x61 ∷ 0 ∷ [])) ≡ Some faults.HasZero
+zero_in_query = refl
+
+ssl_and_startup : IsBeginning (0 ∷ 0 ∷ 0 ∷ 8 ∷ 4 ∷ 0xD2 ∷ 0x16 ∷ 0x2F ∷ 0 ∷ 0 ∷ 0 ∷ 9 ∷ 0 ∷ 3 ∷ 0 ∷ 0 ∷ 0 ∷ 0x53 ∷ []) (first.Ssl ∷ first.Startup [] ∷ []) true (0x53 ∷ [])
+ssl_and_startup = record {
+  whole = refl;
+  each = (record { of_type = tt; no_fault = refl }, (record { of_type = tt; no_fault = refl }, tt));
+  last = (refl, refl);
+}
+
+short_packet : IsFaultyPacket (0 ∷ 0 ∷ 0 ∷ 7 ∷ []) (wire.ShortLength (pos 7))
+short_packet = (record { there = omega arith; length_is = refl }, omega (arith, ints))
+
+long_packet : IsFaultyPacket (0 ∷ 0 ∷ 0x27 ∷ 0x11 ∷ []) (wire.LongLength (pos 10001))
+long_packet = (record { there = omega arith; length_is = refl }, omega (arith, ints))
+
+other_version : IsFaultyPacket (0 ∷ 0 ∷ 0 ∷ 8 ∷ 0 ∷ 2 ∷ 0 ∷ 0 ∷ []) (wire.BadFirst (pos 131072))
+other_version = (pos 8, record { there = omega arith; length_is = refl }, (omega (arith, ints), omega (arith, ints)), record { there = omega arith; code_is = refl }, no_code (pos 131072) refl)

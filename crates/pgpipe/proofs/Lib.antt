@@ -1,5 +1,7 @@
 pub mod Decimals
 pub mod Pieces
-pub mod Progress
+pub mod MessageLines
+pub mod PacketLines
+pub mod Stages
 pub mod Runs
 pub mod Settling

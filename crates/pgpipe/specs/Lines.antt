@@ -1,10 +1,13 @@
--- The line of a message: its tag as a letter, its length field in decimal and its body in hexadecimal, parted by spaces.
+-- The line of a message, or of a first packet: a tag as a letter, or a word, the length in decimal and the bytes behind the
+-- length in hexadecimal, parted by spaces.
 use Rattle.std.specs.Prelude.{ℕ, ◌/◌, ◌%◌, false, List, [], ◌∷◌, ◌++◌}
+use Rattle.std.specs.Int.{w32, to_be_bytes}
 use Rattle.std.specs.List.{flat_map}
 use Rattle.std.specs.Fmt.{decimal, digit_glyph}
-use Rattle.pg_wire.specs.declared.message.BackMessage.{BackMessage}
-use Rattle.pg_wire.specs.Direction.{length_field}
-use Rattle.pg_wire.specs.Backend.{backend, tag, body}
+use Rattle.pg_wire.specs.declared.message.First.{First}
+use Rattle.pg_wire.specs.declared.message.First.TheVariants as first
+use Rattle.pg_wire.specs.Direction.{Direction, length_field}
+use Rattle.pg_wire.specs.First.{packet_length, code, content}
 
 -- two digits, lower-case, the high four bits first
 abbrev pub hexadecimal_byte : ℕ → List ℕ
@@ -13,18 +16,34 @@ hexadecimal_byte b = digit_glyph false (b / 16) ∷ digit_glyph false (b % 16) �
 abbrev pub hexadecimal : List ℕ → List ℕ
 hexadecimal bytes = flat_map hexadecimal_byte bytes
 
--- a body, or `-` for an empty one
+-- bytes, or `-` for none
 abbrev pub body_text : List ℕ → List ℕ
 body_text [] = 45 ∷ []
 body_text (b ∷ bytes) = hexadecimal (b ∷ bytes)
 
--- the line for a tag, a length field and a body
-abbrev pub line_of : ℕ → ℕ → List ℕ → List ℕ
-line_of t n bytes = (t ∷ 32 ∷ []) ++ decimal n ++ (32 ∷ []) ++ body_text bytes ++ (10 ∷ [])
+-- the line for a name, a length and bytes
+abbrev pub line_of : List ℕ → ℕ → List ℕ → List ℕ
+line_of name n bytes = name ++ (32 ∷ []) ++ decimal n ++ (32 ∷ []) ++ body_text bytes ++ (10 ∷ [])
 
-abbrev pub line : BackMessage → List ℕ
-line m = line_of (tag m) (length_field backend m) (body m)
+-- the line of a message
+abbrev pub line : {M : Type 0} → Direction M → M → List ℕ
+line d m = line_of (d.tag m ∷ []) (length_field d m) (d.body m)
 
 -- a line a message
-abbrev pub lines : List BackMessage → List ℕ
-lines messages = flat_map line messages
+abbrev pub lines : {M : Type 0} → Direction M → List M → List ℕ
+lines d messages = flat_map (line d) messages
+
+-- the word for a packet: startup, cancel, ssl or gss
+abbrev pub word : First → List ℕ
+word (first.Startup pairs) = 115 ∷ 116 ∷ 97 ∷ 114 ∷ 116 ∷ 117 ∷ 112 ∷ []
+word (first.Cancel process secret) = 99 ∷ 97 ∷ 110 ∷ 99 ∷ 101 ∷ 108 ∷ []
+word first.Ssl = 115 ∷ 115 ∷ 108 ∷ []
+word first.Gss = 103 ∷ 115 ∷ 115 ∷ []
+
+-- the line of a first packet
+abbrev pub packet_line : First → List ℕ
+packet_line p = line_of (word p) (packet_length p) (to_be_bytes w32 (code p) ++ content p)
+
+-- a line a packet
+abbrev pub packet_lines : List First → List ℕ
+packet_lines packets = flat_map packet_line packets

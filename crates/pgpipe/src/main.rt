@@ -1,10 +1,14 @@
-//! Shows a PostgreSQL backend's byte stream, a line a message.
+//! Shows the byte stream of a PostgreSQL backend or client, a line a message.
 #![tactic(auto)]
 
 mod failure;
+mod halt;
 mod line;
+mod messages;
 mod outbox;
+mod packets;
 mod show;
+mod stage;
 mod words;
 
 use crate::failure::{Failure, result_of, words_failure};
@@ -34,10 +38,10 @@ fn run<R: Env + Input + Print + Eprint + AllocGlobal>(rt: &R) -> Result<ExitCode
         .collect(rt.alloc())
         .map_err(|_| Failure::Memory)?;
     match task_of(rt.alloc(), words.as_slice()) {
-        Ok(Task::Show) => {
+        Ok(Task::Show { front }) => {
             let mut source = Over::new(rt.reader());
             let mut sink = Over::new(io::writer(rt));
-            result_of(show(rt.alloc(), &mut source, &mut sink))?;
+            result_of(show(rt.alloc(), front, &mut source, &mut sink))?;
             Ok(ExitCode::SUCCESS)
         }
         Err(error) => explain(rt, &error),

@@ -116,43 +116,46 @@ impl Outbox {
         Ok(())
     }
 
-    // Puts the body of a message.
-    fn put_body<K: Sink>(&mut self, body: &[u8], sink: &mut K) -> Result<(), LinkFault>
-        ensures { Puts K.takes K.failures self.old sink.old (body_text body.now) result self.new sink.new }
+    // Puts bytes, or a mark for none.
+    fn put_body<K: Sink>(&mut self, bytes: &[u8], sink: &mut K) -> Result<(), LinkFault>
+        ensures { Puts K.takes K.failures self.old sink.old (body_text bytes.now) result self.new sink.new }
     {
-        if body.is_empty() {
+        if bytes.is_empty() {
             self.make_room(1, sink)?;
             self.put(b"-");
             return Ok(());
         }
-        self.put_all(body, sink)
+        self.put_all(bytes, sink)
     }
 
-    // Puts what stands before the body: the tag and the length field.
-    fn put_head<K: Sink>(&mut self, tag: u8, length: u32, sink: &mut K) -> Result<(), LinkFault>
-        ensures { Puts K.takes K.failures self.old sink.old ((tag ∷ 32 ∷ []) ++ decimal length ++ (32 ∷ [])) result self.new sink.new }
+    // Puts what stands before the bytes: the name and the length.
+    fn put_head<K: Sink>(&mut self, name: &[u8], size: u32, sink: &mut K) -> Result<(), LinkFault>
+        requires { length name.now ≤ 7 }
+        ensures { Puts K.takes K.failures self.old sink.old (name.now ++ (32 ∷ []) ++ decimal size ++ (32 ∷ [])) result self.new sink.new }
     {
         let mut digits = [0; 10];
-        let start = write_decimal(length, &mut digits);
-        self.make_room(13, sink)?;
-        self.put(&[tag, b' ']);
+        let start = write_decimal(size, &mut digits);
+        self.make_room(19, sink)?;
+        self.put(name);
+        self.put(b" ");
         self.put(&digits[start..]);
         self.put(b" ");
         Ok(())
     }
 
-    /// Puts the line for a tag, a length field and a body. Where the sink fails a beginning was sent.
+    /// Puts the line for a name, a length and bytes. Where the sink fails a beginning was sent.
     pub fn put_line<K: Sink>(
         &mut self,
-        tag: u8,
-        length: u32,
-        body: &[u8],
+        name: &[u8],
+        size: u32,
+        bytes: &[u8],
         sink: &mut K,
     ) -> Result<(), LinkFault>
-        ensures { Puts K.takes K.failures self.old sink.old (line_of tag length body.now) result self.new sink.new }
+        requires { length name.now ≤ 7 }
+        ensures { Puts K.takes K.failures self.old sink.old (line_of name.now size bytes.now) result self.new sink.new }
     {
-        self.put_head(tag, length, sink)?;
-        self.put_body(body, sink)?;
+        self.put_head(name, size, sink)?;
+        self.put_body(bytes, sink)?;
         self.make_room(1, sink)?;
         self.put(b"\n");
         Ok(())

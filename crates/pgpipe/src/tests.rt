@@ -87,7 +87,10 @@ const LINES: &[u8] = b"Z 5 49\nd 6 0fff\nc 4 -\n";
 fn a_whole_stream(rt: HostRuntime) {
     let mut source = source_of(STREAM, 0);
     let mut sink = sink_of(rt.alloc(), 0);
-    assert_eq!(rt; show(rt.alloc(), &mut source, &mut sink), Ok(Shown::Whole));
+    assert_eq!(rt;
+        show(rt.alloc(), false, &mut source, &mut sink),
+        Ok(Shown::Whole)
+    );
     assert_eq!(rt; sink.text.as_slice(), LINES);
 }
 
@@ -97,7 +100,7 @@ fn a_source_that_fails(rt: HostRuntime) {
         let mut source = source_of(STREAM, call);
         let mut sink = sink_of(rt.alloc(), 0);
         assert_eq!(rt;
-            show(rt.alloc(), &mut source, &mut sink),
+            show(rt.alloc(), false, &mut source, &mut sink),
             Err(ToolFault::Device),
             "at {call}"
         );
@@ -112,7 +115,7 @@ fn a_sink_that_fails(rt: HostRuntime) {
         let mut source = source_of(STREAM, 0);
         let mut sink = sink_of(rt.alloc(), call);
         assert_eq!(rt;
-            show(rt.alloc(), &mut source, &mut sink),
+            show(rt.alloc(), false, &mut source, &mut sink),
             Err(ToolFault::Device),
             "at {call}"
         );
@@ -125,11 +128,11 @@ fn a_sink_that_fails(rt: HostRuntime) {
 fn no_message(rt: HostRuntime) {
     let mut sink = sink_of(rt.alloc(), 0);
     assert_eq!(rt;
-        show(rt.alloc(), &mut source_of(b"", 0), &mut sink),
+        show(rt.alloc(), false, &mut source_of(b"", 0), &mut sink),
         Ok(Shown::Whole)
     );
     assert_eq!(rt;
-        show(rt.alloc(), &mut source_of(b"Z\0\0", 0), &mut sink),
+        show(rt.alloc(), false, &mut source_of(b"Z\0\0", 0), &mut sink),
         Ok(Shown::Rest(3))
     );
     assert!(rt; sink.text.is_empty());
@@ -140,11 +143,11 @@ fn lines_before_a_fault_and_a_rest(rt: HostRuntime) {
     let mut sink = sink_of(rt.alloc(), 0);
     let mut source = source_of(b"Z\0\0\0\x05I!\0\0\0\x04", 0);
     let fault = Shown::Fault(WireFault::UnknownTag(33));
-    assert_eq!(rt; show(rt.alloc(), &mut source, &mut sink), Ok(fault));
+    assert_eq!(rt; show(rt.alloc(), false, &mut source, &mut sink), Ok(fault));
     assert_eq!(rt; sink.text.as_slice(), b"Z 5 49\n".as_slice());
     let mut source = source_of(b"c\0\0\0\x04Z\0\0\0\x05", 0);
     assert_eq!(rt;
-        show(rt.alloc(), &mut source, &mut sink),
+        show(rt.alloc(), false, &mut source, &mut sink),
         Ok(Shown::Rest(5))
     );
     assert_eq!(rt; sink.text.as_slice(), b"Z 5 49\nc 4 -\n".as_slice());
@@ -159,7 +162,10 @@ fn a_long_message(rt: HostRuntime) -> Result<(), Fail> {
     }
     let mut sink = sink_of(rt.alloc(), 0);
     let mut source = source_of(bytes.as_slice(), 0);
-    assert_eq!(rt; show(rt.alloc(), &mut source, &mut sink), Ok(Shown::Whole));
+    assert_eq!(rt;
+        show(rt.alloc(), false, &mut source, &mut sink),
+        Ok(Shown::Whole)
+    );
     assert_eq!(rt; sink.text.len(), 200_010);
     assert!(rt; sink.text.as_slice().starts_with(b"d 100004 a7a7"));
     assert!(rt; sink.text.as_slice().ends_with(b"a7\n"));
@@ -189,4 +195,83 @@ fn texts(rt: HostRuntime) -> Result<(), Fail> {
     assert_eq!(rt; Failure::Device.to_string(rt.alloc())?.as_str(), "device");
     assert_eq!(rt; ToolFault::Memory.to_string(rt.alloc())?.as_str(), "memory");
     Ok(())
+}
+
+// What a client begins with: SSLRequest, StartupMessage with user=u, Query.
+const CLIENT: &[u8] =
+    b"\0\0\0\x08\x04\xd2\x16\x2f\0\0\0\x10\0\x03\0\0user\0u\0\0Q\0\0\0\x0dSELECT 1\0";
+
+const CLIENT_LINES: &[u8] =
+    b"ssl 8 04d2162f\nstartup 16 000300007573657200750000\nQ 13 53454c454354203100\n";
+
+#[test]
+fn a_client(rt: HostRuntime) {
+    let mut source = source_of(CLIENT, 0);
+    let mut sink = sink_of(rt.alloc(), 0);
+    assert_eq!(rt;
+        show(rt.alloc(), true, &mut source, &mut sink),
+        Ok(Shown::Whole)
+    );
+    assert_eq!(rt; sink.text.as_slice(), CLIENT_LINES);
+}
+
+#[test]
+fn a_cancel_and_a_rest(rt: HostRuntime) {
+    let bytes = b"\0\0\0\x10\x04\xd2\x16\x2e\0\0\0\x01\0\0\0\x02\0";
+    let mut source = source_of(bytes, 0);
+    let mut sink = sink_of(rt.alloc(), 0);
+    assert_eq!(rt;
+        show(rt.alloc(), true, &mut source, &mut sink),
+        Ok(Shown::Rest(1))
+    );
+    assert_eq!(rt;
+        sink.text.as_slice(),
+        b"cancel 16 04d2162e0000000100000002\n".as_slice()
+    );
+    let mut source = source_of(&bytes[..15], 0);
+    assert_eq!(rt;
+        show(rt.alloc(), true, &mut source, &mut sink),
+        Ok(Shown::Rest(15))
+    );
+}
+
+#[test]
+fn faults_of_a_client(rt: HostRuntime) {
+    let mut sink = sink_of(rt.alloc(), 0);
+    let mut source = source_of(b"\0\0\0\x08\x04\xd2\x16\x30\0\0\0\x08\0\x02\0\0", 0);
+    let fault = Shown::Fault(WireFault::BadFirst(131_072));
+    assert_eq!(rt; show(rt.alloc(), true, &mut source, &mut sink), Ok(fault));
+    assert_eq!(rt; sink.text.as_slice(), b"gss 8 04d21630\n".as_slice());
+    // a backend's tag
+    let mut source = source_of(b"\0\0\0\x09\0\x03\0\0\0Z\0\0\0\x05I", 0);
+    let fault = Shown::Fault(WireFault::UnknownTag(90));
+    assert_eq!(rt; show(rt.alloc(), true, &mut source, &mut sink), Ok(fault));
+    assert_eq!(rt;
+        sink.text.as_slice(),
+        b"gss 8 04d21630\nstartup 9 0003000000\n".as_slice()
+    );
+}
+
+#[test]
+fn a_client_that_fails(rt: HostRuntime) {
+    // nine receives, the last of which finds the end, and more sends
+    for call in 1..10 {
+        let mut source = source_of(CLIENT, call);
+        let mut sink = sink_of(rt.alloc(), 0);
+        assert_eq!(rt;
+            show(rt.alloc(), true, &mut source, &mut sink),
+            Err(ToolFault::Device),
+            "at {call}"
+        );
+        assert!(rt; CLIENT_LINES.starts_with(sink.text.as_slice()), "at {call}");
+        let mut source = source_of(CLIENT, 0);
+        let mut sink = sink_of(rt.alloc(), call);
+        assert_eq!(rt;
+            show(rt.alloc(), true, &mut source, &mut sink),
+            Err(ToolFault::Device),
+            "at {call}"
+        );
+        assert_eq!(rt; sink.text.len() as u64, 7 * (call - 1));
+        assert!(rt; CLIENT_LINES.starts_with(sink.text.as_slice()), "at {call}");
+    }
 }

@@ -1,8 +1,13 @@
-use Rattle.std.proofs.Common.{◌++◌, take}
-use Rattle.pgpipe.proofs.Progress.{has_put_received}
+use Rattle.std.proofs.Common.{[], take, arith}
+use Rattle.pgpipe.proofs.Stages.{ended_at, failed_at}
 use Rattle.pgpipe.proofs.show.Work.step.Goals as goal
 
-pub returns-in-Err-push-clause-steps : goal.returns-in-Err-push-clause-steps
-returns-in-Err-push-clause-steps g c =
-    let piece = take c.in-Ok.count c.receive.new.into in
-    (piece, c.in-Ok.ensures.bytes, λ start bytes st o. (c.args.self.now.decoder.kept ++ piece, has_put_received g.K.Sink.takes g.K.Sink.failures start bytes c.args.self.now.decoder.kept c.args.self.now.outbox c.args.sink.now piece st.has_put))
+pub returns-in-Ok-eq0-clause-steps : goal.returns-in-Ok-eq0-clause-steps
+returns-in-Ok-eq0-clause-steps g c = (
+  take c.in-Ok-eq0.field-0 c.receive.new.into,
+  c.in-Ok-eq0.ensures.bytes,
+  λ start bytes st. ended_at g.K.Sink.takes g.K.Sink.failures start bytes c.args.self.now.outbox c.args.sink.now c.in-Ok-eq0.field-0 c.receive.new.into c.args.stage c.kept.result (omega (arith, c.in-Ok-eq0.field-0-test)) c.kept.ensures st,
+)
+
+pub returns-in-Err-clause-steps : goal.returns-in-Err-clause-steps
+returns-in-Err-clause-steps g c = ([], c.in-Err.ensures.bytes, λ start bytes st. failed_at g.K.Sink.takes g.K.Sink.failures start bytes c.args.self.now.outbox c.args.sink.now c.args.stage st)

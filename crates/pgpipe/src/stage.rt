@@ -1,0 +1,109 @@
+//! How far the reading has come.
+
+ghost use Rattle.std.specs.Prelude.{◌≡◌, ◌++◌, [], true, false, None, ℕ, List};
+ghost use Rattle.pgpipe.specs.declared.stage.Stage.TheVariants.{First};
+ghost use Rattle.pgpipe.specs.Work.{is_front, kept_of, AreAt, IsSoundAt, Stands, Steps, StepsSource};
+
+use crate::halt::Halt;
+use crate::messages::{LIMIT, put_messages, take_messages};
+use crate::outbox::Outbox;
+use crate::packets::{Next, put_packets};
+use pg_wire::{BackDecoder, FirstDecoder, FrontDecoder, Sink};
+use std::alloc::Global;
+
+/// What is read now.
+#[derive(Drop)]
+pub enum Stage {
+    /// The messages of a backend.
+    Back(BackDecoder),
+    /// The first packets of a client.
+    First(FirstDecoder),
+    /// The messages of a client.
+    Front(FrontDecoder),
+    /// Nothing behind a Cancel: so many bytes came.
+    Over(usize),
+}
+
+// Takes a piece of what a client begins with, and puts the lines of the packets and messages that are whole then.
+fn take_packets<K: Sink>(
+    decoder: FirstDecoder,
+    piece: &[u8],
+    spelled: &mut Vec<u8>,
+    outbox: &mut Outbox,
+    sink: &mut K,
+) -> Result<Stage, Halt>
+    requires { (decoder.ended ≡ false) × (decoder.fault ≡ None) }
+    ensures steps { (start : K) (bytes : List ℕ) → Stands K.takes K.failures start bytes (First decoder) outbox.old sink.old → Steps K.takes K.failures true start (bytes ++ piece.now) result outbox.new sink.new }
+    ensures source { StepsSource ⊥ 0 0 result }
+{
+    let mut first = decoder;
+    if first.push(piece).is_err() {
+        return Err(Halt::Memory);
+    }
+    match put_packets(&mut first, spelled, outbox, sink) {
+        Ok(Next::Packet) => Ok(Stage::First(first)),
+        Ok(Next::Message) => {
+            match put_messages(first.into_front(LIMIT), spelled, outbox, sink) {
+                Ok(decoder) => Ok(Stage::Front(decoder)),
+                Err(halt) => Err(halt),
+            }
+        }
+        Ok(Next::Nothing) => Ok(Stage::Over(first.kept())),
+        Err(halt) => Err(halt),
+    }
+}
+
+impl Stage {
+    /// Nothing was read yet.
+    pub fn begin(alloc: Global, front: bool) -> Stage
+        ensures side { is_front result ≡ front }
+        ensures begun { AreAt [] [] result }
+    {
+        if front {
+            Stage::First(FirstDecoder::new(alloc))
+        } else {
+            Stage::Back(BackDecoder::new(alloc, LIMIT))
+        }
+    }
+
+    /// How many bytes are left that no line was put for.
+    pub fn kept(&self) -> usize
+        ensures { result ≡ kept_of self.now }
+    {
+        match self {
+            Stage::Back(decoder) => decoder.kept(),
+            Stage::First(decoder) => decoder.kept(),
+            Stage::Front(decoder) => decoder.kept(),
+            Stage::Over(count) => *count,
+        }
+    }
+
+    /// Takes a piece, and puts the lines of the packets and messages that are whole then.
+    pub fn take<K: Sink>(
+        self,
+        piece: &[u8],
+        spelled: &mut Vec<u8>,
+        outbox: &mut Outbox,
+        sink: &mut K,
+    ) -> Result<Stage, Halt>
+        requires { IsSoundAt self }
+        ensures steps { (start : K) (bytes : List ℕ) → Stands K.takes K.failures start bytes self outbox.old sink.old → Steps K.takes K.failures (is_front self) start (bytes ++ piece.now) result outbox.new sink.new }
+        ensures source { StepsSource ⊥ 0 0 result }
+    {
+        match self {
+            Stage::Back(decoder) => match take_messages(decoder, piece, spelled, outbox, sink) {
+                Ok(decoder) => Ok(Stage::Back(decoder)),
+                Err(halt) => Err(halt),
+            },
+            Stage::First(decoder) => take_packets(decoder, piece, spelled, outbox, sink),
+            Stage::Front(decoder) => match take_messages(decoder, piece, spelled, outbox, sink) {
+                Ok(decoder) => Ok(Stage::Front(decoder)),
+                Err(halt) => Err(halt),
+            },
+            Stage::Over(count) => match count.checked_add(piece.len()) {
+                Some(count) => Ok(Stage::Over(count)),
+                None => Err(Halt::Memory),
+            },
+        }
+    }
+}
