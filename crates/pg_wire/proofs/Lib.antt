@@ -7,5 +7,6 @@ pub mod Rests
 pub mod Streams
 pub mod Rows
 pub mod FrontMessages
+pub mod Segments
 pub mod Encoding
 pub mod Packets

@@ -15,10 +15,11 @@ use Rattle.pg_wire.specs.First.{packet, packet_fault, IsBeginning, IsFaultyPacke
 use Rattle.pg_wire.specs.Backend.{backend}
 use Rattle.pg_wire.specs.Stream.{IsStream, IsFaulty, IsOpen}
 use Rattle.pg_wire.specs.Private.BackReader.{back_message_of}
+use Rattle.pg_wire.specs.declared.first.kind.FirstKind.TheVariants as packets
 use Rattle.pg_wire.specs.Private.Reader.{counted_at, times_at, value_at}
-use Rattle.pg_wire.proofs.Packets.{no_code}
+use Rattle.pg_wire.proofs.Packets.{no_code, packet_bad}
 use Rattle.pg_wire.proofs.BackMessages.{is_tag, no_tag, read_none}
-use Rattle.pg_wire.proofs.Rests.{short_open, bad_fault}
+use Rattle.pg_wire.proofs.Rests.{short_open, partial_open, bad_fault}
 
 -- ---- spellings
 
@@ -61,6 +62,9 @@ two_messages = record {
 
 four_bytes : IsOpen backend 64 (0x21 ∷ 0 ∷ 0 ∷ 0 ∷ [])
 four_bytes = short_open backend 64 (0x21 ∷ 0 ∷ 0 ∷ 0 ∷ []) (omega arith)
+
+no_body_yet : IsOpen backend 64 (0x5A ∷ 0 ∷ 0 ∷ 0 ∷ 5 ∷ [])
+no_body_yet = partial_open backend 64 (0x5A ∷ 0 ∷ 0 ∷ 0 ∷ 5 ∷ []) 90 5 (record { there = omega arith; tag_is = refl; length_is = refl }) (is_tag 90 kinds.Ready refl) (omega arith) (omega arith) (omega arith)
 
 unknown_tag : IsFaulty backend 64 (0x21 ∷ 0 ∷ 0 ∷ 0 ∷ 4 ∷ []) (wire.UnknownTag 33)
 unknown_tag = (pos 4, record { there = omega arith; tag_is = refl; length_is = refl }, no_tag 33 refl)
@@ -134,3 +138,8 @@ long_packet = (record { there = omega arith; length_is = refl }, omega (arith, i
 
 other_version : IsFaultyPacket (0 ∷ 0 ∷ 0 ∷ 8 ∷ 0 ∷ 2 ∷ 0 ∷ 0 ∷ []) (wire.BadFirst (pos 131072))
 other_version = (pos 8, record { there = omega arith; length_is = refl }, (omega (arith, ints), omega (arith, ints)), record { there = omega arith; code_is = refl }, no_code (pos 131072) refl)
+
+ssl_with_content : IsFaultyPacket (0 ∷ 0 ∷ 0 ∷ 9 ∷ 4 ∷ 0xD2 ∷ 0x16 ∷ 0x2F ∷ 0 ∷ []) (wire.BadBody 0)
+ssl_with_content = packet_bad (0 ∷ 0 ∷ 0 ∷ 9 ∷ 4 ∷ 0xD2 ∷ 0x16 ∷ 0x2F ∷ 0 ∷ []) packets.Ssl 9 1
+    (record { head = record { there = omega arith; length_is = refl }; code = record { there = omega arith; code_is = refl }; known = (first.Ssl, refl); not_short = omega arith; not_long = omega arith; there = omega arith })
+    refl refl

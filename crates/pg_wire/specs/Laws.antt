@@ -3,6 +3,10 @@ use Rattle.std.specs.Prelude.{ℕ, ◌≡◌, ◌≤◌, Bool, true, false, List
 use Rattle.std.specs.List.{flat_map, AllByRecursion}
 use Rattle.pg_wire.specs.declared.fault.WireFault.{WireFault}
 use Rattle.pg_wire.specs.declared.message.First.{First}
+use Rattle.pg_wire.specs.declared.message.BackMessage.{BackMessage}
+use Rattle.pg_wire.specs.declared.session.Outcome.{Outcome}
+use Rattle.pg_wire.specs.declared.session.Request.{Request}
+use Rattle.pg_wire.specs.Segment.{Fits}
 use Rattle.pg_wire.specs.First.{packet, IsPacket, EndsIn, IsBeginning, IsFaultyPacket, BeginsNoPacket}
 use Rattle.pg_wire.specs.Direction.{Direction, spelling, HasSpelling}
 use Rattle.pg_wire.specs.Stream.{IsWithin, IsStream, IsFaulty, BeginsNoMessage}
@@ -65,3 +69,9 @@ OnePacketFault = (rest : List ℕ) (f g : WireFault) → IsFaultyPacket rest f �
 abbrev pub PacketsAgain : Type 0
 PacketsAgain = (ps given : List First) (e f : Bool) (rest : List ℕ) → AllByRecursion IsPacket ps → EndsIn ps f → IsBeginning (flat_map packet ps) given e rest
     → (later : List First) × (ps ≡ given ++ later) × (rest ≡ flat_map packet later)
+
+-- ---- segments
+
+-- A segment fits a request with at most one outcome.
+abbrev pub OneOutcome : Type 0
+OneOutcome = (request : Request) (segment : List BackMessage) (one other : Outcome) → Fits request segment one → Fits request segment other → one ≡ other

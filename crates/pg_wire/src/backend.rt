@@ -1,4 +1,9 @@
 //! The backend's messages: written by [`encode`], read by a [`BackDecoder`](crate::BackDecoder).
+//!
+//! A message that holds lists has a function of its own too, which is lent them. Each appends the one spelling of a message
+//! ("Message Formats", those marked B) to `buf`, and copies each byte once. Its fault is the first that holds of HasZero,
+//! TooMany, ReservedCode, TooLong and, where there is none of these, Memory for a buffer that could not grow. After a fault
+//! `buf` is as it was.
 
 mod kind;
 mod reading;
@@ -7,16 +12,18 @@ ghost use Rattle.std.specs.Prelude.{◌≡◌, ◌++◌, false, length};
 ghost use Rattle.std.specs.List.{AllByRecursion};
 ghost use Rattle.std.specs.Int.{w16, w32};
 ghost use Rattle.std.specs.Int.RustNames.{FitsSigned};
+ghost use Rattle.pg_wire.specs.declared.message.BackMessage.TheVariants.{ParameterStatus, RowDescription, DataRow, CommandComplete, ParameterDescription, ErrorResponse, NoticeResponse, Notification, CopyIn, CopyOut, CopyData};
 ghost use Rattle.pg_wire.specs.Field.{int32, exceeds_count};
 ghost use Rattle.pg_wire.specs.Direction.{tagged, fault_of};
-ghost use Rattle.pg_wire.specs.Backend.{backend, status_byte, format_byte, copy_head, is_reserved};
+ghost use Rattle.pg_wire.specs.Backend.{backend, tag, status_byte, format_byte, copy_head, is_reserved};
 ghost use Rattle.pg_wire.specs.Encoder.{EncodesAs, Encodes};
 
 use crate::direction::Message;
 use crate::fault::{BodyFault, EncodeFault};
-use crate::message::{BackMessage, CopyHead, Status};
+use crate::message::{BackMessage, Column, CopyHead, ErrorField, Status};
 use crate::part::{Byte, Bytes, Counted, Int32, Pair, Salt, Terminated, Text, append};
 use kind::BackKind;
+use pg_seq::Seq;
 use reading::back_message;
 use std::alloc::Global;
 
@@ -61,6 +68,89 @@ fn encode_copy_head(tag: u8, head: &CopyHead, buf: &mut Vec<u8>) -> Result<(), E
     append(tag, &Pair(format, Counted(head.formats.as_slice())), buf)
 }
 
+/// Appends a ParameterStatus: the value of a run-time parameter.
+pub fn parameter_status(name: &[u8], value: &[u8], buf: &mut Vec<u8>) -> Result<(), EncodeFault>
+    ensures { Encodes backend (ParameterStatus name.now value.now) buf.old.items result buf.new.items }
+{
+    append(b'S', &Pair(Text(name), Text(value)), buf)
+}
+
+/// Appends a RowDescription of these columns.
+pub fn row_description(columns: &[Column], buf: &mut Vec<u8>) -> Result<(), EncodeFault>
+    ensures { Encodes backend (RowDescription columns.now) buf.old.items result buf.new.items }
+{
+    append(b'T', &Counted(columns), buf)
+}
+
+/// Appends a DataRow of these values.
+pub fn data_row(values: &[Option<Seq<u8>>], buf: &mut Vec<u8>) -> Result<(), EncodeFault>
+    ensures { Encodes backend (DataRow values.now) buf.old.items result buf.new.items }
+{
+    append(b'D', &Counted(values), buf)
+}
+
+/// Appends a CommandComplete with this tag.
+pub fn command_complete(tag: &[u8], buf: &mut Vec<u8>) -> Result<(), EncodeFault>
+    ensures { Encodes backend (CommandComplete tag.now) buf.old.items result buf.new.items }
+{
+    append(b'C', &Text(tag), buf)
+}
+
+/// Appends a ParameterDescription: the object ids of the types of a statement's parameters.
+pub fn parameter_description(types: &[u32], buf: &mut Vec<u8>) -> Result<(), EncodeFault>
+    ensures { Encodes backend (ParameterDescription types.now) buf.old.items result buf.new.items }
+{
+    append(b't', &Counted(types), buf)
+}
+
+/// Appends an ErrorResponse with these fields.
+pub fn error_response(fields: &[ErrorField], buf: &mut Vec<u8>) -> Result<(), EncodeFault>
+    ensures { Encodes backend (ErrorResponse fields.now) buf.old.items result buf.new.items }
+{
+    append(b'E', &Terminated(fields), buf)
+}
+
+/// Appends a NoticeResponse with these fields.
+pub fn notice_response(fields: &[ErrorField], buf: &mut Vec<u8>) -> Result<(), EncodeFault>
+    ensures { Encodes backend (NoticeResponse fields.now) buf.old.items result buf.new.items }
+{
+    append(b'N', &Terminated(fields), buf)
+}
+
+/// Appends a NotificationResponse from the backend with this process id.
+pub fn notification(
+    process: i32,
+    channel: &[u8],
+    payload: &[u8],
+    buf: &mut Vec<u8>,
+) -> Result<(), EncodeFault>
+    ensures { Encodes backend (Notification process channel.now payload.now) buf.old.items result buf.new.items }
+{
+    let names = Pair(Int32(&process), Text(channel));
+    append(b'A', &Pair(names, Text(payload)), buf)
+}
+
+/// Appends a CopyInResponse with these formats.
+pub fn copy_in(head: &CopyHead, buf: &mut Vec<u8>) -> Result<(), EncodeFault>
+    ensures { Encodes backend (CopyIn head.now) buf.old.items result buf.new.items }
+{
+    encode_copy_head(b'G', head, buf)
+}
+
+/// Appends a CopyOutResponse with these formats.
+pub fn copy_out(head: &CopyHead, buf: &mut Vec<u8>) -> Result<(), EncodeFault>
+    ensures { Encodes backend (CopyOut head.now) buf.old.items result buf.new.items }
+{
+    encode_copy_head(b'H', head, buf)
+}
+
+/// Appends a CopyData.
+pub fn copy_data(bytes: &[u8], buf: &mut Vec<u8>) -> Result<(), EncodeFault>
+    ensures { Encodes backend (CopyData bytes.now) buf.old.items result buf.new.items }
+{
+    append(b'd', &Bytes(bytes), buf)
+}
+
 /// Appends the one spelling of a message: its tag, its length field, its body ("Message Formats").
 ///
 /// The fault is the first that holds of HasZero, TooMany, ReservedCode, TooLong and, where there is none of these, Memory
@@ -79,37 +169,64 @@ pub fn encode(message: &BackMessage, buf: &mut Vec<u8>) -> Result<(), EncodeFaul
             buf,
         ),
         BackMessage::ParameterStatus { name, value } => {
-            append(
-                b'S',
-                &Pair(Text(name.as_slice()), Text(value.as_slice())),
-                buf,
-            )
+            parameter_status(name.as_slice(), value.as_slice(), buf)
         }
         BackMessage::Ready(status) => append(b'Z', &Byte(status_byte(*status)), buf),
-        BackMessage::RowDescription(columns) => append(b'T', &Counted(columns.as_slice()), buf),
-        BackMessage::DataRow(values) => append(b'D', &Counted(values.as_slice()), buf),
-        BackMessage::CommandComplete(tag) => append(b'C', &Text(tag.as_slice()), buf),
+        BackMessage::RowDescription(columns) => row_description(columns.as_slice(), buf),
+        BackMessage::DataRow(values) => data_row(values.as_slice(), buf),
+        BackMessage::CommandComplete(tag) => command_complete(tag.as_slice(), buf),
         BackMessage::EmptyQuery => append(b'I', &Bytes(&[]), buf),
         BackMessage::ParseComplete => append(b'1', &Bytes(&[]), buf),
         BackMessage::BindComplete => append(b'2', &Bytes(&[]), buf),
         BackMessage::CloseComplete => append(b'3', &Bytes(&[]), buf),
         BackMessage::NoData => append(b'n', &Bytes(&[]), buf),
         BackMessage::PortalSuspended => append(b's', &Bytes(&[]), buf),
-        BackMessage::ParameterDescription(types) => append(b't', &Counted(types.as_slice()), buf),
-        BackMessage::ErrorResponse(fields) => append(b'E', &Terminated(fields.as_slice()), buf),
-        BackMessage::NoticeResponse(fields) => append(b'N', &Terminated(fields.as_slice()), buf),
+        BackMessage::ParameterDescription(types) => parameter_description(types.as_slice(), buf),
+        BackMessage::ErrorResponse(fields) => error_response(fields.as_slice(), buf),
+        BackMessage::NoticeResponse(fields) => notice_response(fields.as_slice(), buf),
         BackMessage::Notification {
             process,
             channel,
             payload,
-        } => {
-            let names = Pair(Int32(process), Text(channel.as_slice()));
-            append(b'A', &Pair(names, Text(payload.as_slice())), buf)
-        }
-        BackMessage::CopyIn(head) => encode_copy_head(b'G', head, buf),
-        BackMessage::CopyOut(head) => encode_copy_head(b'H', head, buf),
-        BackMessage::CopyData(bytes) => append(b'd', &Bytes(bytes.as_slice()), buf),
+        } => notification(*process, channel.as_slice(), payload.as_slice(), buf),
+        BackMessage::CopyIn(head) => copy_in(head, buf),
+        BackMessage::CopyOut(head) => copy_out(head, buf),
+        BackMessage::CopyData(bytes) => copy_data(bytes.as_slice(), buf),
         BackMessage::CopyDone => append(b'c', &Bytes(&[]), buf),
+    }
+}
+
+impl BackMessage {
+    /// The message's tag, which is the first byte of its spelling.
+    pub fn tag(&self) -> u8
+        ensures { result ≡ tag self.now }
+    {
+        match self {
+            BackMessage::AuthOk
+            | BackMessage::AuthCleartext
+            | BackMessage::AuthMd5(_)
+            | BackMessage::AuthOther { .. } => b'R',
+            BackMessage::KeyData { .. } => b'K',
+            BackMessage::ParameterStatus { .. } => b'S',
+            BackMessage::Ready(_) => b'Z',
+            BackMessage::RowDescription(_) => b'T',
+            BackMessage::DataRow(_) => b'D',
+            BackMessage::CommandComplete(_) => b'C',
+            BackMessage::EmptyQuery => b'I',
+            BackMessage::ParseComplete => b'1',
+            BackMessage::BindComplete => b'2',
+            BackMessage::CloseComplete => b'3',
+            BackMessage::NoData => b'n',
+            BackMessage::PortalSuspended => b's',
+            BackMessage::ParameterDescription(_) => b't',
+            BackMessage::ErrorResponse(_) => b'E',
+            BackMessage::NoticeResponse(_) => b'N',
+            BackMessage::Notification { .. } => b'A',
+            BackMessage::CopyIn(_) => b'G',
+            BackMessage::CopyOut(_) => b'H',
+            BackMessage::CopyData(_) => b'd',
+            BackMessage::CopyDone => b'c',
+        }
     }
 }
 

@@ -5,7 +5,7 @@ ghost use Rattle.std.specs.Prelude.{◌≡◌, ◌≤◌, ◌++◌, [], length, 
 use std::alloc::{AllocError, Global};
 use std::marker::Model;
 
-/// A queue of bytes: they are pushed behind, and taken in front.
+/// A queue of bytes: they are pushed at the end, and taken at the beginning.
 #[derive(Drop)]
 pub struct Buffer {
     bytes: Vec<u8>,

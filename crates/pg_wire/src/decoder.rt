@@ -70,7 +70,7 @@ fn find<M: Message>(alloc: Global, limit: u32, rest: &[u8]) -> Result<Option<(M,
     }
 }
 
-/// Takes a stream of one direction in any pieces, and gives exactly its messages.
+/// Takes a stream of one direction in any pieces, and gives exactly its messages ("Overview", "Message Formats").
 ///
 /// `push` keeps a piece, and `next` gives the messages one by one. What is kept is bounded: after `next` has answered None
 /// fewer than `limit + 1` bytes are. A fault stands in the place of a message, and is answered for good from then on.

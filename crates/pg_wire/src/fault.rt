@@ -6,7 +6,8 @@ ghost use Rattle.pg_wire.specs.declared.fault.BodyFault.TheVariants.{Memory};
 use std::alloc::{AllocError, AllocFailed};
 use thiserror::Error;
 
-/// Why an encoder refused a message: the first of these that holds. The buffer is then as it was.
+/// Why an encoder refused a message: the first of these that holds. The buffer is then as it was. What has no spelling follows
+/// from "Message Formats".
 #[derive(Clone, Copy, Debug, PartialEq, Eq, Error)]
 pub enum EncodeFault {
     /// A String holds a zero byte, or the code of an error field is 0.
@@ -29,8 +30,8 @@ pub enum EncodeFault {
     Memory,
 }
 
-/// What stands in the place of a next message: the first of these that holds. After any of them but Memory the decoder
-/// answers it for good; after Memory it is unchanged.
+/// What stands in the place of a next message: the first of these that holds ("Overview" and "Message Formats" say what a
+/// message is). After any of them but Memory the decoder answers it for good; after Memory it is unchanged.
 #[derive(Clone, Copy, Debug, PartialEq, Eq, Error)]
 pub enum WireFault {
     /// Five bytes are there, and no message has this tag. First packets have no tag.

@@ -15,13 +15,11 @@ use crate::buffer::Buffer;
 use crate::decoder::FrontDecoder;
 use crate::fault::{BodyFault, WireFault};
 use crate::message::First;
+use crate::part::LONGEST_PACKET;
 use crate::reader::{ended, i32_at, terminated};
 use kind::FirstKind;
 use std::alloc::Global;
 use std::marker::Model;
-
-/// The greatest length of a packet.
-const LONGEST: i32 = 10_000;
 
 /// What the head of a rest says.
 pub enum JudgedPacket {
@@ -60,7 +58,7 @@ fn judge(rest: &[u8]) -> JudgedPacket
     if len < 8 {
         return JudgedPacket::Faulty(WireFault::ShortLength(len));
     }
-    if len > LONGEST {
+    if len > LONGEST_PACKET as i32 {
         return JudgedPacket::Faulty(WireFault::LongLength(len));
     }
     let Some(code) = code(rest) else {
@@ -119,7 +117,7 @@ fn is_last(packet: &First) -> bool
 }
 
 /// Takes what a frontend begins a connection with in any pieces, and gives its first packets: any number of Ssl and Gss, and
-/// then a Startup or a Cancel.
+/// then a Startup or a Cancel ("Start-up", "Canceling Requests in Progress").
 ///
 /// What comes behind those is kept for [`into_front`](FirstDecoder::into_front). Until the last packet was given, fewer than
 /// 10,000 bytes are kept after each None. A fault stands in the place of a packet, and is answered for good from then on.

@@ -41,15 +41,16 @@ fn any_has_no_name(pairs: &[(Seq<u8>, Seq<u8>)]) -> bool
     pairs.iter().any(|pair| pair.0.as_slice().is_empty())
 }
 
-/// Appends the startup packet of protocol 3.0 with these parameters, names and values. The fault is the first that holds of
-/// HasZero, EmptyName, TooLong (the packet would pass 10,000 bytes) and Memory.
+/// Appends the startup packet of protocol 3.0 with these parameters, names and values ("Message Formats", StartupMessage). The
+/// fault is the first that holds of HasZero, EmptyName, TooLong (the packet would pass 10,000 bytes) and Memory.
 pub fn startup_message(pairs: &[(Seq<u8>, Seq<u8>)], buf: &mut Vec<u8>) -> Result<(), EncodeFault>
     ensures { EncodesPacket (Startup pairs.now) buf.old.items result buf.new.items }
 {
     append_packet(196_608, any_has_no_name(pairs), &Terminated(pairs), buf)
 }
 
-/// Appends a CancelRequest with the process id and the secret key of a backend. Its only fault is Memory.
+/// Appends a CancelRequest with the process id and the secret key of a backend ("Canceling Requests in Progress"). Its only
+/// fault is Memory.
 pub fn cancel_request(process: i32, secret: i32, buf: &mut Vec<u8>) -> Result<(), EncodeFault>
     ensures { EncodesPacket (Cancel process secret) buf.old.items result buf.new.items }
 {
@@ -61,7 +62,7 @@ pub fn cancel_request(process: i32, secret: i32, buf: &mut Vec<u8>) -> Result<()
     )
 }
 
-/// Appends an SSLRequest. Its only fault is Memory.
+/// Appends an SSLRequest ("SSL Session Encryption"). Its only fault is Memory.
 pub fn ssl_request(buf: &mut Vec<u8>) -> Result<(), EncodeFault>
     ensures { EncodesPacket Ssl buf.old.items result buf.new.items }
 {

@@ -1,6 +1,6 @@
 //! Laws of the formats: each function does nothing, and its contract is the law.
 
-ghost use Rattle.pg_wire.specs.Laws.{OneSpelling, OneReading, FaultyBeginsNone, OneFault, RoundTrip, OnePacket, OneBeginning, FaultyBeginsNoPacket, OnePacketFault, PacketsAgain};
+ghost use Rattle.pg_wire.specs.Laws.{OneSpelling, OneReading, FaultyBeginsNone, OneFault, RoundTrip, OnePacket, OneBeginning, FaultyBeginsNoPacket, OnePacketFault, PacketsAgain, OneOutcome};
 
 use crate::direction::Message;
 
@@ -58,4 +58,9 @@ pub fn one_packet_fault()
 /// First packets that encoders wrote are read as what was meant, however far the reading goes.
 pub fn packets_again()
     ensures { PacketsAgain }
+{}
+
+/// A segment fits a request with at most one outcome.
+pub fn one_outcome()
+    ensures { OneOutcome }
 {}

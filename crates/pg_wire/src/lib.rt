@@ -1,7 +1,8 @@
 //! The messages of the PostgreSQL Frontend/Backend Protocol 3.0, as bytes.
 //!
-//! An encoder appends the one spelling of a message to a buffer ([`backend`]). A decoder takes a stream in any pieces and
-//! gives exactly its messages ([`BackDecoder`]). The functions of [`laws`] say what spellings and streams have in common.
+//! An encoder appends the one spelling of a message to a buffer ([`backend`], [`frontend`]). A decoder takes a stream in any
+//! pieces and gives exactly its messages ([`BackDecoder`], [`FrontDecoder`], and [`FirstDecoder`] for what a connection begins
+//! with). The functions of [`laws`] say what spellings and streams have in common.
 #![tactic(auto)]
 
 mod appender;
@@ -18,6 +19,7 @@ mod link;
 mod message;
 mod part;
 mod reader;
+mod session;
 mod writer;
 
 pub use decoder::{BackDecoder, Decoder, FrontDecoder};
@@ -28,7 +30,9 @@ pub use link::{LinkFault, Over, Sink, Source};
 pub use message::{
     BackMessage, Column, CopyHead, ErrorField, Fields, First, FrontMessage, Status, Target, Values,
 };
+pub use part::LONGEST;
 pub use pg_seq::Seq;
+pub use session::{Aside, ExecEnd, Outcome, Part, Request, Step};
 
 #[cfg(test)]
 mod tests;

@@ -24,7 +24,7 @@ pub trait Source {
     // The last call found the end.
     ghost has_ended: { Self → Type 0 };
 
-    /// Puts bytes at the front of `into`, and answers how many, at most as many as there is room for. 0 is the end,
+    /// Puts bytes at the beginning of `into`, and answers how many, at most as many as there is room for. 0 is the end,
     /// where there was room. A fault gives nothing and is counted; the source may be asked again.
     fn receive(&mut self, into: &mut [u8]) -> Result<usize, LinkFault>
         ensures bound { IfOk result (λ n. n ≤ length into.new) }
@@ -41,7 +41,7 @@ pub trait Sink {
     // A call may take these bytes and leave the sink so. Where it fails it takes none.
     ghost takes: { Self → List ℕ → Self → Type 0 };
 
-    /// Takes bytes from the front of `piece`, and answers how many: at most its length, and at least 1 unless it is
+    /// Takes bytes from the beginning of `piece`, and answers how many: at most its length, and at least 1 unless it is
     /// empty. A fault takes nothing and is counted; the sink may be asked again.
     fn send(&mut self, piece: &[u8]) -> Result<usize, LinkFault>
         ensures bound { IfOk result (λ n. n ≤ length piece.now) }

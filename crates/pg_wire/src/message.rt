@@ -2,7 +2,7 @@
 
 use pg_seq::Seq;
 
-/// The transaction status of ReadyForQuery.
+/// The transaction status of ReadyForQuery ("Message Formats", ReadyForQuery).
 #[derive(Clone, Copy, Debug, PartialEq, Eq)]
 pub enum Status {
     /// `I`: not in a transaction block.
@@ -106,11 +106,11 @@ pub enum BackMessage {
     CommandComplete(Seq<u8>),
     /// `I`, EmptyQueryResponse.
     EmptyQuery,
-    /// `1`.
+    /// `1`: a Parse is done.
     ParseComplete,
-    /// `2`.
+    /// `2`: a Bind is done.
     BindComplete,
-    /// `3`.
+    /// `3`: a Close is done.
     CloseComplete,
     /// `n`: a statement or a portal returns no rows.
     NoData,
@@ -118,9 +118,9 @@ pub enum BackMessage {
     PortalSuspended,
     /// `t`: the object ids of the types of a statement's parameters.
     ParameterDescription(Seq<u32>),
-    /// `E`.
+    /// `E`: an error. What it cut off doesn't come.
     ErrorResponse(Fields),
-    /// `N`.
+    /// `N`: a notice, which changes nothing of what comes.
     NoticeResponse(Fields),
     /// `A`, NotificationResponse.
     Notification {

@@ -19,8 +19,8 @@ use crate::writer::{
 };
 use std::alloc::AllocError;
 
-/// The greatest length field.
-const LONGEST: u32 = 1_073_741_823;
+/// The greatest length field of a message. A decoder's limit is at most this.
+pub const LONGEST: u32 = 1_073_741_823;
 
 /// A part of a body.
 pub trait Part: Drop {
@@ -346,7 +346,7 @@ pub fn append<P: Part>(tag: u8, body: &P, buf: &mut Vec<u8>) -> Result<(), Encod
 }
 
 /// The greatest length of a first packet.
-const LONGEST_PACKET: u32 = 10_000;
+pub const LONGEST_PACKET: u32 = 10_000;
 
 /// The length of a first packet with this content, or why it has no spelling.
 fn judge_packet<P: Part>(has_no_name: bool, content: &P) -> Result<u32, EncodeFault>

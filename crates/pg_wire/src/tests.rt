@@ -129,7 +129,7 @@ fn a_refused_message_leaves_the_buffer(rt: HostRuntime) -> Result<(), Fail> {
     let tag = BackMessage::CommandComplete(Seq::from_slice(rt.alloc(), b"a\0")?);
     assert!(rt; matches!(backend::encode(&tag, &mut buf), Err(EncodeFault::HasZero)));
     let rest = Seq::new(Vec::new(rt.alloc()));
-    let request = BackMessage::AuthOther { code: 5, rest };
+    let request = BackMessage::AuthOther { code: 3, rest };
     assert!(rt;
         matches!(
             backend::encode(&request, &mut buf),

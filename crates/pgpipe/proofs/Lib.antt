@@ -5,3 +5,4 @@ pub mod PacketLines
 pub mod Stages
 pub mod Runs
 pub mod Settling
+pub mod Rows

@@ -14,7 +14,7 @@ use Rattle.pgpipe.specs.declared.halt.Halt.TheVariants as halt
 use Rattle.pgpipe.specs.Lines.{line, lines}
 use Rattle.pgpipe.specs.Sending.{Puts}
 use Rattle.pgpipe.specs.Show.{limit}
-use Rattle.pgpipe.specs.Work.{IsSound, HasPut, Breaks, PutsMessages, StepsSource, PutsLine, halt_of}
+use Rattle.pgpipe.specs.Private.Work.{IsSound, HasPut, Breaks, PutsMessages, StepsSource, PutsLine, halt_of}
 use Rattle.pgpipe.proofs.Pieces.{puts_none, puts_then}
 
 pub each_append : {X : Type 0} (P : X → Type 0) (xs ys : List X) → AllByRecursion P xs → AllByRecursion P ys → AllByRecursion P (xs ++ ys)

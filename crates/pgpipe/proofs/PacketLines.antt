@@ -19,7 +19,7 @@ use Rattle.pgpipe.specs.declared.packets.Next.TheVariants as next
 use Rattle.pgpipe.specs.Lines.{packet_line, packet_lines}
 use Rattle.pgpipe.specs.Sending.{Puts}
 use Rattle.pgpipe.specs.Show.{after, next_after, have_ended}
-use Rattle.pgpipe.specs.Work.{HasPutPackets, PutsPackets, PutsLine, halt_of}
+use Rattle.pgpipe.specs.Private.Work.{HasPutPackets, PutsPackets, PutsLine, halt_of}
 use Rattle.pgpipe.proofs.MessageLines.{each_append}
 use Rattle.pgpipe.proofs.Pieces.{puts_none, puts_then}
 

@@ -1,8 +1,9 @@
 -- How the work goes on from stage to stage.
-use Rattle.std.proofs.Common.{◌≡◌, ℕ, ◌+◌, Bool, true, false, List, [], ◌++◌, length, take, Result, Ok, Err, refl, sym, ap, subst, ◌∙◌, append_assoc, append-nil, length-append}
+use Rattle.std.proofs.Common.{◌≡◌, ℕ, ◌+◌, ◌≤◌, Bool, true, false, List, [], ◌++◌, length, take, drop, Result, Ok, Err, refl, sym, ap, subst, ◌∙◌, append_assoc, append-nil, length-append, arith}
 use Rattle.std.specs.List.{flat_map}
 use Rattle.std.specs.Result.{is_err}
 use Rattle.std.proofs.lemmas.Grind.{flat_map-append}
+use Rattle.std.proofs.lemmas.List.{length-take, take_all, take-append-le}
 use Rattle.pg_wire.specs.declared.fault.WireFault.{WireFault}
 use Rattle.pg_wire.specs.declared.message.First.{First}
 use Rattle.pg_wire.specs.Backend.{backend}
@@ -19,16 +20,16 @@ use Rattle.pgpipe.specs.declared.packets.Next.TheVariants as next
 use Rattle.pgpipe.specs.declared.stage.Stage.{Stage}
 use Rattle.pgpipe.specs.declared.stage.Stage.TheVariants as stage
 use Rattle.pgpipe.specs.Lines.{line, lines, packet_line, packet_lines}
-use Rattle.pgpipe.specs.Sending.{Puts}
-use Rattle.pgpipe.specs.Show.{limit, next_after, have_ended, AreMessages, IsBehind, IsClientSide, AreShown, IsFaultyFor}
-use Rattle.pgpipe.specs.Work.{HasPut, PutsMessages, HasPutPackets, PutsPackets, is_front, kept_of, AreAt, IsSoundAt, Stands, ArePut, Halts, Steps}
+use Rattle.pgpipe.specs.Sending.{Begins, Puts}
+use Rattle.pgpipe.specs.Show.{limit, longest_piece, next_after, have_ended, AreMessages, IsBehind, IsClientSide, AreShown, AreAllShown, IsOpenFor, IsFaultyFor}
+use Rattle.pgpipe.specs.Private.Work.{HasPut, PutsMessages, HasPutPackets, PutsPackets, is_front, kept_of, AreAt, IsSoundAt, Stands, ArePut, Halts, Steps}
 use Rattle.pgpipe.proofs.MessageLines.{stream_append}
 use Rattle.pgpipe.proofs.PacketLines.{next_append, beginning_append}
 use Rattle.pgpipe.proofs.Pieces.{puts_none, puts_then}
 
 -- ---- more bytes come
 
-messages_received : {M : Type 0} (D : Direction M) (bytes text rest piece : List ℕ) → AreMessages D bytes text rest → AreMessages D (bytes ++ piece) text (rest ++ piece)
+pub messages_received : {M : Type 0} (D : Direction M) (bytes text rest piece : List ℕ) → AreMessages D bytes text rest → AreMessages D (bytes ++ piece) text (rest ++ piece)
 messages_received D bytes text rest piece a = record {
   messages = a.messages;
   stream = record { whole = ap (λ (u : List ℕ). u ++ piece) a.stream.whole ∙ append_assoc (flat_map (spelling D) a.messages) rest piece; each = a.stream.each };
@@ -40,7 +41,7 @@ behind_received next.Message behind text rest piece b = messages_received fronte
 behind_received next.Packet behind text rest piece b = (b.0, ap (λ (u : List ℕ). u ++ piece) b.1)
 behind_received next.Nothing behind text rest piece b = (b.0, ap (λ (u : List ℕ). u ++ piece) b.1)
 
-client_received : (bytes text : List ℕ) (n : Next) (rest piece : List ℕ) → IsClientSide bytes text n rest → IsClientSide (bytes ++ piece) text n (rest ++ piece)
+pub client_received : (bytes text : List ℕ) (n : Next) (rest piece : List ℕ) → IsClientSide bytes text n rest → IsClientSide (bytes ++ piece) text n (rest ++ piece)
 client_received bytes text n rest piece c = record {
   packets = c.packets;
   behind = c.behind ++ piece;
@@ -79,7 +80,7 @@ nothing_behind next.Message behind = record { messages = []; stream = record { w
 nothing_behind next.Packet behind = (refl, refl)
 nothing_behind next.Nothing behind = (refl, refl)
 
-client_packets : (bytes text rest : List ℕ) (qs : List First) (n : Next) (rest' : List ℕ) → IsClientSide bytes text next.Packet rest → IsBeginning rest qs (have_ended n) rest' → next_after qs ≡ n → IsClientSide bytes (text ++ packet_lines qs) n rest'
+pub client_packets : (bytes text rest : List ℕ) (qs : List First) (n : Next) (rest' : List ℕ) → IsClientSide bytes text next.Packet rest → IsBeginning rest qs (have_ended n) rest' → next_after qs ≡ n → IsClientSide bytes (text ++ packet_lines qs) n rest'
 client_packets bytes text rest qs n rest' c s is = record {
   packets = c.packets ++ qs;
   behind = rest';
@@ -90,6 +91,31 @@ client_packets bytes text rest qs n rest' c s is = record {
   each_line = ap (λ (u : List ℕ). u ++ packet_lines qs) (c.each_line ∙ ap (λ (u : List ℕ). packet_lines c.packets ++ u) c.follows.0 ∙ append-nil (packet_lines c.packets)) ∙ sym (flat_map-append packet_line c.packets qs) ∙ sym (append-nil (packet_lines (c.packets ++ qs)));
 }
 
+-- ---- a text that begins another
+
+begins_itself : (text : List ℕ) → Begins text text
+begins_itself text = ([], sym (append-nil text))
+
+begins_more : (before text more : List ℕ) → Begins before text → Begins before (text ++ more)
+begins_more before text more b = (b.0 ++ more, ap (λ (l : List ℕ). l ++ more) b.1 ∙ append_assoc before b.0 more)
+
+-- ---- a rest is no longer than the bytes
+
+rest_within : (bytes front rest : List ℕ) → bytes ≡ front ++ rest → length rest ≤ length bytes
+rest_within bytes front rest e = omega (arith, ap (λ (l : List ℕ). length l) e, length-append front rest)
+
+messages_within : {M : Type 0} (D : Direction M) (bytes text rest : List ℕ) → AreMessages D bytes text rest → length rest ≤ length bytes
+messages_within D bytes text rest a = rest_within bytes (flat_map (spelling D) a.messages) rest a.stream.whole
+
+behind_within : (n : Next) (behind text rest : List ℕ) → IsBehind n behind text rest → length rest ≤ length behind
+behind_within next.Message behind text rest b = messages_within frontend behind text rest b
+behind_within next.Packet behind text rest b = rest_within behind [] rest (sym b.1)
+behind_within next.Nothing behind text rest b = rest_within behind [] rest (sym b.1)
+
+shown_within : (front : Bool) (bytes text : List ℕ) (n : Next) (rest : List ℕ) → AreShown front bytes text n rest → length rest ≤ length bytes
+shown_within false bytes text n rest a = messages_within backend bytes text rest a.1
+shown_within true bytes text n rest a = omega (arith, behind_within n a.behind a.later rest a.follows, rest_within bytes (flat_map packet a.packets) a.behind a.beginning.whole)
+
 module _ {K : Type 0} (takes : K → List ℕ → K → Type 0) (failures : K → ℕ) (start : K) (bytes : List ℕ) where
   -- ---- what taking messages leads to
 
@@ -97,17 +123,17 @@ module _ {K : Type 0} (takes : K → List ℕ → K → Type 0) (failures : K �
       (more : (text : List ℕ) (ns : List M) (rest : List ℕ) → AreShown front bytes text n kept → IsStream D limit kept ns rest → AreShown front bytes (text ++ lines D ns) n rest)
       (faulty : (rest : List ℕ) (f : WireFault) → IsFaulty D limit rest f → IsFaultyFor front n rest f)
       (p : ArePut takes failures front start bytes n kept c s) where
-    all_put : (rest c' : List ℕ) (s' : K) → HasPut takes failures D c s kept rest c' s' → ArePut takes failures front start bytes n rest c' s'
+    abbrev all_put : (rest c' : List ℕ) (s' : K) → HasPut takes failures D c s kept rest c' s' → ArePut takes failures front start bytes n rest c' s'
     all_put rest c' s' h = record {
       text = p.text ++ lines D h.messages;
       shown = more p.text h.messages rest p.shown h.stream;
       put = puts_then takes failures [] start p.text c s (lines D h.messages) (Ok tt) c' s' p.put h.put;
     }
 
-    messages_halt : (w : Halt) (c' : List ℕ) (s' : K) → PutsMessages takes failures D c s kept (Err w) c' s' → Halts takes failures front start bytes w c' s'
-    messages_halt (halt.Faulty f) c' s' h = (n, h.0, all_put h.0 c' s' h.1, faulty h.0 f h.2)
-    messages_halt halt.Memory c' s' h = (n, h.0, all_put h.0 c' s' h.1)
-    messages_halt halt.SinkFailed c' s' h = record {
+    messages_halt : (before : List ℕ) → Begins before p.text → (w : Halt) (c' : List ℕ) (s' : K) → PutsMessages takes failures D c s kept (Err w) c' s' → Halts takes failures front start bytes before w c' s'
+    messages_halt before b (halt.Faulty f) c' s' h = (n, h.0, all_put h.0 c' s' h.1, faulty h.0 f h.2)
+    messages_halt before b halt.Memory c' s' h = (n, h.0, all_put h.0 c' s' h.1, begins_more before p.text (lines D h.1.messages) b)
+    messages_halt before b halt.SinkFailed c' s' h = record {
       fault = h.fault;
       text = p.text ++ lines D h.messages;
       n = n;
@@ -115,9 +141,9 @@ module _ {K : Type 0} (takes : K → List ℕ → K → Type 0) (failures : K �
       shown = more p.text h.messages h.rest p.shown h.stream;
       put = puts_then takes failures [] start p.text c s (lines D h.messages) (Err h.fault) c' s' p.put h.put;
     }
-    messages_halt (halt.Ended k) c' s' h = absurd h
-    messages_halt halt.SourceFailed c' s' h = absurd h
-    messages_halt halt.Endless c' s' h = absurd h
+    messages_halt before b (halt.Ended k) c' s' h = absurd h
+    messages_halt before b halt.SourceFailed c' s' h = absurd h
+    messages_halt before b halt.Endless c' s' h = absurd h
 
   back_more : (kept text : List ℕ) (ns : List _) (rest : List ℕ) → AreShown false bytes text next.Message kept → IsStream backend limit kept ns rest → AreShown false bytes (text ++ lines backend ns) next.Message rest
   back_more kept text ns rest a s = (refl, messages_then backend bytes text kept ns rest a.1 s)
@@ -131,8 +157,8 @@ module _ {K : Type 0} (takes : K → List ℕ → K → Type 0) (failures : K �
         let a = all_put backend false next.Message kept c s (back_more kept) (λ rest f x. x) p d.kept c' s' h.1 in
         record { text = a.text; are_at = (h.0, a.shown.1, h.2); put = a.put }
 
-    pub back_err : (w : Halt) (c' : List ℕ) (s' : K) → PutsMessages takes failures backend c s kept (Err w) c' s' → Halts takes failures false start bytes w c' s'
-    back_err w c' s' h = messages_halt backend false next.Message kept c s (back_more kept) (λ rest f x. x) p w c' s' h
+    pub back_err : (before : List ℕ) → Begins before p.text → (w : Halt) (c' : List ℕ) (s' : K) → PutsMessages takes failures backend c s kept (Err w) c' s' → Halts takes failures false start bytes before w c' s'
+    back_err before b w c' s' h = messages_halt backend false next.Message kept c s (back_more kept) (λ rest f x. x) p before b w c' s' h
 
   module _ (kept c : List ℕ) (s : K) (p : ArePut takes failures true start bytes next.Message kept c s) where
     pub front_ok : (d : DecoderState) (c' : List ℕ) (s' : K) → PutsMessages takes failures frontend c s kept (Ok d) c' s' → Stands takes failures start bytes (stage.Front d) c' s'
@@ -140,22 +166,22 @@ module _ {K : Type 0} (takes : K → List ℕ → K → Type 0) (failures : K �
         let a = all_put frontend true next.Message kept c s (front_more kept) (λ rest f x. x) p d.kept c' s' h.1 in
         record { text = a.text; are_at = (h.0, a.shown, h.2); put = a.put }
 
-    pub front_err : (w : Halt) (c' : List ℕ) (s' : K) → PutsMessages takes failures frontend c s kept (Err w) c' s' → Halts takes failures true start bytes w c' s'
-    front_err w c' s' h = messages_halt frontend true next.Message kept c s (front_more kept) (λ rest f x. x) p w c' s' h
+    pub front_err : (before : List ℕ) → Begins before p.text → (w : Halt) (c' : List ℕ) (s' : K) → PutsMessages takes failures frontend c s kept (Err w) c' s' → Halts takes failures true start bytes before w c' s'
+    front_err before b w c' s' h = messages_halt frontend true next.Message kept c s (front_more kept) (λ rest f x. x) p before b w c' s' h
 
   -- ---- what taking packets leads to
 
   module _ (kept c : List ℕ) (s : K) (p : ArePut takes failures true start bytes next.Packet kept c s) where
-    pub packets_put : (n : Next) (rest c' : List ℕ) (s' : K) → HasPutPackets takes failures c s kept n rest c' s' → ArePut takes failures true start bytes n rest c' s'
+    abbrev pub packets_put : (n : Next) (rest c' : List ℕ) (s' : K) → HasPutPackets takes failures c s kept n rest c' s' → ArePut takes failures true start bytes n rest c' s'
     packets_put n rest c' s' h = record {
       text = p.text ++ packet_lines h.packets;
       shown = client_packets bytes p.text kept h.packets n rest p.shown h.beginning h.next_is;
       put = puts_then takes failures [] start p.text c s (packet_lines h.packets) (Ok tt) c' s' p.put h.put;
     }
 
-    pub packets_err : (w : Halt) (d : FirstState) (c' : List ℕ) (s' : K) → PutsPackets takes failures c s kept (Err w) d c' s' → Halts takes failures true start bytes w c' s'
+    pub packets_err : (w : Halt) (d : FirstState) (c' : List ℕ) (s' : K) → PutsPackets takes failures c s kept (Err w) d c' s' → Halts takes failures true start bytes p.text w c' s'
     packets_err (halt.Faulty f) d c' s' h = (next.Packet, h.0, packets_put next.Packet h.0 c' s' h.1, h.2)
-    packets_err halt.Memory d c' s' h = (next.Packet, h.0, packets_put next.Packet h.0 c' s' h.1)
+    packets_err halt.Memory d c' s' h = (next.Packet, h.0, packets_put next.Packet h.0 c' s' h.1, (packet_lines h.1.packets, refl))
     packets_err halt.SinkFailed d c' s' h = record {
       fault = h.fault;
       text = p.text ++ packet_lines h.packets;
@@ -176,10 +202,12 @@ module _ {K : Type 0} (takes : K → List ℕ → K → Type 0) (failures : K �
         record { text = a.text; are_at = (h.0, h.1, a.shown, h.3); put = a.put }
 
     -- a Startup came
-    pub now_messages : (n : Next) (d : FirstState) (kept' c' : List ℕ) (s' : K) → n ≡ next.Message → kept' ≡ d.kept → PutsPackets takes failures c s kept (Ok n) d c' s' → ArePut takes failures true start bytes next.Message kept' c' s'
+    pub now_messages : (n : Next) (d : FirstState) (kept' c' : List ℕ) (s' : K) → n ≡ next.Message → kept' ≡ d.kept → PutsPackets takes failures c s kept (Ok n) d c' s'
+        → (put : ArePut takes failures true start bytes next.Message kept' c' s') × Begins p.text put.text
     now_messages n d kept' c' s' is e puts =
         let h = subst (λ (x : Next). PutsPackets takes failures c s kept (Ok x) d c' s') is puts in
-        subst (λ (k : List ℕ). ArePut takes failures true start bytes next.Message k c' s') (sym e) (packets_put next.Message d.kept c' s' h.1)
+        let a = packets_put next.Message d.kept c' s' h.1 in
+        (record { text = a.text; shown = subst (λ (k : List ℕ). AreShown true bytes a.text next.Message k) (sym e) a.shown; put = a.put }, (packet_lines h.1.packets, refl))
 
     -- a Cancel came
     pub now_over : (n : Next) (size : ℕ) (d : FirstState) (c' : List ℕ) (s' : K) → n ≡ next.Nothing → size ≡ length d.kept → PutsPackets takes failures c s kept (Ok n) d c' s' → Stands takes failures start bytes (stage.Over size) c' s'
@@ -191,63 +219,89 @@ module _ {K : Type 0} (takes : K → List ℕ → K → Type 0) (failures : K �
 -- ---- a stage and a piece
 
 module _ {K : Type 0} (takes : K → List ℕ → K → Type 0) (failures : K → ℕ) (start : K) (bytes piece c : List ℕ) (s : K) where
-  pub back_received : (d : DecoderState) → Stands takes failures start bytes (stage.Back d) c s → ArePut takes failures false start (bytes ++ piece) next.Message (d.kept ++ piece) c s
+  abbrev pub back_received : (d : DecoderState) → Stands takes failures start bytes (stage.Back d) c s → ArePut takes failures false start (bytes ++ piece) next.Message (d.kept ++ piece) c s
   back_received d st = record { text = st.text; shown = (refl, messages_received backend bytes st.text d.kept piece st.are_at.1); put = st.put }
 
-  pub front_received : (d : DecoderState) → Stands takes failures start bytes (stage.Front d) c s → ArePut takes failures true start (bytes ++ piece) next.Message (d.kept ++ piece) c s
+  abbrev pub front_received : (d : DecoderState) → Stands takes failures start bytes (stage.Front d) c s → ArePut takes failures true start (bytes ++ piece) next.Message (d.kept ++ piece) c s
   front_received d st = record { text = st.text; shown = client_received bytes st.text next.Message d.kept piece st.are_at.1; put = st.put }
 
-  pub first_received : (d : FirstState) → Stands takes failures start bytes (stage.First d) c s → ArePut takes failures true start (bytes ++ piece) next.Packet (d.kept ++ piece) c s
+  abbrev pub first_received : (d : FirstState) → Stands takes failures start bytes (stage.First d) c s → ArePut takes failures true start (bytes ++ piece) next.Packet (d.kept ++ piece) c s
   first_received d st = record { text = st.text; shown = client_received bytes st.text next.Packet d.kept piece st.are_at.2; put = st.put }
 
-  pub first_pushed : (d : FirstState) (r : Result Unit WireFault) (d' : FirstState) → false ≡ is_err r → FirstPushes d piece r d' → Stands takes failures start bytes (stage.First d) c s → ArePut takes failures true start (bytes ++ piece) next.Packet d'.kept c s
-  first_pushed d (Ok x) d' e p st = subst (λ (k : List ℕ). ArePut takes failures true start (bytes ++ piece) next.Packet k c s) (sym (ap (λ (x : FirstState). x.kept) p.1)) (first_received d st)
-  first_pushed d (Err f) d' e p st = absurd cc
+  pub kept_pushed : (d : FirstState) (r : Result Unit WireFault) (d' : FirstState) → false ≡ is_err r → FirstPushes d piece r d' → d.kept ++ piece ≡ d'.kept
+  kept_pushed d (Ok x) d' e p = sym (ap (λ (x : FirstState). x.kept) p.1)
+  kept_pushed d (Err f) d' e p = absurd cc
+
+  abbrev pub first_pushed : (d : FirstState) (r : Result Unit WireFault) (d' : FirstState) → false ≡ is_err r → FirstPushes d piece r d' → Stands takes failures start bytes (stage.First d) c s → ArePut takes failures true start (bytes ++ piece) next.Packet d'.kept c s
+  first_pushed d r d' e p st = record {
+    text = st.text;
+    shown = subst (λ (k : List ℕ). AreShown true (bytes ++ piece) st.text next.Packet k) (kept_pushed d r d' e p) (client_received bytes st.text next.Packet d.kept piece st.are_at.2);
+    put = st.put;
+  }
+
+  -- memory was refused before the piece was taken
+  pub first_refused : (d : FirstState) (st : Stands takes failures start bytes (stage.First d) c s) → Halts takes failures true start (bytes ++ piece) st.text halt.Memory c s
+  first_refused d st = (next.Packet, d.kept ++ piece, first_received d st, begins_itself st.text)
 
   -- what comes behind a Cancel
-  over_received : (n : ℕ) (st : Stands takes failures start bytes (stage.Over n) c s) → ArePut takes failures true start (bytes ++ piece) next.Nothing (st.are_at.0 ++ piece) c s
-  over_received n st = record { text = st.text; shown = client_received bytes st.text next.Nothing st.are_at.0 piece st.are_at.1; put = st.put }
-
-  pub over_more : (n m : ℕ) → Stands takes failures start bytes (stage.Over n) c s → ((rest : List ℕ) → n ≡ length rest → m ≡ length (rest ++ piece)) → Stands takes failures start (bytes ++ piece) (stage.Over m) c s
-  over_more n m st e = let a = over_received n st in record { text = a.text; are_at = (st.are_at.0 ++ piece, a.shown, e st.are_at.0 st.are_at.2); put = a.put }
-
-  pub over_full : (n : ℕ) → Stands takes failures start bytes (stage.Over n) c s → Halts takes failures true start (bytes ++ piece) halt.Memory c s
-  over_full n st = (next.Nothing, st.are_at.0 ++ piece, over_received n st)
+  over_received : (n : ℕ) → Stands takes failures start bytes (stage.Over n) c s → Stands takes failures start (bytes ++ piece) (stage.Over (n + length piece)) c s
+  over_received n st =
+      let rest = st.are_at.0 in
+      record { text = st.text; are_at = (rest ++ piece, client_received bytes st.text next.Nothing rest piece st.are_at.1, ap (λ (k : ℕ). k + length piece) st.are_at.2 ∙ sym (length-append rest piece)); put = st.put }
 
 module _ {K : Type 0} (takes : K → List ℕ → K → Type 0) (failures : K → ℕ) (start : K) (bytes piece c : List ℕ) (s : K) (at : Stage) (st : Stands takes failures start bytes at c s) where
-  as_it_is : (at' : Stage) → at ≡ at' → Stands takes failures start bytes at' c s
-  as_it_is at' is = subst (λ (x : Stage). Stands takes failures start bytes x c s) is st
+  abbrev as_it_is : (at' : Stage) → at ≡ at' → Stands takes failures start bytes at' c s
+  as_it_is at' is = record { text = st.text; are_at = subst (λ (x : Stage). AreAt bytes st.text x) is st.are_at; put = st.put }
 
-  side_of : (at' : Stage) (h : Halt) (c' : List ℕ) (s' : K) → at ≡ at' → Halts takes failures (is_front at') start (bytes ++ piece) h c' s' → Halts takes failures (is_front at) start (bytes ++ piece) h c' s'
-  side_of at' h c' s' is = subst (λ (f : Bool). Halts takes failures f start (bytes ++ piece) h c' s') (sym (ap is_front is))
+  side_of : (at' : Stage) (h : Halt) (c' : List ℕ) (s' : K) → at ≡ at' → Halts takes failures (is_front at') start (bytes ++ piece) st.text h c' s' → Halts takes failures (is_front at) start (bytes ++ piece) st.text h c' s'
+  side_of at' h c' s' is = subst (λ (f : Bool). Halts takes failures f start (bytes ++ piece) st.text h c' s') (sym (ap is_front is))
 
-  pub take_back_ok : (d d' : DecoderState) (c' : List ℕ) (s' : K) → at ≡ stage.Back d → PutsMessages takes failures backend c s (d.kept ++ piece) (Ok d') c' s' → Steps takes failures (is_front at) start (bytes ++ piece) (Ok (stage.Back d')) c' s'
+  pub take_back_ok : (d d' : DecoderState) (c' : List ℕ) (s' : K) → at ≡ stage.Back d → PutsMessages takes failures backend c s (d.kept ++ piece) (Ok d') c' s' → Steps takes failures (is_front at) start (bytes ++ piece) st.text (Ok (stage.Back d')) c' s'
   take_back_ok d d' c' s' is h = (sym (ap is_front is), back_ok takes failures start (bytes ++ piece) (d.kept ++ piece) c s (back_received takes failures start bytes piece c s d (as_it_is (stage.Back d) is)) d' c' s' h)
 
-  pub take_back_err : (d : DecoderState) (w : Halt) (c' : List ℕ) (s' : K) → at ≡ stage.Back d → PutsMessages takes failures backend c s (d.kept ++ piece) (Err w) c' s' → Halts takes failures (is_front at) start (bytes ++ piece) w c' s'
-  take_back_err d w c' s' is h = side_of (stage.Back d) w c' s' is (back_err takes failures start (bytes ++ piece) (d.kept ++ piece) c s (back_received takes failures start bytes piece c s d (as_it_is (stage.Back d) is)) w c' s' h)
+  pub take_back_err : (d : DecoderState) (w : Halt) (c' : List ℕ) (s' : K) → at ≡ stage.Back d → PutsMessages takes failures backend c s (d.kept ++ piece) (Err w) c' s' → Halts takes failures (is_front at) start (bytes ++ piece) st.text w c' s'
+  take_back_err d w c' s' is h = side_of (stage.Back d) w c' s' is (back_err takes failures start (bytes ++ piece) (d.kept ++ piece) c s (back_received takes failures start bytes piece c s d (as_it_is (stage.Back d) is)) st.text (begins_itself st.text) w c' s' h)
 
-  pub take_front_ok : (d d' : DecoderState) (c' : List ℕ) (s' : K) → at ≡ stage.Front d → PutsMessages takes failures frontend c s (d.kept ++ piece) (Ok d') c' s' → Steps takes failures (is_front at) start (bytes ++ piece) (Ok (stage.Front d')) c' s'
+  pub take_first : (d : FirstState) (r : Result Stage Halt) (c' : List ℕ) (s' : K) → at ≡ stage.First d → ((stands : Stands takes failures start bytes (stage.First d) c s) → Steps takes failures true start (bytes ++ piece) stands.text r c' s') → Steps takes failures (is_front at) start (bytes ++ piece) st.text r c' s'
+  take_first d r c' s' is h = subst (λ (f : Bool). Steps takes failures f start (bytes ++ piece) st.text r c' s') (sym (ap is_front is)) (h (as_it_is (stage.First d) is))
+
+  pub take_front_ok : (d d' : DecoderState) (c' : List ℕ) (s' : K) → at ≡ stage.Front d → PutsMessages takes failures frontend c s (d.kept ++ piece) (Ok d') c' s' → Steps takes failures (is_front at) start (bytes ++ piece) st.text (Ok (stage.Front d')) c' s'
   take_front_ok d d' c' s' is h = (sym (ap is_front is), front_ok takes failures start (bytes ++ piece) (d.kept ++ piece) c s (front_received takes failures start bytes piece c s d (as_it_is (stage.Front d) is)) d' c' s' h)
 
-  pub take_front_err : (d : DecoderState) (w : Halt) (c' : List ℕ) (s' : K) → at ≡ stage.Front d → PutsMessages takes failures frontend c s (d.kept ++ piece) (Err w) c' s' → Halts takes failures (is_front at) start (bytes ++ piece) w c' s'
-  take_front_err d w c' s' is h = side_of (stage.Front d) w c' s' is (front_err takes failures start (bytes ++ piece) (d.kept ++ piece) c s (front_received takes failures start bytes piece c s d (as_it_is (stage.Front d) is)) w c' s' h)
+  pub take_front_err : (d : DecoderState) (w : Halt) (c' : List ℕ) (s' : K) → at ≡ stage.Front d → PutsMessages takes failures frontend c s (d.kept ++ piece) (Err w) c' s' → Halts takes failures (is_front at) start (bytes ++ piece) st.text w c' s'
+  take_front_err d w c' s' is h = side_of (stage.Front d) w c' s' is (front_err takes failures start (bytes ++ piece) (d.kept ++ piece) c s (front_received takes failures start bytes piece c s d (as_it_is (stage.Front d) is)) st.text (begins_itself st.text) w c' s' h)
 
-  pub take_over : (n m : ℕ) → at ≡ stage.Over n → m ≡ n + length piece → Steps takes failures (is_front at) start (bytes ++ piece) (Ok (stage.Over m)) c s
-  take_over n m is e = (sym (ap is_front is), over_more takes failures start bytes piece c s n m (as_it_is (stage.Over n) is) (λ rest same. e ∙ ap (λ (k : ℕ). k + length piece) same ∙ sym (length-append rest piece)))
+  pub take_over : (n : ℕ) → at ≡ stage.Over n → Steps takes failures (is_front at) start (bytes ++ piece) st.text (Ok (stage.Over (n + length piece))) c s
+  take_over n is = (sym (ap is_front is), over_received takes failures start bytes piece c s n (as_it_is (stage.Over n) is))
 
-  pub take_over_full : (n : ℕ) → at ≡ stage.Over n → Halts takes failures (is_front at) start (bytes ++ piece) halt.Memory c s
-  take_over_full n is = side_of (stage.Over n) halt.Memory c s is (over_full takes failures start bytes piece c s n (as_it_is (stage.Over n) is))
+-- ---- what is received
+
+-- what was written over the whole of a list
+pub read_back : (n : ℕ) (into old now : List ℕ) → now ≡ take n (into ++ drop (length into) old) → n ≡ length into → now ≡ into
+read_back n into old now e all = e ∙ take-append-le n into (drop (length into) old) (omega arith) ∙ take_all n into (omega arith)
+
+-- a piece is no longer than what it was received in
+pub piece_within : (n : ℕ) (into : List ℕ) → length into ≡ longest_piece → length (take n into) ≤ longest_piece
+piece_within n into room = omega (arith, length-take n into)
 
 -- ---- a stage and the end
 
 module _ {K : Type 0} (takes : K → List ℕ → K → Type 0) (failures : K → ℕ) (start : K) (bytes c : List ℕ) (s : K) where
   -- what stands is put but for an open rest
-  pub at_end : (at : Stage) → Stands takes failures start bytes at c s → Halts takes failures (is_front at) start bytes (halt.Ended (kept_of at)) c s
-  at_end (stage.Back d) st = (next.Message, d.kept, record { text = st.text; shown = (refl, st.are_at.1); put = st.put }, st.are_at.2, refl)
-  at_end (stage.First d) st = (next.Packet, d.kept, record { text = st.text; shown = st.are_at.2; put = st.put }, st.are_at.3, refl)
-  at_end (stage.Front d) st = (next.Message, d.kept, record { text = st.text; shown = st.are_at.1; put = st.put }, st.are_at.2, refl)
-  at_end (stage.Over n) st = (next.Nothing, st.are_at.0, record { text = st.text; shown = st.are_at.1; put = st.put }, tt, st.are_at.2)
+  abbrev pub all_shown : (at : Stage) (st : Stands takes failures start bytes at c s) → AreAllShown (is_front at) bytes st.text
+  all_shown (stage.Back d) st = record { n = next.Message; rest = d.kept; shown = (refl, st.are_at.1); is_open = st.are_at.2 }
+  all_shown (stage.First d) st = record { n = next.Packet; rest = d.kept; shown = st.are_at.2; is_open = st.are_at.3 }
+  all_shown (stage.Front d) st = record { n = next.Message; rest = d.kept; shown = st.are_at.1; is_open = st.are_at.2 }
+  all_shown (stage.Over n) st = record { n = next.Nothing; rest = st.are_at.0; shown = st.are_at.1; is_open = tt }
+
+  kept_is : (at : Stage) (st : Stands takes failures start bytes at c s) → kept_of at ≡ length (all_shown at st).rest
+  kept_is (stage.Back d) st = refl
+  kept_is (stage.First d) st = refl
+  kept_is (stage.Front d) st = refl
+  kept_is (stage.Over n) st = st.are_at.2
+
+  pub kept_within : (at : Stage) → Stands takes failures start bytes at c s → kept_of at ≤ length bytes
+  kept_within at st = let a = all_shown at st in omega (arith, kept_is at st, shown_within (is_front at) bytes st.text a.n a.rest a.shown)
 
   pub sound_at : (at : Stage) → Stands takes failures start bytes at c s → IsSoundAt at
   sound_at (stage.Back d) st = st.are_at.0
@@ -256,18 +310,21 @@ module _ {K : Type 0} (takes : K → List ℕ → K → Type 0) (failures : K �
   sound_at (stage.Over n) st = tt
 
   -- the work may halt at any time
-  pub at_any_time : (at : Stage) → Stands takes failures start bytes at c s → (n : Next) × (rest : List ℕ) × ArePut takes failures (is_front at) start bytes n rest c s
-  at_any_time at st = let e = at_end at st in (e.0, e.1, e.2)
+  pub at_any_time : (at : Stage) → Stands takes failures start bytes at c s → (n : Next) × (rest : List ℕ) × ArePut takes failures (is_front at) start bytes n rest c s × IsOpenFor (is_front at) n rest
+  at_any_time at st = let a = all_shown at st in (a.n, a.rest, record { text = st.text; shown = a.shown; put = st.put }, a.is_open)
+
+  at_end : (at : Stage) (st : Stands takes failures start bytes at c s) → Halts takes failures (is_front at) start bytes st.text (halt.Ended (kept_of at)) c s
+  at_end at st = let a = all_shown at st in (a.n, a.rest, record { text = st.text; shown = a.shown; put = st.put }, a.is_open, kept_is at st)
 
   -- the source has ended
-  pub ended_at : (n : ℕ) (into : List ℕ) (at : Stage) (size : ℕ) → n ≡ 0 → size ≡ kept_of at → Stands takes failures start bytes at c s → Halts takes failures (is_front at) start (bytes ++ take n into) (halt.Ended size) c s
+  pub ended_at : (n : ℕ) (into : List ℕ) (at : Stage) (size : ℕ) → n ≡ 0 → size ≡ kept_of at → (st : Stands takes failures start bytes at c s) → Halts takes failures (is_front at) start (bytes ++ take n into) st.text (halt.Ended size) c s
   ended_at n into at size zero e st =
       let same : bytes ≡ bytes ++ take n into = sym (ap (λ (k : ℕ). bytes ++ take k into) zero ∙ append-nil bytes) in
-      subst (λ (b : List ℕ). Halts takes failures (is_front at) start b (halt.Ended size) c s) same (subst (λ (k : ℕ). Halts takes failures (is_front at) start bytes (halt.Ended k) c s) (sym e) (at_end at st))
+      subst (λ (b : List ℕ). Halts takes failures (is_front at) start b st.text (halt.Ended size) c s) same (subst (λ (k : ℕ). Halts takes failures (is_front at) start bytes st.text (halt.Ended k) c s) (sym e) (at_end at st))
 
   -- the source has failed
-  pub failed_at : (at : Stage) → Stands takes failures start bytes at c s → (n : Next) × (rest : List ℕ) × ArePut takes failures (is_front at) start (bytes ++ []) n rest c s
-  failed_at at st = subst (λ (b : List ℕ). (n : Next) × (rest : List ℕ) × ArePut takes failures (is_front at) start b n rest c s) (sym (append-nil bytes)) (at_any_time at st)
+  pub failed_at : (at : Stage) (st : Stands takes failures start bytes at c s) → Halts takes failures (is_front at) start (bytes ++ []) st.text halt.SourceFailed c s
+  failed_at at st = subst (λ (b : List ℕ). Halts takes failures (is_front at) start b st.text halt.SourceFailed c s) (sym (append-nil bytes)) (at_any_time at st)
 
   pub at_begin : (at : Stage) → bytes ≡ [] → AreAt [] [] at → c ≡ [] → s ≡ start → Stands takes failures start bytes at c s
   at_begin at none a empty same = record {

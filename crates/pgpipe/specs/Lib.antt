@@ -1,5 +1,7 @@
+-- What a reader must believe: the line of a message, what is sent, what is shown of a stream, and how the program fails.
 pub mod Lines
 pub mod Sending
 pub mod Show
-pub mod Work
 pub mod Failing
+-- Words of private functions, which no public contract cites.
+pub mod Private

@@ -6,7 +6,7 @@ use Rattle.pg_wire.specs.Link.{Counts}
 
 -- The one list is the beginning of the other.
 abbrev pub Begins : List ℕ → List ℕ → Type 0
-Begins front all = (more : List ℕ) × (all ≡ front ++ more)
+Begins part all = (more : List ℕ) × (all ≡ part ++ more)
 
 -- All was sent but what is collected still; where the sink failed, a beginning of all was sent.
 abbrev pub IsSentBut : {A : Type 0} → Result A LinkFault → List ℕ → List ℕ → List ℕ → Type 0

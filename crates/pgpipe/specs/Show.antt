@@ -1,6 +1,5 @@
 -- What is shown of a backend's stream, and of what a client sends.
-use Rattle.std.specs.Prelude.{ℕ, ◌≡◌, ◌<◌, ◌^◌, ◌++◌, ◌∷◌, Bool, true, false, List, [], length, Result, Ok, Err}
-use Rattle.std.specs.List.{FoldsTo}
+use Rattle.std.specs.Prelude.{ℕ, ◌≡◌, ◌<◌, ◌≤◌, ◌^◌, ◌++◌, ◌∷◌, ◌⊎◌, Bool, true, false, List, [], length, Result, Ok, Err}
 use Rattle.pg_wire.specs.declared.fault.WireFault.{WireFault}
 use Rattle.pg_wire.specs.declared.message.First.{First}
 use Rattle.pg_wire.specs.declared.message.First.TheVariants as first
@@ -8,6 +7,7 @@ use Rattle.pg_wire.specs.Backend.{backend}
 use Rattle.pg_wire.specs.Direction.{Direction}
 use Rattle.pg_wire.specs.First.{IsBeginning, IsOpenPacket, IsFaultyPacket}
 use Rattle.pg_wire.specs.Frontend.{frontend}
+use Rattle.pg_wire.specs.Link.{HasRisen}
 use Rattle.pg_wire.specs.Stream.{IsStream, IsOpen, IsFaulty}
 use Rattle.pgpipe.specs.declared.packets.Next.{Next}
 use Rattle.pgpipe.specs.declared.packets.Next.TheVariants as next
@@ -25,6 +25,10 @@ limit = 1073741823
 -- at most so many calls of receive are made
 abbrev pub most_receives : ℕ
 most_receives = 2 ^ 40
+
+-- at most so many bytes are received at once
+abbrev pub longest_piece : ℕ
+longest_piece = 65536
 
 -- ---- the messages of one direction
 
@@ -91,17 +95,51 @@ IsFaultyFor true next.Packet rest f = IsFaultyPacket rest f
 IsFaultyFor true next.Message rest f = IsFaulty frontend limit rest f
 IsFaultyFor true next.Nothing rest f = ⊥
 
+-- ---- how much is shown
+
+-- The text is the lines for all of these bytes but an open rest.
+pub record AreAllShown (front : Bool) (bytes text : List ℕ) : Type 0 where
+  pub n : Next
+  pub rest : List ℕ
+  pub shown : AreShown front bytes text n rest
+  pub is_open : IsOpenFor front n rest
+
+-- The text is the lines for all of these bytes but the last piece, and an open rest before it.
+pub record AreShownBefore (front : Bool) (bytes text : List ℕ) : Type 0 where
+  pub earlier : List ℕ
+  pub last : List ℕ
+  pub whole : bytes ≡ earlier ++ last
+  pub a_piece : length last ≤ longest_piece
+  pub shown : AreAllShown front earlier text
+
+-- The text is whole lines for these bytes, and none is missing for those before the last piece.
+pub record AreMostlyShown (front : Bool) (bytes text : List ℕ) : Type 0 where
+  pub before : List ℕ
+  pub shown_before : AreShownBefore front bytes before
+  pub begins : Begins before text
+  pub n : Next
+  pub rest : List ℕ
+  pub shown : AreShown front bytes text n rest
+
 -- The text is a beginning of the lines for these bytes.
 abbrev pub ArePartlyShown : Bool → List ℕ → List ℕ → Type 0
 ArePartlyShown front bytes text = (all rest : List ℕ) × (n : Next) × AreShown front bytes all n rest × Begins text all
 
--- the answer for the bytes that were received, of a client or else of a backend, and the text that was sent
-abbrev pub Answers : Bool → List ℕ → List ℕ → Result Shown ToolFault → Type 0
-Answers front bytes text (Ok shown.Whole) = (n : Next) × AreShown front bytes text n []
-Answers front bytes text (Ok (shown.Rest size)) = (n : Next) × (rest : List ℕ) × AreShown front bytes text n rest × IsOpenFor front n rest × (size ≡ length rest) × (0 < size)
-Answers front bytes text (Ok (shown.Fault f)) = (n : Next) × (rest : List ℕ) × AreShown front bytes text n rest × IsFaultyFor front n rest f
-Answers front bytes text (Err fault.Memory) = (n : Next) × (rest : List ℕ) × AreShown front bytes text n rest
-Answers front bytes text (Err fault.Device) = ArePartlyShown front bytes text
+-- ---- the answer
+
+-- The source failed, as its count of failures says, or gave no end in as many calls as are made at most.
+abbrev pub HasStopped : ℕ → ℕ → List (List ℕ) → Type 0
+HasStopped old new received = HasRisen old new ⊎ (length received ≡ most_receives)
+
+-- The answer for the bytes that were received, of a client or else of a backend, and the text that was sent. Where memory was
+-- refused, no line is missing for what came before the last piece. Device says that the sink broke, and then a beginning of the
+-- lines was sent, or that the source stopped, and then all of them were.
+abbrev pub Answers : Type 0 → Type 0 → Bool → List ℕ → List ℕ → Result Shown ToolFault → Type 0
+Answers stopped broke front bytes text (Ok shown.Whole) = (n : Next) × AreShown front bytes text n []
+Answers stopped broke front bytes text (Ok (shown.Rest size)) = (n : Next) × (rest : List ℕ) × AreShown front bytes text n rest × IsOpenFor front n rest × (size ≡ length rest) × (0 < size)
+Answers stopped broke front bytes text (Ok (shown.Fault f)) = (n : Next) × (rest : List ℕ) × AreShown front bytes text n rest × IsFaultyFor front n rest f
+Answers stopped broke front bytes text (Err fault.Memory) = AreMostlyShown front bytes text
+Answers stopped broke front bytes text (Err fault.Device) = (broke × ArePartlyShown front bytes text) ⊎ (stopped × AreAllShown front bytes text)
 
 -- Where the stream is whole or has an open rest, the source has ended.
 abbrev pub EndsWith : Type 0 → Result Shown ToolFault → Type 0
@@ -109,6 +147,7 @@ EndsWith ended (Ok shown.Whole) = ended
 EndsWith ended (Ok (shown.Rest n)) = ended
 EndsWith ended _ = Unit {0}
 
--- So many calls as are made at most were made.
-abbrev pub IsEndless : {S : Type 0} → (S → List ℕ → S → Type 0) → S → S → Type 0
-IsEndless gives old new = (pieces : List (List ℕ)) × FoldsTo gives old pieces new × (length pieces ≡ most_receives)
+-- Unless the answer is Device, no call failed: the count of failures is what it was.
+abbrev pub CountsNoFailure : ℕ → Result Shown ToolFault → ℕ → Type 0
+CountsNoFailure old (Err fault.Device) new = Unit {0}
+CountsNoFailure old _ new = new ≡ old

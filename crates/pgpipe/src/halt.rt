@@ -1,7 +1,7 @@
 //! Why the work halts.
 
 ghost use Rattle.std.specs.Prelude.{◌≡◌};
-ghost use Rattle.pgpipe.specs.Work.{halt_of};
+ghost use Rattle.pgpipe.specs.Private.Work.{halt_of};
 
 use pg_wire::WireFault;
 

@@ -5,14 +5,11 @@ ghost use Rattle.pg_wire.specs.Encoder.{Encodes};
 ghost use Rattle.pg_wire.specs.Stream.{IsWithin};
 ghost use Rattle.pgpipe.specs.Lines.{line, line_of};
 ghost use Rattle.pgpipe.specs.Show.{limit};
-ghost use Rattle.pgpipe.specs.Work.{IsSound, PutsLine, PutsMessages, StepsSource};
+ghost use Rattle.pgpipe.specs.Private.Work.{IsSound, PutsLine, PutsMessages, LeavesSource};
 
 use crate::halt::{Halt, halt_of};
 use crate::outbox::Outbox;
 use pg_wire::{Decoder, EncodeFault, Message, Sink};
-
-/// The greatest length field that is taken.
-pub const LIMIT: u32 = 1_073_741_823;
 
 // Spells a message, and lets it go.
 fn spell<M: Message>(message: M, spelled: &mut Vec<u8>) -> Result<(), EncodeFault>
@@ -59,7 +56,7 @@ pub fn put_messages<M: Message, K: Sink>(
 ) -> Result<Decoder<M>, Halt>
     requires { IsSound decoder }
     ensures puts { PutsMessages K.takes K.failures M.direction outbox.old sink.old decoder.kept result outbox.new sink.new }
-    ensures source { StepsSource ⊥ 0 0 result }
+    ensures source { LeavesSource result }
 {
     let mut reader = decoder;
     loop {
@@ -81,7 +78,7 @@ pub fn take_messages<M: Message, K: Sink>(
 ) -> Result<Decoder<M>, Halt>
     requires { IsSound decoder }
     ensures puts { PutsMessages K.takes K.failures M.direction outbox.old sink.old (decoder.kept ++ piece.now) result outbox.new sink.new }
-    ensures source { StepsSource ⊥ 0 0 result }
+    ensures source { LeavesSource result }
 {
     let mut reader = decoder;
     match reader.push(piece) {

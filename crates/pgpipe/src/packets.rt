@@ -5,7 +5,7 @@ ghost use Rattle.pg_wire.specs.Encoder.{EncodesPacket};
 ghost use Rattle.pg_wire.specs.First.{IsPacket};
 ghost use Rattle.pgpipe.specs.Lines.{word, line_of, packet_line};
 ghost use Rattle.pgpipe.specs.Show.{after};
-ghost use Rattle.pgpipe.specs.Work.{PutsLine, PutsPackets, StepsSource};
+ghost use Rattle.pgpipe.specs.Private.Work.{PutsLine, PutsPackets, LeavesSource};
 
 use crate::halt::{Halt, halt_of};
 use crate::outbox::Outbox;
@@ -105,7 +105,7 @@ pub fn put_packets<K: Sink>(
 ) -> Result<Next, Halt>
     requires { (first.old.ended ≡ false) × (first.old.fault ≡ None) }
     ensures puts { PutsPackets K.takes K.failures outbox.old sink.old first.old.kept result first.new outbox.new sink.new }
-    ensures source { StepsSource ⊥ 0 0 result }
+    ensures source { LeavesSource result }
 {
     loop {
         match first.next() {

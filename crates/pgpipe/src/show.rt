@@ -1,10 +1,10 @@
 //! Showing a stream, over any source and any sink.
 
-ghost use Rattle.std.specs.Prelude.{◌≡◌, ◌<◌, ◌++◌, ◌⊎◌, ℕ, List, [], length, Err, IfOk};
+ghost use Rattle.std.specs.Prelude.{◌≡◌, ◌<◌, ◌≤◌, ◌+◌, ◌^◌, ◌++◌, ℕ, List, [], length, IfOk};
 ghost use Rattle.std.specs.List.{FoldsTo, concat};
 ghost use Rattle.pg_wire.specs.Link.{HasRisen};
-ghost use Rattle.pgpipe.specs.Show.{Answers, EndsWith, IsEndless};
-ghost use Rattle.pgpipe.specs.Work.{is_front, IsSoundAt, Stands, Steps, Halts, StepsSource, HaltsSource, Settles, answer_of};
+ghost use Rattle.pgpipe.specs.Show.{longest_piece, HasStopped, Answers, EndsWith, CountsNoFailure};
+ghost use Rattle.pgpipe.specs.Private.Work.{is_front, kept_of, IsSoundAt, Stands, Steps, StepsSource, HasRun, Settles, answer_of};
 
 use crate::halt::Halt;
 use crate::outbox::Outbox;
@@ -49,7 +49,7 @@ struct Work {
     spelled: Vec<u8>,
     // where pieces are received
     into: Vec<u8>,
-    ghost has_room: { 0 < length into.items },
+    ghost a_piece: { length into.items ≡ longest_piece },
 }
 
 impl Work {
@@ -60,8 +60,9 @@ impl Work {
         source: &mut S,
         sink: &mut K,
     ) -> Result<Stage, Halt>
-        requires { IsSoundAt stage }
-        ensures steps { (piece : List ℕ) × S.gives source.old piece source.new × ((start : K) (bytes : List ℕ) → Stands K.takes K.failures start bytes stage self.old.outbox sink.old → Steps K.takes K.failures (is_front stage) start (bytes ++ piece) result self.new.outbox sink.new) }
+        requires sound { IsSoundAt stage }
+        requires room { kept_of stage + longest_piece < 2 ^ 64 }
+        ensures steps { (piece : List ℕ) × (length piece ≤ longest_piece) × S.gives source.old piece source.new × ((start : K) (bytes : List ℕ) (stands : Stands K.takes K.failures start bytes stage self.old.outbox sink.old) → Steps K.takes K.failures (is_front stage) start (bytes ++ piece) stands.text result self.new.outbox sink.new) }
         ensures source { StepsSource (S.has_ended source.new) (S.failures source.old) (S.failures source.new) result }
     {
         let count = match source.receive(self.into.as_mut_slice()) {
@@ -80,7 +81,7 @@ impl Work {
     // Goes on until there is no more to do.
     fn run<S: Source, K: Sink>(&mut self, stage: Stage, source: &mut S, sink: &mut K) -> Halt
         requires { Stands K.takes K.failures sink.old [] stage self.old.outbox sink.old }
-        ensures run { (pieces : List (List ℕ)) × FoldsTo S.gives source.old pieces source.new × Halts K.takes K.failures (is_front stage) sink.old (concat pieces) result self.new.outbox sink.new × HaltsSource (S.has_ended source.new) (S.failures source.old) (S.failures source.new) pieces result }
+        ensures { HasRun S.gives S.failures (S.has_ended source.new) K.takes K.failures (is_front stage) source.old sink.old result source.new self.new.outbox sink.new }
     {
         let mut stage = stage;
         for _ in 0..MOST_RECEIVES {
@@ -136,20 +137,29 @@ fn begin(alloc: Global) -> Result<Work, AllocError>
 /// Startup. A packet's line is `startup`, `cancel`, `ssl` or `gss`, a space, its length in decimal, a space, and the bytes
 /// behind the length in hexadecimal. What comes behind a Cancel is the rest.
 ///
-/// The lines before a fault, a rest or want of memory are sent. `Device` is answered where the source or the sink failed in
-/// this call, or 1,099,511,627,776 receives gave no end: a beginning of the lines was sent.
+/// The lines before a fault or a rest are sent. `Device` is answered where
+/// - the sink failed in this call: a beginning of the lines was sent; or
+/// - the source failed in this call or gave no end in 1,099,511,627,776 receives: the lines for all that was received were
+///   sent.
+///
+/// `Memory` is answered where memory was refused: whole lines were sent, and none is missing for what came before the last
+/// piece, of at most 65,536 bytes.
 pub fn show<S: Source, K: Sink>(
     alloc: Global,
     front: bool,
     source: &mut S,
     sink: &mut K,
 ) -> Result<Shown, ToolFault>
-    // what was received, what was sent, and the answer for them
+    // what was received, what was sent, and the answer for them, where the source may have stopped and the sink broken
     ensures shown { (received sent : List (List ℕ)) × FoldsTo S.gives source.old received source.new
-        × FoldsTo K.takes sink.old sent sink.new × Answers front (concat received) (concat sent) result }
+        × FoldsTo K.takes sink.old sent sink.new × Answers
+        (HasStopped (S.failures source.old) (S.failures source.new) received)
+        (HasRisen (K.failures sink.old) (K.failures sink.new))
+        front (concat received) (concat sent) result }
     ensures ended { EndsWith (S.has_ended source.new) result }
-    ensures device { result ≡ Err ToolFault.Device → HasRisen (S.failures source.old) (S.failures source.new)
-        ⊎ HasRisen (K.failures sink.old) (K.failures sink.new) ⊎ IsEndless S.gives source.old source.new }
+    // where the answer isn't Device, neither failed
+    ensures source { CountsNoFailure (S.failures source.old) result (S.failures source.new) }
+    ensures sink { CountsNoFailure (K.failures sink.old) result (K.failures sink.new) }
 {
     let mut work = match begin(alloc) {
         Ok(work) => work,

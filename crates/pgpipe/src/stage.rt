@@ -1,14 +1,14 @@
 //! How far the reading has come.
 
-ghost use Rattle.std.specs.Prelude.{◌≡◌, ◌++◌, [], true, false, None, ℕ, List};
+ghost use Rattle.std.specs.Prelude.{◌≡◌, ◌<◌, ◌+◌, ◌^◌, ◌++◌, [], length, true, false, None, ℕ, List};
 ghost use Rattle.pgpipe.specs.declared.stage.Stage.TheVariants.{First};
-ghost use Rattle.pgpipe.specs.Work.{is_front, kept_of, AreAt, IsSoundAt, Stands, Steps, StepsSource};
+ghost use Rattle.pgpipe.specs.Private.Work.{is_front, kept_of, AreAt, IsSoundAt, Stands, Steps, LeavesSource};
 
 use crate::halt::Halt;
-use crate::messages::{LIMIT, put_messages, take_messages};
+use crate::messages::{put_messages, take_messages};
 use crate::outbox::Outbox;
 use crate::packets::{Next, put_packets};
-use pg_wire::{BackDecoder, FirstDecoder, FrontDecoder, Sink};
+use pg_wire::{BackDecoder, FirstDecoder, FrontDecoder, LONGEST, Sink};
 use std::alloc::Global;
 
 /// What is read now.
@@ -33,8 +33,8 @@ fn take_packets<K: Sink>(
     sink: &mut K,
 ) -> Result<Stage, Halt>
     requires { (decoder.ended ≡ false) × (decoder.fault ≡ None) }
-    ensures steps { (start : K) (bytes : List ℕ) → Stands K.takes K.failures start bytes (First decoder) outbox.old sink.old → Steps K.takes K.failures true start (bytes ++ piece.now) result outbox.new sink.new }
-    ensures source { StepsSource ⊥ 0 0 result }
+    ensures steps { (start : K) (bytes : List ℕ) (stands : Stands K.takes K.failures start bytes (First decoder) outbox.old sink.old) → Steps K.takes K.failures true start (bytes ++ piece.now) stands.text result outbox.new sink.new }
+    ensures source { LeavesSource result }
 {
     let mut first = decoder;
     if first.push(piece).is_err() {
@@ -43,7 +43,7 @@ fn take_packets<K: Sink>(
     match put_packets(&mut first, spelled, outbox, sink) {
         Ok(Next::Packet) => Ok(Stage::First(first)),
         Ok(Next::Message) => {
-            match put_messages(first.into_front(LIMIT), spelled, outbox, sink) {
+            match put_messages(first.into_front(LONGEST), spelled, outbox, sink) {
                 Ok(decoder) => Ok(Stage::Front(decoder)),
                 Err(halt) => Err(halt),
             }
@@ -62,7 +62,7 @@ impl Stage {
         if front {
             Stage::First(FirstDecoder::new(alloc))
         } else {
-            Stage::Back(BackDecoder::new(alloc, LIMIT))
+            Stage::Back(BackDecoder::new(alloc, LONGEST))
         }
     }
 
@@ -86,9 +86,10 @@ impl Stage {
         outbox: &mut Outbox,
         sink: &mut K,
     ) -> Result<Stage, Halt>
-        requires { IsSoundAt self }
-        ensures steps { (start : K) (bytes : List ℕ) → Stands K.takes K.failures start bytes self outbox.old sink.old → Steps K.takes K.failures (is_front self) start (bytes ++ piece.now) result outbox.new sink.new }
-        ensures source { StepsSource ⊥ 0 0 result }
+        requires sound { IsSoundAt self }
+        requires room { kept_of self + length piece.now < 2 ^ 64 }
+        ensures steps { (start : K) (bytes : List ℕ) (stands : Stands K.takes K.failures start bytes self outbox.old sink.old) → Steps K.takes K.failures (is_front self) start (bytes ++ piece.now) stands.text result outbox.new sink.new }
+        ensures source { LeavesSource result }
     {
         match self {
             Stage::Back(decoder) => match take_messages(decoder, piece, spelled, outbox, sink) {
@@ -100,10 +101,7 @@ impl Stage {
                 Ok(decoder) => Ok(Stage::Front(decoder)),
                 Err(halt) => Err(halt),
             },
-            Stage::Over(count) => match count.checked_add(piece.len()) {
-                Some(count) => Ok(Stage::Over(count)),
-                None => Err(Halt::Memory),
-            },
+            Stage::Over(count) => Ok(Stage::Over(count + piece.len())),
         }
     }
 }

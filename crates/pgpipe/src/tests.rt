@@ -1,6 +1,7 @@
 use crate::failure::Failure;
 use crate::show::{Shown, ToolFault, show};
-use crate::words::task_of;
+use crate::words::{Task, task_of};
+use clap::error::ErrorKind;
 use pg_wire::{LinkFault, Sink, Source, WireFault};
 use std::alloc::Global;
 use std::test::Fail;
@@ -96,7 +97,8 @@ fn a_whole_stream(rt: HostRuntime) {
 
 #[test]
 fn a_source_that_fails(rt: HostRuntime) {
-    for call in 1..6 {
+    // the failing receive, and how much text the pieces before it make
+    for (call, size) in [(1, 0), (2, 0), (3, 7), (4, 16), (5, 22)] {
         let mut source = source_of(STREAM, call);
         let mut sink = sink_of(rt.alloc(), 0);
         assert_eq!(rt;
@@ -104,7 +106,7 @@ fn a_source_that_fails(rt: HostRuntime) {
             Err(ToolFault::Device),
             "at {call}"
         );
-        assert!(rt; LINES.starts_with(sink.text.as_slice()), "at {call}");
+        assert_eq!(rt; sink.text.as_slice(), &LINES[..size], "at {call}");
         assert_eq!(rt; source.failures, 1);
     }
 }
@@ -172,19 +174,30 @@ fn a_long_message(rt: HostRuntime) -> Result<(), Fail> {
     Ok(())
 }
 
+// What these words behind the program's name ask for.
+fn task(alloc: Global, words: &[&str]) -> Result<Result<Task, ErrorKind>, Fail> {
+    let mut all = Vec::new(alloc);
+    all.push(String::from_str(alloc, "pgpipe")?)?;
+    for word in words {
+        all.push(String::from_str(alloc, word)?)?;
+    }
+    Ok(match task_of(alloc, all.as_slice()) {
+        Ok(task) => Ok(task),
+        Err(error) => Err(error.kind()),
+    })
+}
+
 #[test]
 fn words(rt: HostRuntime) -> Result<(), Fail> {
-    for (word, is_task) in [("show", true), ("shown", false), ("--help", false)] {
-        let mut words = Vec::new(rt.alloc());
-        words.push(String::from_str(rt.alloc(), "pgpipe")?)?;
-        assert!(rt; task_of(rt.alloc(), words.as_slice()).is_ok());
-        words.push(String::from_str(rt.alloc(), word)?)?;
-        assert_eq!(rt;
-            task_of(rt.alloc(), words.as_slice()).is_ok(),
-            is_task,
-            "{word}"
-        );
-    }
+    let alloc = rt.alloc();
+    assert_eq!(rt; task(alloc, &[])?, Ok(Task::Show { front: false }));
+    assert_eq!(rt; task(alloc, &["show"])?, Ok(Task::Show { front: false }));
+    assert_eq!(rt;
+        task(alloc, &["show", "--front"])?,
+        Ok(Task::Show { front: true })
+    );
+    assert_eq!(rt; task(alloc, &["--help"])?, Err(ErrorKind::DisplayHelp));
+    assert_eq!(rt; task(alloc, &["shown"])?, Err(ErrorKind::InvalidSubcommand));
     Ok(())
 }
 
@@ -254,8 +267,19 @@ fn faults_of_a_client(rt: HostRuntime) {
 
 #[test]
 fn a_client_that_fails(rt: HostRuntime) {
-    // nine receives, the last of which finds the end, and more sends
-    for call in 1..10 {
+    // the failing receive, and how much text the pieces before it make
+    let sizes = [
+        (1, 0),
+        (2, 0),
+        (3, 15),
+        (4, 15),
+        (5, 15),
+        (6, 51),
+        (7, 51),
+        (8, 51),
+        (9, 75),
+    ];
+    for (call, size) in sizes {
         let mut source = source_of(CLIENT, call);
         let mut sink = sink_of(rt.alloc(), 0);
         assert_eq!(rt;
@@ -263,7 +287,10 @@ fn a_client_that_fails(rt: HostRuntime) {
             Err(ToolFault::Device),
             "at {call}"
         );
-        assert!(rt; CLIENT_LINES.starts_with(sink.text.as_slice()), "at {call}");
+        assert_eq!(rt; sink.text.as_slice(), &CLIENT_LINES[..size], "at {call}");
+    }
+    // eleven sends
+    for call in 1..12 {
         let mut source = source_of(CLIENT, 0);
         let mut sink = sink_of(rt.alloc(), call);
         assert_eq!(rt;

@@ -46,10 +46,11 @@ fn a_startup_has_at_most_ten_thousand_bytes(rt: HostRuntime) -> Result<(), Fail>
     let pairs = user_of_length(rt.alloc(), 9_985)?;
     frontend::startup_message(pairs.as_slice(), &mut buf)?;
     assert_eq!(rt; buf.len(), 10_000);
+    let before = Vec::from_slice(rt.alloc(), buf.as_slice())?;
     let pairs = user_of_length(rt.alloc(), 9_986)?;
     let refused = frontend::startup_message(pairs.as_slice(), &mut buf);
     assert_eq!(rt; refused, Err(EncodeFault::TooLong));
-    assert_eq!(rt; buf.len(), 10_000);
+    assert_eq!(rt; buf.as_slice(), before.as_slice());
     Ok(())
 }
 
@@ -59,11 +60,11 @@ fn a_bind_has_at_most_65535_values(rt: HostRuntime) -> Result<(), Fail> {
     let values = nulls(rt.alloc(), 65_535)?;
     frontend::bind(b"", b"", &[], values.as_slice(), &[], &mut buf)?;
     assert!(rt; buf.as_slice().starts_with(&[0x42, 0x00, 0x04, 0x00, 0x08]));
-    let length = buf.len();
+    let before = Vec::from_slice(rt.alloc(), buf.as_slice())?;
     let values = nulls(rt.alloc(), 65_536)?;
     let refused = frontend::bind(b"", b"", &[], values.as_slice(), &[], &mut buf);
     assert_eq!(rt; refused, Err(EncodeFault::TooMany));
-    assert_eq!(rt; buf.len(), length);
+    assert_eq!(rt; buf.as_slice(), before.as_slice());
     Ok(())
 }
 

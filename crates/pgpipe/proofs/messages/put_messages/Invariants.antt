@@ -1,5 +1,5 @@
 use Rattle.std.proofs.Common.{length}
-use Rattle.pgpipe.specs.Work.{IsSound, HasPut}
+use Rattle.pgpipe.specs.Private.Work.{IsSound, HasPut}
 use Rattle.pgpipe.proofs.messages.put_messages.Given as goal
 
 abbrev pub invariant-loop-reader : goal.invariant-loop-reader

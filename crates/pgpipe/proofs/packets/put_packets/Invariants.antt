@@ -1,6 +1,6 @@
 use Rattle.std.proofs.Common.{◌≡◌, false, None, length}
 use Rattle.pgpipe.specs.declared.packets.Next.TheVariants as next
-use Rattle.pgpipe.specs.Work.{HasPutPackets}
+use Rattle.pgpipe.specs.Private.Work.{HasPutPackets}
 use Rattle.pgpipe.proofs.packets.put_packets.Given as goal
 
 abbrev pub invariant-loop-packet : goal.invariant-loop-packet

@@ -1,4 +1,4 @@
-use Rattle.pgpipe.specs.Work.{is_front}
+use Rattle.pgpipe.specs.Private.Work.{is_front}
 use Rattle.pgpipe.proofs.Runs.{Runs}
 use Rattle.pgpipe.proofs.show.Work.run.Given as goal
 

@@ -1,0 +1,73 @@
+-- What a run's history means.
+use Rattle.std.proofs.Common.{◌≡◌, ℕ, List, ◌++◌, Bool, true, false, Option, Some, None, refl, sym, subst, ◌∙◌}
+use Rattle.std.specs.Prelude.{◌↔◌}
+use Rattle.pg_wire.specs.declared.message.BackMessage.{BackMessage}
+use Rattle.pg_client.specs.declared.phase.Cause.{Cause}
+use Rattle.pg_client.specs.declared.phase.Phase.{Phase}
+use Rattle.pg_client.specs.declared.phase.Phase.TheVariants as phase
+use Rattle.pg_client.specs.declared.place.CopyAnswer.{CopyAnswer}
+use Rattle.pg_client.specs.declared.place.CopyAnswer.TheVariants.{Awaited, Done, Refused}
+use Rattle.pg_client.specs.declared.place.Open.TheVariants as begun
+use Rattle.pg_client.specs.declared.place.Stage.{Stage}
+use Rattle.pg_client.specs.declared.place.Stage.TheVariants.{Within}
+use Rattle.pg_client.specs.declared.place.Stand.{Stand}
+use Rattle.pg_client.specs.declared.place.Stand.TheVariants.{New, Starting, Idle, Busy}
+use Rattle.pg_client.specs.declared.settled.Settled.{Settled}
+use Rattle.pg_client.specs.Session.{Run, Happening, IsStarted, IsStarting, IsReady, IsCopyingIn}
+use Rattle.pg_client.specs.Client.{ClientView, story, stand_phase, busy_phase_of, phase_with, Shows, IsRunOf}
+use Rattle.pg_client.specs.Facts.{IsPhase, Facts}
+use Rattle.pg_client.proofs.FactsHold.{StandFacts, stand_facts}
+
+never_closed : (stand : Stand) (c : Cause) → stand_phase stand ≡ phase.Closed c → ⊥
+never_closed New c e = cc
+never_closed (Starting w) c e = cc
+never_closed (Idle asides) c e = cc
+never_closed (Busy request parts stage asides answer) c e = by stage answer e
+  where
+    by : (s : Stage) (a : CopyAnswer) → busy_phase_of s a ≡ phase.Closed c → ⊥
+    by (Within (begun.CopyIn head)) Awaited k = cc
+    by (Within (begun.CopyIn head)) Done k = cc
+    by (Within (begun.CopyIn head)) Refused k = cc
+    by _ a k = cc
+
+-- the phase of an open client is the one that its conditions name
+module _ (hs : List Happening) (p : Phase)
+    (new : (p ≡ phase.New) ↔ (IsStarted hs → ⊥)) (starting : (p ≡ phase.Starting) ↔ IsStarting hs) (ready : (p ≡ phase.Ready) ↔ IsReady hs) (copying : (p ≡ phase.CopyingIn) ↔ IsCopyingIn hs) (no_cause : (c : Cause) → p ≡ phase.Closed c → ⊥) where
+  busy_then : p ≡ phase.Busy → IsPhase hs None phase.Busy
+  busy_then e = (
+    λ n. (let k : phase.Busy ≡ phase.New = sym e ∙ new.1 n in cc),
+    λ s. (let k : phase.Busy ≡ phase.Starting = sym e ∙ starting.1 s in cc),
+    λ s. (let k : phase.Busy ≡ phase.Ready = sym e ∙ ready.1 s in cc),
+    λ s. (let k : phase.Busy ≡ phase.CopyingIn = sym e ∙ copying.1 s in cc),
+  )
+
+  busy_only : (q : Phase) → p ≡ q → IsPhase hs None phase.Busy → q ≡ phase.Busy
+  busy_only phase.New e h = absurd (h.0 (new.0 e))
+  busy_only phase.Starting e h = absurd (h.1 (starting.0 e))
+  busy_only phase.Ready e h = absurd (h.2 (ready.0 e))
+  busy_only phase.CopyingIn e h = absurd (h.3 (copying.0 e))
+  busy_only phase.Busy e h = refl
+  busy_only (phase.Closed c) e h = absurd (no_cause c e)
+
+  open_phase : (q : Phase) → (p ≡ q) ↔ IsPhase hs None q
+  open_phase phase.New = new
+  open_phase phase.Starting = starting
+  open_phase phase.Ready = ready
+  open_phase phase.CopyingIn = copying
+  open_phase phase.Busy = (busy_then, λ h. busy_only p refl h)
+  open_phase (phase.Closed c) = (no_cause c, λ h. absurd h)
+
+phase_by : (hs : List Happening) (was now : Stand) (closed : Option Cause) (handed_back : Bool) (settled : List Settled) → StandFacts hs was settled → Shows was now closed handed_back → (p : Phase) → (phase_with closed now ≡ p) ↔ IsPhase hs closed p
+phase_by hs was now (Some c) handed_back settled f shows p = (λ e. sym e, λ e. sym e)
+phase_by hs was now None true settled f shows p = absurd shows
+phase_by hs was now None false settled f shows p =
+    subst (λ (s : Stand). (stand_phase s ≡ p) ↔ IsPhase hs None p) (sym shows) (open_phase hs (stand_phase was) f.new f.starting f.ready f.copying (never_closed was) p)
+
+pub run_facts : (run : Run) (fed : List ℕ) (heard : List BackMessage) (rest : List ℕ) (given : List Settled) (sent : List ℕ) (handed_back : Bool) (client : ClientView) → IsRunOf run fed heard rest given sent handed_back client → Facts (story run heard) (given ++ client.settled) client
+run_facts run fed heard rest given sent handed_back client r =
+    let f = stand_facts (story run heard) r.was (given ++ client.settled) r.expected r.stands in
+    record {
+      expected = r.expected;
+      in_order = f.in_order;
+      phase = phase_by (story run heard) r.was client.stand client.closed handed_back (given ++ client.settled) f r.shows;
+    }

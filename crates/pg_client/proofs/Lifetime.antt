@@ -1,0 +1,135 @@
+-- How a run begins, what is taken of it, and how the connection is lost.
+use Rattle.std.proofs.Common.{◌≡◌, ℕ, List, [], ◌∷◌, ◌++◌, Bool, true, false, Option, Some, None, option_to_list, refl, sym, ap, subst, ◌∙◌, append_assoc, arith}
+use Rattle.std.specs.Prelude.{unwrap_or, IfSome, ◌↔◌}
+use Rattle.pg_wire.specs.declared.fault.WireFault.{WireFault}
+use Rattle.pg_wire.specs.declared.fault.WireFault.TheVariants as wire
+use Rattle.pg_wire.specs.declared.message.BackMessage.{BackMessage}
+use Rattle.pg_wire.specs.Backend.{backend}
+use Rattle.pg_wire.specs.Stream.{IsOpen, IsFaulty}
+use Rattle.pg_client.specs.declared.phase.Cause.{Cause}
+use Rattle.pg_client.specs.declared.phase.Cause.TheVariants as cause
+use Rattle.pg_client.specs.declared.place.Stand.{Stand}
+use Rattle.pg_client.specs.declared.place.Stand.TheVariants.{New}
+use Rattle.pg_client.specs.declared.settled.Loss.{Loss}
+use Rattle.pg_client.specs.declared.settled.Settled.{Settled}
+use Rattle.pg_client.specs.Session.{Run, Happening, IsTerminated, AreAllowed}
+use Rattle.pg_client.specs.Client.{ClientView, story, unsettled_of, has_failed, IsAlike, Shows, Ends, IsRunOf, Loses, first_cause}
+use Rattle.pg_client.specs.Judged.{Stands}
+use Rattle.pg_client.proofs.FactsHold.{stand_facts}
+use Rattle.pg_client.proofs.History.{expected_nothing}
+
+-- ---- the beginning
+
+-- more bytes are to come of nothing
+pub nothing_is_open : (limit : ℕ) → IsOpen backend limit []
+nothing_is_open limit = record { no_message = λ m more w e. cc; no_fault = no_fault }
+  where
+    no_fault : (f : WireFault) → IsFaulty backend limit [] f → ⊥
+    no_fault (wire.UnknownTag t) h = omega (arith, h.1.there)
+    no_fault (wire.ShortLength n) h = omega (arith, h.1.there)
+    no_fault (wire.LongLength n) h = omega (arith, h.1.there)
+    no_fault (wire.BadBody t) h = omega (arith, h.1.head.there)
+    no_fault (wire.BadFirst c) h = absurd h
+    no_fault wire.Memory h = absurd h
+
+none_allowed : AreAllowed []
+none_allowed [] c later e = absurd cc
+none_allowed (b ∷ before) c later e = absurd cc
+
+pub begun_run : (v : ClientView) → v.kept ≡ [] → v.stand ≡ New → v.settled ≡ [] → v.status ≡ None → v.parameters ≡ [] → v.key ≡ None → v.closed ≡ None → IsRunOf [] [] [] [] [] [] false v
+begun_run v kept stand settled status parameters key closed = record {
+  stream = record { whole = refl; each = tt };
+  places = tt;
+  allowed = none_allowed;
+  terminated = (λ t. absurd t, λ e. absurd (let k : None ≡ Some cause.Terminated = sym closed ∙ e in cc));
+  expected = expected_nothing;
+  was = New;
+  stands = (refl, settled);
+  shows = subst (λ (o : Option Cause). Shows New v.stand o false) (sym closed) stand;
+  ends = subst (Ends v.settings.limit [] [] v.kept) (sym closed) (record { kept_is = kept; is_open = nothing_is_open v.settings.limit });
+  status = status;
+  parameters = λ name. rw parameters refl;
+  key = key;
+  sent_is = refl;
+  spelled = tt;
+}
+
+-- ---- a group is taken
+
+pub taken : (v old : ClientView) (o : Option Settled) (left : List Settled) → v ≡ old → v.settled ≡ option_to_list o ++ left
+    → IfSome o (λ t. (run : Run) (fed : List ℕ) (heard : List BackMessage) (rest : List ℕ) (given : List Settled) (sent : List ℕ) (handed_back : Bool) → IsRunOf run fed heard rest given sent handed_back old → IsRunOf run fed heard rest (given ++ t ∷ []) sent handed_back (record v { settled = left }))
+taken v old None left same e = tt
+taken v old (Some t) left same e = λ run fed heard rest given sent handed_back r0.
+    let r : IsRunOf run fed heard rest given sent handed_back v = subst (IsRunOf run fed heard rest given sent handed_back) (sym same) r0 in
+    record {
+      stream = r.stream;
+      places = r.places;
+      allowed = r.allowed;
+      terminated = r.terminated;
+      expected = r.expected;
+      was = r.was;
+      stands = subst (Stands (story run heard) r.was) (ap (λ (ts : List Settled). given ++ ts) e ∙ sym (append_assoc given (t ∷ []) left)) r.stands;
+      shows = r.shows;
+      ends = r.ends;
+      status = r.status;
+      parameters = r.parameters;
+      key = r.key;
+      sent_is = r.sent_is;
+      spelled = r.spelled;
+    }
+
+-- ---- the connection is lost
+
+alike : (was now : Stand) (closed : Option Cause) → Shows was now closed false → IsAlike was now
+alike was now None h = record { request = ap unsettled_of h; error = ap has_failed h }
+alike was now (Some c) h = h
+
+handed : (was now : Stand) (closed : Option Cause) → Shows was now closed true → now ≡ New
+handed was now None h = absurd h
+handed was now (Some c) h = h
+
+pub loses : (v old : ClientView) (loss : Loss) → v ≡ old → loss.unsettled ≡ unsettled_of v.stand → loss.seen_error ≡ has_failed v.stand
+    → (run : Run) (fed : List ℕ) (heard : List BackMessage) (rest : List ℕ) (given : List Settled) (sent : List ℕ) (handed_back : Bool) → IsRunOf run fed heard rest given sent handed_back old → Loses handed_back (story run heard) loss
+loses v old loss same request error run fed heard rest given sent false r0 =
+    let r : IsRunOf run fed heard rest given sent false v = subst (IsRunOf run fed heard rest given sent false) (sym same) r0 in
+    let f = stand_facts (story run heard) r.was (given ++ v.settled) r.expected r.stands in
+    let a = alike r.was v.stand v.closed r.shows in
+    (request ∙ a.request ∙ f.unsettled, error ∙ a.error ∙ f.seen_error)
+loses v old loss same request error run fed heard rest given sent true r0 =
+    let r : IsRunOf run fed heard rest given sent true v = subst (IsRunOf run fed heard rest given sent true) (sym same) r0 in
+    let n = handed r.was v.stand v.closed r.shows in
+    (request ∙ ap unsettled_of n, error ∙ ap has_failed n)
+
+terminated_by : (hs : List Happening) (closed : Option Cause) → IsTerminated hs ↔ (closed ≡ Some cause.Terminated) → IsTerminated hs ↔ (Some (first_cause closed cause.Lost) ≡ Some cause.Terminated)
+terminated_by hs None h = (λ t. absurd (let e : None ≡ Some cause.Terminated = h.0 t in cc), λ e. absurd cc)
+terminated_by hs (Some c) h = h
+
+ends_by : (limit : ℕ) (hs : List Happening) (rest kept : List ℕ) (closed : Option Cause) → Ends limit hs rest kept closed → Ends limit hs rest kept (Some (first_cause closed cause.Lost))
+ends_by limit hs rest kept None h = h
+ends_by limit hs rest kept (Some c) h = h
+
+pub lost_run : (v old : ClientView) (closed : Option Cause) → v ≡ old → closed ≡ Some (first_cause v.closed cause.Lost)
+    → (run : Run) (fed : List ℕ) (heard : List BackMessage) (rest : List ℕ) (given : List Settled) (sent : List ℕ) (handed_back : Bool) → IsRunOf run fed heard rest given sent handed_back old → IsRunOf run fed heard rest given sent true (record v { stand = New; closed = closed })
+lost_run v old closed same now run fed heard rest given sent handed_back r0 =
+    let r : IsRunOf run fed heard rest given sent handed_back v = subst (IsRunOf run fed heard rest given sent handed_back) (sym same) r0 in
+    record {
+      stream = r.stream;
+      places = r.places;
+      allowed = r.allowed;
+      terminated = subst (λ (o : Option Cause). IsTerminated (story run heard) ↔ (o ≡ Some cause.Terminated)) (sym now) (terminated_by (story run heard) v.closed r.terminated);
+      expected = r.expected;
+      was = r.was;
+      stands = r.stands;
+      shows = subst (λ (o : Option Cause). Shows r.was New o true) (sym now) refl;
+      ends = subst (Ends v.settings.limit (story run heard) rest v.kept) (sym now) (ends_by v.settings.limit (story run heard) rest v.kept v.closed r.ends);
+      status = r.status;
+      parameters = r.parameters;
+      key = r.key;
+      sent_is = r.sent_is;
+      spelled = r.spelled;
+    }
+
+-- the first cause, as it is computed
+pub first_is : (o : Option Cause) → unwrap_or o cause.Lost ≡ first_cause o cause.Lost
+first_is None = refl
+first_is (Some c) = refl

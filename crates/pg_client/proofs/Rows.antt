@@ -1,0 +1,175 @@
+-- Worked rows, by computation.
+use Rattle.std.proofs.Common.{◌≡◌, ℕ, List, [], ◌∷◌, ◌++◌, true, false, Some, None, refl, inl}
+use Rattle.std.specs.Prelude.{pos}
+use Rattle.pg_wire.specs.declared.message.BackMessage.{BackMessage}
+use Rattle.pg_wire.specs.declared.message.BackMessage.TheVariants.{AuthOk, AuthCleartext, AuthOther, Ready, RowDescription, DataRow, CommandComplete, EmptyQuery, ErrorResponse, NoticeResponse, ParameterStatus, KeyData, ParseComplete, PortalSuspended}
+use Rattle.pg_wire.specs.declared.message.BackMessage.TheVariants as back
+use Rattle.pg_wire.specs.declared.message.First.TheVariants.{Cancel}
+use Rattle.pg_wire.specs.declared.message.Status.TheVariants as status
+use Rattle.pg_wire.specs.declared.session.Aside.TheVariants as aside
+use Rattle.pg_wire.specs.declared.session.ExecEnd.TheVariants as ends
+use Rattle.pg_wire.specs.declared.session.Part.TheVariants as part
+use Rattle.pg_wire.specs.declared.session.Request.{Request}
+use Rattle.pg_wire.specs.declared.session.Request.TheVariants.{Query, Group}
+use Rattle.pg_wire.specs.declared.session.Step.TheVariants as step
+use Rattle.pg_wire.specs.First.{packet}
+use Rattle.pg_wire.specs.Segment.{Fits, segments}
+use Rattle.pg_client.specs.declared.fault.FeedFault.TheVariants as feeding
+use Rattle.pg_client.specs.declared.phase.Phase.TheVariants as phase
+use Rattle.pg_client.specs.declared.place.CopyAnswer.TheVariants.{Awaited, Done}
+use Rattle.pg_client.specs.declared.place.Open.TheVariants as begun
+use Rattle.pg_client.specs.declared.place.Stage.TheVariants.{Within}
+use Rattle.pg_client.specs.declared.place.Stand.TheVariants.{Starting, Idle, Busy}
+use Rattle.pg_client.specs.declared.place.Welcome.TheVariants.{Fresh, Admitted}
+use Rattle.pg_client.specs.declared.settings.Settings.{Settings}
+use Rattle.pg_client.specs.Session.{Start, Ask, CopyEnd, Terminate, Happening, Did, Came, timeline, IsReady}
+use Rattle.pg_client.specs.Client.{Loses, last_said, value_said, key_said, sent_by, stand_phase}
+use Rattle.pg_client.specs.Machine.{Stays, Rejected, hear}
+use Rattle.pg_client.specs.Private.Calling.{with_request}
+use Rattle.pg_client.specs.Private.Hearing.{fault_at}
+use Rattle.pg_client.proofs.Outcomes.{read_outcome}
+
+ok : List ℕ
+ok = 79 ∷ 75 ∷ []
+
+settings : Settings
+settings = record { user = 117 ∷ []; database = None; pairs = []; limit = 65536 }
+
+select : Request
+select = Query (83 ∷ 69 ∷ 76 ∷ 69 ∷ 67 ∷ 84 ∷ 32 ∷ 49 ∷ [])
+
+-- ready, and a query was made
+busy : List Happening
+busy = Did Start ∷ Came AuthOk ∷ Came (Ready status.Idle) ∷ Did (Ask select) ∷ []
+
+-- ready, a query, OK and its ReadyForQuery: settled with Command OK
+command_fits : Fits (Query []) (CommandComplete ok ∷ Ready status.Idle ∷ []) (record { parts = part.Command ok ∷ []; error = None; status = status.Idle; asides = [] })
+command_fits = record { body = CommandComplete ok ∷ []; closed = refl; asides = refl; reads = (_, (refl, refl), tt, refl) }
+
+command_read : read_outcome (Query []) (CommandComplete ok ∷ []) status.Idle ≡ Some (record { parts = part.Command ok ∷ []; error = None; status = status.Idle; asides = [] })
+command_read = refl
+
+-- lost before that: the query, and no error was seen; asked again, nothing
+lost_clear : Loses false (busy ++ Came (CommandComplete ok) ∷ []) (record { unsettled = Some select; seen_error = false })
+unfolding busy
+lost_clear = (refl, refl)
+
+lost_again : Loses true (busy ++ Came (CommandComplete ok) ∷ []) (record { unsettled = None; seen_error = false })
+lost_again = (refl, refl)
+
+-- lost behind an error
+lost_failed : Loses false (busy ++ Came (ErrorResponse []) ∷ []) (record { unsettled = Some select; seen_error = true })
+unfolding busy
+lost_failed = (refl, refl)
+
+-- an error without fields: no part, and the error
+error_fits : Fits (Query []) (ErrorResponse [] ∷ Ready status.Failed ∷ []) (record { parts = []; error = Some []; status = status.Failed; asides = [] })
+error_fits = record { body = ErrorResponse [] ∷ []; closed = refl; asides = refl; reads = (_, refl, [], inl refl, [], refl) }
+
+-- what the error cuts off is no part, and a notice among rows is an aside
+cut_read : read_outcome (Query []) (CommandComplete ok ∷ RowDescription [] ∷ NoticeResponse [] ∷ DataRow [] ∷ ErrorResponse [] ∷ ErrorResponse [] ∷ []) status.Failed
+    ≡ Some (record { parts = part.Command ok ∷ []; error = Some []; status = status.Failed; asides = aside.Notice [] ∷ [] })
+cut_read = refl
+
+-- a group that is cut off behind its first step, and one whose portal is suspended
+group_read : read_outcome (Group (step.Parse [] [] [] ∷ step.Execute [] (pos 0) ∷ [])) (ParseComplete ∷ ErrorResponse [] ∷ []) status.Idle ≡ Some (record { parts = part.Parsed ∷ []; error = Some []; status = status.Idle; asides = [] })
+group_read = refl
+
+suspended_read : read_outcome (Group (step.Execute [] (pos 0) ∷ [])) (DataRow [] ∷ PortalSuspended ∷ []) status.Idle ≡ Some (record { parts = part.Executed ([] ∷ []) ends.Suspended ∷ []; error = None; status = status.Idle; asides = [] })
+suspended_read = refl
+
+-- ready: OK is F2 Unexpected with its tag, and an error F6 ServerEnd
+ready_refuses : hear (Idle []) (CommandComplete ok) ≡ Rejected
+ready_refuses = refl
+
+ready_unexpected : fault_at (Idle []) (CommandComplete ok) ≡ feeding.Unexpected 67
+ready_unexpected = refl
+
+ready_error : fault_at (Idle []) (ErrorResponse []) ≡ feeding.ServerEnd []
+ready_error = refl
+
+-- ready: a notice is the first aside of the next outcome
+ready_notes : hear (Idle []) (NoticeResponse []) ≡ Stays (Idle (aside.Notice [] ∷ []))
+ready_notes = refl
+
+notice_goes_on : with_request (Idle (aside.Notice [] ∷ [])) select ≡ Busy select [] (Within begun.Nothing) (aside.Notice [] ∷ []) Awaited
+notice_goes_on = refl
+
+notice_read : read_outcome (Query []) (NoticeResponse [] ∷ CommandComplete ok ∷ []) status.Idle ≡ Some (record { parts = part.Command ok ∷ []; error = None; status = status.Idle; asides = aside.Notice [] ∷ [] })
+notice_read = refl
+
+-- the startup: an error, another way to authenticate, a password, and ReadyForQuery too early
+startup_error : fault_at (Starting Fresh) (ErrorResponse []) ≡ feeding.StartupError []
+startup_error = refl
+
+startup_other : fault_at (Starting Fresh) (AuthOther (pos 10) []) ≡ feeding.UnsupportedAuth (pos 10)
+startup_other = refl
+
+startup_password : fault_at (Starting Fresh) AuthCleartext ≡ feeding.PasswordWanted
+startup_password = refl
+
+startup_early : hear (Starting Fresh) (Ready status.Idle) ≡ Rejected
+startup_early = refl
+
+startup_unexpected : fault_at (Starting Fresh) (Ready status.Idle) ≡ feeding.Unexpected 90
+startup_unexpected = refl
+
+startup_whole : hear (Starting Admitted) (Ready status.Idle) ≡ Stays (Idle [])
+startup_whole = refl
+
+-- what calls send
+start_sends : sent_by settings Start ≡ 0 ∷ 0 ∷ 0 ∷ 16 ∷ 0 ∷ 3 ∷ 0 ∷ 0 ∷ 117 ∷ 115 ∷ 101 ∷ 114 ∷ 0 ∷ 117 ∷ 0 ∷ 0 ∷ []
+unfolding settings
+start_sends = refl
+
+query_sends : sent_by settings (Ask select) ≡ 81 ∷ 0 ∷ 0 ∷ 0 ∷ 13 ∷ 83 ∷ 69 ∷ 76 ∷ 69 ∷ 67 ∷ 84 ∷ 32 ∷ 49 ∷ 0 ∷ []
+unfolding select
+query_sends = refl
+
+terminate_sends : sent_by settings Terminate ≡ 88 ∷ 0 ∷ 0 ∷ 0 ∷ 4 ∷ []
+terminate_sends = refl
+
+-- what the startup says of a parameter and the key, and the cancel packet
+said : List BackMessage
+said = AuthOk ∷ ParameterStatus (97 ∷ []) (98 ∷ []) ∷ KeyData (pos 1) (pos 2) ∷ Ready status.Idle ∷ []
+
+value_is : last_said (value_said (97 ∷ [])) said ≡ Some (98 ∷ [])
+unfolding said
+value_is = refl
+
+key_is : last_said key_said said ≡ Some (pos 1, pos 2)
+unfolding said
+key_is = refl
+
+no_key : last_said key_said (AuthOk ∷ Ready status.Idle ∷ []) ≡ None
+no_key = refl
+
+cancel_sends : packet (Cancel (pos 1) (pos 2)) ≡ 0 ∷ 0 ∷ 0 ∷ 16 ∷ 4 ∷ 210 ∷ 22 ∷ 46 ∷ 0 ∷ 0 ∷ 0 ∷ 1 ∷ 0 ∷ 0 ∷ 0 ∷ 2 ∷ []
+cancel_sends = refl
+
+-- a second request is made in phase Busy
+second_request : stand_phase (Busy select [] (Within begun.Nothing) [] Awaited) ≡ phase.Busy
+second_request = refl
+
+not_ready : IsReady busy → ⊥
+unfolding busy
+not_ready e = cc
+
+-- the end of a copy in before its copy_done is unexpected; behind it, it goes on
+copy_too_early : hear (Busy (Query []) [] (Within (begun.CopyIn (record { binary = false; formats = [] }))) [] Awaited) (CommandComplete ok) ≡ Rejected
+copy_too_early = refl
+
+copy_in_time : hear (Busy (Query []) [] (Within (begun.CopyIn (record { binary = false; formats = [] }))) [] Done) (CommandComplete ok)
+    ≡ Stays (Busy (Query []) (part.CopyIn (record { binary = false; formats = [] }) ok ∷ []) (Within begun.Nothing) [] Done)
+copy_in_time = refl
+
+-- a group has no copy in
+group_refuses : hear (Busy (Group (step.Parse [] [] [] ∷ [])) [] (Within begun.Nothing) [] Awaited) (back.CopyIn (record { binary = false; formats = [] })) ≡ Rejected
+group_refuses = refl
+
+-- a call stands before the message that was not whole when it was made
+in_order : timeline ((Start, 0) ∷ (CopyEnd, 12) ∷ []) ((AuthOk, 9) ∷ (Ready status.Idle, 15) ∷ []) ≡ Did Start ∷ Came AuthOk ∷ Did CopyEnd ∷ Came (Ready status.Idle) ∷ []
+in_order = refl
+
+cut_after_ready : segments (AuthOk ∷ Ready status.Idle ∷ EmptyQuery ∷ []) ≡ record { whole = (AuthOk ∷ Ready status.Idle ∷ []) ∷ []; rest = EmptyQuery ∷ [] }
+cut_after_ready = refl

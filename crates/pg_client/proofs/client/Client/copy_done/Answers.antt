@@ -1,0 +1,14 @@
+use Rattle.std.proofs.Common.{rules, ◌≡◌}
+use Rattle.pg_wire.specs.declared.message.FrontMessage.TheVariants.{CopyDone}
+use Rattle.pg_client.specs.Client.{phase_of}
+use Rattle.pg_client.specs.declared.phase.Phase.TheVariants as phase
+use Rattle.pg_client.specs.contracts.client.Client.{the_view}
+use Rattle.pg_client.proofs.Encoded.{encoded}
+use Rattle.pg_client.proofs.Runs.{copy_done_accepted}
+use Rattle.pg_client.proofs.client.Client.copy_done.Goals as goal
+
+pub returns-clause-run : goal.returns-clause-run
+returns-clause-run c =
+    let k : phase_of c.args.self.now ≡ phase.CopyingIn = search rules in
+    let e = encoded CopyDone c.args.out.now.items c.copy_done.new.buf.items (c.in_default.ensures) in
+    rw (c.answer_copy.ensures) (copy_done_accepted (the_view c.self.inside) c.args.self.now c.args.out.now.items c.copy_done.new.buf.items c.self.view_is k e.spelled e.put)

@@ -1,0 +1,12 @@
+-- What a reader must believe: what a client did and what came, what may come, and what holds of the client then.
+pub mod Session
+pub mod Client
+pub mod Facts
+pub mod Turns
+-- How the client's place goes on from message to message. A run's history has these words; the law facts_of_a_run says what
+-- they mean in those above.
+pub mod Place
+pub mod Machine
+pub mod Judged
+-- Words of private functions, which no public contract cites.
+pub mod Private

@@ -1,0 +1,105 @@
+-- What one message does to a client, and what holds between two messages.
+use Rattle.std.specs.Prelude.{◌≡◌, ℕ, ◌+◌, ◌≤◌, ◌<◌, List, [], ◌∷◌, ◌++◌, length, Bool, true, false, Some, None, Result, Ok, Err}
+use Rattle.std.specs.List.{flat_map, AllByRecursion}
+use Rattle.pg_wire.specs.declared.message.BackMessage.{BackMessage}
+use Rattle.pg_wire.specs.declared.message.BackMessage.TheVariants.{KeyData, ParameterStatus, Ready}
+use Rattle.pg_wire.specs.Backend.{backend}
+use Rattle.pg_wire.specs.Direction.{spelling}
+use Rattle.pg_wire.specs.Segment.{status_of}
+use Rattle.pg_wire.specs.Stream.{IsStream, IsWithin, IsOpen, IsFaulty}
+use Rattle.pg_client.specs.declared.fault.FeedFault.{FeedFault}
+use Rattle.pg_client.specs.declared.fault.FeedFault.TheVariants as feeding
+use Rattle.pg_client.specs.declared.news.News.{News}
+use Rattle.pg_client.specs.declared.news.News.TheVariants as news
+use Rattle.pg_client.specs.declared.phase.Cause.TheVariants as cause
+use Rattle.pg_client.specs.declared.place.Stand.TheVariants.{Idle}
+use Rattle.pg_client.specs.declared.settled.Settled.{Settled}
+use Rattle.pg_client.specs.Session.{Run, IsTerminated, AreAllowed, Expected}
+use Rattle.pg_client.specs.Client.{ClientView, IsAlike, IsSpelledAt, or_else, last_said, value_of, value_said, key_said, sent_in, story, cause_of}
+use Rattle.pg_client.specs.Judged.{Stands}
+use Rattle.pg_client.specs.Machine.{Effect, Stays, Settles, Rejected, hear}
+use Rattle.pg_client.specs.Private.Hearing.{fault_at}
+
+-- The message says this.
+abbrev pub IsNews : BackMessage → News → Type 0
+IsNews m (news.Status status) = m ≡ Ready status
+IsNews m (news.Parameter name value) = m ≡ ParameterStatus name value
+IsNews m (news.Key process secret) = m ≡ KeyData process secret
+IsNews m news.Nothing = (status_of m ≡ None) × (key_said m ≡ None) × ((name : List ℕ) → value_said name m ≡ None)
+
+-- What the message says is known now.
+pub record Knows (m : BackMessage) (old new : ClientView) : Type 0 where
+  pub status : new.status ≡ or_else (status_of m) old.status
+  pub parameters : (name : List ℕ) → value_of name new.parameters ≡ or_else (value_said name m) (value_of name old.parameters)
+  pub key : new.key ≡ or_else (key_said m) old.key
+
+-- Nothing more is known.
+pub record KnowsSame (old new : ClientView) : Type 0 where
+  pub status : new.status ≡ old.status
+  pub parameters : new.parameters ≡ old.parameters
+  pub key : new.key ≡ old.key
+
+-- The client has heard nothing more; of where it stood it may know the request and its error alone.
+pub record HearsNothing (old new : ClientView) : Type 0 where
+  pub settings : new.settings ≡ old.settings
+  pub settled : new.settled ≡ old.settled
+  pub alike : IsAlike old.stand new.stand
+  pub knows : KnowsSame old new
+
+-- where a message leads that isn't rejected
+abbrev pub MovesBy : Effect → ClientView → ClientView → Type 0
+MovesBy (Stays s) old new = (new.stand ≡ s) × (new.settled ≡ old.settled)
+MovesBy (Settles t) old new = (new.stand ≡ Idle []) × (new.settled ≡ old.settled ++ t ∷ [])
+MovesBy Rejected old new = ⊥
+
+-- The client has heard the message.
+pub record HearsOne (m : BackMessage) (old new : ClientView) : Type 0 where
+  pub settings : new.settings ≡ old.settings
+  pub kept : new.kept ≡ old.kept
+  pub closed : new.closed ≡ old.closed
+  pub moves : MovesBy (hear old.stand m) old new
+  pub knows : Knows m old new
+
+-- What taking a message in does.
+abbrev pub HearsMessage : BackMessage → ClientView → Result Unit FeedFault → ClientView → Type 0
+HearsMessage m old (Ok x) new = HearsOne m old new
+HearsMessage m old (Err feeding.Memory) new = HearsNothing old new × (new.closed ≡ old.closed)
+HearsMessage m old (Err f) new = (hear old.stand m ≡ Rejected) × (f ≡ fault_at old.stand m) × HearsNothing old new × (new.closed ≡ old.closed)
+
+-- the client with so many bytes left
+abbrev pub leaving : ClientView → List ℕ → ClientView
+leaving client kept = record client { kept = kept }
+
+-- What looking for the next message does.
+abbrev pub HearsNext : ClientView → Result Bool FeedFault → ClientView → Type 0
+HearsNext old (Ok false) new = IsOpen backend old.settings.limit old.kept × (new ≡ old)
+HearsNext old (Ok true) new = (m : BackMessage) × IsWithin backend old.settings.limit m × (old.kept ≡ spelling backend m ++ new.kept) × HearsOne m (leaving old new.kept) new
+HearsNext old (Err (feeding.Wire f)) new = IsFaulty backend old.settings.limit old.kept f × HearsNothing old new × (new.closed ≡ Some cause.Wire)
+HearsNext old (Err feeding.Memory) new = HearsNothing old new × (new.closed ≡ Some cause.Memory)
+HearsNext old (Err f) new = (m : BackMessage) × (more : List ℕ) × IsWithin backend old.settings.limit m × (old.kept ≡ spelling backend m ++ more) × (hear old.stand m ≡ Rejected) × (f ≡ fault_at old.stand m) × HearsNothing old new × (new.closed ≡ cause_of f)
+
+-- What holds of an open client between two messages of a piece: it was fed the piece, its rest is what it keeps, and no message
+-- in that was whole before the piece.
+pub record IsHearing (before : ℕ) (run : Run) (fed : List ℕ) (heard : List BackMessage) (given : List Settled) (sent : List ℕ) (client : ClientView) : Type 0 where
+  pub stream : IsStream backend client.settings.limit fed heard client.kept
+  pub places : AllByRecursion (λ c. c.1 ≤ before) run
+  pub within : before ≤ length fed
+  pub late : (m : BackMessage) (more : List ℕ) → IsWithin backend client.settings.limit m → client.kept ≡ spelling backend m ++ more → before < length (flat_map (spelling backend) heard) + length (spelling backend m)
+  pub is_open : client.closed ≡ None
+  pub not_terminated : IsTerminated (story run heard) → ⊥
+  pub allowed : AreAllowed (story run heard)
+  pub expected : Expected (story run heard)
+  pub stands : Stands (story run heard) client.stand (given ++ client.settled)
+  pub status : client.status ≡ last_said status_of heard
+  pub parameters : (name : List ℕ) → value_of name client.parameters ≡ last_said (value_said name) heard
+  pub key : client.key ≡ last_said key_said heard
+  pub sent_is : sent ≡ sent_in client.settings (story run heard)
+  pub spelled : AllByRecursion (IsSpelledAt client.settings) (story run heard)
+
+-- What the client knows behind a message is noted, or memory was refused and it knows what it knew.
+pub record Notes (old new : ClientView) : Type 0 where
+  pub settings : new.settings ≡ old.settings
+  pub kept : new.kept ≡ old.kept
+  pub stand : new.stand ≡ old.stand
+  pub settled : new.settled ≡ old.settled
+  pub closed : new.closed ≡ old.closed

@@ -1,0 +1,184 @@
+-- What a client did and what came, in order, and what may come (Frontend/Backend Protocol, "Message Flow").
+use Rattle.std.specs.Prelude.{◌≡◌, ℕ, ℤ, suc, ◌≤◌, nat_lt, cond, List, [], ◌∷◌, ◌++◌, length, map, IsSome, ◌⊎◌}
+use Rattle.pg_wire.specs.declared.message.BackMessage.{BackMessage}
+use Rattle.pg_wire.specs.declared.message.BackMessage.TheVariants.{AuthOk, AuthCleartext, AuthMd5, KeyData, Ready, CommandComplete}
+use Rattle.pg_wire.specs.declared.message.BackMessage.TheVariants as back
+use Rattle.pg_wire.specs.declared.message.CopyHead.{CopyHead}
+use Rattle.pg_wire.specs.declared.message.Status.{Status}
+use Rattle.pg_wire.specs.declared.session.Outcome.{Outcome}
+use Rattle.pg_wire.specs.declared.session.Request.{Request}
+use Rattle.pg_wire.specs.Segment.{aside_of, without_asides, Fits, Begins, segments}
+use Rattle.pg_client.specs.declared.place.CopyAnswer.{CopyAnswer}
+use Rattle.pg_client.specs.declared.place.CopyAnswer.TheVariants.{Awaited, Done, Refused}
+
+-- ---- calls and messages
+
+-- a call of the client that was accepted
+pub data Call : Type 0 where
+  Start : Call
+  Ask : Request → Call
+  Chunk : List ℕ → Call
+  CopyEnd : Call
+  CopyFail : List ℕ → Call
+  Terminate : Call
+
+pub data Happening : Type 0 where
+  Did : Call → Happening
+  Came : BackMessage → Happening
+
+-- the calls, each with its place: how many bytes had been fed before it
+abbrev pub Run : Type 0
+Run = List (Call × ℕ)
+
+-- the first calls of a run, those made before so many bytes had been fed
+abbrev pub made_before : ℕ → Run → List Happening
+made_before end [] = []
+made_before end (c ∷ cs) = cond (nat_lt c.1 end) (Did c.0 ∷ made_before end cs) []
+
+-- the other calls
+abbrev pub made_since : ℕ → Run → Run
+made_since end [] = []
+made_since end (c ∷ cs) = cond (nat_lt c.1 end) (made_since end cs) (c ∷ cs)
+
+-- Calls and messages in one order. A message, given with its end in the bytes, comes after the calls that were made before
+-- it was whole.
+abbrev pub timeline : Run → List (BackMessage × ℕ) → List Happening
+timeline run [] = map (λ c. Did c.0) run
+timeline run (m ∷ ms) = made_before m.1 run ++ Came m.0 ∷ timeline (made_since m.1 run) ms
+
+abbrev pub messages_in : List Happening → List BackMessage
+messages_in [] = []
+messages_in (Did c ∷ hs) = messages_in hs
+messages_in (Came m ∷ hs) = m ∷ messages_in hs
+
+abbrev pub requests_in : List Happening → List Request
+requests_in [] = []
+requests_in (Did (Ask r) ∷ hs) = r ∷ requests_in hs
+requests_in (Did _ ∷ hs) = requests_in hs
+requests_in (Came m ∷ hs) = requests_in hs
+
+-- the messages cut after each ReadyForQuery: the startup's segment, and one for each request that was answered
+abbrev pub whole_in : List Happening → List (List BackMessage)
+whole_in hs = (segments (messages_in hs)).whole
+
+-- the messages of the segment that isn't whole
+abbrev pub rest_in : List Happening → List BackMessage
+rest_in hs = (segments (messages_in hs)).rest
+
+-- ---- the startup ("Start-up")
+
+abbrev pub key_data : ℤ × ℤ → BackMessage
+key_data key = KeyData key.0 key.1
+
+-- Asides left out: AuthenticationOk, then keys.
+pub record IsStartup (segment : List BackMessage) : Type 0 where
+  pub body : List BackMessage
+  pub status : Status
+  pub closed : segment ≡ body ++ Ready status ∷ []
+  pub keys : List (ℤ × ℤ)
+  pub reads : without_asides body ≡ AuthOk ∷ map key_data keys
+
+abbrev pub BeginsStartup : List BackMessage → Type 0
+BeginsStartup messages = (more : List BackMessage) × IsStartup (messages ++ more)
+
+-- ---- what may come
+
+-- Each whole segment fits its request, and the rest begins one that fits the next request. With no further request, the rest
+-- is asides.
+abbrev pub FitAll : List Request → List (List BackMessage) → List BackMessage → Type 0
+FitAll [] [] rest = without_asides rest ≡ []
+FitAll (r ∷ rs) [] rest = Begins r rest
+FitAll [] (s ∷ ss) rest = ⊥
+FitAll (r ∷ rs) (s ∷ ss) rest = ((outcome : Outcome) × Fits r s outcome) × FitAll rs ss rest
+
+-- A startup, and then the segments of the requests.
+abbrev pub IsSession : List Request → List (List BackMessage) → List BackMessage → Type 0
+IsSession requests [] rest = BeginsStartup rest
+IsSession requests (s ∷ ss) rest = IsStartup s × FitAll requests ss rest
+
+-- what was called for the last copy in: a request or a CopyInResponse begins anew ("COPY Operations")
+abbrev pub copy_answer_after : CopyAnswer → Happening → CopyAnswer
+copy_answer_after answer (Came (back.CopyIn head)) = Awaited
+copy_answer_after answer (Did (Ask r)) = Awaited
+copy_answer_after answer (Did CopyEnd) = Done
+copy_answer_after answer (Did (CopyFail reason)) = Refused
+copy_answer_after answer _ = answer
+
+abbrev pub copy_answer_from : CopyAnswer → List Happening → CopyAnswer
+copy_answer_from answer [] = answer
+copy_answer_from answer (h ∷ hs) = copy_answer_from (copy_answer_after answer h) hs
+
+abbrev pub copy_answer : List Happening → CopyAnswer
+copy_answer hs = copy_answer_from Awaited hs
+
+-- The messages, asides left out, end in a CopyInResponse.
+abbrev pub EndInCopyIn : List BackMessage → Type 0
+EndInCopyIn messages = (before : List BackMessage) × (head : CopyHead) × (without_asides messages ≡ before ++ back.CopyIn head ∷ [])
+
+abbrev pub IsAside : BackMessage → Type 0
+IsAside m = IsSome (aside_of m)
+
+-- The call of start is among them.
+abbrev pub IsStarted : List Happening → Type 0
+IsStarted [] = ⊥
+IsStarted (Did Start ∷ hs) = Unit {0}
+IsStarted (_ ∷ hs) = IsStarted hs
+
+-- The message comes after the call that it needs, with these requests and segments before it, and this said of the last copy in.
+pub record MayStand (requests : List Request) (whole : List (List BackMessage)) (rest : List BackMessage) (said : CopyAnswer) (m : BackMessage) : Type 0 where
+  -- one of a request's segment that is no aside comes after that request
+  pub asked_for : IsAside m ⊎ (length whole ≤ length requests)
+  -- the end of a copy in comes after its copy_done
+  pub copy_ended : (tag : List ℕ) → m ≡ CommandComplete tag → EndInCopyIn rest → said ≡ Done
+
+-- The message comes after the call that it needs.
+pub record IsAfterItsCall (before : List Happening) (m : BackMessage) : Type 0 where
+  -- any message comes after start
+  pub started : IsStarted before
+  pub in_place : MayStand (requests_in before) (whole_in before) (rest_in before) (copy_answer before) m
+
+-- These messages may come so, with these calls.
+pub record Expected (hs : List Happening) : Type 0 where
+  pub session : IsSession (requests_in hs) (whole_in hs) (rest_in hs)
+  pub after : (before : List Happening) (m : BackMessage) (later : List Happening) → hs ≡ before ++ Came m ∷ later → IsAfterItsCall before m
+
+-- ---- where a session stands, and which calls are allowed there
+
+-- The call of terminate is among them.
+abbrev pub IsTerminated : List Happening → Type 0
+IsTerminated [] = ⊥
+IsTerminated (Did Terminate ∷ hs) = Unit {0}
+IsTerminated (_ ∷ hs) = IsTerminated hs
+
+-- It was started, and the startup's segment isn't whole.
+abbrev pub IsStarting : List Happening → Type 0
+IsStarting hs = IsStarted hs × (whole_in hs ≡ [])
+
+-- The startup's segment is whole, and so are those of all requests.
+abbrev pub IsReady : List Happening → Type 0
+IsReady hs = length (whole_in hs) ≡ suc (length (requests_in hs))
+
+-- The segment that isn't whole ends in a CopyInResponse, for which nothing was called.
+abbrev pub IsCopyingIn : List Happening → Type 0
+IsCopyingIn hs = EndInCopyIn (rest_in hs) × (copy_answer hs ≡ Awaited)
+
+-- A request was made.
+abbrev pub IsAsked : List Happening → Type 0
+IsAsked hs = requests_in hs ≡ [] → ⊥
+
+abbrev pub HasPlace : List Happening → Call → Type 0
+HasPlace before Start = IsStarted before → ⊥
+HasPlace before (Ask r) = IsStarted before × IsReady before
+HasPlace before (Chunk bytes) = IsAsked before × IsCopyingIn before
+HasPlace before CopyEnd = IsAsked before × IsCopyingIn before
+HasPlace before (CopyFail reason) = IsAsked before × IsCopyingIn before
+HasPlace before Terminate = IsStarted before
+
+-- A call is allowed after these.
+pub record IsAllowed (before : List Happening) (c : Call) : Type 0 where
+  pub in_place : HasPlace before c
+  pub not_terminated : IsTerminated before → ⊥
+
+-- Each call was allowed when it was made.
+abbrev pub AreAllowed : List Happening → Type 0
+AreAllowed hs = (before : List Happening) (c : Call) (later : List Happening) → hs ≡ before ++ Did c ∷ later → IsAllowed before c

@@ -1,0 +1,57 @@
+-- What a client sends, request by request: a turn is a request and what was called for its copies.
+use Rattle.std.specs.Prelude.{◌≡◌, ℕ, List, [], ◌∷◌, ◌++◌, map}
+use Rattle.std.specs.List.{flat_map}
+use Rattle.pg_wire.specs.declared.message.First.TheVariants.{Startup}
+use Rattle.pg_wire.specs.declared.message.FrontMessage.{FrontMessage}
+use Rattle.pg_wire.specs.declared.message.FrontMessage.TheVariants as front
+use Rattle.pg_wire.specs.declared.session.Request.{Request}
+use Rattle.pg_wire.specs.Direction.{spelling}
+use Rattle.pg_wire.specs.First.{packet}
+use Rattle.pg_wire.specs.Frontend.{frontend}
+use Rattle.pg_wire.specs.Segment.{request_messages}
+use Rattle.pg_client.specs.declared.settings.Settings.{Settings}
+use Rattle.pg_client.specs.Session.{Call, Ask, Chunk, CopyEnd, CopyFail, Terminate, Happening, Did, Came, requests_in}
+use Rattle.pg_client.specs.Client.{startup_pairs}
+
+pub record Turn : Type 0 where
+  pub request : Request
+  -- CopyData, CopyDone and CopyFail messages
+  pub copies : List FrontMessage
+
+abbrev pub turn_messages : Turn → List FrontMessage
+turn_messages t = request_messages t.request ++ t.copies
+
+-- the copy messages of the calls before the next request
+abbrev pub copies_of : List Call → List FrontMessage
+copies_of [] = []
+copies_of (Ask r ∷ cs) = []
+copies_of (Chunk bytes ∷ cs) = front.CopyData bytes ∷ copies_of cs
+copies_of (CopyEnd ∷ cs) = front.CopyDone ∷ copies_of cs
+copies_of (CopyFail reason ∷ cs) = front.CopyFail reason ∷ copies_of cs
+copies_of (c ∷ cs) = copies_of cs
+
+abbrev pub turns_of : List Call → List Turn
+turns_of [] = []
+turns_of (Ask r ∷ cs) = record { request = r; copies = copies_of cs } ∷ turns_of cs
+turns_of (c ∷ cs) = turns_of cs
+
+abbrev pub calls_in : List Happening → List Call
+calls_in [] = []
+calls_in (Did c ∷ hs) = c ∷ calls_in hs
+calls_in (Came m ∷ hs) = calls_in hs
+
+-- what is sent before the first turn: the startup packet, once there is a call
+abbrev pub greeting : Settings → List Call → List ℕ
+greeting settings [] = []
+greeting settings (c ∷ cs) = packet (Startup (startup_pairs settings))
+
+-- what is sent behind the last turn: a Terminate, where the client said so
+abbrev pub farewell : List Call → List FrontMessage
+farewell [] = []
+farewell (Terminate ∷ cs) = front.Terminate ∷ []
+farewell (c ∷ cs) = farewell cs
+
+-- What went out is the startup packet, the turns and the end of the session, in this order.
+pub record InTurns (settings : Settings) (hs : List Happening) (sent : List ℕ) : Type 0 where
+  pub sent_is : sent ≡ greeting settings (calls_in hs) ++ flat_map (spelling frontend) (flat_map turn_messages (turns_of (calls_in hs)) ++ farewell (calls_in hs))
+  pub requests : map (λ t. t.request) (turns_of (calls_in hs)) ≡ requests_in hs

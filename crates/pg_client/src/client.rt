@@ -1,0 +1,319 @@
+//! The client: its calls.
+
+mod feed;
+
+ghost use Rattle.std.specs.Prelude.{◌≡◌, ◌≤◌, ◌++◌, ◌∷◌, [], Bool, false, ℕ, IfErr, IfNone, IfSome, List, None, OnErr, OnOk, option_copied, Some, true};
+ghost use Rattle.pg_wire.specs.declared.message.BackMessage.{BackMessage};
+ghost use Rattle.pg_client.specs.Session.{Ask, Chunk, CopyEnd, CopyFail, Run, Start, Terminate};
+ghost use Rattle.pg_client.specs.Client.{Accepts, busy_phase_of, Cancels, first_cause, has_failed, IsOpenPhase, IsRunOf, Loses, phase_of, RefusesCopy, RefusesEnd, RefusesUnless, stage_failed, story, unsettled_of, value_of};
+ghost use Rattle.pg_client.specs.Private.Calling.{with_answer, with_request};
+ghost use Rattle.pg_client.specs.declared.settled.Settled.{Settled};
+
+use crate::fault::CallFault;
+use crate::parameters::Parameters;
+use crate::phase::{Cause, Phase};
+use crate::place::{CopyAnswer, Open, Stage, Stand, Welcome};
+use crate::sending::{put_request, put_startup};
+use crate::settings::Settings;
+use crate::settled::{Loss, Settled};
+use pg_wire::{BackDecoder, Request, Seq, Status, frontend};
+use std::alloc::Global;
+use std::collections::VecDeque;
+use std::marker::Model;
+use std::mem;
+
+/// A driver's half of a session, without sockets: calls put bytes for the server out, [`feed`](Client::feed) takes the server's
+/// bytes in, and settled groups come out.
+#[derive(Drop)]
+pub struct Client {
+    alloc: Global,
+    settings: Settings,
+    decoder: BackDecoder,
+    stand: Stand,
+    settled: VecDeque<Settled>,
+    status: Option<Status>,
+    parameters: Parameters,
+    key: Option<(i32, i32)>,
+    closed: Option<Cause>,
+}
+
+impl Model for Client {
+    ghost use Rattle.std.specs.Prelude.{◌≡◌, None};
+    ghost use Rattle.pg_client.specs.Client.{ClientView};
+
+    ghost Value = { ClientView };
+
+    ghost view = { λ c. record { settings = c.settings; kept = c.decoder.kept; stand = c.stand; settled = c.settled.items; status = c.status; parameters = c.parameters; key = c.key; closed = c.closed } };
+
+    ghost invariant = { λ c. (c.decoder.limit ≡ c.settings.limit) × (c.closed ≡ None → c.decoder.fault ≡ None) };
+}
+
+impl Client {
+    /// A client that was not started.
+    pub fn new(alloc: Global, settings: Settings) -> Self
+        requires { (64 ≤ settings.limit) × (settings.limit ≤ 1073741823) }
+        ensures settings { result.settings ≡ settings }
+        ensures phase { phase_of result ≡ Phase.New }
+        ensures run { IsRunOf [] [] [] [] [] [] false result }
+    {
+        let limit = settings.limit;
+        Client {
+            alloc,
+            settings,
+            decoder: BackDecoder::new(alloc, limit),
+            stand: Stand::New,
+            settled: VecDeque::new(alloc),
+            status: None,
+            parameters: Parameters::new(alloc),
+            key: None,
+            closed: None,
+        }
+    }
+
+    /// Where the client stands.
+    pub fn phase(&self) -> Phase
+        ensures { result ≡ phase_of self.now }
+    {
+        if let Some(cause) = self.closed {
+            return Phase::Closed(cause);
+        }
+        match &self.stand {
+            Stand::New => Phase::New,
+            Stand::Starting(_) => Phase::Starting,
+            Stand::Idle(_) => Phase::Ready,
+            Stand::Busy { stage, answer, .. } => busy_phase(stage, *answer),
+        }
+    }
+
+    /// The transaction status of the last ReadyForQuery.
+    pub fn status(&self) -> Option<Status>
+        ensures { result ≡ self.now.status }
+    {
+        self.status
+    }
+
+    /// The last value that the server sent of a run-time parameter.
+    pub fn parameter(&self, name: &[u8]) -> Option<&Seq<u8>>
+        ensures { option_copied result ≡ value_of name.now self.now.parameters }
+    {
+        self.parameters.get(name)
+    }
+
+    /// Puts the startup packet out ("Start-up"). Allowed in phase New, and leads to Starting.
+    pub fn start(&mut self, out: &mut Vec<u8>) -> Result<(), CallFault>
+        ensures ok { OnOk result ((phase_of self.old ≡ Phase.New) × (phase_of self.new ≡ Phase.Starting)) }
+        ensures run { OnOk result (Accepts Start self.old self.new out.old.items out.new.items) }
+        ensures refused { IfErr result (RefusesUnless Phase.New self.old Start) }
+        ensures err { OnErr result ((self.new ≡ self.old) × (out.new.items ≡ out.old.items)) }
+    {
+        let phase = self.phase();
+        if phase != Phase::New {
+            return Err(CallFault::NotReady(phase));
+        }
+        if let Err(fault) = put_startup(self.alloc, &self.settings, out) {
+            return Err(CallFault::Encode(fault));
+        }
+        self.stand = Stand::Starting(Welcome::Fresh);
+        Ok(())
+    }
+
+    /// Makes a request: puts a Query out, or the messages of a group's steps and a Sync. Allowed in phase Ready, and leads to
+    /// Busy. A refusal hands the request back.
+    pub fn request(
+        &mut self,
+        request: Request,
+        out: &mut Vec<u8>,
+    ) -> Result<(), (Request, CallFault)>
+        ensures ok { OnOk result ((phase_of self.old ≡ Phase.Ready) × (phase_of self.new ≡ Phase.Busy)) }
+        ensures run { OnOk result (Accepts (Ask request) self.old self.new out.old.items out.new.items) }
+        ensures refused { IfErr result (λ f. (f.0 ≡ request) × RefusesUnless Phase.Ready self.old (Ask request) f.1) }
+        ensures err { OnErr result ((self.new ≡ self.old) × (out.new.items ≡ out.old.items)) }
+    {
+        let phase = self.phase();
+        if phase != Phase::Ready {
+            return Err((request, CallFault::NotReady(phase)));
+        }
+        if let Err(fault) = put_request(&request, out) {
+            return Err((request, CallFault::Encode(fault)));
+        }
+        begin(self.alloc, &mut self.stand, request);
+        Ok(())
+    }
+
+    /// Puts a chunk of data out, as one CopyData, also where it is empty ("COPY Operations"). Allowed in phase CopyingIn.
+    pub fn copy_chunk(&mut self, bytes: &[u8], out: &mut Vec<u8>) -> Result<(), CallFault>
+        ensures ok { OnOk result ((phase_of self.old ≡ Phase.CopyingIn) × (phase_of self.new ≡ Phase.CopyingIn)) }
+        ensures run { OnOk result (Accepts (Chunk bytes.now) self.old self.new out.old.items out.new.items) }
+        ensures refused { IfErr result (RefusesCopy self.old (Chunk bytes.now)) }
+        ensures err { OnErr result ((self.new ≡ self.old) × (out.new.items ≡ out.old.items)) }
+    {
+        let phase = self.phase();
+        if phase != Phase::CopyingIn {
+            return Err(CallFault::NotCopying(phase));
+        }
+        match frontend::copy_data(bytes, out) {
+            Ok(()) => Ok(()),
+            Err(fault) => Err(CallFault::Encode(fault)),
+        }
+    }
+
+    /// Says that the data of a copy is complete. Allowed in phase CopyingIn, and leads to Busy.
+    pub fn copy_done(&mut self, out: &mut Vec<u8>) -> Result<(), CallFault>
+        ensures ok { OnOk result ((phase_of self.old ≡ Phase.CopyingIn) × (phase_of self.new ≡ Phase.Busy)) }
+        ensures run { OnOk result (Accepts CopyEnd self.old self.new out.old.items out.new.items) }
+        ensures refused { IfErr result (RefusesCopy self.old CopyEnd) }
+        ensures err { OnErr result ((self.new ≡ self.old) × (out.new.items ≡ out.old.items)) }
+    {
+        let phase = self.phase();
+        if phase != Phase::CopyingIn {
+            return Err(CallFault::NotCopying(phase));
+        }
+        if let Err(fault) = frontend::copy_done(out) {
+            return Err(CallFault::Encode(fault));
+        }
+        answer_copy(&mut self.stand, CopyAnswer::Done);
+        Ok(())
+    }
+
+    /// Says that a copy is to fail, for this reason. Allowed in phase CopyingIn, and leads to Busy.
+    pub fn copy_fail(&mut self, reason: &[u8], out: &mut Vec<u8>) -> Result<(), CallFault>
+        ensures ok { OnOk result ((phase_of self.old ≡ Phase.CopyingIn) × (phase_of self.new ≡ Phase.Busy)) }
+        ensures run { OnOk result (Accepts (CopyFail reason.now) self.old self.new out.old.items out.new.items) }
+        ensures refused { IfErr result (RefusesCopy self.old (CopyFail reason.now)) }
+        ensures err { OnErr result ((self.new ≡ self.old) × (out.new.items ≡ out.old.items)) }
+    {
+        let phase = self.phase();
+        if phase != Phase::CopyingIn {
+            return Err(CallFault::NotCopying(phase));
+        }
+        if let Err(fault) = frontend::copy_fail(reason, out) {
+            return Err(CallFault::Encode(fault));
+        }
+        answer_copy(&mut self.stand, CopyAnswer::Refused);
+        Ok(())
+    }
+
+    /// Ends the session: puts a Terminate out ("Termination"). Allowed but in phases New and Closed, and leads to
+    /// Closed(Terminated). A request that is outstanding stays to be handed back by [`lost`](Client::lost).
+    pub fn terminate(&mut self, out: &mut Vec<u8>) -> Result<(), CallFault>
+        ensures ok { OnOk result (IsOpenPhase (phase_of self.old) × (phase_of self.new ≡ Phase.Closed Cause.Terminated)) }
+        ensures run { OnOk result (Accepts Terminate self.old self.new out.old.items out.new.items) }
+        ensures refused { IfErr result (RefusesEnd self.old) }
+        ensures err { OnErr result ((self.new ≡ self.old) × (out.new.items ≡ out.old.items)) }
+    {
+        let phase = self.phase();
+        if !phase.is_open() {
+            return Err(CallFault::NotReady(phase));
+        }
+        if let Err(fault) = frontend::terminate(out) {
+            return Err(CallFault::Encode(fault));
+        }
+        self.closed = Some(Cause::Terminated);
+        Ok(())
+    }
+
+    /// Appends the packet that asks to cancel the outstanding request, for a connection of its own ("Canceling Requests in
+    /// Progress"). Allowed in any phase; C4 NoKey where the server has sent no key.
+    pub fn cancel_packet(&self, out: &mut Vec<u8>) -> Result<(), CallFault>
+        ensures { Cancels self.now.key out.old.items result out.new.items }
+    {
+        let Some((process, secret)) = self.key else {
+            return Err(CallFault::NoKey);
+        };
+        match frontend::cancel_request(process, secret, out) {
+            Ok(()) => Ok(()),
+            Err(fault) => Err(CallFault::Encode(fault)),
+        }
+    }
+
+    /// Takes the oldest settled group that wasn't taken.
+    pub fn take_settled(&mut self) -> Option<Settled>
+        ensures some { IfSome result (λ t. (self.old.settled ≡ t ∷ self.new.settled) × (self.new ≡ record self.old { settled = self.new.settled })) }
+        ensures run { IfSome result (λ t. (run : Run) (fed : List ℕ) (heard : List BackMessage) (rest : List ℕ) (given : List Settled) (sent : List ℕ) (handed_back : Bool) → IsRunOf run fed heard rest given sent handed_back self.old → IsRunOf run fed heard rest (given ++ t ∷ []) sent handed_back self.new) }
+        ensures none { IfNone result ((self.old.settled ≡ []) × (self.new ≡ self.old)) }
+    {
+        self.settled.pop_front()
+    }
+
+    /// Says that the connection is gone. It hands back the request that isn't settled, and says whether an error came for it.
+    /// It leads to Closed(Lost), or a closed client keeps its cause. Asked again, it hands nothing back.
+    pub fn lost(&mut self) -> Loss
+        ensures settings { self.new.settings ≡ self.old.settings }
+        ensures closed { self.new.closed ≡ Some (first_cause self.old.closed Cause.Lost) }
+        ensures settled { self.new.settled ≡ self.old.settled }
+        ensures loss { (run : Run) (fed : List ℕ) (heard : List BackMessage) (rest : List ℕ) (given : List Settled) (sent : List ℕ) (handed_back : Bool) → IsRunOf run fed heard rest given sent handed_back self.old → Loses handed_back (story run heard) result }
+        ensures run { (run : Run) (fed : List ℕ) (heard : List BackMessage) (rest : List ℕ) (given : List Settled) (sent : List ℕ) (handed_back : Bool) → IsRunOf run fed heard rest given sent handed_back self.old → IsRunOf run fed heard rest given sent true self.new }
+    {
+        self.closed = Some(self.closed.unwrap_or(Cause::Lost));
+        loss_of(mem::replace(&mut self.stand, Stand::New))
+    }
+}
+
+// Notes what was called for the open copy in.
+fn answer_copy(stand: &mut Stand, said: CopyAnswer)
+    ensures { stand.new ≡ with_answer stand.old said }
+{
+    if let Stand::Busy { answer, .. } = stand {
+        *answer = said;
+    }
+}
+
+// Begins a request's segment with the asides that came before.
+fn begin(alloc: Global, stand: &mut Stand, request: Request)
+    ensures { stand.new ≡ with_request stand.old request }
+{
+    let old = mem::replace(stand, Stand::New);
+    *stand = asked_after(alloc, old, request);
+}
+
+fn asked_after(alloc: Global, stand: Stand, request: Request) -> Stand
+    ensures { result ≡ with_request stand request }
+{
+    match stand {
+        Stand::Idle(asides) => Stand::Busy {
+            request,
+            parts: Seq::new(Vec::new(alloc)),
+            stage: Stage::Within(Open::Nothing),
+            asides,
+            answer: CopyAnswer::Awaited,
+        },
+        other => other,
+    }
+}
+
+fn loss_of(stand: Stand) -> Loss
+    ensures request { result.unsettled ≡ unsettled_of stand }
+    ensures error { result.seen_error ≡ has_failed stand }
+{
+    match stand {
+        Stand::Busy { request, stage, .. } => Loss {
+            unsettled: Some(request),
+            seen_error: is_failed(&stage),
+        },
+        _ => Loss {
+            unsettled: None,
+            seen_error: false,
+        },
+    }
+}
+
+fn is_failed(stage: &Stage) -> bool
+    ensures { result ≡ stage_failed stage.now }
+{
+    match stage {
+        Stage::Within(_) => false,
+        Stage::Failed(_) => true,
+    }
+}
+
+fn busy_phase(stage: &Stage, answer: CopyAnswer) -> Phase
+    ensures { result ≡ busy_phase_of stage.now answer }
+{
+    match stage {
+        Stage::Within(Open::CopyIn(_)) => match answer {
+            CopyAnswer::Awaited => Phase::CopyingIn,
+            _ => Phase::Busy,
+        },
+        _ => Phase::Busy,
+    }
+}

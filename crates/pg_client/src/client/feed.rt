@@ -1,0 +1,117 @@
+//! The bytes that come from the server.
+
+ghost use Rattle.std.specs.Prelude.{◌≡◌, ◌<◌, ℕ, IfErr, IsSome, length, List, None, OnErr, OnOk};
+ghost use Rattle.pg_wire.specs.declared.message.BackMessage.{BackMessage};
+ghost use Rattle.pg_wire.specs.Segment.{aside_of};
+ghost use Rattle.pg_client.specs.Session.{Run};
+ghost use Rattle.pg_client.specs.Client.{Feeds, Hears};
+ghost use Rattle.pg_client.specs.Private.Feeding.{HearsMessage, HearsNext, IsHearing, IsNews, Knows, KnowsSame, Notes};
+ghost use Rattle.pg_client.specs.declared.settled.Settled.{Settled};
+
+use crate::client::Client;
+use crate::fault::FeedFault;
+use crate::hearing::{Heard, hear};
+use crate::news::News;
+use crate::phase::Cause;
+use pg_wire::{BackMessage, WireFault};
+
+impl Client {
+    /// Takes the bytes that came from the server, all of the piece, in whatever pieces they come. Groups that are settled then
+    /// wait for [`take_settled`](Client::take_settled). What the server asks for goes to `out`.
+    ///
+    /// F8 Closed: the client was closed before, and nothing changes. After any other fault it is closed with the cause of that
+    /// name: the messages before the fault have had their effect, groups that were settled stay to be taken, and a request that
+    /// is outstanding stays to be handed back by [`lost`](Client::lost). A piece without bytes takes no memory.
+    pub fn feed(&mut self, piece: &[u8], out: &mut Vec<u8>) -> Result<(), FeedFault>
+        ensures settings { self.new.settings ≡ self.old.settings }
+        ensures feeds { Feeds self.old piece.now result self.new }
+        ensures out { out.new.items ≡ out.old.items }
+    {
+        if self.closed.is_some() {
+            return Err(FeedFault::Closed);
+        }
+        if piece.is_empty() {
+            return Ok(());
+        }
+        if self.decoder.push(piece).is_err() {
+            self.closed = Some(Cause::Memory);
+            return Err(FeedFault::Memory);
+        }
+        self.hear_all()
+    }
+
+    // Takes in what is whole.
+    fn hear_all(&mut self) -> Result<(), FeedFault>
+        requires { self.old.closed ≡ None }
+        ensures settings { self.new.settings ≡ self.old.settings }
+        ensures all { (before : ℕ) (run : Run) (fed : List ℕ) (heard : List BackMessage) (given : List Settled) (sent piece : List ℕ) → 0 < length piece → IsHearing before run fed heard given sent self.old → Hears run fed heard given sent piece result self.new }
+    {
+        while self.hear_next()? {}
+        Ok(())
+    }
+
+    // Takes in the next message, if it is whole.
+    fn hear_next(&mut self) -> Result<bool, FeedFault>
+        requires { self.old.closed ≡ None }
+        ensures { HearsNext self.old result self.new }
+    {
+        match self.decoder.next() {
+            Ok(None) => Ok(false),
+            Ok(Some(message)) => match self.hear(message) {
+                Ok(()) => Ok(true),
+                Err(fault) => {
+                    self.closed = fault.cause();
+                    Err(fault)
+                }
+            },
+            Err(WireFault::Memory) => {
+                self.closed = Some(Cause::Memory);
+                Err(FeedFault::Memory)
+            }
+            Err(fault) => {
+                self.closed = Some(Cause::Wire);
+                Err(FeedFault::Wire(fault))
+            }
+        }
+    }
+
+    // Takes a message in.
+    fn hear(&mut self, message: BackMessage) -> Result<(), FeedFault>
+        ensures { HearsMessage message self.old result self.new }
+    {
+        let Ok(news) = News::of(&message) else {
+            return Err(FeedFault::Memory);
+        };
+        if self.settled.reserve(1).is_err() {
+            return Err(FeedFault::Memory);
+        }
+        match hear(self.alloc, &mut self.stand, message) {
+            Ok(Heard::Stays) => self.note(news),
+            Ok(Heard::Settles(settled)) => match self.settled.push_back(settled) {
+                Ok(()) => self.note(news),
+                Err(_) => Err(FeedFault::Memory),
+            },
+            Ok(Heard::Refused(fault)) => Err(fault),
+            Err(_) => Err(FeedFault::Memory),
+        }
+    }
+
+    // Notes what a message says of the session.
+    fn note(&mut self, news: News) -> Result<(), FeedFault>
+        ensures place { Notes self.old self.new }
+        ensures ok { OnOk result ((m : BackMessage) → IsNews m news → Knows m self.old self.new) }
+        ensures err { IfErr result (λ f. (f ≡ FeedFault.Memory) × KnowsSame self.old self.new × ((m : BackMessage) → IsNews m news → IsSome (aside_of m))) }
+    {
+        match news {
+            News::Nothing => {}
+            News::Status(status) => self.status = Some(status),
+            News::Parameter { name, value } => {
+                if self.parameters.set(name.into_vec(), value).is_err() {
+                    return Err(FeedFault::Memory);
+                }
+            }
+            News::Key { process, secret } => self.key = Some((process, secret)),
+        }
+        Ok(())
+    }
+}

@@ -1,0 +1,73 @@
+//! Why a call was refused, and why bytes were.
+
+ghost use Rattle.std.specs.Prelude.{◌≡◌};
+ghost use Rattle.pg_client.specs.Client.{cause_of};
+
+use crate::phase::{Cause, Phase};
+use pg_wire::{EncodeFault, Fields, WireFault};
+use thiserror::Error;
+
+/// Why a call was refused: the first of these that holds. The client and its output are then as they were.
+#[derive(Clone, Copy, Debug, PartialEq, Eq, Error)]
+pub enum CallFault {
+    /// The call isn't allowed in this phase.
+    #[error("C1 NotReady")]
+    NotReady(Phase),
+    /// A call of a copy, and this phase isn't CopyingIn.
+    #[error("C2 NotCopying")]
+    NotCopying(Phase),
+    /// What the call would send has no spelling, or memory for it was refused.
+    #[error("C3 Encode {0}")]
+    Encode(EncodeFault),
+    /// The server has sent no key.
+    #[error("C4 NoKey")]
+    NoKey,
+}
+
+/// Why bytes were refused. All but Closed leave the client closed with the cause of that name. The messages before the fault
+/// have had their effect.
+#[derive(Clone, Debug, PartialEq, Eq, Drop, Error)]
+pub enum FeedFault {
+    /// The stream has this fault.
+    #[error("F1 Wire {0}")]
+    Wire(WireFault),
+    /// A message with this tag goes on with no segment that fits.
+    #[error("F2 Unexpected {0}")]
+    Unexpected(u8),
+    /// The server wants the way of authentication with this code.
+    #[error("F3 UnsupportedAuth {0}")]
+    UnsupportedAuth(i32),
+    /// The server wants a password, and none was given.
+    #[error("F4 PasswordWanted")]
+    PasswordWanted,
+    /// The server refused the startup, with this error.
+    #[error("F5 StartupError")]
+    StartupError(Fields),
+    /// The server ended the session while no request was outstanding, with this error.
+    #[error("F6 ServerEnd")]
+    ServerEnd(Fields),
+    /// Memory was refused.
+    #[error("F7 Memory")]
+    Memory,
+    /// The client was closed before.
+    #[error("F8 Closed")]
+    Closed,
+}
+
+impl FeedFault {
+    // The cause that it is of a close.
+    pub(crate) fn cause(&self) -> Option<Cause>
+        ensures { result ≡ cause_of self.now }
+    {
+        match self {
+            FeedFault::Wire(_) => Some(Cause::Wire),
+            FeedFault::Unexpected(_) => Some(Cause::Unexpected),
+            FeedFault::UnsupportedAuth(_) => Some(Cause::UnsupportedAuth),
+            FeedFault::PasswordWanted => Some(Cause::PasswordWanted),
+            FeedFault::StartupError(_) => Some(Cause::StartupError),
+            FeedFault::ServerEnd(_) => Some(Cause::ServerEnd),
+            FeedFault::Memory => Some(Cause::Memory),
+            FeedFault::Closed => None,
+        }
+    }
+}

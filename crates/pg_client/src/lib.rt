@@ -1,0 +1,30 @@
+//! The client's machine of the PostgreSQL Frontend/Backend Protocol 3.0, without sockets.
+//!
+//! A [`Client`] is a driver's half of a session. Calls append bytes for the server to a buffer, [`Client::feed`] takes the
+//! server's bytes in any pieces, and [`Client::take_settled`] gives each request with its outcome once its ReadyForQuery has
+//! come. What holds of a client, for every list of calls and every list of bytes, is what its calls carry on (`IsRunOf`) and the
+//! functions of [`laws`] say of it.
+#![tactic(auto)]
+
+mod client;
+mod fault;
+mod hearing;
+mod kind;
+pub mod laws;
+mod news;
+mod parameters;
+mod phase;
+mod place;
+mod segment;
+mod sending;
+mod settings;
+mod settled;
+
+pub use client::Client;
+pub use fault::{CallFault, FeedFault};
+pub use phase::{Cause, Phase};
+pub use settings::Settings;
+pub use settled::{Loss, Settled};
+
+#[cfg(test)]
+mod tests;

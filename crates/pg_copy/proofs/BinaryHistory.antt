@@ -1,0 +1,427 @@
+-- What a reader of binary files has read.
+use Rattle.std.proofs.Common.{◌≡◌, ℕ, Bool, true, false, List, [], ◌∷◌, ◌++◌, Option, Some, None, Result, Ok, Err, refl, sym, ap, subst, ◌∙◌, append_assoc, arith, inl, inr}
+use Rattle.std.specs.Prelude.{◌⊎◌}
+use Rattle.std.proofs.lemmas.List.{append-nil, length-append}
+use Rattle.std.proofs.lemmas.Bool.{false≢true}
+use Rattle.pg_copy.specs.declared.fault.BinaryFault.{BinaryFault}
+use Rattle.pg_copy.specs.declared.fault.BinaryFault.TheVariants.{Truncated, AfterTrailer, Memory}
+use Rattle.pg_copy.specs.declared.binary_part.NoPart.{NoPart}
+use Rattle.pg_copy.specs.declared.binary_part.NoPart.TheVariants.{Incomplete, Faulty}
+use Rattle.pg_copy.specs.declared.binary_part.NoRow.{NoRow}
+use Rattle.pg_copy.specs.declared.binary_part.NoRow.TheVariants as no_row
+use Rattle.pg_copy.specs.declared.binary_reader.BinaryStage.{BinaryStage}
+use Rattle.pg_copy.specs.declared.binary_reader.BinaryStage.TheVariants.{Head, Rows, Closed, Failed}
+use Rattle.pg_copy.specs.Row.{Row}
+use Rattle.pg_copy.specs.Reading.{Reading, Ending, Open, Done, Bad, after_rows, RowWaits, given_by, IsGood, Gives}
+use Rattle.pg_copy.specs.BinaryReading.{◌>>=◌, head_at, row_at, part_reading, row_reading, body_reading, head_reading, binary_reading, trailer_reading, last_ending, at_end, file_reading}
+use Rattle.pg_copy.specs.BinaryReader.{BinaryState, stage_reading, left, HasReadBinary, pushed_at, pushed_after, binary_ending}
+use Rattle.pg_copy.specs.Private.BinaryPart.{closed_at, row_or_trailer, body_at, part_at, behind_head, waiting_at, TakesPart}
+use Rattle.pg_copy.proofs.TextReads.{after-after, after-none}
+use Rattle.pg_copy.proofs.BinaryReads.{Grows, row_grows, head_grows, body-step, part-rows}
+
+-- ---- what a call does by the next part
+
+-- the answer of next, and of finish
+abbrev pub next_answer : Result (Option Row) NoRow → Result (Option Row) BinaryFault
+next_answer (Ok row) = Ok row
+next_answer (Err no_row.Memory) = Err Memory
+next_answer (Err (no_row.NoPart Incomplete)) = Ok None
+next_answer (Err (no_row.NoPart (Faulty fault))) = Err fault
+
+abbrev pub last_answer : Result (Option Row) NoRow → Result (Option Row) BinaryFault
+last_answer (Ok row) = Ok row
+last_answer (Err no_row.Memory) = Err Memory
+last_answer (Err (no_row.NoPart Incomplete)) = Err Truncated
+last_answer (Err (no_row.NoPart (Faulty fault))) = Err fault
+
+-- how finish leaves the reader
+abbrev pub finished : Result (Option Row) NoRow → BinaryState → BinaryState
+finished (Ok row) mid = record mid { ended = true }
+finished (Err no_row.Memory) mid = mid
+finished (Err (no_row.NoPart Incomplete)) mid = record mid { kept = []; stage = Failed Truncated; ended = true }
+finished (Err (no_row.NoPart (Faulty fault))) mid = record mid { ended = true }
+
+-- ---- the next part
+
+-- the bytes behind a head that is whole
+abbrev pub bytes_behind : Result (List ℕ × List ℕ) NoPart → List ℕ → List ℕ
+bytes_behind (Ok h) kept = h.1
+bytes_behind (Err stop) kept = kept
+
+-- the bytes of the part that isn't whole
+abbrev pub open_bytes : BinaryStage → List ℕ → List ℕ
+open_bytes Head bytes = bytes_behind (head_at bytes) bytes
+open_bytes Rows bytes = bytes
+open_bytes Closed bytes = bytes
+open_bytes (Failed fault) bytes = bytes
+
+-- a reading that is due, by the next part of it
+abbrev pub option_rows : Option Row → List Row
+option_rows None = []
+option_rows (Some row) = row ∷ []
+
+abbrev pub PartReads : ℕ → ℕ → List ℕ → Result ((Option Row × BinaryStage) × List ℕ) NoPart → (List ℕ → Reading BinaryFault) → Type 0
+PartReads columns limit waits (Ok x) due = ((x.0.0 ≡ None) → (x.0.1 ≡ Closed) × (x.1 ≡ [])) × ((more : List ℕ) → due more ≡ after_rows (option_rows x.0.0) (stage_reading x.0.1 columns limit (x.1 ++ more)))
+PartReads columns limit waits (Err Incomplete) due = due [] ≡ record { rows = []; ending = Open waits }
+PartReads columns limit waits (Err (Faulty fault)) due = (more : List ℕ) → due more ≡ record { rows = []; ending = Bad fault }
+
+reads-same : (columns limit : ℕ) (waits : List ℕ) (p : Result ((Option Row × BinaryStage) × List ℕ) NoPart) (due due' : List ℕ → Reading BinaryFault) → ((more : List ℕ) → due more ≡ due' more) → PartReads columns limit waits p due' → PartReads columns limit waits p due
+reads-same columns limit waits (Ok x) due due' e h = (h.0, λ more. e more ∙ h.1 more)
+reads-same columns limit waits (Err Incomplete) due due' e h = e [] ∙ h
+reads-same columns limit waits (Err (Faulty fault)) due due' e h = λ more. e more ∙ h more
+
+closed-reads : (columns limit : ℕ) (waits bytes : List ℕ) → PartReads columns limit waits (closed_at bytes) (λ more. trailer_reading (bytes ++ more))
+closed-reads columns limit waits [] = (λ e. (refl, refl), λ more. refl)
+closed-reads columns limit waits (b ∷ bs) = λ more. refl
+
+row-reads : (columns limit : ℕ) (waits : List ℕ) (o : Option Row) (rest : List ℕ) → PartReads columns limit waits (row_or_trailer o rest) (λ more. row_reading o (rest ++ more) (body_reading columns limit))
+row-reads columns limit waits None rest = closed-reads columns limit waits rest
+row-reads columns limit waits (Some row) rest = (λ e. absurd cc, λ more. refl)
+
+body-reads : (columns limit : ℕ) (bytes : List ℕ) → PartReads columns limit bytes (body_at columns limit bytes) (λ more. body_reading columns limit (bytes ++ more))
+unfolding body_at
+body-reads columns limit bytes = go (row_at columns limit bytes) refl
+  where
+    go : (r : Result (Option Row × List ℕ) NoPart) → row_at columns limit bytes ≡ r → PartReads columns limit bytes (r >>= λ x. row_or_trailer x.0 x.1) (λ more. body_reading columns limit (bytes ++ more))
+    go (Ok x) e =
+        reads-same columns limit bytes (row_or_trailer x.0 x.1) (λ more. body_reading columns limit (bytes ++ more)) (λ more. row_reading x.0 (x.1 ++ more) (body_reading columns limit))
+        (λ more.
+        let longer : row_at columns limit (bytes ++ more) ≡ Ok (x.0, x.1 ++ more) = subst (λ t. Grows t (row_at columns limit (bytes ++ more)) more) e (row_grows columns limit bytes more) in
+        body-step columns limit (bytes ++ more) ∙ ap (λ t. part_reading (bytes ++ more) t (body_reading columns limit)) longer)
+        (row-reads columns limit bytes x.0 x.1)
+    go (Err Incomplete) e = body-step columns limit (bytes ++ []) ∙ ap (λ (x : List ℕ). part_reading x (row_at columns limit x) (body_reading columns limit)) (append-nil bytes) ∙ ap (λ t. part_reading bytes t (body_reading columns limit)) e
+    go (Err (Faulty fault)) e = λ more.
+        let longer : row_at columns limit (bytes ++ more) ≡ Err (Faulty fault) = subst (λ t. Grows t (row_at columns limit (bytes ++ more)) more) e (row_grows columns limit bytes more) in
+        body-step columns limit (bytes ++ more) ∙ ap (λ t. part_reading (bytes ++ more) t (body_reading columns limit)) longer
+
+head-reads : (columns limit : ℕ) (bytes : List ℕ) → PartReads columns limit (bytes_behind (head_at bytes) bytes) (head_at bytes >>= λ h. body_at columns limit h.1) (λ more. binary_reading columns limit (bytes ++ more))
+unfolding binary_reading
+head-reads columns limit bytes = go (head_at bytes) refl
+  where
+    go : (r : Result (List ℕ × List ℕ) NoPart) → head_at bytes ≡ r → PartReads columns limit (bytes_behind r bytes) (r >>= λ h. body_at columns limit h.1) (λ more. head_reading (bytes ++ more) (head_at (bytes ++ more)) (body_reading columns limit))
+    go (Ok x) e =
+        reads-same columns limit x.1 (body_at columns limit x.1) (λ more. head_reading (bytes ++ more) (head_at (bytes ++ more)) (body_reading columns limit)) (λ more. body_reading columns limit (x.1 ++ more))
+        (λ more.
+        let longer : head_at (bytes ++ more) ≡ Ok (x.0, x.1 ++ more) = subst (λ t. Grows t (head_at (bytes ++ more)) more) e (head_grows bytes more) in
+        ap (λ t. head_reading (bytes ++ more) t (body_reading columns limit)) longer)
+        (body-reads columns limit x.1)
+    go (Err Incomplete) e = ap (λ (x : List ℕ). head_reading x (head_at x) (body_reading columns limit)) (append-nil bytes) ∙ ap (λ t. head_reading bytes t (body_reading columns limit)) e
+    go (Err (Faulty fault)) e = λ more.
+        let longer : head_at (bytes ++ more) ≡ Err (Faulty fault) = subst (λ t. Grows t (head_at (bytes ++ more)) more) e (head_grows bytes more) in
+        ap (λ t. head_reading (bytes ++ more) t (body_reading columns limit)) longer
+
+pub part-reads : (stage : BinaryStage) (columns limit : ℕ) (bytes : List ℕ) → PartReads columns limit (open_bytes stage bytes) (part_at stage columns limit bytes) (λ more. stage_reading stage columns limit (bytes ++ more))
+unfolding part_at
+part-reads Head columns limit bytes = head-reads columns limit bytes
+part-reads Rows columns limit bytes = body-reads columns limit bytes
+part-reads Closed columns limit bytes = closed-reads columns limit bytes bytes
+part-reads (Failed fault) columns limit bytes = λ more. refl
+
+-- ---- rows that are given go over from what is left to what was given
+
+abbrev Answer : Type 0
+Answer = Result (Option Row) NoRow
+
+-- the rows of an answer
+abbrev pub answer_rows : Answer → List Row
+answer_rows (Ok o) = option_rows o
+answer_rows (Err e) = []
+
+-- a call that gives these rows of what was left
+pub record Goes (old new : BinaryState) (rows : List Row) : Type 0 where
+  pub columns : new.columns ≡ old.columns
+  pub limit : new.limit ≡ old.limit
+  pub ended : new.ended ≡ old.ended
+  pub left : (more : List ℕ) → left old more ≡ after_rows rows (left new more)
+
+whole-same : (old new : BinaryState) (bytes : List ℕ) → new.columns ≡ old.columns → new.limit ≡ old.limit → binary_reading new.columns new.limit bytes ≡ binary_reading old.columns old.limit bytes
+whole-same old new bytes e f = ap (λ (c : ℕ). binary_reading c new.limit bytes) e ∙ ap (λ (l : ℕ). binary_reading old.columns l bytes) f
+
+pub HasRead-goes : (old new : BinaryState) (rows : List Row) (pushed : List ℕ) (given : List Row) → Goes old new rows → HasReadBinary old pushed given → HasReadBinary new pushed (given ++ rows)
+HasRead-goes old new rows pushed given g h =
+    record {
+      so_far = λ e more. whole-same old new (pushed ++ more) g.columns g.limit ∙ h.so_far (sym g.ended ∙ e) more ∙ ap (after_rows given) (g.left more) ∙ after-after given rows (left new more);
+      in_all = ap at_end (whole-same old new pushed g.columns g.limit) ∙ h.in_all ∙ ap (λ (r : Reading BinaryFault). after_rows given (at_end r)) (g.left []) ∙ after-after given rows (at_end (left new []));
+    }
+
+pub Goes-same : (old : BinaryState) → Goes old old []
+Goes-same old = record { columns = refl; limit = refl; ended = refl; left = λ more. refl }
+
+-- a reader that waits has what it had, but for the head
+waits : (columns limit : ℕ) (kept : List ℕ) (stage : BinaryStage) (ended : Bool) →
+    let old : BinaryState = record { columns = columns; limit = limit; kept = kept; stage = stage; ended = ended } in
+    Goes old (waiting_at stage old) []
+unfolding binary_reading
+waits columns limit kept Head ended = go (head_at kept) refl
+  where
+    go : (r : Result (List ℕ × List ℕ) NoPart) → head_at kept ≡ r →
+        let old : BinaryState = record { columns = columns; limit = limit; kept = kept; stage = Head; ended = ended } in
+        Goes old (behind_head r old) []
+    go (Ok h) e = record {
+      columns = refl;
+      limit = refl;
+      ended = refl;
+      left = λ more.
+          let longer : head_at (kept ++ more) ≡ Ok (h.0, h.1 ++ more) = subst (λ t. Grows t (head_at (kept ++ more)) more) e (head_grows kept more) in
+          ap (λ t. head_reading (kept ++ more) t (body_reading columns limit)) longer;
+    }
+    go (Err stop) e = Goes-same (record { columns = columns; limit = limit; kept = kept; stage = Head; ended = ended })
+waits columns limit kept Rows ended = Goes-same (record { columns = columns; limit = limit; kept = kept; stage = Rows; ended = ended })
+waits columns limit kept Closed ended = Goes-same (record { columns = columns; limit = limit; kept = kept; stage = Closed; ended = ended })
+waits columns limit kept (Failed fault) ended = Goes-same (record { columns = columns; limit = limit; kept = kept; stage = Failed fault; ended = ended })
+
+-- what the next part says of what is left
+abbrev Due : BinaryState → Result ((Option Row × BinaryStage) × List ℕ) NoPart → Type 0
+Due old p = PartReads old.columns old.limit (open_bytes old.stage old.kept) p (λ more. left old more)
+
+due : (old : BinaryState) (p : Result ((Option Row × BinaryStage) × List ℕ) NoPart) → part_at old.stage old.columns old.limit old.kept ≡ p → Due old p
+due old p e = subst (λ q. Due old q) e (part-reads old.stage old.columns old.limit old.kept)
+
+pub Goes-part : (answer : Answer) (old new : BinaryState) → TakesPart answer old new → Goes old new (answer_rows answer)
+Goes-part (Ok o) old new h =
+    let r = due old (Ok ((o, new.stage), new.kept)) h.0 in
+    rw h.1 (record { columns = refl; limit = refl; ended = refl; left = λ more. r.1 more })
+Goes-part (Err no_row.Memory) old new h = rw h.0 (Goes-same old)
+Goes-part (Err (no_row.NoPart Incomplete)) old new h = rw h.1 (waits old.columns old.limit old.kept old.stage old.ended)
+Goes-part (Err (no_row.NoPart (Faulty fault))) old new h =
+    let r : (more : List ℕ) → left old more ≡ record { rows = []; ending = Bad fault } = due old (Err (Faulty fault)) h.1 in
+    rw h.2 (record { columns = refl; limit = refl; ended = refl; left = r })
+
+-- what the bytes pushed give so far
+pub reading-now : (s : BinaryState) (pushed : List ℕ) (given : List Row) → s.ended ≡ false → HasReadBinary s pushed given → binary_reading s.columns s.limit pushed ≡ after_rows given (left s [])
+reading-now s pushed given e h = ap (binary_reading s.columns s.limit) (sym (append-nil pushed)) ∙ h.so_far e []
+
+whole-from : (old new : BinaryState) (pushed : List ℕ) (given : List Row) (ending : Ending BinaryFault) → old.ended ≡ false → new.columns ≡ old.columns → new.limit ≡ old.limit → HasReadBinary old pushed given
+    → left old [] ≡ record { rows = []; ending = ending } → binary_reading new.columns new.limit pushed ≡ record { rows = given; ending = ending }
+whole-from old new pushed given ending going e f h l =
+    whole-same old new pushed e f ∙ reading-now old pushed given going h ∙ ap (after_rows given) l ∙ after-none given ending
+
+-- what is left where no row is: nothing behind the trailer, or a part that isn't whole, or a fault
+left-none : (old new : BinaryState) → TakesPart (Ok None) old new → (new.stage ≡ Closed) × (left old [] ≡ record { rows = []; ending = Done })
+left-none old new h =
+    let r = due old (Ok ((None, new.stage), new.kept)) h.0 in
+    let n = r.0 refl in
+    (n.0, r.1 [] ∙ ap (λ (t : BinaryStage). stage_reading t old.columns old.limit (new.kept ++ [])) n.0 ∙ ap (λ (x : List ℕ). trailer_reading (x ++ [])) n.1)
+
+left-open : (old new : BinaryState) → TakesPart (Err (no_row.NoPart Incomplete)) old new → left old [] ≡ record { rows = []; ending = Open (open_bytes old.stage old.kept) }
+left-open old new h = due old (Err Incomplete) h.0
+
+left-fault : (old new : BinaryState) (fault : BinaryFault) → TakesPart (Err (no_row.NoPart (Faulty fault))) old new → left old [] ≡ record { rows = []; ending = Bad fault }
+left-fault old new fault h =
+    let r : (more : List ℕ) → left old more ≡ record { rows = []; ending = Bad fault } = due old (Err (Faulty fault)) h.1 in
+    r []
+
+-- a part that isn't whole is waited for at the head and among the rows alone
+abbrev EndsOpen : BinaryState → List ℕ → Type 0
+EndsOpen new bytes = (binary_ending new.stage new.kept ≡ Open bytes) × IsGood (binary_ending new.stage new.kept)
+
+open-ending : (columns limit : ℕ) (kept : List ℕ) (stage : BinaryStage) (ended : Bool) → part_at stage columns limit kept ≡ Err Incomplete →
+    EndsOpen (waiting_at stage (record { columns = columns; limit = limit; kept = kept; stage = stage; ended = ended })) (open_bytes stage kept)
+unfolding part_at
+open-ending columns limit kept Head ended e = go (head_at kept)
+  where
+    go : (r : Result (List ℕ × List ℕ) NoPart) → EndsOpen (behind_head r (record { columns = columns; limit = limit; kept = kept; stage = Head; ended = ended })) (bytes_behind r kept)
+    go (Ok h) = (refl, tt)
+    go (Err stop) = (refl, tt)
+open-ending columns limit kept Rows ended e = (refl, tt)
+open-ending columns limit [] Closed ended e = absurd cc
+open-ending columns limit (b ∷ bs) Closed ended e = absurd cc
+open-ending columns limit kept (Failed fault) ended e = absurd cc
+
+pub Gives-next : (answer : Answer) (old new : BinaryState) (pushed : List ℕ) (given : List Row) → old.ended ≡ false → TakesPart answer old new → HasReadBinary old pushed given
+    → Gives Memory (binary_reading new.columns new.limit pushed) given (binary_ending new.stage new.kept) (next_answer answer)
+Gives-next (Ok (Some row)) old new pushed given going h k = tt
+Gives-next (Ok None) old new pushed given going h k =
+    let n = left-none old new h in
+    let g = Goes-part (Ok None) old new h in
+    let file : binary_reading new.columns new.limit pushed ≡ record { rows = given; ending = Done } = whole-from old new pushed given Done going g.columns g.limit k n.1 in
+    let here : Done ≡ binary_ending new.stage new.kept = ap (λ (t : BinaryStage). binary_ending t new.kept) (sym n.0) in
+    subst (λ (x : Ending BinaryFault). IsGood x × (binary_reading new.columns new.limit pushed ≡ record { rows = given; ending = x })) here (tt, file)
+Gives-next (Err no_row.Memory) old new pushed given going h k = inl refl
+Gives-next (Err (no_row.NoPart Incomplete)) old new pushed given going h k =
+    let o = open-ending old.columns old.limit old.kept old.stage old.ended h.0 in
+    let g = Goes-part (Err (no_row.NoPart Incomplete)) old new h in
+    let file = whole-from old new pushed given (Open (open_bytes old.stage old.kept)) going g.columns g.limit k (left-open old new h) in
+    let o' = subst (λ (s : BinaryState). EndsOpen s (open_bytes old.stage old.kept)) (sym h.1) o in
+    (o'.1, file ∙ ap (λ (x : Ending BinaryFault). record { rows = given; ending = x }) (sym o'.0))
+Gives-next (Err (no_row.NoPart (Faulty fault))) old new pushed given going h k =
+    let g = Goes-part (Err (no_row.NoPart (Faulty fault))) old new h in
+    inr (ap (λ (s : BinaryState). binary_ending s.stage s.kept) h.2, whole-from old new pushed given (Bad fault) going g.columns g.limit k (left-fault old new fault h))
+
+given-next : (answer : Answer) → given_by (next_answer answer) ≡ answer_rows answer
+given-next (Ok (Some row)) = refl
+given-next (Ok None) = refl
+given-next (Err no_row.Memory) = refl
+given-next (Err (no_row.NoPart Incomplete)) = refl
+given-next (Err (no_row.NoPart (Faulty fault))) = refl
+
+pub HasRead-next : (answer : Answer) (old new : BinaryState) (pushed : List ℕ) (given : List Row) → TakesPart answer old new → HasReadBinary old pushed given → HasReadBinary new pushed (given ++ given_by (next_answer answer))
+HasRead-next answer old new pushed given h k = rw (given-next answer) (HasRead-goes old new (answer_rows answer) pushed given (Goes-part answer old new h) k)
+
+pub next-memory : (answer : Answer) (old new : BinaryState) → TakesPart answer old new → next_answer answer ≡ Err Memory → (new ≡ old) × RowWaits (left old [])
+next-memory (Ok (Some row)) old new h e = absurd cc
+next-memory (Ok None) old new h e = absurd cc
+next-memory (Err no_row.Memory) old new h e = h
+next-memory (Err (no_row.NoPart Incomplete)) old new h e = absurd cc
+next-memory (Err (no_row.NoPart (Faulty fault))) old new h e = absurd (h.0 cc)
+
+-- ---- pushing
+
+-- what is left of a longer file
+pub HasRead-pushed : (old new : BinaryState) (piece pushed : List ℕ) (given : List Row) → old.ended ≡ false → new.columns ≡ old.columns → new.limit ≡ old.limit
+    → ((more : List ℕ) → left old (piece ++ more) ≡ left new more) → HasReadBinary old pushed given → HasReadBinary new (pushed ++ piece) given
+HasRead-pushed old new piece pushed given going e f l h =
+    let so_far : (more : List ℕ) → binary_reading new.columns new.limit ((pushed ++ piece) ++ more) ≡ after_rows given (left new more) =
+    λ more. whole-same old new ((pushed ++ piece) ++ more) e f ∙ ap (binary_reading old.columns old.limit) (append_assoc pushed piece more) ∙ h.so_far going (piece ++ more) ∙ ap (after_rows given) (l more) in
+    record {
+      so_far = λ g more. so_far more;
+      in_all = ap (λ (x : List ℕ). at_end (binary_reading new.columns new.limit x)) (sym (append-nil (pushed ++ piece))) ∙ ap at_end (so_far []);
+    }
+
+pub HasRead-push : (old new : BinaryState) (piece pushed : List ℕ) (given : List Row) → old.ended ≡ false → new ≡ record old { kept = old.kept ++ piece } → HasReadBinary old pushed given → HasReadBinary new (pushed ++ piece) given
+HasRead-push old new piece pushed given going e h =
+    let longer : HasReadBinary (record old { kept = old.kept ++ piece }) (pushed ++ piece) given =
+    HasRead-pushed old (record old { kept = old.kept ++ piece }) piece pushed given going refl refl (λ more. ap (λ (x : List ℕ). stage_reading old.stage old.columns old.limit x) (sym (append_assoc old.kept piece more))) h in
+    rw e longer
+
+-- bytes behind the trailer
+pub HasRead-behind : (old : BinaryState) (piece pushed : List ℕ) (given : List Row) → old.ended ≡ false → old.stage ≡ Closed → (piece ≡ [] → ⊥) → HasReadBinary old pushed given → HasReadBinary (record old { stage = Failed AfterTrailer }) (pushed ++ piece) given
+HasRead-behind old [] pushed given going e some h = absurd (some refl)
+HasRead-behind old (b ∷ bs) pushed given going e some h =
+    HasRead-pushed old (record old { stage = Failed AfterTrailer }) (b ∷ bs) pushed given going refl refl (λ more. ap (λ (t : BinaryStage). stage_reading t old.columns old.limit (old.kept ++ b ∷ (bs ++ more))) e ∙ wrong old.kept b (bs ++ more)) h
+  where
+    wrong : (kept : List ℕ) (b : ℕ) (more : List ℕ) → trailer_reading (kept ++ b ∷ more) ≡ record { rows = []; ending = Bad AfterTrailer }
+    wrong [] b more = refl
+    wrong (c ∷ kept) b more = refl
+
+pub HasRead-nothing : (old : BinaryState) (pushed : List ℕ) (given : List Row) → HasReadBinary old pushed given → HasReadBinary old (pushed ++ []) given
+HasRead-nothing old pushed given h = rw (append-nil pushed) h
+
+pub pushed-behind : (old : BinaryState) (piece : List ℕ) → old.stage ≡ Closed → (piece ≡ [] → ⊥) → record old { stage = Failed AfterTrailer } ≡ pushed_after old piece
+pushed-behind old [] e some = absurd (some refl)
+pushed-behind old (b ∷ bs) e some = ap (λ (t : BinaryStage). pushed_at t old (b ∷ bs)) (sym e)
+
+-- ---- the end of the input
+
+pub HasRead-ended : (mid new : BinaryState) (pushed : List ℕ) (given : List Row) → new ≡ record mid { ended = true } → HasReadBinary mid pushed given → HasReadBinary new pushed given
+HasRead-ended mid new pushed given e h = subst (λ (s : BinaryState). HasReadBinary s pushed given) (sym e) (record { so_far = λ f. absurd (false≢true (sym f)); in_all = h.in_all })
+
+all-from : (old new : BinaryState) (pushed : List ℕ) (given : List Row) (ending : Ending BinaryFault) → new.columns ≡ old.columns → new.limit ≡ old.limit → HasReadBinary old pushed given
+    → left old [] ≡ record { rows = []; ending = ending } → file_reading new.columns new.limit pushed ≡ record { rows = given; ending = last_ending ending }
+all-from old new pushed given ending e f h l =
+    ap at_end (whole-same old new pushed e f) ∙ h.in_all ∙ ap (λ (r : Reading BinaryFault). after_rows given (at_end r)) l ∙ after-none given (last_ending ending)
+
+pub Gives-finish : (answer : Answer) (old mid new : BinaryState) (pushed : List ℕ) (given : List Row) → TakesPart answer old mid → new ≡ finished answer mid → HasReadBinary old pushed given
+    → Gives Memory (file_reading new.columns new.limit pushed) given (binary_ending new.stage new.kept) (last_answer answer)
+Gives-finish (Ok (Some row)) old mid new pushed given h e k = tt
+Gives-finish (Ok None) old mid new pushed given h e k =
+    let n = left-none old mid h in
+    let g = Goes-part (Ok None) old mid h in
+    let file : file_reading mid.columns mid.limit pushed ≡ record { rows = given; ending = Done } = all-from old mid pushed given Done g.columns g.limit k n.1 in
+    let here : Done ≡ binary_ending mid.stage mid.kept = ap (λ (t : BinaryStage). binary_ending t mid.kept) (sym n.0) in
+    rw e (subst (λ (x : Ending BinaryFault). IsGood x × (file_reading mid.columns mid.limit pushed ≡ record { rows = given; ending = x })) here (tt, file))
+Gives-finish (Err no_row.Memory) old mid new pushed given h e k = inl refl
+Gives-finish (Err (no_row.NoPart Incomplete)) old mid new pushed given h e k =
+    let g = Goes-part (Err (no_row.NoPart Incomplete)) old mid h in
+    rw e (inr (refl, all-from old mid pushed given (Open (open_bytes old.stage old.kept)) g.columns g.limit k (left-open old mid h)))
+Gives-finish (Err (no_row.NoPart (Faulty fault))) old mid new pushed given h e k =
+    let g = Goes-part (Err (no_row.NoPart (Faulty fault))) old mid h in
+    rw e (inr (ap (λ (s : BinaryState). binary_ending s.stage s.kept) h.2, all-from old mid pushed given (Bad fault) g.columns g.limit k (left-fault old mid fault h)))
+
+pub HasRead-finish : (answer : Answer) (old mid new : BinaryState) (pushed : List ℕ) (given : List Row) → TakesPart answer old mid → new ≡ finished answer mid → HasReadBinary old pushed given → HasReadBinary new pushed (given ++ given_by (last_answer answer))
+HasRead-finish (Ok (Some row)) old mid new pushed given h e k = HasRead-ended mid new pushed (given ++ row ∷ []) e (HasRead-goes old mid (row ∷ []) pushed given (Goes-part (Ok (Some row)) old mid h) k)
+HasRead-finish (Ok None) old mid new pushed given h e k = HasRead-ended mid new pushed (given ++ []) e (HasRead-goes old mid [] pushed given (Goes-part (Ok None) old mid h) k)
+HasRead-finish (Err no_row.Memory) old mid new pushed given h e k = rw e (HasRead-goes old mid [] pushed given (Goes-part (Err no_row.Memory) old mid h) k)
+HasRead-finish (Err (no_row.NoPart Incomplete)) old mid new pushed given h e k =
+    let g = Goes-part (Err (no_row.NoPart Incomplete)) old mid h in
+    let all = all-from old mid pushed given (Open (open_bytes old.stage old.kept)) g.columns g.limit k (left-open old mid h) in
+    rw e (record { so_far = λ f. absurd (false≢true (sym f)); in_all = all ∙ ap (λ (rows : List Row). record { rows = rows; ending = Bad Truncated }) (sym (append-nil given) ∙ sym (append-nil (given ++ []))) })
+HasRead-finish (Err (no_row.NoPart (Faulty fault))) old mid new pushed given h e k = HasRead-ended mid new pushed (given ++ []) e (HasRead-goes old mid [] pushed given (Goes-part (Err (no_row.NoPart (Faulty fault))) old mid h) k)
+
+pub finish-memory : (answer : Answer) (old mid new : BinaryState) → TakesPart answer old mid → new ≡ finished answer mid → last_answer answer ≡ Err Memory → (new ≡ old) × RowWaits (left old [])
+finish-memory (Ok (Some row)) old mid new h f e = absurd cc
+finish-memory (Ok None) old mid new h f e = absurd cc
+finish-memory (Err no_row.Memory) old mid new h f e = (f ∙ h.0, h.1)
+finish-memory (Err (no_row.NoPart Incomplete)) old mid new h f e = absurd cc
+finish-memory (Err (no_row.NoPart (Faulty fault))) old mid new h f e = absurd (h.0 cc)
+
+pub finish-ended : (answer : Answer) (mid new : BinaryState) → new ≡ finished answer mid → (last_answer answer ≡ Err Memory) ⊎ (new.ended ≡ true)
+finish-ended (Ok row) mid new e = inr (ap (λ (s : BinaryState). s.ended) e)
+finish-ended (Err no_row.Memory) mid new e = inl refl
+finish-ended (Err (no_row.NoPart Incomplete)) mid new e = inr (ap (λ (s : BinaryState). s.ended) e)
+finish-ended (Err (no_row.NoPart (Faulty fault))) mid new e = inr (ap (λ (s : BinaryState). s.ended) e)
+
+pub finish-closed : (answer : Answer) (old mid new : BinaryState) → TakesPart answer old mid → new ≡ finished answer mid → last_answer answer ≡ Ok None → new.stage ≡ Closed
+finish-closed (Ok (Some row)) old mid new h e f = absurd cc
+finish-closed (Ok None) old mid new h e f = ap (λ (s : BinaryState). s.stage) e ∙ (left-none old mid h).0
+finish-closed (Err no_row.Memory) old mid new h e f = absurd cc
+finish-closed (Err (no_row.NoPart Incomplete)) old mid new h e f = absurd cc
+finish-closed (Err (no_row.NoPart (Faulty fault))) old mid new h e f = absurd cc
+
+pub finish-same : (answer : Answer) (old mid new : BinaryState) → TakesPart answer old mid → new ≡ finished answer mid → (new.columns ≡ old.columns) × (new.limit ≡ old.limit)
+finish-same answer old mid new h e =
+    let g = Goes-part answer old mid h in
+    let s = same answer in
+    (ap (λ (t : BinaryState). t.columns) e ∙ s.0 ∙ g.columns, ap (λ (t : BinaryState). t.limit) e ∙ s.1 ∙ g.limit)
+  where
+    same : (answer : Answer) → ((finished answer mid).columns ≡ mid.columns) × ((finished answer mid).limit ≡ mid.limit)
+    same (Ok row) = (refl, refl)
+    same (Err no_row.Memory) = (refl, refl)
+    same (Err (no_row.NoPart Incomplete)) = (refl, refl)
+    same (Err (no_row.NoPart (Faulty fault))) = (refl, refl)
+
+-- ---- a reader that failed
+
+pub left-failed : (old : BinaryState) (fault : BinaryFault) → old.stage ≡ Failed fault → left old [] ≡ record { rows = []; ending = Bad fault }
+left-failed old fault e = ap (λ (t : BinaryStage). stage_reading t old.columns old.limit (old.kept ++ [])) e
+
+pub Gives-failed-next : (old : BinaryState) (pushed : List ℕ) (given : List Row) (fault : BinaryFault) → old.ended ≡ false → old.stage ≡ Failed fault → HasReadBinary old pushed given → Gives Memory (binary_reading old.columns old.limit pushed) given (binary_ending old.stage old.kept) (Err fault)
+Gives-failed-next old pushed given fault going e h =
+    inr (ap (λ (t : BinaryStage). binary_ending t old.kept) e, whole-from old old pushed given (Bad fault) going refl refl h (left-failed old fault e))
+
+pub Gives-failed : (old : BinaryState) (pushed : List ℕ) (given : List Row) (fault : BinaryFault) → old.stage ≡ Failed fault → HasReadBinary old pushed given → Gives Memory (file_reading old.columns old.limit pushed) given (binary_ending old.stage old.kept) (Err fault)
+Gives-failed old pushed given fault e h =
+    inr (ap (λ (t : BinaryStage). binary_ending t old.kept) e, all-from old old pushed given (Bad fault) refl refl h (left-failed old fault e))
+
+pub HasRead-failed : (old : BinaryState) (pushed : List ℕ) (given : List Row) → HasReadBinary old pushed given → HasReadBinary (record old { ended = true }) pushed (given ++ [])
+HasRead-failed old pushed given h = HasRead-ended old (record old { ended = true }) pushed (given ++ []) refl (HasRead-goes old old [] pushed given (Goes-same old) h)
+
+-- a row that is found waits
+pub waits-part : (old : BinaryState) (row : Row) (rest : List ℕ) → part_at old.stage old.columns old.limit old.kept ≡ Ok ((Some row, Rows), rest) → RowWaits (left old [])
+waits-part old row rest e =
+    let r = due old (Ok ((Some row, Rows), rest)) e in
+    let after = stage_reading Rows old.columns old.limit (rest ++ []) in
+    let is : left old [] ≡ after_rows (row ∷ []) after = r.1 [] in
+    rw is (omega (arith, length-append (row ∷ []) after.rows))
+
+-- ---- behind the trailer
+
+left-closed : (old : BinaryState) → old.stage ≡ Closed → old.kept ≡ [] → left old [] ≡ record { rows = []; ending = Done }
+left-closed old e empty = ap (λ (t : BinaryStage). stage_reading t old.columns old.limit (old.kept ++ [])) e ∙ ap (λ (x : List ℕ). trailer_reading (x ++ [])) empty
+
+done-at : (old : BinaryState) → old.stage ≡ Closed → Done ≡ binary_ending old.stage old.kept
+done-at old e = ap (λ (t : BinaryStage). binary_ending t old.kept) (sym e)
+
+pub Gives-closed-next : (old : BinaryState) (pushed : List ℕ) (given : List Row) → old.ended ≡ false → old.stage ≡ Closed → old.kept ≡ [] → HasReadBinary old pushed given → Gives Memory (binary_reading old.columns old.limit pushed) given (binary_ending old.stage old.kept) (Ok None)
+Gives-closed-next old pushed given going e empty h =
+    subst (λ (x : Ending BinaryFault). IsGood x × (binary_reading old.columns old.limit pushed ≡ record { rows = given; ending = x })) (done-at old e) (tt, whole-from old old pushed given Done going refl refl h (left-closed old e empty))
+
+pub Gives-closed : (old : BinaryState) (pushed : List ℕ) (given : List Row) → old.stage ≡ Closed → old.kept ≡ [] → HasReadBinary old pushed given → Gives Memory (file_reading old.columns old.limit pushed) given (binary_ending old.stage old.kept) (Ok None)
+Gives-closed old pushed given e empty h =
+    subst (λ (x : Ending BinaryFault). IsGood x × (file_reading old.columns old.limit pushed ≡ record { rows = given; ending = x })) (done-at old e) (tt, all-from old old pushed given Done refl refl h (left-closed old e empty))
+
+-- ---- a row is given among the rows
+
+pub next-row : (answer : Answer) (old new : BinaryState) → TakesPart answer old new → (row : Row) → next_answer answer ≡ Ok (Some row) → new.stage ≡ Rows
+next-row (Ok (Some row)) old new h r e = part-rows old.stage old.columns old.limit old.kept row new.stage new.kept h.0
+next-row (Ok None) old new h r e = absurd cc
+next-row (Err no_row.Memory) old new h r e = absurd cc
+next-row (Err (no_row.NoPart Incomplete)) old new h r e = absurd cc
+next-row (Err (no_row.NoPart (Faulty fault))) old new h r e = absurd cc
+
+pub finish-row : (answer : Answer) (old mid new : BinaryState) → TakesPart answer old mid → new ≡ finished answer mid → (row : Row) → last_answer answer ≡ Ok (Some row) → new.stage ≡ Rows
+finish-row (Ok (Some row)) old mid new h f r e = ap (λ (s : BinaryState). s.stage) f ∙ part-rows old.stage old.columns old.limit old.kept row mid.stage mid.kept h.0
+finish-row (Ok None) old mid new h f r e = absurd cc
+finish-row (Err no_row.Memory) old mid new h f r e = absurd cc
+finish-row (Err (no_row.NoPart Incomplete)) old mid new h f r e = absurd cc
+finish-row (Err (no_row.NoPart (Faulty fault))) old mid new h f r e = absurd cc

@@ -1,0 +1,15 @@
+pub mod TextParts
+pub mod TextValues
+pub mod TextLines
+pub mod TextEscapes
+pub mod TextSplit
+pub mod TextReads
+pub mod TextRound
+pub mod Rows
+pub mod BinaryRound
+pub mod BinaryFiles
+pub mod Writing
+pub mod BinaryReads
+pub mod BinaryLoop
+pub mod BinaryHistory
+pub mod BinaryWalk

@@ -1,0 +1,161 @@
+-- Worked examples, computed from the definitions alone.
+use Rattle.std.specs.Prelude.{◌≡◌, ℕ, List, [], ◌∷◌, ◌++◌, Some, None, refl, pos, negsuc}
+use Rattle.std.proofs.Common.{arith, inl}
+use Rattle.pg_copy.specs.declared.fault.RowFault.TheVariants as row_faults
+use Rattle.pg_copy.specs.declared.fault.TextFault.{TextFault}
+use Rattle.pg_copy.specs.declared.fault.TextFault.TheVariants.{RawReturn, LoneBackslash, Columns}
+use Rattle.pg_copy.specs.declared.fault.BinaryFault.{BinaryFault}
+use Rattle.pg_copy.specs.declared.fault.BinaryFault.TheVariants.{Flags, Extension, FieldCount, FieldLength, Truncated, AfterTrailer}
+use Rattle.pg_copy.specs.Row.{Row, text_fault}
+use Rattle.pg_copy.specs.Reading.{Reading, Ending, Open, Done, Ended, Bad}
+use Rattle.pg_copy.specs.Text.{reading, file_reading, written_row}
+use Rattle.pg_copy.specs.Escape.{IsField, nothing, plain, escaped, hexadecimal, letter}
+use Rattle.pg_copy.specs.Binary.{written_head, binary_row, trailer}
+use Rattle.pg_copy.specs.BinaryReading as binary
+
+-- ---- text
+
+-- a tab b, null, the empty text, \N
+four : Row
+four = Some (0x61 ∷ 0x09 ∷ 0x62 ∷ []) ∷ None ∷ Some [] ∷ Some (0x5C ∷ 0x4E ∷ []) ∷ []
+
+four_written : List ℕ
+four_written = 0x61 ∷ 0x5C ∷ 0x74 ∷ 0x62 ∷ 0x09 ∷ 0x5C ∷ 0x4E ∷ 0x09 ∷ 0x09 ∷ 0x5C ∷ 0x5C ∷ 0x4E ∷ 0x0A ∷ []
+
+written : written_row four ≡ four_written
+unfolding four four_written
+written = refl
+
+read_back : reading (Some 4) four_written ≡ record { rows = four ∷ []; ending = Open [] }
+unfolding reading four four_written
+read_back = refl
+
+-- 1, null
+two : Row
+two = Some (0x31 ∷ []) ∷ None ∷ []
+
+two_written : written_row two ≡ 0x31 ∷ 0x09 ∷ 0x5C ∷ 0x4E ∷ 0x0A ∷ []
+unfolding two
+two_written = refl
+
+two_read : reading (Some 2) (0x31 ∷ 0x09 ∷ 0x5C ∷ 0x4E ∷ 0x0A ∷ []) ≡ record { rows = two ∷ []; ending = Open [] }
+unfolding reading two
+two_read = refl
+
+-- \\N spells \N, which isn't null
+backslash_n : IsField (0x5C ∷ 0x5C ∷ 0x4E ∷ []) (Some (0x5C ∷ 0x4E ∷ []))
+backslash_n = (λ e. cc, escaped (0x5C ∷ []) (0x4E ∷ []) 0x5C (0x4E ∷ []) (letter 0x5C (0x4E ∷ []) (omega arith) (λ e. absurd (omega (arith, e)))) (plain 0x4E [] [] (λ e. absurd (omega (arith, e))) nothing))
+
+-- \x41 spells A
+hexadecimal_a : IsField (0x5C ∷ 0x78 ∷ 0x34 ∷ 0x31 ∷ []) (Some (0x41 ∷ []))
+hexadecimal_a = (λ e. cc, escaped (0x78 ∷ 0x34 ∷ 0x31 ∷ []) [] 0x41 [] (hexadecimal (0x34 ∷ 0x31 ∷ []) [] (record { each = (omega arith, (omega arith, tt)); some = omega arith; few = omega arith; all = inl refl })) nothing)
+
+no_field : text_fault [] ≡ Some (row_faults.Width 0)
+no_field = refl
+
+rows_only : List Row → Ending TextFault → Reading TextFault
+rows_only rows ending = record { rows = rows; ending = ending }
+
+escapes : file_reading (Some 4) (0x5C ∷ 0x31 ∷ 0x30 ∷ 0x31 ∷ 0x31 ∷ 0x09 ∷ 0x5C ∷ 0x78 ∷ 0x34 ∷ 0x31 ∷ 0x09 ∷ 0x5C ∷ 0x78 ∷ 0x09 ∷ 0x5C ∷ 0x38 ∷ [])
+    ≡ rows_only ((Some (0x41 ∷ 0x31 ∷ []) ∷ Some (0x41 ∷ []) ∷ Some (0x78 ∷ []) ∷ Some (0x38 ∷ []) ∷ []) ∷ []) Ended
+unfolding reading rows_only
+escapes = refl
+
+empty_line : file_reading (Some 1) (0x0A ∷ []) ≡ rows_only ((Some [] ∷ []) ∷ []) Ended
+unfolding reading rows_only
+empty_line = refl
+
+empty_line_of_two : file_reading (Some 2) (0x0A ∷ []) ≡ rows_only [] (Bad (Columns 1))
+unfolding reading rows_only
+empty_line_of_two = refl
+
+lone_backslash : file_reading (Some 1) (0x61 ∷ 0x5C ∷ []) ≡ rows_only [] (Bad LoneBackslash)
+unfolding reading rows_only
+lone_backslash = refl
+
+raw_return : reading (Some 1) (0x61 ∷ 0x0D ∷ 0x0A ∷ []) ≡ rows_only [] (Bad RawReturn)
+unfolding reading rows_only
+raw_return = refl
+
+end_mark_first : reading (Some 1) (0x5C ∷ 0x2E ∷ 0x0A ∷ 0x61 ∷ 0x0A ∷ []) ≡ rows_only [] Done
+unfolding reading rows_only
+end_mark_first = refl
+
+octal_777 : reading (Some 1) (0x5C ∷ 0x37 ∷ 0x37 ∷ 0x37 ∷ 0x0A ∷ []) ≡ rows_only ((Some (0xFF ∷ []) ∷ []) ∷ []) (Open [])
+unfolding reading rows_only
+octal_777 = refl
+
+octal_400 : reading (Some 1) (0x5C ∷ 0x34 ∷ 0x30 ∷ 0x30 ∷ 0x0A ∷ []) ≡ rows_only ((Some (0x00 ∷ []) ∷ []) ∷ []) (Open [])
+unfolding reading rows_only
+octal_400 = refl
+
+hexadecimal_4g : reading (Some 1) (0x5C ∷ 0x78 ∷ 0x34 ∷ 0x47 ∷ 0x0A ∷ []) ≡ rows_only ((Some (0x04 ∷ 0x47 ∷ []) ∷ []) ∷ []) (Open [])
+unfolding reading rows_only
+hexadecimal_4g = refl
+
+escaped_newline : reading (Some 1) (0x5C ∷ 0x0A ∷ 0x0A ∷ []) ≡ rows_only ((Some (0x0A ∷ []) ∷ []) ∷ []) (Open [])
+unfolding reading rows_only
+escaped_newline = refl
+
+open_end_mark : file_reading (Some 1) (0x5C ∷ 0x2E ∷ []) ≡ rows_only [] Done
+unfolding reading rows_only
+open_end_mark = refl
+
+wrong_width_later : file_reading (Some 1) (0x61 ∷ 0x0A ∷ 0x62 ∷ 0x09 ∷ 0x63 ∷ 0x0A ∷ []) ≡ rows_only ((Some (0x61 ∷ []) ∷ []) ∷ []) (Bad (Columns 2))
+unfolding reading rows_only
+wrong_width_later = refl
+
+-- ---- binary
+
+signed : List ℕ → List ℕ
+signed rest = 0x50 ∷ 0x47 ∷ 0x43 ∷ 0x4F ∷ 0x50 ∷ 0x59 ∷ 0x0A ∷ 0xFF ∷ 0x0D ∷ 0x0A ∷ 0x00 ∷ rest
+
+behind_head : List ℕ → List ℕ
+behind_head rest = signed (0 ∷ 0 ∷ 0 ∷ 0 ∷ 0 ∷ 0 ∷ 0 ∷ 0 ∷ rest)
+
+binary_only : List Row → Ending BinaryFault → Reading BinaryFault
+binary_only rows ending = record { rows = rows; ending = ending }
+
+head_written : written_head ≡ behind_head []
+unfolding behind_head signed
+head_written = refl
+
+row_written : binary_row (Some (0x31 ∷ []) ∷ None ∷ []) ++ trailer ≡ 0x00 ∷ 0x02 ∷ 0x00 ∷ 0x00 ∷ 0x00 ∷ 0x01 ∷ 0x31 ∷ 0xFF ∷ 0xFF ∷ 0xFF ∷ 0xFF ∷ 0xFF ∷ 0xFF ∷ []
+row_written = refl
+
+no_rows : binary.file_reading 1 2147483647 (behind_head (0xFF ∷ 0xFF ∷ [])) ≡ binary_only [] Done
+unfolding behind_head signed binary_only binary.binary_reading binary.head_at binary.signature_at binary.flags_at binary.extension_at binary.rows_reading binary.row_at
+no_rows = refl
+
+truncated : binary.file_reading 1 2147483647 (behind_head (0xFF ∷ [])) ≡ binary_only [] (Bad Truncated)
+unfolding behind_head signed binary_only binary.binary_reading binary.head_at binary.signature_at binary.flags_at binary.extension_at binary.rows_reading binary.row_at
+truncated = refl
+
+after_trailer : binary.binary_reading 1 2147483647 (behind_head (0xFF ∷ 0xFF ∷ 0x00 ∷ [])) ≡ binary_only [] (Bad AfterTrailer)
+unfolding behind_head signed binary_only binary.binary_reading binary.head_at binary.signature_at binary.flags_at binary.extension_at binary.rows_reading binary.row_at
+after_trailer = refl
+
+flags : binary.binary_reading 1 2147483647 (signed (0 ∷ 1 ∷ 0 ∷ 0 ∷ 0 ∷ 0 ∷ 0 ∷ 0 ∷ 0xFF ∷ 0xFF ∷ [])) ≡ binary_only [] (Bad (Flags 65536))
+unfolding signed binary_only binary.binary_reading binary.head_at binary.signature_at binary.flags_at
+flags = refl
+
+extension_skipped : binary.binary_reading 1 2147483647 (signed (0 ∷ 0 ∷ 0 ∷ 1 ∷ 0 ∷ 0 ∷ 0 ∷ 2 ∷ 0xAA ∷ 0xBB ∷ 0xFF ∷ 0xFF ∷ [])) ≡ binary_only [] Done
+unfolding signed binary_only binary.binary_reading binary.head_at binary.signature_at binary.flags_at binary.extension_at binary.rows_reading binary.row_at
+extension_skipped = refl
+
+negative_extension : binary.binary_reading 1 2147483647 (signed (0 ∷ 0 ∷ 0 ∷ 0 ∷ 0xFF ∷ 0xFF ∷ 0xFF ∷ 0xFF ∷ [])) ≡ binary_only [] (Bad (Extension (negsuc 0)))
+unfolding signed binary_only binary.binary_reading binary.head_at binary.signature_at binary.flags_at binary.extension_at
+negative_extension = refl
+
+field_count : binary.binary_reading 1 2147483647 (behind_head (0x00 ∷ 0x02 ∷ [])) ≡ binary_only [] (Bad (FieldCount (pos 2)))
+unfolding behind_head signed binary_only binary.binary_reading binary.head_at binary.signature_at binary.flags_at binary.extension_at binary.rows_reading binary.row_at
+field_count = refl
+
+field_length : binary.binary_reading 1 2 (behind_head (0x00 ∷ 0x01 ∷ 0 ∷ 0 ∷ 0 ∷ 3 ∷ [])) ≡ binary_only [] (Bad (FieldLength (pos 3)))
+unfolding behind_head signed binary_only binary.binary_reading binary.head_at binary.signature_at binary.flags_at binary.extension_at binary.rows_reading binary.row_at binary.values_at binary.value_at
+field_length = refl
+
+-- 1 and null
+one_row : binary.binary_reading 2 1073741823 (behind_head (0x00 ∷ 0x02 ∷ 0 ∷ 0 ∷ 0 ∷ 1 ∷ 0x31 ∷ 0xFF ∷ 0xFF ∷ 0xFF ∷ 0xFF ∷ 0xFF ∷ 0xFF ∷ [])) ≡ binary_only ((Some (0x31 ∷ []) ∷ None ∷ []) ∷ []) Done
+unfolding behind_head signed binary_only binary.binary_reading binary.head_at binary.signature_at binary.flags_at binary.extension_at binary.rows_reading binary.row_at binary.values_at binary.value_at
+one_row = refl

@@ -1,0 +1,104 @@
+-- The parts of bytes are one split.
+use Rattle.std.proofs.Common.{◌≡◌, ℕ, Bool, true, false, cond, eqb, List, [], ◌∷◌, ◌++◌, length, map, Option, Ok, Err, refl, sym, ap, subst, ◌∙◌, arith, inl, inr}
+use Rattle.std.specs.List.{onto_first}
+use Rattle.std.proofs.lemmas.Bool.{cases_eq, eq-eqb, ne_eqb, false≢true}
+use Rattle.pg_copy.specs.declared.fault.TextFault.TheVariants.{RawReturn, LoneBackslash, Columns}
+use Rattle.pg_copy.specs.Row.{Row}
+use Rattle.pg_copy.specs.Text.{parts_from, parts, has_unit, ends_escaped, field_value, fits_width, line_row}
+use Rattle.pg_copy.specs.Lines.{AreUnits, nothing, byte, escape, AreParts, one, lone, more, AreFields}
+use Rattle.pg_copy.proofs.TextParts.{IsUncut, IsUncut-append, ends_escaped-append, parts-uncut, parts-cut}
+use Rattle.pg_copy.proofs.TextEscapes.{field-there}
+
+-- ---- units
+
+units-uncut : (mark : ℕ) (p : List ℕ) → (mark ≡ 92 → ⊥) → AreUnits mark p → IsUncut false mark p × (ends_escaped false p ≡ false)
+units-uncut mark _ ne nothing = (tt, refl)
+units-uncut mark _ ne (byte b bs n92 nmark h) =
+    let u = units-uncut mark bs ne h in
+    rw (ne_eqb b 92 n92) ((ne_eqb b mark nmark, u.0), u.1)
+units-uncut mark _ ne (escape b bs h) =
+    let u = units-uncut mark bs ne h in
+    ((ne_eqb 92 mark (λ e. ne (sym e)), u.0), u.1)
+
+-- ---- there
+
+put-byte : (mark b : ℕ) (bytes : List ℕ) (ps : List (List ℕ)) → (b ≡ 92 → ⊥) → (b ≡ mark → ⊥) → AreParts mark bytes ps → AreParts mark (b ∷ bytes) (onto_first b ps)
+put-byte mark b _ _ n92 nmark (one p h) = one (b ∷ p) (byte b p n92 nmark h)
+put-byte mark b _ _ n92 nmark (lone p h) = lone (b ∷ p) (byte b p n92 nmark h)
+put-byte mark b _ _ n92 nmark (more p bytes ps h k) = more (b ∷ p) bytes ps (byte b p n92 nmark h) k
+
+put-escape : (mark b : ℕ) (bytes : List ℕ) (ps : List (List ℕ)) → AreParts mark bytes ps → AreParts mark (92 ∷ b ∷ bytes) (onto_first 92 (onto_first b ps))
+put-escape mark b _ _ (one p h) = one (92 ∷ b ∷ p) (escape b p h)
+put-escape mark b _ _ (lone p h) = lone (92 ∷ b ∷ p) (escape b p h)
+put-escape mark b _ _ (more p bytes ps h k) = more (92 ∷ b ∷ p) bytes ps (escape b p h) k
+
+pub split-there : (mark : ℕ) (bytes : List ℕ) → (mark ≡ 92 → ⊥) → AreParts mark bytes (parts mark bytes)
+split-there mark bytes ne = go false bytes
+  where
+    Due : Bool → List ℕ → Type 0
+    Due false bytes = AreParts mark bytes (parts_from false mark bytes)
+    Due true bytes = AreParts mark (92 ∷ bytes) (onto_first 92 (parts_from true mark bytes))
+
+    go : (e : Bool) (bytes : List ℕ) → Due e bytes
+    go true [] = lone [] nothing
+    go true (b ∷ bs) = put-escape mark b bs (parts_from false mark bs) (go false bs)
+    go false [] = one [] nothing
+    go false (b ∷ bs) = elim (cases_eq b mark) [
+      | inl e ↦ rw (eq-eqb b mark e) (subst (λ (m : ℕ). AreParts mark (m ∷ bs) ([] ∷ parts_from false mark bs)) (sym e) (more [] bs (parts_from false mark bs) nothing (go false bs)))
+      | inr nmark ↦ rw (ne_eqb b mark nmark) (elim (cases_eq b 92) [
+        | inl e ↦ rw (eq-eqb b 92 e) (subst (λ (m : ℕ). AreParts mark (m ∷ bs) (onto_first m (parts_from true mark bs))) (sym e) (go true bs))
+        | inr n92 ↦ rw (ne_eqb b 92 n92) (put-byte mark b bs (parts_from false mark bs) n92 nmark (go false bs))
+      ])
+    ]
+
+-- ---- one
+
+parts-are : (mark : ℕ) (bytes : List ℕ) (ps : List (List ℕ)) → (mark ≡ 92 → ⊥) → AreParts mark bytes ps → parts mark bytes ≡ ps
+parts-are mark _ _ ne (one p h) = parts-uncut mark p (units-uncut mark p ne h).0
+parts-are mark _ _ ne (lone p h) =
+    let u = units-uncut mark p ne h in
+    parts-uncut mark (p ++ 92 ∷ []) (IsUncut-append false mark p (92 ∷ []) u.0 (rw u.1 (ne_eqb 92 mark (λ e. ne (sym e)), tt)))
+parts-are mark _ _ ne (more p bytes ps h k) =
+    let u = units-uncut mark p ne h in
+    parts-cut mark p bytes u.0 u.1 ∙ ap (λ (qs : List (List ℕ)). p ∷ qs) (parts-are mark bytes ps ne k)
+
+pub split-once : (mark : ℕ) (bytes : List ℕ) (ps qs : List (List ℕ)) → (mark ≡ 92 → ⊥) → AreParts mark bytes ps → AreParts mark bytes qs → ps ≡ qs
+split-once mark bytes ps qs ne h k = sym (parts-are mark bytes ps ne h) ∙ parts-are mark bytes qs ne k
+
+-- ---- the fields of a line
+
+abbrev AreClosed : List (List ℕ) → Type 0
+AreClosed [] = Unit {0}
+AreClosed (p ∷ ps) = (ends_escaped false p ≡ false) × AreClosed ps
+
+parts-closed : (mark : ℕ) (bytes : List ℕ) (ps : List (List ℕ)) → (mark ≡ 92 → ⊥) → ends_escaped false bytes ≡ false → AreParts mark bytes ps → AreClosed ps
+parts-closed mark _ _ ne e (one p h) = (e, tt)
+parts-closed mark _ _ ne e (lone p h) =
+    let u = units-uncut mark p ne h in
+    let last : true ≡ false = ap (λ (x : Bool). ends_escaped x (92 ∷ [])) (sym u.1) ∙ sym (ends_escaped-append false p (92 ∷ [])) ∙ e in
+    absurd (false≢true (sym last))
+parts-closed mark _ _ ne e (more p bytes ps h k) =
+    let u = units-uncut mark p ne h in
+    let plain : eqb mark 92 ≡ false = ne_eqb mark 92 ne in
+    let behind : ends_escaped false bytes ≡ false = ap (λ (x : Bool). ends_escaped x bytes) (sym plain) ∙ ap (λ (x : Bool). ends_escaped x (mark ∷ bytes)) (sym u.1) ∙ sym (ends_escaped-append false p (mark ∷ bytes)) ∙ e in
+    (u.1, parts-closed mark bytes ps ne behind k)
+
+fields-there : (ps : List (List ℕ)) → AreClosed ps → AreFields ps (map field_value ps)
+fields-there [] h = tt
+fields-there (p ∷ ps) h = (field-there p h.0, fields-there ps h.1)
+
+-- what a line that is read has
+line-has : (columns : Option ℕ) (line : List ℕ) (row : Row) → line_row columns line ≡ Ok row → (ends_escaped false line ≡ false) × (row ≡ map field_value (parts 9 line))
+line-has columns line row e = go (has_unit 13 line) (ends_escaped false line) (fits_width columns (length (parts 9 line))) e
+  where
+    go : (r l f : Bool) → cond r (Err RawReturn) (cond l (Err LoneBackslash) (cond f (Ok (map field_value (parts 9 line))) (Err (Columns (length (parts 9 line)))))) ≡ Ok row → (l ≡ false) × (row ≡ map field_value (parts 9 line))
+    go true l f e = absurd cc
+    go false true f e = absurd cc
+    go false false true e = (refl, cc)
+    go false false false e = absurd cc
+
+pub line-fields : (columns : Option ℕ) (line : List ℕ) (row : Row) → line_row columns line ≡ Ok row → AreFields (parts 9 line) row
+line-fields columns line row e =
+    let h = line-has columns line row e in
+    let tab : 9 ≡ 92 → ⊥ = λ f. absurd (omega (arith, f)) in
+    subst (λ (r : Row). AreFields (parts 9 line) r) (sym h.1) (fields-there (parts 9 line) (parts-closed 9 line (parts 9 line) tab h.0 (split-there 9 line tab)))

@@ -1,0 +1,6 @@
+use Rattle.std.proofs.Common.{sym}
+use Rattle.pg_copy.proofs.TextValues.{plain-field}
+use Rattle.pg_copy.proofs.text_field.field_value.Goals as goal
+
+pub returns-then-plain : goal.returns-then-plain
+returns-then-plain c = rw c.in_ok-from_slice.ensures (sym (plain-field c.args.bytes.now (c.requires c.if-plain.true)))

@@ -1,0 +1,102 @@
+-- COPY binary files (PostgreSQL documentation, page COPY, "Binary Format"). Numbers are big-endian.
+use Rattle.std.specs.Prelude.{◌≡◌, ℕ, ◌^◌, ◌<◌, ◌≤◌, List, [], ◌∷◌, ◌++◌, length, take, slice_index, Option, Some, None}
+use Rattle.std.specs.List.{flat_map, AllByRecursion}
+use Rattle.std.specs.Int.{w16, w32, to_be_bytes, cast_signed}
+use Rattle.pg_copy.specs.declared.fault.BinaryFault.{BinaryFault}
+use Rattle.pg_copy.specs.declared.fault.BinaryFault.TheVariants.{Signature, Flags, Extension, FieldCount, FieldLength, AfterTrailer}
+use Rattle.pg_copy.specs.Row.{Row}
+use Rattle.pg_copy.specs.Reading.{Ending, Open, Done, Ended, Bad}
+
+-- ---- the parts of a file as bytes
+
+-- PGCOPY, newline, FF, return, newline, zero
+abbrev pub signature : List ℕ
+signature = 0x50 ∷ 0x47 ∷ 0x43 ∷ 0x4F ∷ 0x50 ∷ 0x59 ∷ 0x0A ∷ 0xFF ∷ 0x0D ∷ 0x0A ∷ 0x00 ∷ []
+
+-- the signature, the flags, and an extension behind its length
+abbrev pub head : ℕ → List ℕ → List ℕ
+head flags extension = signature ++ to_be_bytes w32 flags ++ to_be_bytes w32 (length extension) ++ extension
+
+-- a value behind its length, which is -1 for a null
+abbrev pub value : Option (List ℕ) → List ℕ
+value None = to_be_bytes w32 4294967295
+value (Some bytes) = to_be_bytes w32 (length bytes) ++ bytes
+
+-- the values of a row behind their number
+abbrev pub binary_row : Row → List ℕ
+binary_row row = to_be_bytes w16 (length row) ++ flat_map value row
+
+-- -1 in the place of a number of values
+abbrev pub trailer : List ℕ
+trailer = 0xFF ∷ 0xFF ∷ []
+
+-- the head that is written: no flags, and an empty extension
+abbrev pub written_head : List ℕ
+written_head = head 0 []
+
+-- ---- which parts a reader takes
+
+-- Bits 16 to 31 of the flags must be 0, and the extension's length isn't negative.
+abbrev pub IsHead : List ℕ → Type 0
+IsHead bytes = (flags : ℕ) × (extension : List ℕ) × (flags < 65536) × (length extension < 2 ^ 31) × (bytes ≡ head flags extension)
+
+-- a value is at most so long
+abbrev pub FitsValue : ℕ → Option (List ℕ) → Type 0
+FitsValue limit None = Unit {0}
+FitsValue limit (Some bytes) = length bytes ≤ limit
+
+-- a row that a reader of so many columns, with this limit, takes
+pub record FitsBinary (columns limit : ℕ) (row : Row) : Type 0 where
+  pub width : length row ≡ columns
+  pub each : AllByRecursion (FitsValue limit) row
+
+-- ---- what stands behind the head and the rows
+
+-- What stands in the place of a row is faulty, for this reason. A number is read as unsigned, so one below -1 is above every
+-- limit.
+pub data IsFaultyRest (columns limit : ℕ) : List ℕ → BinaryFault → Type 0 where
+  field_count : (n : ℕ) (more : List ℕ) → n < 2 ^ 16 → (n ≡ 65535 → ⊥) → (n ≡ columns → ⊥) → IsFaultyRest columns limit (to_be_bytes w16 n ++ more) (FieldCount (cast_signed w16 n))
+  field_length : (values : Row) (n : ℕ) (more : List ℕ) → AllByRecursion (FitsValue limit) values → length values < columns → n < 2 ^ 32 → (n ≡ 4294967295 → ⊥) → limit < n
+      → IsFaultyRest columns limit (to_be_bytes w16 columns ++ (flat_map value values ++ (to_be_bytes w32 n ++ more))) (FieldLength (cast_signed w32 n))
+  after_trailer : (b : ℕ) (more : List ℕ) → IsFaultyRest columns limit (trailer ++ b ∷ more) AfterTrailer
+
+-- The rest begins with no row and no trailer, and isn't faulty: more bytes are to come.
+pub record IsOpenRest (columns limit : ℕ) (rest : List ℕ) : Type 0 where
+  pub no_row : (row : Row) (more : List ℕ) → FitsBinary columns limit row → rest ≡ binary_row row ++ more → ⊥
+  pub no_trailer : (more : List ℕ) → rest ≡ trailer ++ more → ⊥
+  pub no_fault : (f : BinaryFault) → IsFaultyRest columns limit rest f → ⊥
+
+abbrev pub IsRest : ℕ → ℕ → List ℕ → Ending BinaryFault → Type 0
+IsRest columns limit rest (Open kept) = (kept ≡ rest) × IsOpenRest columns limit rest
+IsRest columns limit rest Done = rest ≡ trailer
+IsRest columns limit rest Ended = ⊥
+IsRest columns limit rest (Bad f) = IsFaultyRest columns limit rest f
+
+-- ---- what stands in the place of a head that isn't whole
+
+pub data IsFaultyHead : List ℕ → BinaryFault → Type 0 where
+  signature_differs : (bytes : List ℕ) → 11 ≤ length bytes → (take 11 bytes ≡ signature → ⊥) → IsFaultyHead bytes Signature
+  flag_set : (n : ℕ) (more : List ℕ) → 65536 ≤ n → n < 2 ^ 32 → IsFaultyHead (signature ++ (to_be_bytes w32 n ++ more)) (Flags n)
+  extension_negative : (flags n : ℕ) (more : List ℕ) → flags < 65536 → 2 ^ 31 ≤ n → n < 2 ^ 32 → IsFaultyHead (signature ++ (to_be_bytes w32 flags ++ (to_be_bytes w32 n ++ more))) (Extension (cast_signed w32 n))
+
+-- No head stands at the beginning, and it isn't faulty: more bytes are to come.
+pub record IsOpenHead (bytes : List ℕ) : Type 0 where
+  pub no_head : (h more : List ℕ) → IsHead h → bytes ≡ h ++ more → ⊥
+  pub no_fault : (f : BinaryFault) → IsFaultyHead bytes f → ⊥
+
+abbrev pub IsHeadRest : List ℕ → Ending BinaryFault → Type 0
+IsHeadRest bytes (Open kept) = (kept ≡ bytes) × IsOpenHead bytes
+IsHeadRest bytes Done = ⊥
+IsHeadRest bytes Ended = ⊥
+IsHeadRest bytes (Bad f) = IsFaultyHead bytes f
+
+-- ---- files
+
+-- each number is a byte, as every byte of a program is
+abbrev pub IsBytes : List ℕ → Type 0
+IsBytes bytes = (i : ℕ) → slice_index bytes i < 256
+
+-- The bytes are a head, these rows, and what stands behind them; or no whole head, and no rows.
+pub data IsBinaryFile (columns limit : ℕ) (bytes : List ℕ) (rows : List Row) (ending : Ending BinaryFault) : Type 0 where
+  whole : (h rest : List ℕ) → IsHead h → AllByRecursion (FitsBinary columns limit) rows → bytes ≡ h ++ flat_map binary_row rows ++ rest → IsRest columns limit rest ending → IsBinaryFile columns limit bytes rows ending
+  headless : rows ≡ [] → IsHeadRest bytes ending → IsBinaryFile columns limit bytes rows ending

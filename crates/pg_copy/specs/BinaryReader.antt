@@ -1,0 +1,68 @@
+-- A reader of a binary file as its callers see it, what its calls do, and what it was given and has given.
+use Rattle.std.specs.Prelude.{◌≡◌, ℕ, ◌<◌, ◌⊎◌, Bool, false, List, [], ◌∷◌, ◌++◌, length, Result, Ok, Err}
+use Rattle.pg_copy.specs.declared.fault.BinaryFault.{BinaryFault}
+use Rattle.pg_copy.specs.declared.fault.BinaryFault.TheVariants.{AfterTrailer, Memory}
+use Rattle.pg_copy.specs.declared.binary_reader.BinaryStage.{BinaryStage}
+use Rattle.pg_copy.specs.declared.binary_reader.BinaryStage.TheVariants as stages
+use Rattle.pg_copy.specs.Row.{Row}
+use Rattle.pg_copy.specs.Reading.{Reading, Ending, Open, Done, Bad, after_rows}
+use Rattle.pg_copy.specs.BinaryReading.{binary_reading, body_reading, trailer_reading, at_end, file_reading}
+
+-- how many columns a row has, how long a value may be, the bytes that were given and are no part yet, where it stands, and
+-- whether the input has ended
+pub record BinaryState : Type 0 where
+  pub columns : ℕ
+  pub limit : ℕ
+  pub kept : List ℕ
+  pub stage : BinaryStage
+  pub ended : Bool
+
+-- what is still to come from so many bytes
+abbrev pub stage_reading : BinaryStage → ℕ → ℕ → List ℕ → Reading BinaryFault
+stage_reading stages.Head columns limit bytes = binary_reading columns limit bytes
+stage_reading stages.Rows columns limit bytes = body_reading columns limit bytes
+stage_reading stages.Closed columns limit bytes = trailer_reading bytes
+stage_reading (stages.Failed fault) columns limit bytes = record { rows = []; ending = Bad fault }
+
+-- what is still to come, if more bytes are pushed, and if none are
+abbrev pub left : BinaryState → List ℕ → Reading BinaryFault
+left s more = stage_reading s.stage s.columns s.limit (s.kept ++ more)
+
+abbrev pub last : BinaryState → Reading BinaryFault
+last s = at_end (left s [])
+
+-- The reader was given these bytes, and has given these rows: what is left is what is left of the file.
+pub record HasReadBinary (s : BinaryState) (pushed : List ℕ) (given : List Row) : Type 0 where
+  pub so_far : s.ended ≡ false → (more : List ℕ) → binary_reading s.columns s.limit (pushed ++ more) ≡ after_rows given (left s more)
+  pub in_all : file_reading s.columns s.limit pushed ≡ after_rows given (last s)
+
+-- the ending at which a reader stands, where it has looked for a row
+abbrev pub binary_ending : BinaryStage → List ℕ → Ending BinaryFault
+binary_ending stages.Head kept = Open kept
+binary_ending stages.Rows kept = Open kept
+binary_ending stages.Closed kept = Done
+binary_ending (stages.Failed fault) kept = Bad fault
+
+-- A push keeps the whole piece. Behind the trailer nothing is kept, and a byte is a fault.
+abbrev pub pushed_at : BinaryStage → BinaryState → List ℕ → BinaryState
+pushed_at stages.Head s piece = record s { kept = s.kept ++ piece }
+pushed_at stages.Rows s piece = record s { kept = s.kept ++ piece }
+pushed_at stages.Closed s [] = s
+pushed_at stages.Closed s (b ∷ bs) = record s { stage = stages.Failed AfterTrailer }
+pushed_at (stages.Failed fault) s piece = s
+
+abbrev pub pushed_after : BinaryState → List ℕ → BinaryState
+pushed_after s piece = pushed_at s.stage s piece
+
+-- at the head or among the rows: bytes are still read
+abbrev pub IsReading : BinaryStage → Type 0
+IsReading stages.Head = Unit {0}
+IsReading stages.Rows = Unit {0}
+IsReading stages.Closed = ⊥
+IsReading (stages.Failed fault) = ⊥
+
+-- A push is refused with the fault that was found, or for want of memory, which a piece without bytes never meets, nor one
+-- behind the trailer. Then nothing changes.
+abbrev pub PushesBinary : BinaryState → List ℕ → Result Unit BinaryFault → BinaryState → Type 0
+PushesBinary old piece (Ok x) new = ((f : BinaryFault) → old.stage ≡ stages.Failed f → ⊥) × (new ≡ pushed_after old piece)
+PushesBinary old piece (Err f) new = ((old.stage ≡ stages.Failed f) ⊎ ((f ≡ Memory) × IsReading old.stage × (0 < length piece))) × (new ≡ old)

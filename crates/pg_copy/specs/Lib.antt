@@ -1,0 +1,14 @@
+-- What a reader of the contracts must believe stands in Row, Reading, Text, Escape, Lines and Binary. BinaryReading reads a
+-- binary file from left to right, which the law OneFile ties to Binary. TextReader and BinaryReader say what the calls of a
+-- reader do, Laws what the formats have in common, and Private has the words of private functions.
+pub mod Row
+pub mod Reading
+pub mod Text
+pub mod Escape
+pub mod Lines
+pub mod TextReader
+pub mod Binary
+pub mod BinaryReading
+pub mod BinaryReader
+pub mod Laws
+pub mod Private

@@ -1,0 +1,4 @@
+-- The words of private functions.
+pub mod Units
+pub mod TextLine
+pub mod BinaryPart

@@ -1,0 +1,134 @@
+-- The next part of a binary file, as private functions read it.
+use Rattle.std.specs.Prelude.{◌≡◌, ℕ, ◌<◌, ◌≤◌, ◌-◌, ◌⊎◌, Bool, true, false, List, [], ◌∷◌, length, drop, Option, Some, None, Result, Ok, Err}
+use Rattle.std.specs.Int.{w16}
+use Rattle.pg_copy.specs.declared.fault.BinaryFault.TheVariants.{AfterTrailer, Memory}
+use Rattle.pg_copy.specs.declared.binary_part.NoPart.{NoPart}
+use Rattle.pg_copy.specs.declared.binary_part.NoPart.TheVariants.{Incomplete, Faulty}
+use Rattle.pg_copy.specs.declared.binary_part.NoRow.{NoRow}
+use Rattle.pg_copy.specs.declared.binary_part.NoRow.TheVariants as no_row
+use Rattle.pg_copy.specs.declared.binary_part.Walk.{Walk}
+use Rattle.pg_copy.specs.declared.binary_part.Look.{Look}
+use Rattle.pg_copy.specs.declared.binary_part.Part.{Part}
+use Rattle.pg_copy.specs.declared.binary_part.Part.TheVariants as parts
+use Rattle.pg_copy.specs.declared.binary_reader.BinaryStage.{BinaryStage}
+use Rattle.pg_copy.specs.declared.binary_reader.BinaryStage.TheVariants.{Head, Rows, Closed, Failed}
+use Rattle.pg_copy.specs.Row.{Row}
+use Rattle.pg_copy.specs.Reading.{RowWaits}
+use Rattle.pg_copy.specs.BinaryReading.{◌>>=◌, number_at, head_at, values_at, row_at}
+use Rattle.pg_copy.specs.BinaryReader.{BinaryState, left}
+
+-- what a function returned, seen by view, is what reading gives
+abbrev pub Gives : {X Y : Type 0} → (X → Y) → Result X NoPart → Result Y NoPart → Type 0
+Gives view (Ok x) read = read ≡ Ok (view x)
+Gives view (Err stop) read = read ≡ Err stop
+
+-- the bytes behind what was read
+abbrev pub rest_of : {A : Type 0} → Result (A × List ℕ) NoPart → Result (List ℕ) NoPart
+rest_of (Ok x) = Ok x.1
+rest_of (Err stop) = Err stop
+
+-- ---- a walk over a row
+
+-- Where a walk was begun, the number of values is that of the columns, and so many values stand before its place.
+pub record IsBegun (columns limit : ℕ) (bytes : List ℕ) (w : Walk) : Type 0 where
+  pub count : number_at w16 bytes ≡ Ok (columns, drop 2 bytes)
+  pub in_range : w.at ≤ length bytes
+  pub few : w.left ≤ columns
+  pub values : rest_of (values_at limit (columns - w.left) (drop 2 bytes)) ≡ Ok (drop w.at bytes)
+
+abbrev pub IsWalked : ℕ → ℕ → List ℕ → Walk → Type 0
+IsWalked columns limit bytes w = 0 < w.at → IsBegun columns limit bytes w
+
+abbrev pub Finds : ℕ → ℕ → List ℕ → Result Part NoPart → Walk → Type 0
+Finds columns limit bytes (Ok parts.Row) w = (0 < w.at) × (w.left ≡ 0)
+Finds columns limit bytes (Ok parts.Trailer) w = row_at columns limit bytes ≡ Ok (None, drop 2 bytes)
+Finds columns limit bytes (Err stop) w = row_at columns limit bytes ≡ Err stop
+
+-- ---- the next part of a file, by what was read before
+
+abbrev pub closed_at : List ℕ → Result ((Option Row × BinaryStage) × List ℕ) NoPart
+closed_at [] = Ok ((None, Closed), [])
+closed_at (b ∷ bs) = Err (Faulty AfterTrailer)
+
+abbrev pub row_or_trailer : Option Row → List ℕ → Result ((Option Row × BinaryStage) × List ℕ) NoPart
+row_or_trailer None rest = closed_at rest
+row_or_trailer (Some row) rest = Ok ((Some row, Rows), rest)
+
+unfoldable pub body_at : ℕ → ℕ → List ℕ → Result ((Option Row × BinaryStage) × List ℕ) NoPart
+body_at columns limit bytes = row_at columns limit bytes >>= λ r. row_or_trailer r.0 r.1
+
+unfoldable pub part_at : BinaryStage → ℕ → ℕ → List ℕ → Result ((Option Row × BinaryStage) × List ℕ) NoPart
+part_at Head columns limit bytes = head_at bytes >>= λ h. body_at columns limit h.1
+part_at Rows columns limit bytes = body_at columns limit bytes
+part_at Closed columns limit bytes = closed_at bytes
+part_at (Failed fault) columns limit bytes = Err (Faulty fault)
+
+-- ---- a look at the next part
+
+-- what stands behind the head, where it is still to be read
+abbrev pub IsBehindHead : Bool → List ℕ → List ℕ → Type 0
+IsBehindHead true bytes rest = rest_of (head_at bytes) ≡ Ok rest
+IsBehindHead false bytes rest = bytes ≡ rest
+
+abbrev pub StartsRow : Bool → List ℕ → ℕ → Result ℕ NoPart → Type 0
+StartsRow in_head bytes start (Ok n) = (n ≤ length bytes) × IsBehindHead in_head bytes (drop n bytes) × ((((in_head ≡ false) ⊎ (0 < start)) × (n ≡ start)) ⊎ ((in_head ≡ true) × (start ≡ 0) × (0 < n)))
+StartsRow in_head bytes start (Err stop) = (in_head ≡ true) × (start ≡ 0) × (head_at bytes ≡ Err stop)
+
+pub record IsLooked (in_head : Bool) (columns limit : ℕ) (bytes : List ℕ) (l : Look) : Type 0 where
+  pub in_range : l.start ≤ length bytes
+  pub head : (in_head ≡ false) ⊎ (0 < l.start) → IsBehindHead in_head bytes (drop l.start bytes)
+  pub fresh : in_head ≡ true → l.start ≡ 0 → l.walk.at ≡ 0
+  pub none : in_head ≡ false → l.start ≡ 0
+  pub walk : IsWalked columns limit (drop l.start bytes) l.walk
+
+abbrev pub stage_of : Bool → BinaryStage
+stage_of true = Head
+stage_of false = Rows
+
+abbrev pub FindsPart : Bool → ℕ → ℕ → List ℕ → Result Part NoPart → Look → Type 0
+FindsPart in_head columns limit bytes (Ok parts.Row) l = (0 < l.walk.at) × (l.walk.left ≡ 0) × IsBehindHead in_head bytes (drop l.start bytes)
+FindsPart in_head columns limit bytes (Ok parts.Trailer) l = part_at (stage_of in_head) columns limit bytes ≡ Ok ((None, Closed), [])
+FindsPart in_head columns limit bytes (Err stop) l = (part_at (stage_of in_head) columns limit bytes ≡ Err stop) × (in_head ≡ true → l.start ≡ 0 → head_at bytes ≡ Err stop)
+
+-- ---- a reader
+
+abbrev pub is_head : BinaryStage → Bool
+is_head Head = true
+is_head Rows = false
+is_head Closed = false
+is_head (Failed fault) = false
+
+-- what is kept of a reader
+pub record IsReader (columns limit : ℕ) (kept : List ℕ) (look : Look) (stage : BinaryStage) : Type 0 where
+  pub columns_few : columns ≤ 32767
+  pub looked : IsLooked (is_head stage) columns limit kept look
+  pub not_memory : stage ≡ Failed Memory → ⊥
+  pub closed : stage ≡ Closed → kept ≡ []
+
+-- where a reader waits for the rest of a part: a head that is whole is taken off
+abbrev pub behind_head : Result (List ℕ × List ℕ) NoPart → BinaryState → BinaryState
+behind_head (Ok h) s = record s { kept = h.1; stage = Rows }
+behind_head (Err stop) s = s
+
+abbrev pub waiting_at : BinaryStage → BinaryState → BinaryState
+waiting_at Head s = behind_head (head_at s.kept) s
+waiting_at Rows s = s
+waiting_at Closed s = s
+waiting_at (Failed fault) s = s
+
+abbrev pub waiting : BinaryState → BinaryState
+waiting s = waiting_at s.stage s
+
+-- the next part is taken, or it is waited for, or a fault is found in its place and nothing changes
+abbrev pub FindsNext : Result (Option Row) NoRow → BinaryState → BinaryState → Type 0
+FindsNext (Ok row) old new = (part_at old.stage old.columns old.limit old.kept ≡ Ok ((row, new.stage), new.kept)) × (new ≡ record old { kept = new.kept; stage = new.stage })
+FindsNext (Err no_row.Memory) old new = (new ≡ old) × RowWaits (left old [])
+FindsNext (Err (no_row.NoPart Incomplete)) old new = (part_at old.stage old.columns old.limit old.kept ≡ Err Incomplete) × (new ≡ waiting old)
+FindsNext (Err (no_row.NoPart (Faulty fault))) old new = (part_at old.stage old.columns old.limit old.kept ≡ Err (Faulty fault)) × (new ≡ old)
+
+-- the same, where the reader stops at a fault
+abbrev pub TakesPart : Result (Option Row) NoRow → BinaryState → BinaryState → Type 0
+TakesPart (Ok row) old new = FindsNext (Ok row) old new
+TakesPart (Err no_row.Memory) old new = FindsNext (Err no_row.Memory) old new
+TakesPart (Err (no_row.NoPart Incomplete)) old new = FindsNext (Err (no_row.NoPart Incomplete)) old new
+TakesPart (Err (no_row.NoPart (Faulty fault))) old new = (fault ≡ Memory → ⊥) × (part_at old.stage old.columns old.limit old.kept ≡ Err (Faulty fault)) × (new ≡ record old { kept = []; stage = Failed fault })

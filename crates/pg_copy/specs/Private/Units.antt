@@ -1,0 +1,48 @@
+-- A walk over the units of a text file.
+use Rattle.std.specs.Prelude.{◌≡◌, ℕ, suc, ◌+◌, ◌<◌, ◌≤◌, ◌==◌, Bool, true, false, if◌then◌else◌, nat_lt, List, [], ◌∷◌, length, take, drop, slice_index}
+use Rattle.std.specs.Char.{digit_value}
+use Rattle.pg_copy.specs.declared.scan.Scan.{Scan}
+use Rattle.pg_copy.specs.declared.text_line.FieldEnd.{FieldEnd}
+use Rattle.pg_copy.specs.Text.{ends_escaped, digits_at, newline, delimiter}
+
+-- how many units are the mark alone
+abbrev pub units_from : Bool → ℕ → List ℕ → ℕ
+units_from escaped mark [] = 0
+units_from true mark (b ∷ bs) = units_from false mark bs
+units_from false mark (b ∷ bs) = (if b == mark then 1 else 0) + units_from (b == 92) mark bs
+
+abbrev pub units : ℕ → List ℕ → ℕ
+units mark bytes = units_from false mark bytes
+
+-- the bytes before the walk's place: none of their units is a newline, and so many are delimiters
+pub record IsScanned (bytes : List ℕ) (s : Scan) : Type 0 where
+  pub in_range : s.at ≤ length bytes
+  pub escaped : ends_escaped false (take s.at bytes) ≡ s.escaped
+  pub newlines : units newline (take s.at bytes) ≡ 0
+  pub delimiters : units delimiter (take s.at bytes) ≡ s.delimiters
+  pub returned : nat_lt 0 (units 13 (take s.at bytes)) ≡ s.returned
+
+-- the first unit that is the mark stands at place n
+pub record IsUnitAt (mark : ℕ) (bytes : List ℕ) (n : ℕ) : Type 0 where
+  pub in_range : n < length bytes
+  pub none : units mark (take n bytes) ≡ 0
+  pub closed : ends_escaped false (take n bytes) ≡ false
+  pub is : slice_index bytes n ≡ mark
+
+-- a digit of the base with this value stands first
+pub record LeadsWith (base : ℕ) (bytes : List ℕ) (d : ℕ) : Type 0 where
+  pub below : d < base
+  pub some : 0 < length bytes
+  pub digits : (n : ℕ) → digits_at base (suc n) bytes ≡ slice_index bytes 0 ∷ digits_at base n (drop 1 bytes)
+  pub value : digit_value (slice_index bytes 0) ≡ d
+
+-- no byte is a backslash
+abbrev pub NoBackslash : List ℕ → Type 0
+NoBackslash [] = Unit {0}
+NoBackslash (b ∷ bs) = ((b == 92) ≡ false) × NoBackslash bs
+
+-- The field at the front of the bytes ends here: at a delimiter, or at the end of the bytes.
+pub record IsFieldEnd (bytes : List ℕ) (e : FieldEnd) : Type 0 where
+  pub plain : e.plain ≡ true → NoBackslash (take e.len bytes)
+  pub more : e.last ≡ false → IsUnitAt delimiter bytes e.len
+  pub whole : e.last ≡ true → (e.len ≡ length bytes) × (units delimiter bytes ≡ 0)

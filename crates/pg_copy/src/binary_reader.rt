@@ -1,0 +1,267 @@
+//! Reading a binary file that comes in pieces.
+
+ghost use Rattle.std.specs.Prelude.{◌≡◌, ◌++◌, ◌≤◌, ◌<◌, ◌↔◌, ◌⊎◌, ℕ, List, Ok, Err, [], true, false, IsTrue, OnOk};
+ghost use Rattle.pg_copy.specs.declared.fault.BinaryFault.{BinaryFault};
+ghost use Rattle.pg_copy.specs.declared.fault.BinaryFault.TheVariants.{Memory};
+ghost use Rattle.pg_copy.specs.declared.binary_reader.BinaryStage.TheVariants.{Head, Rows, Closed, Failed};
+ghost use Rattle.pg_copy.specs.Row.{Row};
+ghost use Rattle.pg_copy.specs.Reading.{RowWaits, given_by, Gives};
+ghost use Rattle.pg_copy.specs.BinaryReading.{binary_reading, file_reading};
+ghost use Rattle.pg_copy.specs.BinaryReader.{HasReadBinary, PushesBinary, IsReading, left, binary_ending};
+ghost use Rattle.pg_copy.specs.Private.BinaryPart.{TakesPart, FindsNext, stage_of};
+
+use crate::Row;
+use crate::binary_part::{Look, NoPart, NoRow, Part, find_part, values_of};
+use crate::buffer::Buffer;
+use crate::fault::BinaryFault;
+use pg_seq::Seq;
+use std::alloc::Global;
+use std::marker::Model;
+
+/// Where a reader of a binary file stands.
+#[derive(Clone, Copy, Debug, Drop, PartialEq, Eq)]
+pub enum BinaryStage {
+    /// At the head, or at the first row behind it.
+    Head,
+    /// At a row, or at the trailer.
+    Rows,
+    /// Behind the trailer.
+    Closed,
+    /// At a fault, which is not Memory.
+    Failed(BinaryFault),
+}
+
+/// Takes a binary file in any pieces, and gives exactly its rows.
+///
+/// `push` keeps a piece, `next` gives the rows that are whole, one by one, and `finish` those that are left at the end of the
+/// input, where the trailer must have come; no byte may stand behind it. The length -1 is a null. A fault stands in the place
+/// of its row, and is answered for good from then on. The flags that a reader need not know and the header's extension are
+/// skipped: the head is kept until it is whole, and then each row until it is. A row is looked over once, however the pieces
+/// are cut, and its values are copied once it is whole (PostgreSQL documentation, page COPY, "Binary Format").
+#[derive(Drop)]
+pub struct BinaryReader {
+    alloc: Global,
+    columns: u16,
+    limit: u32,
+    buffer: Buffer,
+    // how far the next part was looked over
+    look: Look,
+    stage: BinaryStage,
+    ended: bool,
+}
+
+impl Model for BinaryReader {
+    ghost use Rattle.pg_copy.specs.BinaryReader.{BinaryState};
+    ghost use Rattle.pg_copy.specs.Private.BinaryPart.{IsReader};
+
+    ghost Value = { BinaryState };
+
+    ghost view = { λ r. record { columns = r.columns; limit = r.limit; kept = r.buffer; stage = r.stage; ended = r.ended } };
+
+    ghost invariant = { λ r. IsReader r.columns r.limit r.buffer r.look r.stage };
+}
+
+impl BinaryReader {
+    /// A reader of rows of so many columns, 1 to 32,767, with values of at most `limit` bytes, 1 to 2,147,483,647.
+    pub fn new(alloc: Global, columns: u16, limit: u32) -> Self
+        requires columns { (0 < columns) × (columns ≤ 32767) }
+        requires limit { (0 < limit) × (limit ≤ 2147483647) }
+        ensures state { result ≡ record { columns = columns; limit = limit; kept = []; stage = Head; ended = false } }
+        ensures read { HasReadBinary result [] [] }
+    {
+        BinaryReader {
+            alloc,
+            columns,
+            limit,
+            buffer: Buffer::new(alloc),
+            look: Look::start(),
+            stage: BinaryStage::Head,
+            ended: false,
+        }
+    }
+
+    /// Whether the trailer was read, and no byte was pushed behind it.
+    pub fn done(&self) -> bool
+        ensures { IsTrue result ↔ (self.now.stage ≡ Closed) }
+    {
+        self.stage == BinaryStage::Closed
+    }
+
+    /// Whether `finish` was called, calls that answered Memory left out. No more may then be pushed, and `next` not be called.
+    pub fn ended(&self) -> bool
+        ensures { result ≡ self.now.ended }
+    {
+        self.ended
+    }
+
+    /// Takes the next piece of the file, all of it. Behind the trailer nothing is kept: a byte is a fault, which the next call
+    /// answers. A fault that was found is answered again. After Memory nothing of the piece was taken and the reader is
+    /// unchanged; a piece without bytes, or one behind the trailer, wants no memory.
+    pub fn push(&mut self, piece: &[u8]) -> Result<(), BinaryFault>
+        requires { self.old.ended ≡ false }
+        ensures call { PushesBinary self.old piece.now result self.new }
+        ensures read { OnOk result ((pushed : List ℕ) (given : List Row) → HasReadBinary self.old pushed given → HasReadBinary self.new (pushed ++ piece.now) given) }
+    {
+        match self.stage {
+            BinaryStage::Failed(fault) => Err(fault),
+            BinaryStage::Closed => {
+                if !piece.is_empty() {
+                    self.stage = BinaryStage::Failed(BinaryFault::AfterTrailer);
+                }
+                Ok(())
+            }
+            BinaryStage::Head | BinaryStage::Rows => match self.buffer.push(piece) {
+                Ok(()) => Ok(()),
+                Err(_) => Err(BinaryFault::Memory),
+            },
+        }
+    }
+
+    /// The next row, or None where no whole row waits or the trailer was read. A fault is found where no more rows stand before
+    /// it, and is then answered for good. Memory is answered only where a row waits, and leaves the reader unchanged
+    /// (PostgreSQL documentation, page COPY, "Binary Format").
+    pub fn next(&mut self) -> Result<Option<Row>, BinaryFault>
+        requires { self.old.ended ≡ false }
+        ensures read { (pushed : List ℕ) (given : List Row) → HasReadBinary self.old pushed given → HasReadBinary self.new pushed (given ++ given_by result) }
+        ensures gives { (pushed : List ℕ) (given : List Row) → HasReadBinary self.old pushed given → Gives Memory (binary_reading self.new.columns self.new.limit pushed) given (binary_ending self.new.stage self.new.kept) result }
+        ensures same { (self.new.columns ≡ self.old.columns) × (self.new.limit ≡ self.old.limit) }
+        ensures ended { self.new.ended ≡ false }
+        ensures row { (row : Row) → result ≡ Ok (Some row) → self.new.stage ≡ Rows }
+        ensures failed { (fault : BinaryFault) → self.old.stage ≡ Failed fault → (result ≡ Err fault) × (self.new ≡ self.old) }
+        ensures closed { self.old.stage ≡ Closed → (result ≡ Ok None) × (self.new ≡ self.old) }
+        ensures memory { result ≡ Err Memory → (self.new ≡ self.old) × RowWaits (left self.old []) }
+    {
+        match self.stage {
+            BinaryStage::Failed(fault) => Err(fault),
+            BinaryStage::Closed => Ok(None),
+            BinaryStage::Head | BinaryStage::Rows => match self.read() {
+                Ok(row) => Ok(row),
+                Err(NoRow::Memory) => Err(BinaryFault::Memory),
+                Err(NoRow::NoPart(NoPart::Incomplete)) => Ok(None),
+                Err(NoRow::NoPart(NoPart::Faulty(fault))) => Err(fault),
+            },
+        }
+    }
+
+    /// Says that the input has ended, and gives the next row that is left, or None where none is and the trailer was read.
+    /// Truncated is answered where it was not. It is to be called until it answers None. Memory is answered only where a row is
+    /// left, and leaves the reader unchanged (PostgreSQL documentation, page COPY, "Binary Format").
+    pub fn finish(&mut self) -> Result<Option<Row>, BinaryFault>
+        ensures read { (pushed : List ℕ) (given : List Row) → HasReadBinary self.old pushed given → HasReadBinary self.new pushed (given ++ given_by result) }
+        ensures gives { (pushed : List ℕ) (given : List Row) → HasReadBinary self.old pushed given → Gives Memory (file_reading self.new.columns self.new.limit pushed) given (binary_ending self.new.stage self.new.kept) result }
+        ensures same { (self.new.columns ≡ self.old.columns) × (self.new.limit ≡ self.old.limit) }
+        ensures ended { result ≡ Err Memory ⊎ self.new.ended ≡ true }
+        ensures row { (row : Row) → result ≡ Ok (Some row) → self.new.stage ≡ Rows }
+        ensures failed { (fault : BinaryFault) → self.old.stage ≡ Failed fault → (result ≡ Err fault) × (self.new ≡ record self.old { ended = true }) }
+        ensures closed { self.old.stage ≡ Closed → (result ≡ Ok None) × (self.new ≡ record self.old { ended = true }) }
+        ensures trailer { result ≡ Ok None → self.new.stage ≡ Closed }
+        ensures memory { result ≡ Err Memory → (self.new ≡ self.old) × RowWaits (left self.old []) }
+    {
+        match self.stage {
+            BinaryStage::Failed(fault) => {
+                self.ended = true;
+                Err(fault)
+            }
+            BinaryStage::Closed => {
+                self.ended = true;
+                Ok(None)
+            }
+            BinaryStage::Head | BinaryStage::Rows => match self.read() {
+                Ok(row) => {
+                    self.end();
+                    Ok(row)
+                }
+                Err(NoRow::Memory) => Err(BinaryFault::Memory),
+                Err(NoRow::NoPart(NoPart::Incomplete)) => {
+                    self.stop(BinaryFault::Truncated);
+                    self.end();
+                    Err(BinaryFault::Truncated)
+                }
+                Err(NoRow::NoPart(NoPart::Faulty(fault))) => {
+                    self.end();
+                    Err(fault)
+                }
+            },
+        }
+    }
+
+    /// Takes the next part of the file.
+    fn read(&mut self) -> Result<Option<Row>, NoRow>
+        requires { IsReading self.old.stage }
+        ensures { TakesPart result self.old self.new }
+    {
+        let in_head = self.stage == BinaryStage::Head;
+        match self.find_row(in_head) {
+            Ok(row) => Ok(row),
+            Err(NoRow::NoPart(NoPart::Faulty(fault))) => {
+                self.stop(fault);
+                Err(NoRow::NoPart(NoPart::Faulty(fault)))
+            }
+            Err(none) => Err(none),
+        }
+    }
+
+    /// Takes a row, or the trailer, in front of which the head may stand. Where neither is whole, a head that is goes off
+    /// alone, so that it isn't kept until the first row has come. At a fault nothing changes.
+    fn find_row(&mut self, in_head: bool) -> Result<Option<Row>, NoRow>
+        requires { self.old.stage ≡ stage_of in_head }
+        ensures { FindsNext result self.old self.new }
+    {
+        let bytes = self.buffer.as_slice();
+        match find_part(in_head, self.columns, self.limit, bytes, &mut self.look) {
+            Err(NoPart::Faulty(fault)) => Err(NoRow::NoPart(NoPart::Faulty(fault))),
+            Err(NoPart::Incomplete) => {
+                if self.look.start > 0 {
+                    self.buffer.take(self.look.start);
+                    self.look.start = 0;
+                    self.stage = BinaryStage::Rows;
+                }
+                Err(NoRow::NoPart(NoPart::Incomplete))
+            }
+            Ok(Part::Trailer) => {
+                self.close();
+                Ok(None)
+            }
+            Ok(Part::Row) => {
+                let (_, values) = bytes.split_at(self.look.start + 2);
+                match values_of(self.alloc, self.limit, self.columns, values) {
+                    Ok(values) => {
+                        self.buffer.take(self.look.start + self.look.walk.at);
+                        self.look = Look::start();
+                        self.stage = BinaryStage::Rows;
+                        Ok(Some(Seq::new(values)))
+                    }
+                    Err(_) => Err(NoRow::Memory),
+                }
+            }
+        }
+    }
+
+    /// The trailer was read, and nothing stands behind it.
+    fn close(&mut self)
+        ensures { self.new ≡ record self.old { kept = []; stage = Closed } }
+    {
+        let len = self.buffer.len();
+        self.buffer.take(len);
+        self.look = Look::start();
+        self.stage = BinaryStage::Closed;
+    }
+
+    /// Reads no more.
+    fn stop(&mut self, fault: BinaryFault)
+        requires { fault ≡ Memory → ⊥ }
+        ensures { self.new ≡ record self.old { kept = []; stage = Failed fault } }
+    {
+        let len = self.buffer.len();
+        self.buffer.take(len);
+        self.look = Look::start();
+        self.stage = BinaryStage::Failed(fault);
+    }
+
+    /// The input has ended.
+    fn end(&mut self)
+        ensures { self.new ≡ record self.old { ended = true } }
+    {
+        self.ended = true;
+    }
+}

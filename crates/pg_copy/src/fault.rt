@@ -1,0 +1,66 @@
+//! Why a file was refused, or a row (PostgreSQL documentation, page COPY, "Text Format" and "Binary Format").
+
+use thiserror::Error;
+
+/// What stands in the place of a row of a text file: the first of these that holds. After any of them but Memory the reader
+/// answers it for good; after Memory it is unchanged (PostgreSQL documentation, page COPY, "Text Format").
+#[derive(Clone, Copy, Debug, Drop, PartialEq, Eq, Error)]
+pub enum TextFault {
+    /// The line has a carriage return that isn't escaped.
+    #[error("T1 RawReturn")]
+    RawReturn,
+    /// The input ends in a backslash that begins an escape. Only `finish` answers it.
+    #[error("T2 LoneBackslash")]
+    LoneBackslash,
+    /// The line has this many fields, which isn't the number of columns, or is above 32,767 where none was given.
+    #[error("T3 Columns {0}")]
+    Columns(usize),
+    /// Memory was refused.
+    #[error("T4 Memory")]
+    Memory,
+}
+
+/// What stands in the place of a part of a binary file: the first of these that holds. After any of them but Memory the
+/// reader answers it for good; after Memory it is unchanged (PostgreSQL documentation, page COPY, "Binary Format").
+#[derive(Clone, Copy, Debug, Drop, PartialEq, Eq, Error)]
+pub enum BinaryFault {
+    /// Eleven bytes are there and aren't the signature.
+    #[error("B1 Signature")]
+    Signature,
+    /// The flags, this number, have one of the bits 16 to 31, which a reader must know.
+    #[error("B2 Flags {0}")]
+    Flags(u32),
+    /// The length of the header's extension, this number, is negative.
+    #[error("B3 Extension {0}")]
+    Extension(i32),
+    /// The number of fields, this number, is neither -1 nor the number of columns.
+    #[error("B4 FieldCount {0}")]
+    FieldCount(i16),
+    /// The length of a field, this number, is below -1 or above the reader's limit.
+    #[error("B5 FieldLength {0}")]
+    FieldLength(i32),
+    /// The input ends before the trailer. Only `finish` answers it.
+    #[error("B6 Truncated")]
+    Truncated,
+    /// A byte stands behind the trailer.
+    #[error("B7 AfterTrailer")]
+    AfterTrailer,
+    /// Memory was refused.
+    #[error("B8 Memory")]
+    Memory,
+}
+
+/// Why a row was not written: the first of these that holds. The buffer is then as it was (PostgreSQL documentation, page
+/// COPY, "Text Format" and "Binary Format").
+#[derive(Clone, Copy, Debug, Drop, PartialEq, Eq, Error)]
+pub enum RowFault {
+    /// The row has this many fields, which is none or more than 32,767.
+    #[error("R1 Width {0}")]
+    Width(usize),
+    /// A value is longer than a binary file can say: it has more than 2,147,483,647 bytes.
+    #[error("R2 FieldLong")]
+    FieldLong,
+    /// The buffer could not grow.
+    #[error("R3 Memory")]
+    Memory,
+}

@@ -1,0 +1,29 @@
+//! Laws of the formats: each function does nothing, and its contract is the law (PostgreSQL documentation, page COPY, "File
+//! Formats").
+
+ghost use Rattle.pg_copy.specs.Laws.{OneSplit, OneValue, TextRoundTrip, OneFile, BinaryRoundTrip};
+
+/// The bytes of a text file are lines in one way, and a line is fields in one way: those that are read.
+pub fn one_split()
+    ensures { OneSplit }
+{}
+
+/// A field of a text file spells one value, which is the one that is read, in its place of the row.
+pub fn one_value()
+    ensures { OneValue }
+{}
+
+/// The canonical lines of rows are read as those rows, whatever follows them.
+pub fn text_round_trip()
+    ensures { TextRoundTrip }
+{}
+
+/// The bytes of a binary file are one file: the one that is read.
+pub fn one_file()
+    ensures { OneFile }
+{}
+
+/// A head and rows that were written in binary are read as those rows, whatever follows them.
+pub fn binary_round_trip()
+    ensures { BinaryRoundTrip }
+{}

@@ -1,0 +1,32 @@
+//! Rows of PostgreSQL's COPY files, text and binary (PostgreSQL documentation, page COPY, "File Formats").
+//!
+//! A reader takes a file in any pieces and gives exactly its rows ([`TextReader`], [`BinaryReader`]). A writer appends the one
+//! form in which a row is written ([`write_text_row`], [`write_binary_row`] between [`write_binary_head`] and
+//! [`write_binary_trailer`]). The functions of [`laws`] say what reading and writing have in common.
+#![tactic(auto)]
+
+mod binary_part;
+mod binary_reader;
+mod binary_writer;
+mod buffer;
+mod fault;
+mod format;
+pub mod laws;
+mod scan;
+mod text_field;
+mod text_line;
+mod text_reader;
+mod text_writer;
+
+pub use binary_reader::BinaryReader;
+pub use binary_writer::{write_binary_head, write_binary_row, write_binary_trailer};
+pub use fault::{BinaryFault, RowFault, TextFault};
+pub use pg_seq::Seq;
+pub use text_reader::TextReader;
+pub use text_writer::write_text_row;
+
+/// The values of a row, in the order of its columns. None is null (PostgreSQL documentation, page COPY, "File Formats").
+pub type Row = Seq<Option<Seq<u8>>>;
+
+#[cfg(test)]
+mod tests;

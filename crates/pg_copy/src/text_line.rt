@@ -1,0 +1,115 @@
+//! The row that a line of a text file spells.
+
+ghost use Rattle.std.specs.Prelude.{◌≡◌, ◌<◌, ◌+◌, length, map, IfOk};
+ghost use Rattle.pg_copy.specs.Text.{delimiter, parts, fits_width, field_value};
+ghost use Rattle.pg_copy.specs.Private.Units.{IsScanned, IsFieldEnd};
+ghost use Rattle.pg_copy.specs.Private.TextLine.{IsJudged};
+
+use crate::fault::TextFault;
+use crate::format::{DELIMITER, END_MARK, MOST_FIELDS};
+use crate::scan::Scan;
+use crate::text_field::field_value;
+use pg_seq::Seq;
+use std::alloc::{AllocError, Global};
+
+/// What a line is.
+#[derive(Debug, Drop)]
+pub enum Judged {
+    /// The end mark.
+    EndMark,
+    /// A row of so many fields.
+    Row(usize),
+    Faulty(TextFault),
+}
+
+fn fits_width(columns: Option<u16>, count: usize) -> bool
+    ensures { result ≡ fits_width columns count }
+{
+    match columns {
+        None => count <= MOST_FIELDS,
+        Some(columns) => count == usize::from(columns),
+    }
+}
+
+/// Judges a line that was walked over.
+pub fn judge(columns: Option<u16>, line: &[u8], scan: Scan) -> Judged
+    requires scanned { IsScanned line.now scan }
+    requires whole { scan.at ≡ length line.now }
+    ensures { IsJudged columns line.now result }
+{
+    if line == END_MARK.as_slice() {
+        return Judged::EndMark;
+    }
+    if scan.returned {
+        return Judged::Faulty(TextFault::RawReturn);
+    }
+    if scan.escaped {
+        return Judged::Faulty(TextFault::LoneBackslash);
+    }
+    let count = scan.delimiters + 1;
+    if fits_width(columns, count) {
+        Judged::Row(count)
+    } else {
+        Judged::Faulty(TextFault::Columns(count))
+    }
+}
+
+/// Where a field ends.
+#[derive(Clone, Copy, Debug, Drop)]
+pub struct FieldEnd {
+    pub len: usize,
+    /// It has no backslash.
+    pub plain: bool,
+    /// No delimiter stands behind it.
+    pub last: bool,
+}
+
+/// Where the field at the front of a line's rest ends.
+fn field_end(rest: &[u8]) -> FieldEnd
+    ensures { IsFieldEnd rest.now result }
+{
+    let mut escaped = false;
+    let mut plain = true;
+    for i in 0..rest.len() {
+        let byte = rest[i];
+        if escaped {
+            escaped = false;
+        } else if byte == DELIMITER {
+            return FieldEnd {
+                len: i,
+                plain,
+                last: false,
+            };
+        } else if byte == b'\\' {
+            escaped = true;
+            plain = false;
+        }
+    }
+    FieldEnd {
+        len: rest.len(),
+        plain,
+        last: true,
+    }
+}
+
+/// The values of a line of so many fields.
+pub fn fields_of(
+    alloc: Global,
+    line: &[u8],
+    count: usize,
+) -> Result<Vec<Option<Seq<u8>>>, AllocError>
+    ensures { IfOk result (λ fields. fields.items ≡ map field_value (parts delimiter line.now)) }
+{
+    let mut fields = Vec::with_capacity(alloc, count)?;
+    let mut rest = line;
+    let mut end = field_end(rest);
+    while !end.last {
+        let (field, _) = rest.split_at(end.len);
+        fields.push(field_value(alloc, field, end.plain)?)?;
+        let (_, after) = rest.split_at(end.len + 1);
+        rest = after;
+        end = field_end(rest);
+    }
+    fields.push(field_value(alloc, rest, end.plain)?)?;
+    Ok(fields)
+}

@@ -1,0 +1,244 @@
+//! Reading a text file that comes in pieces.
+
+ghost use Rattle.std.specs.Prelude.{◌≡◌, ◌++◌, ◌≤◌, ◌+◌, ◌^◌, ◌<◌, ◌↔◌, ℕ, List, Ok, Err, [], true, false, length, IsTrue, OnOk, IfSome, ◌⊎◌};
+ghost use Rattle.pg_copy.specs.declared.fault.TextFault.{TextFault};
+ghost use Rattle.pg_copy.specs.declared.fault.TextFault.TheVariants.{Memory};
+ghost use Rattle.pg_copy.specs.declared.text_reader.TextStage.TheVariants.{Lines, Marked, Failed};
+ghost use Rattle.pg_copy.specs.Row.{Row};
+ghost use Rattle.pg_copy.specs.Reading.{RowWaits, given_by, Gives};
+ghost use Rattle.pg_copy.specs.Text.{newline, reading, file_reading};
+ghost use Rattle.pg_copy.specs.TextReader.{HasRead, Pushes, left, last, ending_at, last_ending_at};
+ghost use Rattle.pg_copy.specs.Private.Units.{IsScanned, IsUnitAt};
+ghost use Rattle.pg_copy.specs.Private.TextLine.{TakesLine, TakesLast, Ends};
+
+use crate::Row;
+use crate::buffer::Buffer;
+use crate::fault::TextFault;
+use crate::scan::Scan;
+use crate::text_line::{Judged, fields_of, judge};
+use pg_seq::Seq;
+use std::alloc::Global;
+use std::marker::Model;
+
+/// Where a reader of a text file stands.
+#[derive(Clone, Copy, Debug, Drop, PartialEq, Eq)]
+pub enum TextStage {
+    /// Among the lines.
+    Lines,
+    /// Behind the end mark.
+    Marked,
+    /// At a fault, which is not Memory.
+    Failed(TextFault),
+}
+
+/// Takes a text file in any pieces, and gives exactly its rows.
+///
+/// `push` keeps a piece, `next` gives the rows of the lines that are closed, one by one, and `finish` those that are left at the
+/// end of the input. A fault stands in the place of its row, and is answered for good from then on. The line `\.` ends the
+/// rows, and what follows it is dropped. Each byte is walked over once to find where its line ends, however the pieces are cut
+/// (PostgreSQL documentation, page COPY, "Text Format").
+#[derive(Drop)]
+pub struct TextReader {
+    alloc: Global,
+    columns: Option<u16>,
+    buffer: Buffer,
+    // how far the first line of the buffer was walked over
+    scan: Scan,
+    stage: TextStage,
+    ended: bool,
+}
+
+impl Model for TextReader {
+    ghost use Rattle.pg_copy.specs.TextReader.{TextState};
+    ghost use Rattle.pg_copy.specs.Private.TextLine.{IsReader};
+
+    ghost Value = { TextState };
+
+    ghost view = { λ r. record { columns = r.columns; kept = r.buffer; stage = r.stage; ended = r.ended } };
+
+    ghost invariant = { λ r. IsReader r.buffer r.scan r.stage };
+}
+
+impl TextReader {
+    /// A reader of rows of so many columns, 1 to 32,767; or of any number up to 32,767, where None is given.
+    pub fn new(alloc: Global, columns: Option<u16>) -> Self
+        requires { IfSome columns (λ n. (0 < n) × (n ≤ 32767)) }
+        ensures state { result ≡ record { columns = columns; kept = []; stage = Lines; ended = false } }
+        ensures read { HasRead result [] [] }
+    {
+        TextReader {
+            alloc,
+            columns,
+            buffer: Buffer::new(alloc),
+            scan: Scan::start(),
+            stage: TextStage::Lines,
+            ended: false,
+        }
+    }
+
+    /// Whether the end mark was read. From then on no row comes, and what is pushed is dropped.
+    pub fn done(&self) -> bool
+        ensures { IsTrue result ↔ (self.now.stage ≡ Marked) }
+    {
+        self.stage == TextStage::Marked
+    }
+
+    /// Whether `finish` was called, calls that answered Memory left out. No more may then be pushed, and `next` not be called.
+    pub fn ended(&self) -> bool
+        ensures { result ≡ self.now.ended }
+    {
+        self.ended
+    }
+
+    /// Takes the next piece of the file, all of it, and drops it behind the end mark. A fault that was found is answered again.
+    /// After Memory nothing of the piece was taken and the reader is unchanged; a piece without bytes, or one that is dropped,
+    /// wants no memory.
+    pub fn push(&mut self, piece: &[u8]) -> Result<(), TextFault>
+        requires { self.old.ended ≡ false }
+        ensures call { Pushes self.old piece.now result self.new }
+        ensures read { OnOk result ((pushed : List ℕ) (given : List Row) → HasRead self.old pushed given → HasRead self.new (pushed ++ piece.now) given) }
+    {
+        match self.stage {
+            TextStage::Failed(fault) => Err(fault),
+            TextStage::Marked => Ok(()),
+            TextStage::Lines => match self.buffer.push(piece) {
+                Ok(()) => Ok(()),
+                Err(_) => Err(TextFault::Memory),
+            },
+        }
+    }
+
+    /// The next row, or None where no whole line waits or the end mark was read. A fault is found where no more rows stand
+    /// before it, and is then answered for good. Memory is answered only where a row waits, and leaves the reader unchanged
+    /// (PostgreSQL documentation, page COPY, "Text Format").
+    pub fn next(&mut self) -> Result<Option<Row>, TextFault>
+        requires { self.old.ended ≡ false }
+        ensures read { (pushed : List ℕ) (given : List Row) → HasRead self.old pushed given → HasRead self.new pushed (given ++ given_by result) }
+        ensures gives { (pushed : List ℕ) (given : List Row) → HasRead self.old pushed given → Gives Memory (reading self.new.columns pushed) given (ending_at self.new.stage self.new.kept) result }
+        ensures columns { self.new.columns ≡ self.old.columns }
+        ensures ended { self.new.ended ≡ false }
+        ensures row { (row : Row) → result ≡ Ok (Some row) → self.new.stage ≡ Lines }
+        ensures failed { (fault : TextFault) → self.old.stage ≡ Failed fault → (result ≡ Err fault) × (self.new ≡ self.old) }
+        ensures marked { self.old.stage ≡ Marked → (result ≡ Ok None) × (self.new ≡ self.old) }
+        ensures memory { result ≡ Err Memory → (self.new ≡ self.old) × RowWaits (left self.old []) }
+    {
+        match self.stage {
+            TextStage::Failed(fault) => Err(fault),
+            TextStage::Marked => Ok(None),
+            TextStage::Lines => {
+                let (scan, found) = self.walk();
+                if found {
+                    self.take_line(scan, scan.at + 1)
+                } else {
+                    Ok(None)
+                }
+            }
+        }
+    }
+
+    /// Says that the input has ended, and gives the next row that is left, or None where none is: the last line need not be
+    /// closed, and no line stands there where it is empty. It is to be called until it answers None. Memory is answered only
+    /// where a row is left, and leaves the reader unchanged (PostgreSQL documentation, page COPY, "Text Format").
+    pub fn finish(&mut self) -> Result<Option<Row>, TextFault>
+        ensures read { (pushed : List ℕ) (given : List Row) → HasRead self.old pushed given → HasRead self.new pushed (given ++ given_by result) }
+        ensures gives { (pushed : List ℕ) (given : List Row) → HasRead self.old pushed given → Gives Memory (file_reading self.new.columns pushed) given (last_ending_at self.new.stage) result }
+        ensures columns { self.new.columns ≡ self.old.columns }
+        ensures ended { result ≡ Err Memory ⊎ self.new.ended ≡ true }
+        ensures row { (row : Row) → result ≡ Ok (Some row) → self.new.stage ≡ Lines }
+        ensures failed { (fault : TextFault) → self.old.stage ≡ Failed fault → (result ≡ Err fault) × (self.new ≡ record self.old { ended = true }) }
+        ensures marked { self.old.stage ≡ Marked → (result ≡ Ok None) × (self.new ≡ record self.old { ended = true }) }
+        ensures memory { result ≡ Err Memory → (self.new ≡ self.old) × RowWaits (last self.old) }
+    {
+        match self.stage {
+            TextStage::Failed(fault) => {
+                self.ended = true;
+                Err(fault)
+            }
+            TextStage::Marked => {
+                self.ended = true;
+                Ok(None)
+            }
+            TextStage::Lines => {
+                let answer = self.last_line();
+                self.end(&answer);
+                answer
+            }
+        }
+    }
+
+    /// Walks on over the first line, and says how far it goes and whether the newline that ends it stands there.
+    fn walk(&mut self) -> (Scan, bool)
+        ensures scanned { IsScanned self.old.kept result.0 }
+        ensures found { result.1 ≡ true → IsUnitAt newline self.old.kept result.0.at }
+        ensures room { result.1 ≡ true → result.0.at + 1 < 2 ^ 64 }
+        ensures none { result.1 ≡ false → result.0.at ≡ length self.old.kept }
+        ensures state { self.new ≡ self.old }
+    {
+        let found = self.scan.find_newline(self.buffer.as_slice());
+        (self.scan, found)
+    }
+
+    /// Answers for the first line, which was walked over, and takes so many bytes with what ends it.
+    fn take_line(&mut self, scan: Scan, taken: usize) -> Result<Option<Row>, TextFault>
+        requires lines { self.old.stage ≡ Lines }
+        requires scanned { IsScanned self.old.kept scan }
+        requires in_range { taken ≤ length self.old.kept }
+        ensures { TakesLine scan.at taken self.old result self.new }
+    {
+        let line = &self.buffer.as_slice()[..scan.at];
+        match judge(self.columns, line, scan) {
+            Judged::EndMark => {
+                self.stop(TextStage::Marked);
+                Ok(None)
+            }
+            Judged::Faulty(fault) => {
+                self.stop(TextStage::Failed(fault));
+                Err(fault)
+            }
+            Judged::Row(count) => match fields_of(self.alloc, line, count) {
+                Ok(fields) => {
+                    self.buffer.take(taken);
+                    self.scan = Scan::start();
+                    Ok(Some(Seq::new(fields)))
+                }
+                Err(_) => Err(TextFault::Memory),
+            },
+        }
+    }
+
+    /// Reads no more.
+    fn stop(&mut self, stage: TextStage)
+        requires { stage ≡ Failed Memory → ⊥ }
+        ensures { self.new ≡ record self.old { kept = []; stage = stage } }
+    {
+        let len = self.buffer.len();
+        self.buffer.take(len);
+        self.scan = Scan::start();
+        self.stage = stage;
+    }
+
+    /// Answers for the next line, where the last one may be open.
+    fn last_line(&mut self) -> Result<Option<Row>, TextFault>
+        requires { self.old.stage ≡ Lines }
+        ensures { TakesLast self.old result self.new }
+    {
+        let (scan, found) = self.walk();
+        if found {
+            self.take_line(scan, scan.at + 1)
+        } else if scan.at == 0 {
+            Ok(None)
+        } else {
+            self.take_line(scan, scan.at)
+        }
+    }
+
+    /// The input has ended, unless memory was refused.
+    fn end(&mut self, answer: &Result<Option<Row>, TextFault>)
+        ensures { Ends answer.now self.old self.new }
+    {
+        match answer {
+            Err(TextFault::Memory) => {}
+            _ => self.ended = true,
+        }
+    }
+}
