@@ -1,5 +1,5 @@
 -- Lines of text files.
-use Rattle.std.proofs.Common.{◌≡◌, ℕ, ◌+◌, ◌<◌, ◌≤◌, Bool, true, false, eqb, List, [], ◌∷◌, ◌++◌, length, take, drop, map, get_or, Option, Result, Ok, Err, refl, sym, ap, ◌∙◌, append_assoc, arith}
+use Rattle.std.proofs.Common.{◌≡◌, ℕ, ◌+◌, ◌<◌, ◌≤◌, Bool, true, false, eqb, List, [], ◌∷◌, ◌++◌, length, take, drop, map, get_or, Option, Result, Ok, Err, zero, suc, refl, sym, ap, subst, ◌∙◌, append_assoc, arith}
 use Rattle.std.specs.Str.{bytes_eq}
 use Rattle.std.proofs.lemmas.Bool.{cond-true, cond-false}
 use Rattle.std.proofs.lemmas.List.{take_all, take_more}
@@ -8,43 +8,46 @@ use Rattle.pg_copy.specs.declared.fault.TextFault.TheVariants.{RawReturn, LoneBa
 use Rattle.pg_copy.specs.declared.scan.Scan.{Scan}
 use Rattle.pg_copy.specs.Row.{Row}
 use Rattle.pg_copy.specs.Reading.{Reading}
-use Rattle.pg_copy.specs.Text.{parts, has_unit, ends_escaped, end_mark, fits_width, field_value, line_row, line_reading, row_or_fault}
-use Rattle.pg_copy.specs.Private.Units.{units, units_from, IsScanned, IsUnitAt, NoBackslash, IsFieldEnd}
+use Rattle.pg_copy.specs.Text.{delimiter, carriage_return, parts, has_unit, ends_escaped, end_mark, fits_width, field_value, line_row, line_reading, row_or_fault}
+use Rattle.pg_copy.specs.Private.Units.{units, units_from, IsScanned, IsUnitAt, NoBackslash, IsWalked, IsFieldEnd, IsPlain}
 use Rattle.pg_copy.specs.Private.TextLine.{LineGives, LineEnds, LineFails}
 use Rattle.pg_copy.proofs.TextParts.{parts-first, parts-none, parts-length, has_unit-is, units-append, ends_escaped-append}
 
 -- ---- fields
 
 -- one value more is read
-pub fields_more : (value : List ℕ → Option (List ℕ)) (done : List (Option (List ℕ))) (rest : List ℕ) (n : ℕ) (total : List (Option (List ℕ))) → IsUnitAt 9 rest n
-    → done ++ map value (parts 9 rest) ≡ total → (done ++ value (take n rest) ∷ []) ++ map value (parts 9 (drop (n + 1) rest)) ≡ total
+pub fields_more : (value : List ℕ → Option (List ℕ)) (done : List (Option (List ℕ))) (rest : List ℕ) (n : ℕ) (total : List (Option (List ℕ))) → IsUnitAt delimiter rest n
+    → done ++ map value (parts delimiter rest) ≡ total → (done ++ value (take n rest) ∷ []) ++ map value (parts delimiter (drop (n + 1) rest)) ≡ total
 fields_more value done rest n total h e =
-    append_assoc done (value (take n rest) ∷ []) (map value (parts 9 (drop (n + 1) rest))) ∙ ap (λ (x : List (List ℕ)). done ++ map value x) (sym (parts-first 9 rest n h)) ∙ e
+    append_assoc done (value (take n rest) ∷ []) (map value (parts delimiter (drop (n + 1) rest))) ∙ ap (λ (x : List (List ℕ)). done ++ map value x) (sym (parts-first delimiter rest n h)) ∙ e
 
 -- the last value is read
-pub fields_last : (value : List ℕ → Option (List ℕ)) (done : List (Option (List ℕ))) (rest : List ℕ) (total : List (Option (List ℕ))) → units 9 rest ≡ 0
-    → done ++ map value (parts 9 rest) ≡ total → done ++ value rest ∷ [] ≡ total
-fields_last value done rest total h e = ap (λ (x : List (List ℕ)). done ++ map value x) (sym (parts-none 9 rest h)) ∙ e
-
--- the bytes up to i have no delimiter, and no backslash where they are plain
-pub record IsWalked (bytes : List ℕ) (i : ℕ) (e p : Bool) : Type 0 where
-  pub escaped : ends_escaped false (take i bytes) ≡ e
-  pub none : units 9 (take i bytes) ≡ 0
-  pub plain : p ≡ true → NoBackslash (take i bytes)
+pub fields_last : (value : List ℕ → Option (List ℕ)) (done : List (Option (List ℕ))) (rest : List ℕ) (total : List (Option (List ℕ))) → units delimiter rest ≡ 0
+    → done ++ map value (parts delimiter rest) ≡ total → done ++ value rest ∷ [] ≡ total
+fields_last value done rest total h e = ap (λ (x : List (List ℕ)). done ++ map value x) (sym (parts-none delimiter rest h)) ∙ e
 
 NoBackslash-append : (a : List ℕ) (b : ℕ) → NoBackslash a → eqb b 92 ≡ false → NoBackslash (a ++ b ∷ [])
 NoBackslash-append [] b h k = (k, tt)
 NoBackslash-append (x ∷ a) b h k = (h.0, NoBackslash-append a b h.1 k)
 
 pub walked-more : (bytes : List ℕ) (i b : ℕ) (escaped plain escaped' plain' : Bool) → i < length bytes → get_or bytes i 0 ≡ b → IsWalked bytes i escaped plain
-    → ends_escaped escaped (b ∷ []) ≡ escaped' → units_from escaped 9 (b ∷ []) ≡ 0 → (plain' ≡ true → (plain ≡ true) × (eqb b 92 ≡ false)) → IsWalked bytes (i + 1) escaped' plain'
+    → ends_escaped escaped (b ∷ []) ≡ escaped' → units_from escaped delimiter (b ∷ []) ≡ 0 → (plain' ≡ true → (plain ≡ true) × (eqb b 92 ≡ false)) → IsWalked bytes (i + 1) escaped' plain'
 walked-more bytes i b escaped plain escaped' plain' lt is h e n p =
     let more : take (i + 1) bytes ≡ take i bytes ++ b ∷ [] = take_more bytes i 0 lt ∙ ap (λ (x : ℕ). take i bytes ++ x ∷ []) is in
     record {
       escaped = ap (ends_escaped false) more ∙ ends_escaped-append false (take i bytes) (b ∷ []) ∙ ap (λ (t : Bool). ends_escaped t (b ∷ [])) h.escaped ∙ e;
-      none = ap (units 9) more ∙ units-append false 9 (take i bytes) (b ∷ []) ∙ ap (λ (t : Bool). units 9 (take i bytes) + units_from t 9 (b ∷ [])) h.escaped ∙ omega (arith, h.none, n);
+      none = ap (units delimiter) more ∙ units-append false delimiter (take i bytes) (b ∷ []) ∙ ap (λ (t : Bool). units delimiter (take i bytes) + units_from t delimiter (b ∷ [])) h.escaped ∙ omega (arith, h.none, n);
       plain = λ t. rw more (NoBackslash-append (take i bytes) b (h.plain (p t).0) (p t).1);
     }
+
+-- plain bytes at the front
+pub walked-run : (bytes : List ℕ) (n : ℕ) → n ≤ length bytes → ((i : ℕ) → 0 ≤ i → i < n → IsPlain (get_or bytes i 0)) → IsWalked bytes n false true
+walked-run bytes zero le plain = record { escaped = refl; none = refl; plain = λ e. tt }
+walked-run bytes (suc n) le plain =
+    let p = plain n (omega arith) (omega arith) in
+    let one : n + 1 ≡ suc n = omega arith in
+    subst (λ (i : ℕ). IsWalked bytes i false true) one
+    (walked-more bytes n _ false true false true (omega arith) refl (walked-run bytes n (omega arith) (λ i a b. plain i a (omega (arith, b)))) (rw p.no_backslash refl) (rw p.no_delimiter refl) (λ t. (t, p.no_backslash)))
 
 -- where an escape was begun, the bytes aren't plain
 plain_closed : (a : List ℕ) → NoBackslash a → ends_escaped false a ≡ false
@@ -58,7 +61,7 @@ walked-escaped bytes i b plain lt is h =
     clash : false ≡ true → ⊥
     clash e = cc
 
-pub walked-at : (bytes : List ℕ) (i : ℕ) (plain : Bool) → i < length bytes → get_or bytes i 0 ≡ 9 → IsWalked bytes i false plain → IsFieldEnd bytes (record { len = i; plain = plain; last = false })
+pub walked-at : (bytes : List ℕ) (i : ℕ) (plain : Bool) → i < length bytes → get_or bytes i 0 ≡ delimiter → IsWalked bytes i false plain → IsFieldEnd bytes (record { len = i; plain = plain; last = false })
 walked-at bytes i plain lt is h = record {
   plain = h.plain;
   more = λ e. record { in_range = lt; none = h.none; closed = h.escaped; is = is };
@@ -84,10 +87,10 @@ walked-end bytes i e plain le h =
 -- ---- lines
 
 pub lines_row : (columns : Option ℕ) (line : List ℕ) (s : Scan) → IsScanned line s → s.at ≡ length line
-    → (has_unit 13 line ≡ s.returned) × (ends_escaped false line ≡ s.escaped) × (length (parts 9 line) ≡ s.delimiters + 1)
+    → (has_unit carriage_return line ≡ s.returned) × (ends_escaped false line ≡ s.escaped) × (length (parts delimiter line) ≡ s.delimiters + 1)
 lines_row columns line s h whole =
     let all : take s.at line ≡ line = ap (λ (n : ℕ). take n line) whole ∙ take_all (length line) line (omega arith) in
-    (has_unit-is line s.returned (rw all at h.returned), rw all at h.escaped, parts-length false 9 line (λ e. absurd (omega arith)) ∙ ap (λ (n : ℕ). n + 1) (rw all at h.delimiters))
+    (has_unit-is line s.returned (rw all at h.returned), rw all at h.escaped, parts-length false delimiter line (λ e. absurd (omega arith)) ∙ ap (λ (n : ℕ). n + 1) (rw all at h.delimiters))
 
 pub line-ends : (columns : Option ℕ) (line : List ℕ) → bytes_eq line end_mark ≡ true → LineEnds columns line
 line-ends columns line e after = cond-true _ _ _ e
@@ -95,19 +98,19 @@ line-ends columns line e after = cond-true _ _ _ e
 line-of : (columns : Option ℕ) (line : List ℕ) (r : Result Row TextFault) (after : Reading TextFault) → bytes_eq line end_mark ≡ false → line_row columns line ≡ r → line_reading columns line after ≡ row_or_fault r after
 line-of columns line r after e h = cond-false _ _ _ e ∙ ap (λ (x : Result Row TextFault). row_or_fault x after) h
 
-pub line-return : (columns : Option ℕ) (line : List ℕ) → bytes_eq line end_mark ≡ false → has_unit 13 line ≡ true → LineFails columns line RawReturn
+pub line-return : (columns : Option ℕ) (line : List ℕ) → bytes_eq line end_mark ≡ false → has_unit carriage_return line ≡ true → LineFails columns line RawReturn
 line-return columns line e h = record { is = λ after. line-of columns line (Err RawReturn) after e (cond-true _ _ _ h); not_memory = λ f. cc }
 
-pub line-lone : (columns : Option ℕ) (line : List ℕ) → bytes_eq line end_mark ≡ false → has_unit 13 line ≡ false → ends_escaped false line ≡ true → LineFails columns line LoneBackslash
+pub line-lone : (columns : Option ℕ) (line : List ℕ) → bytes_eq line end_mark ≡ false → has_unit carriage_return line ≡ false → ends_escaped false line ≡ true → LineFails columns line LoneBackslash
 line-lone columns line e h k = record { is = λ after. line-of columns line (Err LoneBackslash) after e (cond-false _ _ _ h ∙ cond-true _ _ _ k); not_memory = λ f. cc }
 
-pub line-columns : (columns : Option ℕ) (line : List ℕ) (n : ℕ) → bytes_eq line end_mark ≡ false → has_unit 13 line ≡ false → ends_escaped false line ≡ false → length (parts 9 line) ≡ n → fits_width columns n ≡ false → LineFails columns line (Columns n)
+pub line-columns : (columns : Option ℕ) (line : List ℕ) (n : ℕ) → bytes_eq line end_mark ≡ false → has_unit carriage_return line ≡ false → ends_escaped false line ≡ false → length (parts delimiter line) ≡ n → fits_width columns n ≡ false → LineFails columns line (Columns n)
 line-columns columns line n e h k len w =
     record { is = λ after. line-of columns line (Err (Columns n)) after e (cond-false _ _ _ h ∙ cond-false _ _ _ k ∙ cond-false _ _ _ (ap (fits_width columns) len ∙ w) ∙ ap (λ (m : ℕ). Err (Columns m)) len); not_memory = λ f. cc }
 
-pub line_row-row : (columns : Option ℕ) (line : List ℕ) → has_unit 13 line ≡ false → ends_escaped false line ≡ false → fits_width columns (length (parts 9 line)) ≡ true → line_row columns line ≡ Ok (map field_value (parts 9 line))
+pub line_row-row : (columns : Option ℕ) (line : List ℕ) → has_unit carriage_return line ≡ false → ends_escaped false line ≡ false → fits_width columns (length (parts delimiter line)) ≡ true → line_row columns line ≡ Ok (map field_value (parts delimiter line))
 line_row-row columns line h k w = cond-false _ _ _ h ∙ cond-false _ _ _ k ∙ cond-true _ _ _ w
 
-pub line-row : (columns : Option ℕ) (line : List ℕ) (n : ℕ) → bytes_eq line end_mark ≡ false → has_unit 13 line ≡ false → ends_escaped false line ≡ false → length (parts 9 line) ≡ n → fits_width columns n ≡ true
-    → LineGives columns line (map field_value (parts 9 line))
-line-row columns line n e h k len w after = line-of columns line (Ok (map field_value (parts 9 line))) after e (line_row-row columns line h k (ap (fits_width columns) len ∙ w))
+pub line-row : (columns : Option ℕ) (line : List ℕ) (n : ℕ) → bytes_eq line end_mark ≡ false → has_unit carriage_return line ≡ false → ends_escaped false line ≡ false → length (parts delimiter line) ≡ n → fits_width columns n ≡ true
+    → LineGives columns line (map field_value (parts delimiter line))
+line-row columns line n e h k len w after = line-of columns line (Ok (map field_value (parts delimiter line))) after e (line_row-row columns line h k (ap (fits_width columns) len ∙ w))

@@ -1,11 +1,12 @@
 -- Parts between units, and walks over units.
-use Rattle.std.proofs.Common.{◌≡◌, ℕ, zero, suc, ◌+◌, ◌<◌, ◌≤◌, Bool, true, false, cond, eqb, ltb, List, [], ◌∷◌, ◌++◌, length, take, drop, get_or, refl, sym, ap, ◌∙◌, append_assoc, arith, inl, inr}
+use Rattle.std.proofs.Common.{◌≡◌, ℕ, zero, suc, ◌+◌, ◌<◌, ◌≤◌, Bool, true, false, cond, eqb, ltb, List, [], ◌∷◌, ◌++◌, length, take, drop, get_or, refl, sym, ap, subst, ◌∙◌, append_assoc, arith, inl, inr}
+use Rattle.std.specs.Prelude.{◌||◌}
 use Rattle.std.specs.List.{onto_first}
 use Rattle.std.proofs.lemmas.List.{append-nil, take_more, take-append-le, length-append, drop_more, take-append-drop, take-take, length-take-le}
 use Rattle.std.proofs.lemmas.Bool.{cases_eq, eq-eqb, ne_eqb, lt-ltb}
 use Rattle.pg_copy.specs.declared.scan.Scan.{Scan}
-use Rattle.pg_copy.specs.Text.{parts_from, parts, has_unit, ends_escaped}
-use Rattle.pg_copy.specs.Private.Units.{units_from, units, IsScanned, IsUnitAt}
+use Rattle.pg_copy.specs.Text.{delimiter, newline, carriage_return, backslash, parts_from, parts, has_unit, ends_escaped}
+use Rattle.pg_copy.specs.Private.Units.{units_from, units, IsPlain, behind, IsScanned, IsUnitAt}
 
 -- no unit of the bytes is the mark alone, where the first byte is escaped or not
 abbrev pub IsUncut : Bool → ℕ → List ℕ → Type 0
@@ -120,15 +121,15 @@ units-few false mark (b ∷ bs) = few (eqb b mark) (units_from (eqb b 92) mark b
 -- ---- a walk
 
 pub scanned-few : (bytes : List ℕ) (s : Scan) → IsScanned bytes s → s.delimiters ≤ s.at
-scanned-few bytes s h = omega (arith, units-few false 9 (take s.at bytes), length-take-le s.at bytes h.in_range, h.delimiters)
+scanned-few bytes s h = omega (arith, units-few false delimiter (take s.at bytes), length-take-le s.at bytes h.in_range, h.delimiters)
 
 pub scanned-none : (bytes : List ℕ) → IsScanned bytes (record { at = 0; escaped = false; delimiters = 0; returned = false })
 scanned-none bytes = record { in_range = omega arith; escaped = refl; newlines = refl; delimiters = refl; returned = refl }
 
 -- one byte more
 pub scanned-more : (bytes : List ℕ) (s t : Scan) (i b : ℕ) → i < length bytes → get_or bytes i 0 ≡ b → IsScanned bytes (record s { at = i })
-    → ends_escaped s.escaped (b ∷ []) ≡ t.escaped → units_from s.escaped 10 (b ∷ []) ≡ 0 → s.delimiters + units_from s.escaped 9 (b ∷ []) ≡ t.delimiters
-    → ((n : ℕ) → ltb 0 n ≡ s.returned → ltb 0 (n + units_from s.escaped 13 (b ∷ [])) ≡ t.returned) → IsScanned bytes (record t { at = i + 1 })
+    → ends_escaped s.escaped (b ∷ []) ≡ t.escaped → units_from s.escaped newline (b ∷ []) ≡ 0 → s.delimiters + units_from s.escaped delimiter (b ∷ []) ≡ t.delimiters
+    → ((n : ℕ) → ltb 0 n ≡ s.returned → ltb 0 (n + units_from s.escaped carriage_return (b ∷ [])) ≡ t.returned) → IsScanned bytes (record t { at = i + 1 })
 scanned-more bytes s t i b lt is h escaped newlines delimiters returned =
     let more : take (i + 1) bytes ≡ take i bytes ++ b ∷ [] = take_more bytes i 0 lt ∙ ap (λ (x : ℕ). take i bytes ++ x ∷ []) is in
     let units_more : (mark : ℕ) → units mark (take (i + 1) bytes) ≡ units mark (take i bytes) + units_from s.escaped mark (b ∷ []) =
@@ -136,16 +137,39 @@ scanned-more bytes s t i b lt is h escaped newlines delimiters returned =
     record {
       in_range = omega arith;
       escaped = ap (ends_escaped false) more ∙ ends_escaped-append false (take i bytes) (b ∷ []) ∙ ap (λ (e : Bool). ends_escaped e (b ∷ [])) h.escaped ∙ escaped;
-      newlines = units_more 10 ∙ omega (arith, h.newlines, newlines);
-      delimiters = units_more 9 ∙ ap (λ (n : ℕ). n + units_from s.escaped 9 (b ∷ [])) h.delimiters ∙ delimiters;
-      returned = ap (ltb 0) (units_more 13) ∙ returned (units 13 (take i bytes)) h.returned;
+      newlines = units_more newline ∙ omega (arith, h.newlines, newlines);
+      delimiters = units_more delimiter ∙ ap (λ (n : ℕ). n + units_from s.escaped delimiter (b ∷ [])) h.delimiters ∙ delimiters;
+      returned = ap (ltb 0) (units_more carriage_return) ∙ returned (units carriage_return (take i bytes)) h.returned;
     }
 
-pub same_after : (n : ℕ) (t : Bool) → ltb 0 n ≡ t → ltb 0 (n + 0) ≡ t
+same_after : (n : ℕ) (t : Bool) → ltb 0 n ≡ t → ltb 0 (n + 0) ≡ t
 same_after n t h = let e : n + 0 ≡ n = omega arith in ap (ltb 0) e ∙ h
 
-pub true_after : (n : ℕ) → ltb 0 (n + 1) ≡ true
-true_after n = lt-ltb 0 (n + 1) (omega arith)
+noted : (n : ℕ) (r t : Bool) → ltb 0 n ≡ r → ltb 0 (n + (cond t 1 0 + 0)) ≡ (r || t)
+noted n true true h = lt-ltb 0 (n + 1) (omega arith)
+noted n false true h = lt-ltb 0 (n + 1) (omega arith)
+noted n true false h = same_after n true h
+noted n false false h = same_after n false h
+
+-- one plain byte more
+pub scanned-plain : (bytes : List ℕ) (s : Scan) (i : ℕ) → i < length bytes → IsPlain (get_or bytes i 0) → s.escaped ≡ false → IsScanned bytes (record s { at = i }) → IsScanned bytes (record s { at = i + 1 })
+scanned-plain bytes s i lt p e h =
+    scanned-more bytes s s i _ lt refl h (rw (e, p.no_backslash) refl) (rw (e, p.no_newline) refl) (rw (e, p.no_delimiter) (omega arith)) (λ n k. rw (e, p.no_return) (same_after n s.returned k))
+
+-- plain bytes more
+pub scanned-run : (bytes : List ℕ) (s : Scan) (at n : ℕ) → at + n ≤ length bytes → ((i : ℕ) → at ≤ i → i < at + n → IsPlain (get_or bytes i 0)) → s.escaped ≡ false → IsScanned bytes (record s { at = at }) → IsScanned bytes (record s { at = at + n })
+scanned-run bytes s at zero le plain e h = let same : at ≡ at + 0 = omega arith in subst (λ (i : ℕ). IsScanned bytes (record s { at = i })) same h
+scanned-run bytes s at (suc n) le plain e h =
+    let same : at + n + 1 ≡ at + suc n = omega arith in
+    subst (λ (i : ℕ). IsScanned bytes (record s { at = i })) same (scanned-plain bytes s (at + n) (omega arith) (plain (at + n) (omega arith) (omega arith)) e (scanned-run bytes s at n (omega arith) (λ i a b. plain i a (omega (arith, b))) e h))
+
+-- one byte more, which ends no line
+pub scanned-behind : (bytes : List ℕ) (s : Scan) (b : ℕ) → s.at < length bytes → get_or bytes s.at 0 ≡ b → (s.escaped ≡ false → eqb b newline ≡ false) → IsScanned bytes s → IsScanned bytes (behind s b)
+scanned-behind bytes s b lt is other h = go s.escaped refl
+  where
+    go : (t : Bool) → s.escaped ≡ t → IsScanned bytes (cond t (record { at = s.at + 1; escaped = false; delimiters = s.delimiters; returned = s.returned }) (record { at = s.at + 1; escaped = eqb b backslash; delimiters = s.delimiters + cond (eqb b delimiter) 1 0; returned = s.returned || eqb b carriage_return }))
+    go true e = scanned-more bytes s (record { at = s.at; escaped = false; delimiters = s.delimiters; returned = s.returned }) s.at b lt is h (rw e refl) (rw e refl) (rw e (omega arith)) (λ n k. rw e (same_after n s.returned k))
+    go false e = scanned-more bytes s (record { at = s.at; escaped = eqb b backslash; delimiters = s.delimiters + cond (eqb b delimiter) 1 0; returned = s.returned || eqb b carriage_return }) s.at b lt is h (rw e refl) (rw (e, other e) refl) (rw e (omega arith)) (λ n k. rw e (noted n s.returned (eqb b carriage_return) k))
 
 -- what is scanned stays so when bytes are added
 pub scanned-append : (bytes more : List ℕ) (s : Scan) → IsScanned bytes s → IsScanned (bytes ++ more) s
@@ -179,8 +203,8 @@ one_more : (n : ℕ) (t : Bool) → ltb 0 n ≡ t → ltb 1 (n + 1) ≡ t
 one_more zero t h = h
 one_more (suc n) t h = lt-ltb 1 (suc n + 1) (omega arith) ∙ sym (lt-ltb 0 (suc n) (omega arith)) ∙ h
 
-pub has_unit-is : (bytes : List ℕ) (t : Bool) → ltb 0 (units 13 bytes) ≡ t → has_unit 13 bytes ≡ t
-has_unit-is bytes t h = ap (ltb 1) (parts-length false 13 bytes (λ e. absurd (omega arith))) ∙ one_more (units 13 bytes) t h
+pub has_unit-is : (bytes : List ℕ) (t : Bool) → ltb 0 (units carriage_return bytes) ≡ t → has_unit carriage_return bytes ≡ t
+has_unit-is bytes t h = ap (ltb 1) (parts-length false carriage_return bytes (λ e. absurd (omega arith))) ∙ one_more (units carriage_return bytes) t h
 
 pub has_unit-none : (mark : ℕ) (bytes : List ℕ) → parts mark bytes ≡ bytes ∷ [] → has_unit mark bytes ≡ false
 has_unit-none mark bytes h = rw h refl

@@ -9,7 +9,7 @@ use Rattle.pg_copy.specs.declared.text_reader.TextStage.{TextStage}
 use Rattle.pg_copy.specs.declared.text_reader.TextStage.TheVariants.{Lines, Marked, Failed}
 use Rattle.pg_copy.specs.Row.{Row}
 use Rattle.pg_copy.specs.Reading.{Reading, Ending, Open, Done, Ended, Bad, after_rows, RowWaits, given_by, IsGood, Gives}
-use Rattle.pg_copy.specs.Text.{parts, line_reading, lines_reading, reading, last_reading, at_end, file_reading}
+use Rattle.pg_copy.specs.Text.{newline, parts, line_reading, lines_reading, reading, last_reading, at_end, file_reading}
 use Rattle.pg_copy.specs.TextReader.{TextState, HasRead, left, last, stage_reading, ending_at, last_ending_at}
 use Rattle.pg_copy.specs.Private.Units.{units, IsScanned, IsUnitAt}
 use Rattle.pg_copy.specs.declared.scan.Scan.{Scan}
@@ -30,14 +30,14 @@ lines_reading-cons columns line [] lt = absurd (omega arith)
 lines_reading-cons columns line (p ∷ ps) lt = refl
 
 -- the first line, and what comes after it
-pub reading-line : (columns : Option ℕ) (kept more : List ℕ) (len : ℕ) → IsUnitAt 10 kept len → reading columns (kept ++ more) ≡ line_reading columns (take len kept) (reading columns (drop (len + 1) kept ++ more))
+pub reading-line : (columns : Option ℕ) (kept more : List ℕ) (len : ℕ) → IsUnitAt newline kept len → reading columns (kept ++ more) ≡ line_reading columns (take len kept) (reading columns (drop (len + 1) kept ++ more))
 unfolding reading
 reading-line columns kept more len h =
-    ap (lines_reading columns) (parts-at 10 kept more len h) ∙ lines_reading-cons columns (take len kept) (parts 10 (drop (len + 1) kept ++ more)) (parts-some false 10 (drop (len + 1) kept ++ more) not_backslash)
+    ap (lines_reading columns) (parts-at newline kept more len h) ∙ lines_reading-cons columns (take len kept) (parts newline (drop (len + 1) kept ++ more)) (parts-some false newline (drop (len + 1) kept ++ more) not_backslash)
 
-pub reading-open : (columns : Option ℕ) (kept : List ℕ) → units 10 kept ≡ 0 → reading columns kept ≡ record { rows = []; ending = Open kept }
+pub reading-open : (columns : Option ℕ) (kept : List ℕ) → units newline kept ≡ 0 → reading columns kept ≡ record { rows = []; ending = Open kept }
 unfolding reading
-reading-open columns kept h = ap (lines_reading columns) (parts-none 10 kept h)
+reading-open columns kept h = ap (lines_reading columns) (parts-none newline kept h)
 
 pub reading-empty : (columns : Option ℕ) → reading columns [] ≡ record { rows = []; ending = Open [] }
 unfolding reading
@@ -83,7 +83,7 @@ pub left-lines : (s : TextState) (more : List ℕ) → s.stage ≡ Lines → lef
 left-lines s more e = ap (λ (t : TextStage). stage_reading t s.columns (s.kept ++ more)) e
 
 -- no newline stands where a walk came to the end
-pub units-whole : (kept : List ℕ) (s : Scan) → s.at ≡ length kept → IsScanned kept s → units 10 kept ≡ 0
+pub units-whole : (kept : List ℕ) (s : Scan) → s.at ≡ length kept → IsScanned kept s → units newline kept ≡ 0
 units-whole kept s whole h = rw (ap (λ (n : ℕ). take n kept) whole ∙ take_all (length kept) kept (omega arith)) at h.newlines
 
 -- ---- a line that is taken
@@ -91,11 +91,11 @@ units-whole kept s whole h = rw (ap (λ (n : ℕ). take n kept) whole ∙ take_a
 abbrev Answer : Type 0
 Answer = Result (Option Row) TextFault
 
-before : (old : TextState) (len : ℕ) (more : List ℕ) → old.stage ≡ Lines → IsUnitAt 10 old.kept len → left old more ≡ line_reading old.columns (take len old.kept) (reading old.columns (drop (len + 1) old.kept ++ more))
+before : (old : TextState) (len : ℕ) (more : List ℕ) → old.stage ≡ Lines → IsUnitAt newline old.kept len → left old more ≡ line_reading old.columns (take len old.kept) (reading old.columns (drop (len + 1) old.kept ++ more))
 before old len more lines at = left-lines old more lines ∙ reading-line old.columns old.kept more len at
 
 -- the readers before and after a line's answer
-pub Goes-line : (old new : TextState) (len : ℕ) (answer : Answer) → old.stage ≡ Lines → IsUnitAt 10 old.kept len → TakesLine len (len + 1) old answer new → Goes old new (given_by answer)
+pub Goes-line : (old new : TextState) (len : ℕ) (answer : Answer) → old.stage ≡ Lines → IsUnitAt newline old.kept len → TakesLine len (len + 1) old answer new → Goes old new (given_by answer)
 Goes-line old new len (Ok (Some row)) lines at t =
     rw t.1 (record { columns = refl; ended = refl; left = λ more. before old len more lines at ∙ t.0 (reading old.columns (drop (len + 1) old.kept ++ more)) ∙ ap (after_rows (row ∷ [])) (sym (left-lines (record old { kept = drop (len + 1) old.kept }) more lines)) })
 Goes-line old new len (Ok None) lines at t =
@@ -110,7 +110,7 @@ now : (old new : TextState) (pushed : List ℕ) (given : List Row) (ending : End
 now old new pushed given ending going columns h e =
     ap (λ (c : Option ℕ). reading c pushed) columns ∙ reading-now old pushed given going h ∙ ap (after_rows given) e ∙ after-none given ending
 
-pub Gives-line : (old new : TextState) (len : ℕ) (answer : Answer) (pushed : List ℕ) (given : List Row) → old.stage ≡ Lines → old.ended ≡ false → IsUnitAt 10 old.kept len → TakesLine len (len + 1) old answer new → HasRead old pushed given
+pub Gives-line : (old new : TextState) (len : ℕ) (answer : Answer) (pushed : List ℕ) (given : List Row) → old.stage ≡ Lines → old.ended ≡ false → IsUnitAt newline old.kept len → TakesLine len (len + 1) old answer new → HasRead old pushed given
     → Gives Memory (reading new.columns pushed) given (ending_at new.stage new.kept) answer
 Gives-line old new len (Ok (Some row)) pushed given lines going at t h = tt
 Gives-line old new len (Ok None) pushed given lines going at t h =
@@ -120,7 +120,7 @@ Gives-line old new len (Err fault) pushed given lines going at (inr t) h =
     rw t.1 (inr (refl, now old (record old { kept = []; stage = Failed fault }) pushed given (Bad fault) going refl h (before old len [] lines at ∙ t.0.is (reading old.columns (drop (len + 1) old.kept ++ [])))))
 
 -- no line is whole
-pub Gives-none : (old : TextState) (pushed : List ℕ) (given : List Row) → old.stage ≡ Lines → old.ended ≡ false → units 10 old.kept ≡ 0 → HasRead old pushed given
+pub Gives-none : (old : TextState) (pushed : List ℕ) (given : List Row) → old.stage ≡ Lines → old.ended ≡ false → units newline old.kept ≡ 0 → HasRead old pushed given
     → Gives Memory (reading old.columns pushed) given (ending_at old.stage old.kept) (Ok None)
 Gives-none old pushed given lines going none h =
     let open_now : left old [] ≡ record { rows = []; ending = Open old.kept } = left-lines old [] lines ∙ ap (reading old.columns) (append-nil old.kept) ∙ reading-open old.columns old.kept none in
@@ -130,7 +130,7 @@ Gives-none old pushed given lines going none h =
 row-waits : (r after : Reading TextFault) (row : Row) → r ≡ after_rows (row ∷ []) after → RowWaits r
 row-waits r after row e = rw e (omega (arith, length-append (row ∷ []) after.rows))
 
-pub waits-line : (old new : TextState) (len : ℕ) (answer : Answer) → old.stage ≡ Lines → IsUnitAt 10 old.kept len → TakesLine len (len + 1) old answer new → answer ≡ Err Memory → (new ≡ old) × RowWaits (left old [])
+pub waits-line : (old new : TextState) (len : ℕ) (answer : Answer) → old.stage ≡ Lines → IsUnitAt newline old.kept len → TakesLine len (len + 1) old answer new → answer ≡ Err Memory → (new ≡ old) × RowWaits (left old [])
 waits-line old new len (Ok row) lines at t e = absurd cc
 waits-line old new len (Err fault) lines at (inl t) e =
     (t.1, row-waits (left old []) (reading old.columns (drop (len + 1) old.kept ++ [])) t.2 (before old len [] lines at ∙ t.3 (reading old.columns (drop (len + 1) old.kept ++ []))))
@@ -146,7 +146,7 @@ last_reading-some columns [] lt = absurd (omega arith)
 last_reading-some columns (b ∷ bs) lt = refl
 
 -- a closed line
-pub takes-line : (old new : TextState) (len : ℕ) (answer : Answer) → old.stage ≡ Lines → IsUnitAt 10 old.kept len → TakesLine len (len + 1) old answer new → TakesLast old answer new
+pub takes-line : (old new : TextState) (len : ℕ) (answer : Answer) → old.stage ≡ Lines → IsUnitAt newline old.kept len → TakesLine len (len + 1) old answer new → TakesLast old answer new
 takes-line old new len (Ok (Some row)) lines at t =
     let g = Goes-line old new len (Ok (Some row)) lines at t in
     let kept : new.kept ≡ drop (len + 1) old.kept = ap (λ (s : TextState). s.kept) t.1 in
@@ -168,7 +168,7 @@ takes-none old lines none =
     (all ∙ ending_is old.stage Lines lines, good_ending old.stage Lines lines tt, ap (λ (k : List ℕ). record old { kept = k }) empty)
 
 -- an open line
-pub takes-open : (old new : TextState) (answer : Answer) → old.stage ≡ Lines → units 10 old.kept ≡ 0 → 0 < length old.kept → TakesLine (length old.kept) (length old.kept) old answer new → TakesLast old answer new
+pub takes-open : (old new : TextState) (answer : Answer) → old.stage ≡ Lines → units newline old.kept ≡ 0 → 0 < length old.kept → TakesLine (length old.kept) (length old.kept) old answer new → TakesLast old answer new
 takes-open old new answer lines none some t = go answer t
   where
     all : take (length old.kept) old.kept ≡ old.kept

@@ -8,7 +8,8 @@ use Rattle.std.proofs.lemmas.List.{append-nil, length-map}
 use Rattle.pg_copy.specs.declared.fault.TextFault.{TextFault}
 use Rattle.pg_copy.specs.Row.{Row}
 use Rattle.pg_copy.specs.Reading.{Open, Ended, after_rows}
-use Rattle.pg_copy.specs.Text.{null_mark, parts, ends_escaped, letter_value, escape_by, escape_at, text_after, field_value, fits_width, FitsReader, line_row, end_mark, row_or_fault, lines_reading, reading, at_end, file_reading, letter_for, with_letter, written_byte, written_field, written_fields, written_row}
+use Rattle.pg_copy.specs.Text.{delimiter, newline, carriage_return, null_mark, parts, ends_escaped, letter_value, escape_by, escape_at, text_after, field_value, fits_width, FitsReader, line_row, end_mark, row_or_fault, lines_reading, reading, at_end, file_reading, letter_for, with_letter, written_byte, written_field, written_fields, written_row}
+use Rattle.pg_copy.specs.Private.Units.{IsPlain}
 use Rattle.pg_copy.proofs.TextParts.{IsUncut, ends_escaped-append, IsUncut-append, parts-uncut, parts-cut, parts-some, has_unit-none}
 use Rattle.pg_copy.proofs.TextValues.{digits-none}
 use Rattle.pg_copy.proofs.TextLines.{line_row-row}
@@ -22,12 +23,6 @@ record HasLetter (b letter : ℕ) : Type 0 where
   pub no_x : eqb letter 120 ≡ false
   pub no_n : eqb letter 78 ≡ false
   pub no_dot : eqb letter 46 ≡ false
-
-record IsPlain (b : ℕ) : Type 0 where
-  pub no_tab : eqb b 9 ≡ false
-  pub no_newline : eqb b 10 ≡ false
-  pub no_return : eqb b 13 ≡ false
-  pub no_backslash : eqb b 92 ≡ false
 
 abbrev LetterCase : ℕ → Option ℕ → Type 0
 LetterCase b None = IsPlain b
@@ -48,7 +43,7 @@ letter_cases b =
     choose b 12 (Some 102) _ (record { value = refl; no_digit = refl; no_x = refl; no_n = refl; no_dot = refl }) (λ n12.
     choose b 13 (Some 114) _ (record { value = refl; no_digit = refl; no_x = refl; no_n = refl; no_dot = refl }) (λ n13.
     choose b 92 (Some 92) None (record { value = refl; no_digit = refl; no_x = refl; no_n = refl; no_dot = refl }) (λ n92.
-    record { no_tab = n9; no_newline = n10; no_return = n13; no_backslash = n92 })))))))
+    record { no_delimiter = n9; no_newline = n10; no_return = n13; no_backslash = n92; no_letter = rw (n8, n9, n10, n11, n12, n13, n92) refl })))))))
 
 -- ---- texts
 
@@ -65,7 +60,7 @@ pub text_again : (text : List ℕ) → text_after 0 (flat_map written_byte text)
 text_again [] = refl
 text_again (b ∷ text) = byte_again b (letter_for b) (flat_map written_byte text) (letter_cases b) ∙ ap (λ (x : List ℕ). b ∷ x) (text_again text)
 
-not_mark : (b : ℕ) (o : Option ℕ) (rest : List ℕ) → LetterCase b o → bytes_eq (with_letter o b ++ rest) (92 ∷ 78 ∷ []) ≡ false
+not_mark : (b : ℕ) (o : Option ℕ) (rest : List ℕ) → LetterCase b o → bytes_eq (with_letter o b ++ rest) null_mark ≡ false
 not_mark b None rest h = rw h.no_backslash refl
 not_mark b (Some letter) rest h = rw h.no_n refl
 
@@ -100,7 +95,7 @@ record IsMark (mark : ℕ) : Type 0 where
   pub plain : (b : ℕ) → IsPlain b → eqb b mark ≡ false
 
 tab_mark : IsMark 9
-tab_mark = record { no_backslash = refl; plain = λ b h. h.no_tab }
+tab_mark = record { no_backslash = refl; plain = λ b h. h.no_delimiter }
 
 newline_mark : IsMark 10
 newline_mark = record { no_backslash = refl; plain = λ b h. h.no_newline }
@@ -120,19 +115,19 @@ IsSafe-field : (mark : ℕ) (field : Option (List ℕ)) → IsMark mark → IsSa
 IsSafe-field mark None m = record { uncut = (m.no_backslash, tt); closed = refl }
 IsSafe-field mark (Some text) m = IsSafe-text mark text m
 
-IsSafe-row : (mark : ℕ) (row : List (Option (List ℕ))) → IsMark mark → eqb 9 mark ≡ false → IsSafe mark (written_fields row)
+IsSafe-row : (mark : ℕ) (row : List (Option (List ℕ))) → IsMark mark → eqb delimiter mark ≡ false → IsSafe mark (written_fields row)
 IsSafe-row mark [] m tab = record { uncut = tt; closed = refl }
 IsSafe-row mark (field ∷ []) m tab = IsSafe-field mark field m
 IsSafe-row mark (field ∷ next ∷ row) m tab =
-    IsSafe-append mark (written_field field) (9 ∷ written_fields (next ∷ row)) (IsSafe-field mark field m)
-    (IsSafe-append mark (9 ∷ []) (written_fields (next ∷ row)) (record { uncut = (tab, tt); closed = refl }) (IsSafe-row mark (next ∷ row) m tab))
+    IsSafe-append mark (written_field field) (delimiter ∷ written_fields (next ∷ row)) (IsSafe-field mark field m)
+    (IsSafe-append mark (delimiter ∷ []) (written_fields (next ∷ row)) (record { uncut = (tab, tt); closed = refl }) (IsSafe-row mark (next ∷ row) m tab))
 
-parts_again : (row : List (Option (List ℕ))) → 0 < length row → parts 9 (written_fields row) ≡ map written_field row
+parts_again : (row : List (Option (List ℕ))) → 0 < length row → parts delimiter (written_fields row) ≡ map written_field row
 parts_again [] lt = absurd (omega arith)
-parts_again (field ∷ []) lt = parts-uncut 9 (written_field field) (IsSafe-field 9 field tab_mark).uncut
+parts_again (field ∷ []) lt = parts-uncut delimiter (written_field field) (IsSafe-field delimiter field tab_mark).uncut
 parts_again (field ∷ next ∷ row) lt =
-    let h = IsSafe-field 9 field tab_mark in
-    parts-cut 9 (written_field field) (written_fields (next ∷ row)) h.uncut h.closed ∙ ap (λ (x : List (List ℕ)). written_field field ∷ x) (parts_again (next ∷ row) (omega arith))
+    let h = IsSafe-field delimiter field tab_mark in
+    parts-cut delimiter (written_field field) (written_fields (next ∷ row)) h.uncut h.closed ∙ ap (λ (x : List (List ℕ)). written_field field ∷ x) (parts_again (next ∷ row) (omega arith))
 
 -- ---- lines
 
@@ -148,16 +143,16 @@ not_end (Some [] ∷ []) = refl
 not_end (Some [] ∷ next ∷ row) = refl
 not_end (Some (b ∷ text) ∷ []) = not_dot b (letter_for b) (flat_map written_byte text) (letter_cases b)
 not_end (Some (b ∷ text) ∷ next ∷ row) =
-    ap (λ (x : List ℕ). bytes_eq x end_mark) (append_assoc (written_byte b) (flat_map written_byte text) (9 ∷ written_fields (next ∷ row)))
-    ∙ not_dot b (letter_for b) (flat_map written_byte text ++ (9 ∷ written_fields (next ∷ row))) (letter_cases b)
+    ap (λ (x : List ℕ). bytes_eq x end_mark) (append_assoc (written_byte b) (flat_map written_byte text) (delimiter ∷ written_fields (next ∷ row)))
+    ∙ not_dot b (letter_for b) (flat_map written_byte text ++ (delimiter ∷ written_fields (next ∷ row))) (letter_cases b)
 
 pub line_again : (columns : Option ℕ) (row : List (Option (List ℕ))) → FitsReader columns row → line_row columns (written_fields row) ≡ Ok row
 line_again columns row fits =
     let line = written_fields row in
-    let return = IsSafe-row 13 row return_mark refl in
+    let return = IsSafe-row carriage_return row return_mark refl in
     let fields = parts_again row fits.some in
-    let len : length (parts 9 line) ≡ length row = ap length fields ∙ length-map row written_field in
-    line_row-row columns line (has_unit-none 13 line (parts-uncut 13 line return.uncut)) return.closed (ap (fits_width columns) len ∙ fits.width)
+    let len : length (parts delimiter line) ≡ length row = ap length fields ∙ length-map row written_field in
+    line_row-row columns line (has_unit-none carriage_return line (parts-uncut carriage_return line return.uncut)) return.closed (ap (fits_width columns) len ∙ fits.width)
     ∙ ap (λ (x : List (List ℕ)). Ok (map field_value x)) fields ∙ ap (λ (x : List (Option (List ℕ))). Ok x) (fields_again row)
 
 -- a canonical line in front is read as its row
@@ -165,10 +160,10 @@ pub row_again : (columns : Option ℕ) (row : List (Option (List ℕ))) (rest : 
 unfolding reading
 row_again columns row rest fits =
     let line = written_fields row in
-    let newline = IsSafe-row 10 row newline_mark refl in
-    let cut : parts 10 (written_row row ++ rest) ≡ line ∷ parts 10 rest = ap (parts 10) (append_assoc line (10 ∷ []) rest) ∙ parts-cut 10 line rest newline.uncut newline.closed in
-    ap (lines_reading columns) cut ∙ lines_reading-cons columns line (parts 10 rest) (parts-some false 10 rest not_backslash)
-    ∙ cond-false _ _ _ (not_end row) ∙ ap (λ (x : Result (List (Option (List ℕ))) TextFault). row_or_fault x (lines_reading columns (parts 10 rest))) (line_again columns row fits)
+    let line_end = IsSafe-row newline row newline_mark refl in
+    let cut : parts newline (written_row row ++ rest) ≡ line ∷ parts newline rest = ap (parts newline) (append_assoc line (newline ∷ []) rest) ∙ parts-cut newline line rest line_end.uncut line_end.closed in
+    ap (lines_reading columns) cut ∙ lines_reading-cons columns line (parts newline rest) (parts-some false newline rest not_backslash)
+    ∙ cond-false _ _ _ (not_end row) ∙ ap (λ (x : Result (List (Option (List ℕ))) TextFault). row_or_fault x (lines_reading columns (parts newline rest))) (line_again columns row fits)
 
 -- the canonical lines of rows in front are read as those rows
 pub rows-trip : (columns : Option ℕ) (rows : List Row) (rest : List ℕ) → AllByRecursion (FitsReader columns) rows → reading columns (flat_map written_row rows ++ rest) ≡ after_rows rows (reading columns rest)

@@ -4,7 +4,7 @@ use Rattle.std.specs.List.{onto_first}
 use Rattle.std.proofs.lemmas.Bool.{cases_eq, eq-eqb, ne_eqb, false≢true}
 use Rattle.pg_copy.specs.declared.fault.TextFault.TheVariants.{RawReturn, LoneBackslash, Columns}
 use Rattle.pg_copy.specs.Row.{Row}
-use Rattle.pg_copy.specs.Text.{parts_from, parts, has_unit, ends_escaped, field_value, fits_width, line_row}
+use Rattle.pg_copy.specs.Text.{delimiter, carriage_return, parts_from, parts, has_unit, ends_escaped, field_value, fits_width, line_row}
 use Rattle.pg_copy.specs.Lines.{AreUnits, nothing, byte, escape, AreParts, one, lone, more, AreFields}
 use Rattle.pg_copy.proofs.TextParts.{IsUncut, IsUncut-append, ends_escaped-append, parts-uncut, parts-cut}
 use Rattle.pg_copy.proofs.TextEscapes.{field-there}
@@ -88,17 +88,17 @@ fields-there [] h = tt
 fields-there (p ∷ ps) h = (field-there p h.0, fields-there ps h.1)
 
 -- what a line that is read has
-line-has : (columns : Option ℕ) (line : List ℕ) (row : Row) → line_row columns line ≡ Ok row → (ends_escaped false line ≡ false) × (row ≡ map field_value (parts 9 line))
-line-has columns line row e = go (has_unit 13 line) (ends_escaped false line) (fits_width columns (length (parts 9 line))) e
+line-has : (columns : Option ℕ) (line : List ℕ) (row : Row) → line_row columns line ≡ Ok row → (ends_escaped false line ≡ false) × (row ≡ map field_value (parts delimiter line))
+line-has columns line row e = go (has_unit carriage_return line) (ends_escaped false line) (fits_width columns (length (parts delimiter line))) e
   where
-    go : (r l f : Bool) → cond r (Err RawReturn) (cond l (Err LoneBackslash) (cond f (Ok (map field_value (parts 9 line))) (Err (Columns (length (parts 9 line)))))) ≡ Ok row → (l ≡ false) × (row ≡ map field_value (parts 9 line))
+    go : (r l f : Bool) → cond r (Err RawReturn) (cond l (Err LoneBackslash) (cond f (Ok (map field_value (parts delimiter line))) (Err (Columns (length (parts delimiter line)))))) ≡ Ok row → (l ≡ false) × (row ≡ map field_value (parts delimiter line))
     go true l f e = absurd cc
     go false true f e = absurd cc
     go false false true e = (refl, cc)
     go false false false e = absurd cc
 
-pub line-fields : (columns : Option ℕ) (line : List ℕ) (row : Row) → line_row columns line ≡ Ok row → AreFields (parts 9 line) row
+pub line-fields : (columns : Option ℕ) (line : List ℕ) (row : Row) → line_row columns line ≡ Ok row → AreFields (parts delimiter line) row
 line-fields columns line row e =
     let h = line-has columns line row e in
-    let tab : 9 ≡ 92 → ⊥ = λ f. absurd (omega (arith, f)) in
-    subst (λ (r : Row). AreFields (parts 9 line) r) (sym h.1) (fields-there (parts 9 line) (parts-closed 9 line (parts 9 line) tab h.0 (split-there 9 line tab)))
+    let tab : delimiter ≡ 92 → ⊥ = λ f. absurd (omega (arith, f)) in
+    subst (λ (r : Row). AreFields (parts delimiter line) r) (sym h.1) (fields-there (parts delimiter line) (parts-closed delimiter line (parts delimiter line) tab h.0 (split-there delimiter line tab)))

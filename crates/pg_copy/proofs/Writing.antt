@@ -1,8 +1,9 @@
 -- Texts and rows that are written piece by piece.
-use Rattle.std.proofs.Common.{◌≡◌, ℕ, ◌+◌, ◌-◌, ◌<◌, ◌≤◌, List, [], ◌∷◌, ◌++◌, length, take, drop, map, get_or, Option, Some, None, refl, sym, ap, ◌∙◌, append_assoc, arith}
+use Rattle.std.proofs.Common.{◌≡◌, ℕ, ◌+◌, ◌-◌, ◌<◌, ◌≤◌, List, [], ◌∷◌, ◌++◌, length, take, drop, map, get_or, Option, Some, None, zero, suc, refl, sym, ap, subst, ◌∙◌, append_assoc, arith}
 use Rattle.std.specs.List.{flat_map, join_with_byte}
 use Rattle.std.proofs.lemmas.List.{take_more, take-take, drop-append-le, drop_all, take_all, length-take, length-take-le, append-nil, flat_map_more, map_push, length-map, drop-take, take-append-le}
-use Rattle.pg_copy.specs.Text.{letter_for, with_letter, written_byte, written_field, written_fields}
+use Rattle.pg_copy.specs.Private.Units.{IsPlain}
+use Rattle.pg_copy.specs.Text.{delimiter, letter_for, with_letter, written_byte, written_field, written_fields}
 
 -- new goes on from old
 abbrev pub GoesOn : List ℕ → List ℕ → Type 0
@@ -31,6 +32,9 @@ run_is text start i le =
     let e : start + (i - start) ≡ i = omega arith in
     sym (drop-take start (i - start) text) ∙ ap (λ (n : ℕ). drop start (take n text)) e
 
+pub IsRunning-none : (old text : List ℕ) → IsRunning old text 0 0 old
+IsRunning-none old text = record { in_range = omega arith; written = refl; goes_on = take_all (length old) old (omega arith) }
+
 -- one more byte of the text
 flat_map_at : (text : List ℕ) (i b : ℕ) → i < length text → get_or text i 0 ≡ b → flat_map written_byte (take (i + 1) text) ≡ flat_map written_byte (take i text) ++ written_byte b
 flat_map_at text i b lt is =
@@ -47,6 +51,13 @@ IsRunning-plain old text start i new b lt is plain h =
       written = rw (run, all) (sym (append_assoc new (drop start (take i text)) (b ∷ [])) ∙ ap (λ (x : List ℕ). x ++ b ∷ []) h.written ∙ append_assoc old (flat_map written_byte (take i text)) (b ∷ []));
       goes_on = h.goes_on;
     }
+
+-- plain bytes more
+pub IsRunning-run : (old text : List ℕ) (start at n : ℕ) (new : List ℕ) → at + n ≤ length text → ((i : ℕ) → at ≤ i → i < at + n → IsPlain (get_or text i 0)) → IsRunning old text start at new → IsRunning old text start (at + n) new
+IsRunning-run old text start at zero new le plain h = let same : at ≡ at + 0 = omega arith in subst (λ (i : ℕ). IsRunning old text start i new) same h
+IsRunning-run old text start at (suc n) new le plain h =
+    let same : at + n + 1 ≡ at + suc n = omega arith in
+    subst (λ (i : ℕ). IsRunning old text start i new) same (IsRunning-plain old text start (at + n) new _ (omega arith) refl (plain (at + n) (omega arith) (omega arith)).no_letter (IsRunning-run old text start at n new (omega arith) (λ i a b. plain i a (omega (arith, b))) h))
 
 pub IsRunning-letter : (old text : List ℕ) (start i : ℕ) (new : List ℕ) (b letter : ℕ) → i < length text → get_or text i 0 ≡ b → letter_for b ≡ Some letter → IsRunning old text start i new
     → IsRunning old text (i + 1) (i + 1) ((new ++ take (i - start) (drop start text)) ++ 92 ∷ letter ∷ [])
@@ -84,11 +95,11 @@ IsBegun-first old fields new field none h =
     record { written = rw (e, before) refl; goes_on = GoesOn-append old new (written_field field) h.goes_on }
 
 pub IsBegun-more : (old : List ℕ) (fields : List (Option (List ℕ))) (new : List ℕ) (field : Option (List ℕ)) → 0 < length fields → IsBegun old fields new
-    → IsBegun old (fields ++ field ∷ []) ((new ++ 9 ∷ []) ++ written_field field)
+    → IsBegun old (fields ++ field ∷ []) ((new ++ delimiter ∷ []) ++ written_field field)
 IsBegun-more old fields new field lt h =
     let some : 0 < length (map written_field fields) = omega (arith, length-map fields written_field) in
-    let e : written_fields (fields ++ field ∷ []) ≡ written_fields fields ++ (9 ∷ written_field field) = ap (join_with_byte 9) (map_push written_field fields field) ∙ join_more (map written_field fields) (written_field field) 9 some in
+    let e : written_fields (fields ++ field ∷ []) ≡ written_fields fields ++ (delimiter ∷ written_field field) = ap (join_with_byte delimiter) (map_push written_field fields field) ∙ join_more (map written_field fields) (written_field field) delimiter some in
     record {
       written = rw (e, h.written) (simp append_assoc);
-      goes_on = GoesOn-append old (new ++ 9 ∷ []) (written_field field) (GoesOn-append old new (9 ∷ []) h.goes_on);
+      goes_on = GoesOn-append old (new ++ delimiter ∷ []) (written_field field) (GoesOn-append old new (delimiter ∷ []) h.goes_on);
     }

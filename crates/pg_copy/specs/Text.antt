@@ -10,21 +10,29 @@ use Rattle.pg_copy.specs.Reading.{Reading, Ending, Open, Done, Ended, Bad, after
 
 -- ---- what is the format's own
 
+-- the byte that begins an escape
+abbrev pub backslash : ℕ
+backslash = 92
+
 -- the byte that parts two fields: a tab
 abbrev pub delimiter : ℕ
 delimiter = 9
 
 -- the bytes of a null: \N
 abbrev pub null_mark : List ℕ
-null_mark = 92 ∷ 78 ∷ []
+null_mark = backslash ∷ 78 ∷ []
 
 -- the byte that ends a line
 abbrev pub newline : ℕ
 newline = 10
 
+-- the byte that may stand in a line only behind a backslash
+abbrev pub carriage_return : ℕ
+carriage_return = 13
+
 -- the line that ends the rows: \.
 abbrev pub end_mark : List ℕ
-end_mark = 92 ∷ 46 ∷ []
+end_mark = backslash ∷ 46 ∷ []
 
 -- ---- units: a backslash with the byte after it, or one other byte
 
@@ -32,7 +40,7 @@ end_mark = 92 ∷ 46 ∷ []
 abbrev pub ends_escaped : Bool → List ℕ → Bool
 ends_escaped escaped [] = escaped
 ends_escaped true (b ∷ bs) = ends_escaped false bs
-ends_escaped false (b ∷ bs) = ends_escaped (b == 92) bs
+ends_escaped false (b ∷ bs) = ends_escaped (b == backslash) bs
 
 -- the parts between the units that are the byte mark alone
 abbrev pub parts_from : Bool → ℕ → List ℕ → List (List ℕ)
@@ -40,7 +48,7 @@ parts_from escaped mark [] = [] ∷ []
 parts_from true mark (b ∷ bs) = onto_first b (parts_from false mark bs)
 parts_from false mark (b ∷ bs) =
     if b == mark then [] ∷ parts_from false mark bs
-    else onto_first b (parts_from (b == 92) mark bs)
+    else onto_first b (parts_from (b == backslash) mark bs)
 
 abbrev pub parts : ℕ → List ℕ → List (List ℕ)
 parts mark bytes = parts_from false mark bytes
@@ -81,7 +89,7 @@ hex_escape (d ∷ ds) = (digits_value 16 (d ∷ ds), 1 + length (d ∷ ds))
 
 abbrev pub escape_by : List ℕ → List ℕ → ℕ × ℕ
 escape_by (d ∷ ds) bytes = octal_escape (d ∷ ds)
-escape_by [] [] = (92, 0)
+escape_by [] [] = (backslash, 0)
 escape_by [] (c ∷ bs) = if c == 120 then hex_escape (digits_at 16 2 bs) else (letter_value c, 1)
 
 abbrev pub escape_at : List ℕ → ℕ × ℕ
@@ -90,7 +98,9 @@ escape_at bytes = escape_by (digits_at 8 3 bytes) bytes
 -- the text of the bytes after the first n, which belong to an escape before them
 abbrev pub text_after : ℕ → List ℕ → List ℕ
 text_after n [] = []
-text_after zero (b ∷ bs) = if b == 92 then (escape_at bs).0 ∷ text_after (escape_at bs).1 bs else b ∷ text_after 0 bs
+text_after zero (b ∷ bs) =
+    if b == backslash then (escape_at bs).0 ∷ text_after (escape_at bs).1 bs
+    else b ∷ text_after 0 bs
 text_after (suc n) (b ∷ bs) = text_after n bs
 
 -- null is looked at before any escape
@@ -112,7 +122,7 @@ pub record FitsReader (columns : Option ℕ) (row : Row) : Type 0 where
 -- the row that a line spells, or what is wrong with the line
 abbrev pub line_row : Option ℕ → List ℕ → Result Row TextFault
 line_row columns line =
-    if has_unit 13 line then Err RawReturn
+    if has_unit carriage_return line then Err RawReturn
     else if ends_escaped false line then Err LoneBackslash
     else if fits_width columns (length (parts delimiter line)) then Ok (map field_value (parts delimiter line))
     else Err (Columns (length (parts delimiter line)))
@@ -165,12 +175,12 @@ letter_for b =
     else if b == 11 then Some 118
     else if b == 12 then Some 102
     else if b == 13 then Some 114
-    else if b == 92 then Some 92
+    else if b == backslash then Some backslash
     else None
 
 abbrev pub with_letter : Option ℕ → ℕ → List ℕ
 with_letter None b = b ∷ []
-with_letter (Some letter) b = 92 ∷ letter ∷ []
+with_letter (Some letter) b = backslash ∷ letter ∷ []
 
 abbrev pub written_byte : ℕ → List ℕ
 written_byte b = with_letter (letter_for b) b

@@ -12,6 +12,7 @@ mod buffer;
 mod fault;
 mod format;
 pub mod laws;
+mod plain;
 mod scan;
 mod text_field;
 mod text_line;

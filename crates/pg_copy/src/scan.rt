@@ -1,10 +1,11 @@
 //! A walk over the units of a line: a backslash with the byte after it, or one other byte.
 
-ghost use Rattle.std.specs.Prelude.{◌≡◌, ◌+◌, ◌<◌, ◌^◌, length, true, false};
+ghost use Rattle.std.specs.Prelude.{◌≡◌, ◌+◌, ◌<◌, ◌≤◌, ◌^◌, length, true, false};
 ghost use Rattle.pg_copy.specs.Text.{newline};
-ghost use Rattle.pg_copy.specs.Private.Units.{IsScanned, IsUnitAt};
+ghost use Rattle.pg_copy.specs.Private.Units.{IsScanned, IsUnitAt, behind};
 
 use crate::format::DELIMITER;
+use crate::plain::{is_plain, plain_end};
 
 /// How far a line was walked over, and what is known of it.
 #[derive(Clone, Copy, Debug, Drop, PartialEq, Eq)]
@@ -31,6 +32,28 @@ impl Scan {
         }
     }
 
+    /// The walk behind one byte more, which doesn't end the line.
+    fn behind(self, byte: u8) -> Self
+        requires few { self.delimiters ≤ self.at }
+        requires room { self.at + 1 < 2 ^ 64 }
+        ensures { result ≡ behind self byte }
+    {
+        if self.escaped {
+            return Scan {
+                at: self.at + 1,
+                escaped: false,
+                delimiters: self.delimiters,
+                returned: self.returned,
+            };
+        }
+        Scan {
+            at: self.at + 1,
+            escaped: byte == b'\\',
+            delimiters: self.delimiters + usize::from(byte == DELIMITER),
+            returned: self.returned || byte == b'\r',
+        }
+    }
+
     /// Goes on to the newline that ends the line, and says whether it is there.
     pub fn find_newline(&mut self, bytes: &[u8]) -> bool
         requires { IsScanned bytes.now self.old }
@@ -40,23 +63,19 @@ impl Scan {
         ensures none { result ≡ false → self.new.at ≡ length bytes.now }
     {
         let mut scan = *self;
-        for i in self.at..bytes.len() {
-            let byte = bytes[i];
+        while scan.at < bytes.len() {
+            let byte = bytes[scan.at];
             if scan.escaped {
-                scan.escaped = false;
+                scan = scan.behind(byte);
+            } else if is_plain(byte) {
+                scan.at = plain_end(bytes, scan.at + 1);
             } else if byte == b'\n' {
-                scan.at = i;
                 *self = scan;
                 return true;
-            } else if byte == b'\\' {
-                scan.escaped = true;
-            } else if byte == DELIMITER {
-                scan.delimiters += 1;
-            } else if byte == b'\r' {
-                scan.returned = true;
+            } else {
+                scan = scan.behind(byte);
             }
         }
-        scan.at = bytes.len();
         *self = scan;
         false
     }

@@ -7,6 +7,7 @@ ghost use Rattle.pg_copy.specs.Private.TextLine.{IsJudged};
 
 use crate::fault::TextFault;
 use crate::format::{DELIMITER, END_MARK, MOST_FIELDS};
+use crate::plain::plain_end;
 use crate::scan::Scan;
 use crate::text_field::field_value;
 use pg_seq::Seq;
@@ -70,7 +71,7 @@ fn field_end(rest: &[u8]) -> FieldEnd
 {
     let mut escaped = false;
     let mut plain = true;
-    for i in 0..rest.len() {
+    for i in plain_end(rest, 0)..rest.len() {
         let byte = rest[i];
         if escaped {
             escaped = false;

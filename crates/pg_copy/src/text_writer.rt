@@ -1,6 +1,6 @@
 //! The canonical line of a row.
 
-ghost use Rattle.std.specs.Prelude.{◌≡◌, ◌++◌, ◌<◌, true, None, length, take, OnOk, OnErr};
+ghost use Rattle.std.specs.Prelude.{◌≡◌, ◌++◌, ◌<◌, length, take, OnOk, OnErr};
 ghost use Rattle.std.specs.List.{flat_map};
 ghost use Rattle.pg_copy.specs.Row.{text_fault, Writes};
 ghost use Rattle.pg_copy.specs.Text.{letter_for, written_byte, written_field, written_row};
@@ -8,6 +8,7 @@ ghost use Rattle.pg_copy.specs.Text.{letter_for, written_byte, written_field, wr
 use crate::Row;
 use crate::fault::RowFault;
 use crate::format::{DELIMITER, NULL_MARK, is_misfit};
+use crate::plain::plain_end;
 use pg_seq::Seq;
 use std::alloc::AllocError;
 
@@ -27,13 +28,6 @@ fn letter_for(byte: u8) -> Option<u8>
     }
 }
 
-/// Whether a byte is surely written as it is: most bytes of most texts are.
-fn is_plain(byte: u8) -> bool
-    ensures { result ≡ true → letter_for byte ≡ None }
-{
-    byte > b'\r' && byte != b'\\'
-}
-
 /// Appends the bytes of a text, runs of which are copied at once.
 fn put_text(text: &[u8], buf: &mut Vec<u8>) -> Result<(), AllocError>
     ensures ok { OnOk result (buf.new.items ≡ buf.old.items ++ flat_map written_byte text.now) }
@@ -41,15 +35,14 @@ fn put_text(text: &[u8], buf: &mut Vec<u8>) -> Result<(), AllocError>
 {
     // where the bytes begin that are still to be copied as they are
     let mut start = 0;
-    for i in 0..text.len() {
-        let byte = text[i];
-        if !is_plain(byte) {
-            if let Some(letter) = letter_for(byte) {
-                buf.extend_from_slice(&text[start..i])?;
-                buf.extend_from_slice(&[b'\\', letter])?;
-                start = i + 1;
-            }
+    let mut at = plain_end(text, 0);
+    while at < text.len() {
+        if let Some(letter) = letter_for(text[at]) {
+            buf.extend_from_slice(&text[start..at])?;
+            buf.extend_from_slice(&[b'\\', letter])?;
+            start = at + 1;
         }
+        at = plain_end(text, at + 1);
     }
     buf.extend_from_slice(&text[start..])
 }

@@ -1,4 +1,6 @@
 //! What was done or came in a session.
+ghost use Rattle.std.specs.Prelude.{◌≡◌};
+ghost use Rattle.sessions.specs.Acts.{server_bytes};
 
 use hex::FromHexError;
 use pg_wire::Seq;
@@ -49,7 +51,9 @@ impl Act {
     }
 
     /// How many bytes of the server it has.
-    pub fn len(&self) -> usize {
+    pub fn len(&self) -> usize
+        ensures { result ≡ server_bytes self.now }
+    {
         match self {
             Act::Bytes(bytes) => bytes.len(),
             _ => 0,

@@ -1,9 +1,9 @@
 -- A walk over the units of a text file.
-use Rattle.std.specs.Prelude.{◌≡◌, ℕ, suc, ◌+◌, ◌<◌, ◌≤◌, ◌==◌, Bool, true, false, if◌then◌else◌, nat_lt, List, [], ◌∷◌, length, take, drop, slice_index}
+use Rattle.std.specs.Prelude.{◌≡◌, ℕ, suc, ◌+◌, ◌<◌, ◌≤◌, ◌==◌, ◌||◌, Bool, true, false, if◌then◌else◌, nat_lt, List, [], ◌∷◌, length, take, drop, slice_index, None}
 use Rattle.std.specs.Char.{digit_value}
 use Rattle.pg_copy.specs.declared.scan.Scan.{Scan}
 use Rattle.pg_copy.specs.declared.text_line.FieldEnd.{FieldEnd}
-use Rattle.pg_copy.specs.Text.{ends_escaped, digits_at, newline, delimiter}
+use Rattle.pg_copy.specs.Text.{carriage_return, ends_escaped, digits_at, newline, delimiter, backslash, letter_for}
 
 -- how many units are the mark alone
 abbrev pub units_from : Bool → ℕ → List ℕ → ℕ
@@ -20,7 +20,21 @@ pub record IsScanned (bytes : List ℕ) (s : Scan) : Type 0 where
   pub escaped : ends_escaped false (take s.at bytes) ≡ s.escaped
   pub newlines : units newline (take s.at bytes) ≡ 0
   pub delimiters : units delimiter (take s.at bytes) ≡ s.delimiters
-  pub returned : nat_lt 0 (units 13 (take s.at bytes)) ≡ s.returned
+  pub returned : nat_lt 0 (units carriage_return (take s.at bytes)) ≡ s.returned
+
+-- a byte that stands for itself, in a line that is read and in a value that is written
+pub record IsPlain (b : ℕ) : Type 0 where
+  pub no_delimiter : (b == delimiter) ≡ false
+  pub no_newline : (b == newline) ≡ false
+  pub no_return : (b == carriage_return) ≡ false
+  pub no_backslash : (b == backslash) ≡ false
+  pub no_letter : letter_for b ≡ None
+
+-- the walk behind one byte more
+abbrev pub behind : Scan → ℕ → Scan
+behind s b =
+    if s.escaped then record { at = s.at + 1; escaped = false; delimiters = s.delimiters; returned = s.returned }
+    else record { at = s.at + 1; escaped = b == backslash; delimiters = s.delimiters + (if b == delimiter then 1 else 0); returned = s.returned || b == carriage_return }
 
 -- the first unit that is the mark stands at place n
 pub record IsUnitAt (mark : ℕ) (bytes : List ℕ) (n : ℕ) : Type 0 where
@@ -40,6 +54,12 @@ pub record LeadsWith (base : ℕ) (bytes : List ℕ) (d : ℕ) : Type 0 where
 abbrev pub NoBackslash : List ℕ → Type 0
 NoBackslash [] = Unit {0}
 NoBackslash (b ∷ bs) = ((b == 92) ≡ false) × NoBackslash bs
+
+-- the bytes up to i have no delimiter, and no backslash where they are plain
+pub record IsWalked (bytes : List ℕ) (i : ℕ) (e p : Bool) : Type 0 where
+  pub escaped : ends_escaped false (take i bytes) ≡ e
+  pub none : units delimiter (take i bytes) ≡ 0
+  pub plain : p ≡ true → NoBackslash (take i bytes)
 
 -- The field at the front of the bytes ends here: at a delimiter, or at the end of the bytes.
 pub record IsFieldEnd (bytes : List ℕ) (e : FieldEnd) : Type 0 where

@@ -1,8 +1,14 @@
 use Rattle.std.proofs.Common.{◌≡◌, refl, true, false}
 use Rattle.std.proofs.lemmas.Bool.{ne_eqb}
-use Rattle.pg_copy.proofs.TextLines.{walked-more, walked-escaped, walked-at, walked-end}
+use Rattle.pg_copy.proofs.TextLines.{walked-run, walked-more, walked-escaped, walked-at, walked-end}
+use Rattle.pg_copy.specs.Text.{delimiter}
 use Rattle.pg_copy.proofs.text_line.field_end.Goals as goal
 use Rattle.pg_copy.proofs.text_line.field_end.Goals.{then-escaped, else-escaped+else-byte-eq-DELIMITER+then-byte-eq92, else-escaped+else-byte-eq-DELIMITER+else-byte-eq92}
+
+pub loop-i-init : goal.loop-i-init
+loop-i-init c =
+    let p = c.plain_end-i.ensures in
+    walked-run c.args.rest.now c.plain_end-i.result p.in_range p.plain
 
 pub loop-i-preserved : goal.loop-i-preserved
 loop-i-preserved c =
@@ -13,7 +19,7 @@ loop-i-preserved c =
       | else-escaped+else-byte-eq-DELIMITER+then-byte-eq92 w ↦ rw (w.escaped-is, w.plain-is) (walked-more bytes l.i _ false l.plain true false c.loop-i-test.true w.if-byte-eq92.true (rw w.if-escaped.false at l.invariant) refl refl (λ t. absurd (absurd_bool t)))
       | else-escaped+else-byte-eq-DELIMITER+else-byte-eq92 w ↦
           let n92 = ne_eqb _ 92 w.if-byte-eq92.false in
-          let n9 = ne_eqb _ 9 w.if-byte-eq-DELIMITER.false in
+          let n9 = ne_eqb _ delimiter w.if-byte-eq-DELIMITER.false in
           rw (w.escaped-is, w.plain-is) (walked-more bytes l.i _ l.escaped l.plain l.escaped l.plain c.loop-i-test.true refl l.invariant (rw (w.if-escaped.false, n92) refl) (rw (w.if-escaped.false, n9) refl) (λ t. (t, n92)))
     ]
   where

@@ -1,4 +1,4 @@
-use Rattle.pg_copy.proofs.TextLines.{IsWalked}
+use Rattle.pg_copy.specs.Private.Units.{IsWalked}
 use Rattle.pg_copy.proofs.text_line.field_end.Given as goal
 
 abbrev pub invariant-loop-i : goal.invariant-loop-i

@@ -1,28 +1,36 @@
-use Rattle.std.proofs.Common.{◌+◌, refl, true, false, arith}
+use Rattle.std.proofs.Common.{◌≡◌, ℕ, ◌+◌, ◌-◌, true, false, refl, sym, subst, ◌∙◌, arith}
+use Rattle.pg_copy.specs.Private.Units.{IsScanned}
 use Rattle.std.proofs.lemmas.Bool.{ne_eqb}
-use Rattle.pg_copy.proofs.TextParts.{scanned-few, scanned-more, same_after, true_after}
+use Rattle.pg_copy.specs.Text.{newline}
+use Rattle.pg_copy.proofs.TextParts.{scanned-few, scanned-plain, scanned-run, scanned-behind}
 use Rattle.pg_copy.proofs.scan.Scan.find_newline.Goals as goal
-use Rattle.pg_copy.proofs.scan.Scan.find_newline.Goals.{then-scan, else-scan+else-byte-eq10+then-byte-eq92, else-scan+else-byte-eq10+else-byte-eq92+then-byte-eq-DELIMITER, else-scan+else-byte-eq10+else-byte-eq92+else-byte-eq-DELIMITER+then-byte-eq13, else-scan+else-byte-eq10+else-byte-eq92+else-byte-eq-DELIMITER+else-byte-eq13}
 
-pub overflow_add-scan : goal.overflow_add-scan
-overflow_add-scan c =
-    let few = scanned-few c.args.bytes.now (record c.loop-i.scan { at = c.loop-i.i }) c.loop-i.invariant in
-    omega (arith, few)
+pub behind-scan-requires-clause-few : goal.behind-scan-requires-clause-few
+behind-scan-requires-clause-few c = scanned-few c.args.bytes.now c.loop-scan.scan c.loop-scan.invariant
 
-pub loop-i-preserved : goal.loop-i-preserved
-loop-i-preserved c =
+pub loop-scan-preserved-then-scan : goal.loop-scan-preserved-then-scan
+loop-scan-preserved-then-scan c = rw c.behind-scan.ensures (scanned-behind c.args.bytes.now c.loop-scan.scan _ c.loop-scan-test.true refl (λ e. absurd (clash (sym c.if-scan.true ∙ e))) c.loop-scan.invariant)
+  where
+    clash : true ≡ false → ⊥
+    clash e = cc
+
+pub loop-scan-preserved-then-is_plain : goal.loop-scan-preserved-then-is_plain
+loop-scan-preserved-then-is_plain c =
     let bytes = c.args.bytes.now in
-    let s = c.loop-i.scan in
-    let i = c.loop-i.i in
-    elim c.if-scan.branch [
-      | then-scan w ↦ rw w.scan-is (scanned-more bytes s (record s { escaped = false }) i _ c.loop-i-test.true refl c.loop-i.invariant (rw w.if-scan.true refl) (rw w.if-scan.true refl) (rw w.if-scan.true (omega arith)) (λ n h. rw w.if-scan.true (same_after n s.returned h)))
-      | else-scan+else-byte-eq10+then-byte-eq92 w ↦ rw w.scan-is (scanned-more bytes s (record s { escaped = true }) i _ c.loop-i-test.true w.if-byte-eq92.true c.loop-i.invariant (rw w.if-scan.false refl) (rw w.if-scan.false refl) (rw w.if-scan.false (omega arith)) (λ n h. rw w.if-scan.false (same_after n s.returned h)))
-      | else-scan+else-byte-eq10+else-byte-eq92+then-byte-eq-DELIMITER w ↦ rw w.scan-is (scanned-more bytes s (record s { delimiters = s.delimiters + 1 }) i _ c.loop-i-test.true w.if-byte-eq-DELIMITER.true c.loop-i.invariant (rw w.if-scan.false refl) (rw w.if-scan.false refl) (rw w.if-scan.false refl) (λ n h. rw w.if-scan.false (same_after n s.returned h)))
-      | else-scan+else-byte-eq10+else-byte-eq92+else-byte-eq-DELIMITER+then-byte-eq13 w ↦ rw w.scan-is (scanned-more bytes s (record s { returned = true }) i _ c.loop-i-test.true w.if-byte-eq13.true c.loop-i.invariant (rw w.if-scan.false refl) (rw w.if-scan.false refl) (rw w.if-scan.false (omega arith)) (λ n h. rw w.if-scan.false (true_after n)))
-      | else-scan+else-byte-eq10+else-byte-eq92+else-byte-eq-DELIMITER+else-byte-eq13 w ↦
-          let n10 = ne_eqb _ 10 w.if-byte-eq10.false in
-          let n92 = ne_eqb _ 92 w.if-byte-eq92.false in
-          let n9 = ne_eqb _ 9 w.if-byte-eq-DELIMITER.false in
-          let n13 = ne_eqb _ 13 w.if-byte-eq13.false in
-          rw w.scan-is (scanned-more bytes s s i _ c.loop-i-test.true refl c.loop-i.invariant (rw (w.if-scan.false, n92) refl) (rw (w.if-scan.false, n10) refl) (rw (w.if-scan.false, n9) (omega arith)) (λ n h. rw (w.if-scan.false, n13) (same_after n s.returned h)))
-    ]
+    let s = c.loop-scan.scan in
+    let p = c.plain_end.ensures in
+    let n = c.plain_end.result - (s.at + 1) in
+    let all : (s.at + 1) + n ≡ c.plain_end.result = omega (arith, p.in_order) in
+    let first = scanned-plain bytes s s.at c.loop-scan-test.true (c.is_plain.ensures c.if-is_plain.true) c.if-scan.false c.loop-scan.invariant in
+    subst (λ (i : ℕ). IsScanned bytes (record s { at = i })) all (scanned-run bytes s (s.at + 1) n (omega (arith, all, p.in_range)) (λ i a b. p.plain i a (omega (arith, all, b))) c.if-scan.false first)
+
+pub returns-then-byte-eq10-clause-found : goal.returns-then-byte-eq10-clause-found
+returns-then-byte-eq10-clause-found c = λ e.
+    let h = c.loop-scan.invariant in
+    record { in_range = c.loop-scan-test.true; none = h.newlines; closed = h.escaped ∙ c.if-scan.false; is = c.if-byte-eq10.true }
+
+pub behind-scan-requires-else-byte-eq10-clause-few : goal.behind-scan-requires-else-byte-eq10-clause-few
+behind-scan-requires-else-byte-eq10-clause-few c = scanned-few c.args.bytes.now c.loop-scan.scan c.loop-scan.invariant
+
+pub loop-scan-preserved : goal.loop-scan-preserved
+loop-scan-preserved c = rw c.behind-scan-else-byte-eq10.ensures (scanned-behind c.args.bytes.now c.loop-scan.scan _ c.loop-scan-test.true refl (λ e. ne_eqb _ newline c.if-byte-eq10.false) c.loop-scan.invariant)

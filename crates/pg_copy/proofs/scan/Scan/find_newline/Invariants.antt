@@ -1,5 +1,9 @@
+use Rattle.std.proofs.Common.{length, ◌-◌}
 use Rattle.pg_copy.specs.Private.Units.{IsScanned}
 use Rattle.pg_copy.proofs.scan.Scan.find_newline.Given as goal
 
-abbrev pub invariant-loop-i : goal.invariant-loop-i
-invariant-loop-i l = IsScanned l.bytes (record l.scan { at = l.i })
+abbrev pub invariant-loop-scan : goal.invariant-loop-scan
+invariant-loop-scan l = IsScanned l.bytes l.scan
+
+abbrev pub decreases-loop-scan : goal.decreases-loop-scan
+decreases-loop-scan l = length l.bytes - l.scan.at

@@ -1,0 +1,162 @@
+//! Files of either format, read in pieces and written.
+
+use anyhow::{Result, bail};
+use pg_copy::{
+    BinaryReader, Row, TextReader, write_binary_head, write_binary_row, write_binary_trailer,
+    write_text_row,
+};
+use std::alloc::Global;
+
+/// How many columns the files have.
+const COLUMNS: u16 = 3;
+
+/// The longest value that is read of a binary file.
+const LIMIT: u32 = 65_536;
+
+/// How a file is cut into pieces.
+#[derive(Clone, Copy, Debug)]
+pub enum Cut {
+    /// It is pushed whole.
+    Nowhere,
+    /// A byte at a time.
+    Everywhere,
+    /// In two, behind so many bytes.
+    At(usize),
+}
+
+/// A reader of a format, beside which its writers stand.
+pub trait File: Drop {
+    /// Nothing was read yet.
+    fn begin(alloc: Global) -> Self
+    where
+        Self: Sized;
+
+    /// Takes the next piece.
+    fn push(&mut self, piece: &[u8]) -> Result<()>;
+
+    /// The next row that waits.
+    fn next(&mut self) -> Result<Option<Row>>;
+
+    /// The next row that is left at the end of the input.
+    fn finish(&mut self) -> Result<Option<Row>>;
+
+    /// Appends a whole file of these rows.
+    fn write(rows: &[Row], buf: &mut Vec<u8>) -> Result<()>;
+}
+
+impl File for TextReader {
+    fn begin(alloc: Global) -> TextReader {
+        TextReader::new(alloc, Some(COLUMNS))
+    }
+
+    fn push(&mut self, piece: &[u8]) -> Result<()> {
+        if self.ended() {
+            bail!("the input has ended");
+        }
+        TextReader::push(self, piece)?;
+        Ok(())
+    }
+
+    fn next(&mut self) -> Result<Option<Row>> {
+        if self.ended() {
+            bail!("the input has ended");
+        }
+        Ok(TextReader::next(self)?)
+    }
+
+    fn finish(&mut self) -> Result<Option<Row>> {
+        Ok(TextReader::finish(self)?)
+    }
+
+    fn write(rows: &[Row], buf: &mut Vec<u8>) -> Result<()> {
+        for row in rows {
+            write_text_row(row, buf)?;
+        }
+        Ok(())
+    }
+}
+
+impl File for BinaryReader {
+    fn begin(alloc: Global) -> BinaryReader {
+        BinaryReader::new(alloc, COLUMNS, LIMIT)
+    }
+
+    fn push(&mut self, piece: &[u8]) -> Result<()> {
+        if self.ended() {
+            bail!("the input has ended");
+        }
+        BinaryReader::push(self, piece)?;
+        Ok(())
+    }
+
+    fn next(&mut self) -> Result<Option<Row>> {
+        if self.ended() {
+            bail!("the input has ended");
+        }
+        Ok(BinaryReader::next(self)?)
+    }
+
+    fn finish(&mut self) -> Result<Option<Row>> {
+        Ok(BinaryReader::finish(self)?)
+    }
+
+    fn write(rows: &[Row], buf: &mut Vec<u8>) -> Result<()> {
+        write_binary_head(buf)?;
+        for row in rows {
+            write_binary_row(row, buf)?;
+        }
+        write_binary_trailer(buf)?;
+        Ok(())
+    }
+}
+
+// Pushes a piece, and takes the rows that wait then, of which there are no more than bytes.
+fn read_piece<F: File>(
+    reader: &mut F,
+    piece: &[u8],
+    most: usize,
+    rows: &mut Vec<Row>,
+) -> Result<()> {
+    reader.push(piece)?;
+    for _ in 0..=most {
+        match reader.next()? {
+            Some(row) => rows.push(row)?,
+            None => return Ok(()),
+        }
+    }
+    bail!("there are more rows than bytes")
+}
+
+/// The rows of a file that comes in pieces.
+pub fn read<F: File>(alloc: Global, bytes: &[u8], cut: Cut) -> Result<Vec<Row>> {
+    let mut reader = F::begin(alloc);
+    let mut rows = Vec::new(alloc);
+    let most = bytes.len();
+    match cut {
+        Cut::Nowhere => read_piece(&mut reader, bytes, most, &mut rows)?,
+        Cut::Everywhere => {
+            for i in 0..bytes.len() {
+                read_piece(&mut reader, &bytes[i..i + 1], most, &mut rows)?;
+            }
+        }
+        Cut::At(place) => {
+            let (front, back) = bytes.split_at(place.min(bytes.len()));
+            read_piece(&mut reader, front, most, &mut rows)?;
+            read_piece(&mut reader, back, most, &mut rows)?;
+        }
+    }
+    for _ in 0..=most {
+        match reader.finish()? {
+            Some(row) => rows.push(row)?,
+            None => return Ok(rows),
+        }
+    }
+    bail!("there are more rows than bytes")
+}
+
+/// A whole file of these rows.
+pub fn write<F: File>(alloc: Global, rows: &[Row]) -> Result<Vec<u8>> {
+    let mut buf = Vec::new(alloc);
+    F::write(rows, &mut buf)?;
+    Ok(buf)
+}
