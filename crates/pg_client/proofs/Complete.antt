@@ -20,8 +20,8 @@ use Rattle.pg_client.specs.declared.place.Open.TheVariants as begun
 use Rattle.pg_client.specs.declared.place.Progress.{Progress}
 use Rattle.pg_client.specs.declared.place.Stage.{Stage}
 use Rattle.pg_client.specs.declared.place.Stage.TheVariants.{Within}
-use Rattle.pg_wire.specs.Segment.{Asked, Results, Steps, Answers, is_result, is_answer, messages_of, parameters_sent, columns_sent, end_sent}
-use Rattle.pg_client.specs.Place.{begins, left, Place, after_progress, error_of, read, read_from}
+use Rattle.pg_wire.specs.Segment.{error_of, Asked, Results, Steps, Answers, is_result, is_answer, messages_of, parameters_sent, columns_sent, end_sent}
+use Rattle.pg_client.specs.Place.{begins, left, Place, after_progress, read, read_from}
 use Rattle.pg_client.proofs.Sound.{left_is, Answers-more}
 
 abbrev pub at : List Part → Stage → Option Place

@@ -9,7 +9,7 @@ use Rattle.pg_wire.specs.declared.message.CopyHead.{CopyHead}
 use Rattle.pg_wire.specs.declared.session.Aside.{Aside}
 use Rattle.pg_wire.specs.declared.session.Part.{Part}
 use Rattle.pg_wire.specs.declared.session.Request.{Request}
-use Rattle.pg_wire.specs.Segment.{Fields, aside_of, kept_with, without_asides, Asked as What, asked}
+use Rattle.pg_wire.specs.Segment.{error_of, Fields, aside_of, kept_with, without_asides, Asked as What, asked}
 use Rattle.pg_client.specs.declared.place.Open.TheVariants as begun
 use Rattle.pg_client.specs.declared.place.Progress.{Progress}
 use Rattle.pg_client.specs.declared.place.Progress.TheVariants.{Grows, Closes, Stuck}
@@ -24,7 +24,7 @@ use Rattle.pg_client.specs.declared.place.Stand.TheVariants.{New, Starting, Idle
 use Rattle.pg_client.specs.declared.settled.Settled.{Settled}
 use Rattle.pg_client.specs.declared.phase.Phase.{Phase}
 use Rattle.pg_client.specs.declared.phase.Phase.TheVariants as phase
-use Rattle.pg_client.specs.Place.{left, Place, error_of, read, read_by, read_from, after_progress, progress}
+use Rattle.pg_client.specs.Place.{left, Place, read, read_by, read_from, after_progress, progress}
 use Rattle.pg_client.specs.Session.{Happening, requests_in, rest_in, IsStarted, IsStarting, IsReady, IsCopyingIn, EndInCopyIn, copy_answer, Expected}
 use Rattle.pg_client.specs.Machine.{greet, greet_from, greet_all}
 use Rattle.pg_client.specs.Judged.{SettledAs, Stands}

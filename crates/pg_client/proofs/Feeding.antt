@@ -12,7 +12,7 @@ use Rattle.pg_wire.specs.Backend.{backend}
 use Rattle.pg_wire.specs.declared.fault.WireFault.TheVariants as wire
 use Rattle.pg_wire.specs.Decoder.{DecoderState, Pushes}
 use Rattle.pg_wire.specs.Direction.{spelling}
-use Rattle.pg_wire.specs.Segment.{status_of, without_asides}
+use Rattle.pg_wire.specs.Segment.{error_of, status_of, without_asides}
 use Rattle.pg_wire.specs.Stream.{IsStream, IsWithin, IsOpen, IsFaulty}
 use Rattle.pg_client.specs.declared.fault.FeedFault.{FeedFault}
 use Rattle.pg_client.specs.declared.fault.FeedFault.TheVariants as feeding
@@ -23,7 +23,6 @@ use Rattle.pg_client.specs.declared.place.Stand.TheVariants.{New, Starting, Idle
 use Rattle.pg_client.specs.declared.place.Welcome.TheVariants.{Fresh, Admitted}
 use Rattle.pg_client.specs.declared.settings.Settings.{Settings}
 use Rattle.pg_client.specs.declared.settled.Settled.{Settled}
-use Rattle.pg_client.specs.Place.{error_of}
 use Rattle.pg_client.specs.Session.{Run, Happening, Came, timeline, rest_in, IsStarted, IsStarting, IsReady, IsTerminated, AreAllowed, IsAfterItsCall, Expected}
 use Rattle.pg_client.specs.Machine.{Effect, Stays, Settles, Rejected, hear}
 use Rattle.pg_client.specs.Judged.{Stands}
@@ -72,6 +71,7 @@ module _ (before : ℕ) (run : Run) (fed : List ℕ) (heard : List BackMessage) 
         record {
           stream = subst (λ (bs : List ℕ). IsStream backend new.settings.limit fed (heard ++ m ∷ []) bs) (sym kept) (at new.settings.limit (ap (λ (x : Settings). x.limit) settings));
           places = r.places;
+          ordered = r.ordered;
           within = r.within;
           late = λ n others w e. omega (arith, r.late m more within begins, ap length heard_bytes, length-append (flat_map (spelling backend) heard) (spelling backend m));
           is_open = is_open;
@@ -123,6 +123,7 @@ module _ (before : ℕ) (run : Run) (fed : List ℕ) (heard : List BackMessage) 
   all_heard open_rest = record {
     stream = r.stream;
     places = places_more run before (length fed) r.within r.places;
+    ordered = r.ordered;
     allowed = r.allowed;
     terminated = (λ t. absurd (r.not_terminated t), λ e. absurd (let k : None ≡ Some cause.Terminated = sym r.is_open ∙ e in cc));
     expected = r.expected;
@@ -146,6 +147,7 @@ module _ (before : ℕ) (run : Run) (fed : List ℕ) (heard : List BackMessage) 
       record {
         stream = same.0;
         places = places_more run before (length fed) r.within r.places;
+        ordered = r.ordered;
         allowed = r.allowed;
         terminated = (λ t. absurd (r.not_terminated t), λ e. absurd (other (let k : Some c ≡ Some cause.Terminated = sym is ∙ e in cc)));
         expected = r.expected;
@@ -380,6 +382,7 @@ module _ (run : Run) (fed : List ℕ) (heard : List BackMessage) (rest : List �
   hearing = record {
     stream = subst (λ (bs : List ℕ). IsStream backend old.settings.limit (fed ++ piece) heard (bs ++ piece)) (sym kept_open.kept_is) stream_more;
     places = r.places;
+    ordered = r.ordered;
     within = omega (arith, length-append fed piece);
     late = λ m more within begins.
         let k : rest ++ piece ≡ spelling backend m ++ more = ap (λ (bs : List ℕ). bs ++ piece) (sym kept_open.kept_is) ∙ begins in
@@ -403,6 +406,7 @@ module _ (run : Run) (fed : List ℕ) (heard : List BackMessage) (rest : List �
     run_is = subst (λ (ms : List BackMessage). IsRunOf run (fed ++ piece) ms (rest ++ piece) given sent false (record old { closed = Some cause.Memory })) (sym (append-nil heard)) (record {
       stream = stream_more;
       places = places_more run (length fed) (length (fed ++ piece)) (omega (arith, length-append fed piece)) r.places;
+      ordered = r.ordered;
       allowed = r.allowed;
       terminated = (λ t. absurd (let e : old.closed ≡ Some cause.Terminated = r.terminated.0 t in cc), λ e. cc);
       expected = r.expected;

@@ -14,5 +14,10 @@ pub mod Messages
 pub mod Feeding
 pub mod Facts
 pub mod TurnLaws
+pub mod Stories
+pub mod Beginnings
+pub mod Copying
+pub mod TakingTurns
+pub mod TurnRows
 pub mod Rows
 pub mod ParameterLaws

@@ -40,6 +40,7 @@ pub begun_run : (v : ClientView) → v.kept ≡ [] → v.stand ≡ New → v.set
 begun_run v kept stand settled status parameters key closed = record {
   stream = record { whole = refl; each = tt };
   places = tt;
+  ordered = tt;
   allowed = none_allowed;
   terminated = (λ t. absurd t, λ e. absurd (let k : None ≡ Some cause.Terminated = sym closed ∙ e in cc));
   expected = expected_nothing;
@@ -64,6 +65,7 @@ taken v old (Some t) left same e = λ run fed heard rest given sent handed_back 
     record {
       stream = r.stream;
       places = r.places;
+      ordered = r.ordered;
       allowed = r.allowed;
       terminated = r.terminated;
       expected = r.expected;
@@ -115,6 +117,7 @@ lost_run v old closed same now run fed heard rest given sent handed_back r0 =
     record {
       stream = r.stream;
       places = r.places;
+      ordered = r.ordered;
       allowed = r.allowed;
       terminated = subst (λ (o : Option Cause). IsTerminated (story run heard) ↔ (o ≡ Some cause.Terminated)) (sym now) (terminated_by (story run heard) v.closed r.terminated);
       expected = r.expected;

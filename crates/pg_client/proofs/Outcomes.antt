@@ -17,8 +17,8 @@ use Rattle.pg_client.specs.declared.place.Progress.{Progress}
 use Rattle.pg_client.specs.declared.place.Progress.TheVariants.{Grows, Closes, Stuck}
 use Rattle.pg_client.specs.declared.place.Stage.{Stage}
 use Rattle.pg_client.specs.declared.place.Stage.TheVariants.{Within, Failed}
-use Rattle.pg_wire.specs.Segment.{Fields, aside_of, asides_with, asides_of, kept_with, without_asides, Asked, Results, Steps, asked, IsDone, IsCutOff, Reads, Fits, Begins, messages_of}
-use Rattle.pg_client.specs.Place.{left, Place, error_of, read, read_by, read_from, read_all, after_progress, progress, done_ending, stage_ending, ending, outcome_with, outcome_at}
+use Rattle.pg_wire.specs.Segment.{error_of, Fields, aside_of, asides_with, asides_of, kept_with, without_asides, Asked, Results, Steps, asked, IsDone, IsCutOff, Reads, Fits, Begins, messages_of}
+use Rattle.pg_client.specs.Place.{left, Place, read, read_by, read_from, read_all, after_progress, progress, done_ending, stage_ending, ending, outcome_with, outcome_at}
 use Rattle.pg_client.proofs.Sound.{left_is, Partway, Reached, read_all_sound}
 use Rattle.pg_client.proofs.Complete.{at, read_from-append, Passes, part_passes, front_of, last_of, front_last, parts_read}
 

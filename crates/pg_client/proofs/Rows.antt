@@ -1,6 +1,6 @@
 -- Worked rows, by computation.
-use Rattle.std.proofs.Common.{◌≡◌, ℕ, List, [], ◌∷◌, ◌++◌, true, false, Some, None, refl, inl}
-use Rattle.std.specs.Prelude.{pos}
+use Rattle.std.proofs.Common.{◌≡◌, ℕ, List, [], ◌∷◌, ◌++◌, true, false, Some, None, refl, inl, Err, length, map, ap, inr, arith, length-append}
+use Rattle.std.specs.Prelude.{pos, ℤ, ◌⊎◌}
 use Rattle.pg_wire.specs.declared.message.BackMessage.{BackMessage}
 use Rattle.pg_wire.specs.declared.message.BackMessage.TheVariants.{AuthOk, AuthCleartext, AuthOther, Ready, RowDescription, DataRow, CommandComplete, EmptyQuery, ErrorResponse, NoticeResponse, ParameterStatus, KeyData, ParseComplete, PortalSuspended}
 use Rattle.pg_wire.specs.declared.message.BackMessage.TheVariants as back
@@ -13,17 +13,21 @@ use Rattle.pg_wire.specs.declared.session.Request.{Request}
 use Rattle.pg_wire.specs.declared.session.Request.TheVariants.{Query, Group}
 use Rattle.pg_wire.specs.declared.session.Step.TheVariants as step
 use Rattle.pg_wire.specs.First.{packet}
-use Rattle.pg_wire.specs.Segment.{Fits, segments}
+use Rattle.pg_wire.specs.Segment.{Fits, segments, status_of, without_asides}
 use Rattle.pg_client.specs.declared.fault.FeedFault.TheVariants as feeding
+use Rattle.pg_client.specs.declared.fault.CallFault.TheVariants as fault
+use Rattle.pg_client.specs.declared.phase.Cause.TheVariants as cause
 use Rattle.pg_client.specs.declared.phase.Phase.TheVariants as phase
+use Rattle.pg_wire.specs.declared.message.Status.{Status}
+use Rattle.pg_client.specs.Facts.{SettledInOrder}
 use Rattle.pg_client.specs.declared.place.CopyAnswer.TheVariants.{Awaited, Done}
 use Rattle.pg_client.specs.declared.place.Open.TheVariants as begun
 use Rattle.pg_client.specs.declared.place.Stage.TheVariants.{Within}
 use Rattle.pg_client.specs.declared.place.Stand.TheVariants.{Starting, Idle, Busy}
 use Rattle.pg_client.specs.declared.place.Welcome.TheVariants.{Fresh, Admitted}
 use Rattle.pg_client.specs.declared.settings.Settings.{Settings}
-use Rattle.pg_client.specs.Session.{Start, Ask, CopyEnd, Terminate, Happening, Did, Came, timeline, IsReady}
-use Rattle.pg_client.specs.Client.{Loses, last_said, value_said, key_said, sent_by, stand_phase}
+use Rattle.pg_client.specs.Session.{Start, Ask, CopyEnd, Terminate, Happening, Did, Came, timeline, IsReady, Run, Chunk, Expected, IsStartup, key_data}
+use Rattle.pg_client.specs.Client.{Loses, last_said, value_said, key_said, sent_by, stand_phase, AsksPassword, AsksOther, ClientView, Cancels, cause_of, groups_in, IsFaultFor, IsFresh, RefusesCopy, RefusesUnless, story, with_ends}
 use Rattle.pg_client.specs.Machine.{Stays, Rejected, hear}
 use Rattle.pg_client.specs.Private.Calling.{with_request}
 use Rattle.pg_client.specs.Private.Hearing.{fault_at}
@@ -42,12 +46,42 @@ select = Query (83 ∷ 69 ∷ 76 ∷ 69 ∷ 67 ∷ 84 ∷ 32 ∷ 49 ∷ [])
 busy : List Happening
 busy = Did Start ∷ Came AuthOk ∷ Came (Ready status.Idle) ∷ Did (Ask select) ∷ []
 
+-- ready
+ready : List Happening
+ready = Did Start ∷ Came AuthOk ∷ Came (Ready status.Idle) ∷ []
+
 -- ready, a query, OK and its ReadyForQuery: settled with Command OK
-command_fits : Fits (Query []) (CommandComplete ok ∷ Ready status.Idle ∷ []) (record { parts = part.Command ok ∷ []; error = None; status = status.Idle; asides = [] })
+command_fits : Fits select (CommandComplete ok ∷ Ready status.Idle ∷ []) (record { parts = part.Command ok ∷ []; error = None; status = status.Idle; asides = [] })
+unfolding select
 command_fits = record { body = CommandComplete ok ∷ []; closed = refl; asides = refl; reads = (_, (refl, refl), tt, refl) }
 
 command_read : read_outcome (Query []) (CommandComplete ok ∷ []) status.Idle ≡ Some (record { parts = part.Command ok ∷ []; error = None; status = status.Idle; asides = [] })
 command_read = refl
+
+-- nothing is settled before the ReadyForQuery, and the query with its outcome then
+none_settled : SettledInOrder (select ∷ []) (groups_in (busy ++ Came (CommandComplete ok) ∷ [])) []
+unfolding busy
+none_settled = tt
+
+one_settled : SettledInOrder (select ∷ []) (groups_in (busy ++ Came (CommandComplete ok) ∷ Came (Ready status.Idle) ∷ []))
+    (record { request = select; outcome = record { parts = part.Command ok ∷ []; error = None; status = status.Idle; asides = [] } } ∷ [])
+unfolding busy
+one_settled = (refl, command_fits, tt)
+
+-- the places of these calls and messages in the bytes, and their order
+session_run : Run
+session_run = (Start, 0) ∷ (Ask select, 15) ∷ []
+
+session_heard : List BackMessage
+session_heard = AuthOk ∷ Ready status.Idle ∷ CommandComplete ok ∷ Ready status.Idle ∷ []
+
+ends_are : with_ends 0 session_heard ≡ (AuthOk, 9) ∷ (Ready status.Idle, 15) ∷ (CommandComplete ok, 23) ∷ (Ready status.Idle, 29) ∷ []
+unfolding session_heard ok
+ends_are = refl
+
+story_is : story session_run session_heard ≡ busy ++ Came (CommandComplete ok) ∷ Came (Ready status.Idle) ∷ []
+unfolding session_run session_heard ok busy
+story_is = refl
 
 -- lost before that: the query, and no error was seen; asked again, nothing
 lost_clear : Loses false (busy ++ Came (CommandComplete ok) ∷ []) (record { unsettled = Some select; seen_error = false })
@@ -78,7 +112,25 @@ group_read = refl
 suspended_read : read_outcome (Group (step.Execute [] (pos 0) ∷ [])) (DataRow [] ∷ PortalSuspended ∷ []) status.Idle ≡ Some (record { parts = part.Executed ([] ∷ []) ends.Suspended ∷ []; error = None; status = status.Idle; asides = [] })
 suspended_read = refl
 
--- ready: OK is F2 Unexpected with its tag, and an error F6 ServerEnd
+-- ready: OK isn't expected, and is F2 Unexpected with its tag; an error is F6 ServerEnd
+ok_not_expected : Expected (ready ++ Came (CommandComplete ok) ∷ []) → ⊥
+unfolding ready
+ok_not_expected e = let k : CommandComplete ok ∷ [] ≡ [] = e.session.1 in cc
+
+not_fresh : IsFresh ready → ⊥
+unfolding ready
+not_fresh f = let k : (AuthOk ∷ Ready status.Idle ∷ []) ∷ [] ≡ [] = f.0.1 in cc
+
+ok_is_unexpected : IsFaultFor ready (CommandComplete ok) (feeding.Unexpected 67)
+ok_is_unexpected = (record { no_error = λ e s. (let k : CommandComplete ok ≡ ErrorResponse e.0 = e.1 in cc); no_question = λ q f. not_fresh f }, refl)
+
+unexpected_closes : cause_of (feeding.Unexpected 67) ≡ Some cause.Unexpected
+unexpected_closes = refl
+
+error_ends : IsFaultFor ready (ErrorResponse []) (feeding.ServerEnd [])
+unfolding ready
+error_ends = (refl, refl)
+
 ready_refuses : hear (Idle []) (CommandComplete ok) ≡ Rejected
 ready_refuses = refl
 
@@ -99,6 +151,36 @@ notice_read : read_outcome (Query []) (NoticeResponse [] ∷ CommandComplete ok 
 notice_read = refl
 
 -- the startup: an error, another way to authenticate, a password, and ReadyForQuery too early
+abbrev started : List Happening
+started = Did Start ∷ []
+
+fresh : IsFresh started
+fresh = ((tt, refl), refl)
+
+error_refuses : IsFaultFor started (ErrorResponse []) (feeding.StartupError [])
+error_refuses = ((tt, refl), refl)
+
+other_unsupported : IsFaultFor started (AuthOther (pos 10) []) (feeding.UnsupportedAuth (pos 10))
+other_unsupported = (fresh, [], refl)
+
+password_wanted : IsFaultFor started AuthCleartext feeding.PasswordWanted
+password_wanted = (fresh, inl refl)
+
+asks_nothing : AsksPassword (Ready status.Idle) ⊎ AsksOther (Ready status.Idle) → ⊥
+asks_nothing (inl (inl e)) = cc
+asks_nothing (inl (inr (salt, e))) = cc
+asks_nothing (inr (code, bytes, e)) = cc
+
+early_unexpected : IsFaultFor started (Ready status.Idle) (feeding.Unexpected 90)
+early_unexpected = (record { no_error = λ e s. (let k : Ready status.Idle ≡ ErrorResponse e.0 = e.1 in cc); no_question = λ q f. asks_nothing q }, refl)
+
+no_startup : (body : List BackMessage) (st : Status) (keys : List (ℤ × ℤ)) → Ready status.Idle ∷ [] ≡ body ++ Ready st ∷ [] → without_asides body ≡ AuthOk ∷ map key_data keys → ⊥
+no_startup [] st keys e r = cc
+no_startup (b ∷ bs) st keys e r = omega (arith, ap length e, length-append bs (Ready st ∷ []))
+
+early_not_expected : Expected (started ++ Came (Ready status.Idle) ∷ []) → ⊥
+early_not_expected e = let s : IsStartup (Ready status.Idle ∷ []) = e.session.0 in no_startup s.body s.status s.keys s.closed s.reads
+
 startup_error : fault_at (Starting Fresh) (ErrorResponse []) ≡ feeding.StartupError []
 startup_error = refl
 
@@ -141,6 +223,15 @@ key_is : last_said key_said said ≡ Some (pos 1, pos 2)
 unfolding said
 key_is = refl
 
+last_key_is : last_said key_said (KeyData (pos 1) (pos 2) ∷ KeyData (pos 3) (pos 4) ∷ []) ≡ Some (pos 3, pos 4)
+last_key_is = refl
+
+status_is : last_said status_of (AuthOk ∷ Ready status.Idle ∷ ErrorResponse [] ∷ Ready status.Failed ∷ []) ≡ Some status.Failed
+status_is = refl
+
+cancels_nothing : (before : List ℕ) → Cancels None before (Err fault.NoKey) before
+cancels_nothing before = refl
+
 no_key : last_said key_said (AuthOk ∷ Ready status.Idle ∷ []) ≡ None
 no_key = refl
 
@@ -148,6 +239,17 @@ cancel_sends : packet (Cancel (pos 1) (pos 2)) ≡ 0 ∷ 0 ∷ 0 ∷ 16 ∷ 4 �
 cancel_sends = refl
 
 -- a second request is made in phase Busy
+busy_client : ClientView
+busy_client = record { settings = settings; kept = []; stand = Busy select [] (Within begun.Nothing) [] Awaited; settled = []; status = Some status.Idle; parameters = []; key = None; closed = None }
+
+second_refused : RefusesUnless phase.Ready busy_client (Ask select) (fault.NotReady phase.Busy)
+unfolding busy_client
+second_refused = (refl, λ e. cc)
+
+chunk_refused : RefusesCopy busy_client (Chunk []) (fault.NotCopying phase.Busy)
+unfolding busy_client
+chunk_refused = (refl, λ e. cc)
+
 second_request : stand_phase (Busy select [] (Within begun.Nothing) [] Awaited) ≡ phase.Busy
 second_request = refl
 

@@ -28,7 +28,7 @@ use Rattle.pg_client.specs.Private.Calling.{with_answer, with_request}
 use Rattle.pg_client.proofs.FactsHold.{stand_facts}
 use Rattle.pg_client.proofs.History.{expected_did, did_start, did_ask, did_copy_end, did_copy_fail, did_chunk, did_terminate}
 use Rattle.pg_client.proofs.Outcomes.{front_splits}
-use Rattle.pg_client.proofs.Timeline.{timeline-did, ends_within, places_more}
+use Rattle.pg_client.proofs.Timeline.{timeline-did, ends_within, places_more, ordered_more}
 
 -- ---- one more call
 
@@ -118,6 +118,7 @@ run_did old stand c none follows spelled run fed heard rest given sent r =
     record {
       stream = r.stream;
       places = places_more run c (length fed) r.places;
+      ordered = ordered_more run c (length fed) r.ordered r.places;
       allowed = subst AreAllowed (sym line) (allowed_more hs (Did c) r.allowed (record { in_place = follows.in_place hs (given ++ old.settled) r.expected there; not_terminated = not_yet }));
       terminated = subst (λ (x : List Happening). IsTerminated x ↔ (closing c ≡ Some cause.Terminated)) (sym line) (terminated_by hs c not_yet);
       expected = subst Expected (sym line) (expected_did hs c stand (given ++ old.settled) r.expected now);
@@ -210,6 +211,7 @@ accepts_open : (old : ClientView) (stand : Stand) (c : Call) (before after : Lis
     → Accepts c old (record old { stand = stand }) before after
 accepts_open old stand c before after goes_on none follows spelled put = record {
   settings = refl;
+  others = refl;
   put = put;
   run = λ run fed heard rest given sent r.
       subst (λ (o : Option Cause). IsRunOf (run ++ (c, length fed) ∷ []) fed heard rest given (sent ++ sent_by old.settings c) false (record old { stand = stand; closed = o })) (goes_on ∙ sym none)
@@ -252,6 +254,7 @@ module _ (v old : ClientView) (before after : List ℕ) (same : v ≡ old) where
       let there : IsOpenPhase (stand_phase v.stand) = subst (λ (x : Option Cause). IsOpenPhase (phase_with x v.stand)) none (subst (λ (x : ClientView). IsOpenPhase (phase_of x)) (sym same) o) in
       subst (λ (x : ClientView). Accepts Terminate x (record v { closed = Some cause.Terminated }) before after) same (record {
         settings = refl;
+        others = refl;
         put = put;
         run = λ run fed heard rest given sent r. run_did v v.stand Terminate none (terminate_follows v.stand there) spelled run fed heard rest given sent r;
       })

@@ -20,8 +20,8 @@ use Rattle.pg_client.specs.declared.place.Progress.{Progress}
 use Rattle.pg_client.specs.declared.place.Progress.TheVariants.{Grows, Closes, Stuck}
 use Rattle.pg_client.specs.declared.place.Stage.{Stage}
 use Rattle.pg_client.specs.declared.place.Stage.TheVariants.{Within, Failed}
-use Rattle.pg_wire.specs.Segment.{Fields, Asked, Results, Steps, Answers, IsCutOff, is_answer, Reads, messages_of}
-use Rattle.pg_client.specs.Place.{begins_result, only_parsed, only_bound, only_shut, describes, begins_parameters, executes, begins_answer, begins, goes_on_rows, goes_on_copy_out, ends_copy_out, ends_copy_in, progress, left, Place, after_progress, error_of, read_by, read, read_from, read_all}
+use Rattle.pg_wire.specs.Segment.{error_of, Fields, Asked, Results, Steps, Answers, IsCutOff, is_answer, Reads, messages_of}
+use Rattle.pg_client.specs.Place.{begins_result, only_parsed, only_bound, only_shut, describes, begins_parameters, executes, begins_answer, begins, goes_on_rows, goes_on_copy_out, ends_copy_out, ends_copy_in, progress, left, Place, after_progress, read_by, read, read_from, read_all}
 
 -- the messages of a part that isn't whole
 abbrev pub begun_messages : Open → List BackMessage

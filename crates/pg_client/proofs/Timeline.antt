@@ -8,7 +8,7 @@ use Rattle.pg_wire.specs.declared.message.BackMessage.{BackMessage}
 use Rattle.pg_client.specs.Session.{Call, Run, Happening, Did, Came, made_before, made_since, timeline}
 use Rattle.pg_wire.specs.Backend.{backend}
 use Rattle.pg_wire.specs.Direction.{spelling}
-use Rattle.pg_client.specs.Client.{with_ends}
+use Rattle.pg_client.specs.Client.{with_ends, AreOrdered}
 
 -- every message ends by then
 abbrev pub EndBy : ℕ → List (BackMessage × ℕ) → Type 0
@@ -75,3 +75,8 @@ with_ends-more at (x ∷ xs) m =
 pub places_more : (run : Run) (c : Call) (place : ℕ) → AllByRecursion (λ x. x.1 ≤ place) run → AllByRecursion (λ x. x.1 ≤ place) (run ++ (c, place) ∷ [])
 places_more [] c place h = (omega arith, tt)
 places_more (x ∷ xs) c place h = (h.0, places_more xs c place h.1)
+
+pub ordered_more : (run : Run) (c : Call) (place : ℕ) → AreOrdered run → AllByRecursion (λ x. x.1 ≤ place) run → AreOrdered (run ++ (c, place) ∷ [])
+ordered_more [] c place o h = tt
+ordered_more (x ∷ []) c place o h = (h.0, tt)
+ordered_more (x ∷ y ∷ xs) c place o h = (o.0, ordered_more (y ∷ xs) c place o.1 h.1)

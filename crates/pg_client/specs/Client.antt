@@ -1,5 +1,5 @@
 -- What a client was called with and fed, and where that leaves it.
-use Rattle.std.specs.Prelude.{◌≡◌, ◌≢◌, ℕ, ℤ, ◌+◌, ◌≤◌, ◌<◌, List, [], ◌∷◌, ◌++◌, length, drop, Bool, true, false, bytes_eq, cond, codes, Option, Some, None, Result, Ok, Err, is_some, ◌⊎◌, ◌↔◌}
+use Rattle.std.specs.Prelude.{◌≡◌, ◌≢◌, ℕ, ℤ, ◌+◌, ◌≤◌, ◌<◌, List, [], ◌∷◌, ◌++◌, length, drop, Bool, true, false, bytes_eq, cond, Option, Some, None, Result, Ok, Err, is_some, ◌⊎◌, ◌↔◌}
 use Rattle.std.specs.List.{flat_map, list_any, slice_get, AllByRecursion}
 use Rattle.pg_wire.specs.declared.fault.EncodeFault.{EncodeFault}
 use Rattle.pg_wire.specs.declared.fault.EncodeFault.TheVariants as encoding
@@ -11,12 +11,11 @@ use Rattle.pg_wire.specs.declared.message.FrontMessage.{FrontMessage}
 use Rattle.pg_wire.specs.declared.message.FrontMessage.TheVariants as front
 use Rattle.pg_wire.specs.declared.message.Status.{Status}
 use Rattle.pg_wire.specs.declared.session.Request.{Request}
-use Rattle.pg_wire.specs.declared.session.Request.TheVariants.{Query, Group}
 use Rattle.pg_wire.specs.Backend.{backend, tag}
 use Rattle.pg_wire.specs.Direction.{spelling, HasSpelling, encode_fault}
-use Rattle.pg_wire.specs.First.{packet, packet_fault, IsPacket}
+use Rattle.pg_wire.specs.First.{packet, packet_fault, startup_parameters, IsPacket}
 use Rattle.pg_wire.specs.Frontend.{frontend}
-use Rattle.pg_wire.specs.Segment.{Fields, status_of, without_asides, request_messages}
+use Rattle.pg_wire.specs.Segment.{error_of, Fields, status_of, without_asides, request_messages}
 use Rattle.pg_wire.specs.Stream.{IsStream, IsWithin, IsOpen, IsFaulty}
 use Rattle.pg_client.specs.declared.place.CopyAnswer.{CopyAnswer}
 use Rattle.pg_client.specs.declared.place.CopyAnswer.TheVariants.{Awaited}
@@ -37,7 +36,6 @@ use Rattle.pg_client.specs.declared.fault.CallFault.TheVariants as fault
 use Rattle.pg_client.specs.declared.fault.FeedFault.{FeedFault}
 use Rattle.pg_client.specs.declared.fault.FeedFault.TheVariants as feeding
 use Rattle.pg_client.specs.Session.{Run, Call, Start, Ask, Chunk, CopyEnd, CopyFail, Terminate, Happening, Did, Came, timeline, requests_in, whole_in, rest_in, Expected, IsStarting, IsReady, IsTerminated, AreAllowed}
-use Rattle.pg_client.specs.Place.{error_of}
 use Rattle.pg_client.specs.Judged.{Stands}
 
 -- What a clause sees of a client.
@@ -84,13 +82,9 @@ phase_of client = phase_with client.closed client.stand
 
 -- ---- what is sent ("Start-up", "Simple Query", "Extended Query", "COPY Operations", "Termination")
 
-abbrev pub database_pair : Option (List ℕ) → List (List ℕ × List ℕ)
-database_pair None = []
-database_pair (Some name) = (codes "database", name) ∷ []
-
--- the parameters of the startup packet
+-- the parameters of the startup packet: the user, the database if one is named, and the further pairs
 abbrev pub startup_pairs : Settings → List (List ℕ × List ℕ)
-startup_pairs settings = (codes "user", settings.user) ∷ database_pair settings.database ++ settings.pairs
+startup_pairs settings = startup_parameters settings.user settings.database settings.pairs
 
 -- the messages that a call sends behind the startup packet
 abbrev pub call_messages : Call → List FrontMessage
@@ -261,11 +255,18 @@ with_ends at (m ∷ ms) = (m, at + length (spelling backend m)) ∷ with_ends (a
 abbrev pub story : Run → List BackMessage → List Happening
 story run heard = timeline run (with_ends 0 heard)
 
+-- The places of the calls ascend.
+abbrev pub AreOrdered : Run → Type 0
+AreOrdered [] = Unit {0}
+AreOrdered (c ∷ []) = Unit {0}
+AreOrdered (c ∷ d ∷ cs) = (c.1 ≤ d.1) × AreOrdered (d ∷ cs)
+
 -- The client was called so and fed these bytes, of which it heard these messages and has this rest. It gave these settled
 -- groups, put out these bytes, and has handed back the request that isn't settled, or not.
 pub record IsRunOf (run : Run) (fed : List ℕ) (heard : List BackMessage) (rest : List ℕ) (given : List Settled) (sent : List ℕ) (handed_back : Bool) (client : ClientView) : Type 0 where
   pub stream : IsStream backend client.settings.limit fed heard rest
   pub places : AllByRecursion (λ c. c.1 ≤ length fed) run
+  pub ordered : AreOrdered run
   pub allowed : AreAllowed (story run heard)
   pub terminated : IsTerminated (story run heard) ↔ (client.closed ≡ Some cause.Terminated)
   -- what was heard is expected, and it stands where that leads
@@ -284,25 +285,17 @@ pub record IsRunOf (run : Run) (fed : List ℕ) (heard : List BackMessage) (rest
 
 -- ---- calls
 
--- The call was accepted and is the last one of the run. What it sends stands behind what was there.
+-- The call was accepted and is the last one of the run. What it sends stands behind what was there, and of the client it changes
+-- nothing but where it stands and whether it is closed.
 pub record Accepts (c : Call) (old new : ClientView) (before after : List ℕ) : Type 0 where
   pub settings : new.settings ≡ old.settings
+  pub others : new ≡ record old { stand = new.stand; closed = new.closed }
   pub put : after ≡ before ++ sent_by old.settings c
   pub run : (run : Run) (fed : List ℕ) (heard : List BackMessage) (rest : List ℕ) (given : List Settled) (sent : List ℕ) → IsRunOf run fed heard rest given sent false old → IsRunOf (run ++ (c, length fed) ∷ []) fed heard rest given (sent ++ sent_by old.settings c) false new
 
--- One message is judged before memory for it is asked for. A startup packet and a group may want memory before all is judged.
-abbrev pub IsJudgedRequest : Request → Type 0
-IsJudgedRequest (Query text) = first_fault (request_messages (Query text)) ≡ None
-IsJudgedRequest (Group steps) = Unit {0}
-
-abbrev pub IsJudged : Call → Type 0
-IsJudged Start = Unit {0}
-IsJudged (Ask r) = IsJudgedRequest r
-IsJudged c = first_fault (call_messages c) ≡ None
-
--- Why a call is refused that is allowed: for what can't be sent, or for want of memory.
+-- Why what a call would send is refused: it can't be sent for this reason, or there is no such reason and memory was refused.
 abbrev pub IsRefusedBy : Settings → Call → CallFault → Type 0
-IsRefusedBy settings c (fault.Encode encoding.Memory) = IsJudged c
+IsRefusedBy settings c (fault.Encode encoding.Memory) = call_fault settings c ≡ None
 IsRefusedBy settings c (fault.Encode f) = call_fault settings c ≡ Some f
 IsRefusedBy settings c _ = ⊥
 
@@ -336,6 +329,13 @@ Cancels (Some key) before (Ok x) after = after ≡ before ++ packet (Cancel key.
 Cancels (Some key) before (Err (fault.Encode f)) after = (f ≡ encoding.Memory) × (after ≡ before)
 Cancels None before (Err fault.NoKey) after = after ≡ before
 Cancels _ before _ after = ⊥
+
+-- ---- a group is taken
+
+-- In each history of the client this group was given, too.
+abbrev pub Gives : Settled → ClientView → ClientView → Type 0
+Gives t old new = (run : Run) (fed : List ℕ) (heard : List BackMessage) (rest : List ℕ) (given : List Settled) (sent : List ℕ) (handed_back : Bool)
+    → IsRunOf run fed heard rest given sent handed_back old → IsRunOf run fed heard rest (given ++ t ∷ []) sent handed_back new
 
 -- ---- feed
 
@@ -381,3 +381,17 @@ has_error ms = list_any (λ m. is_some (error_of m)) ms
 abbrev pub Loses : Bool → List Happening → Loss → Type 0
 Loses false hs loss = (loss.unsettled ≡ slice_get (requests_in hs) (length (groups_in hs))) × (loss.seen_error ≡ has_error (rest_in hs))
 Loses true hs loss = (loss.unsettled ≡ None) × (loss.seen_error ≡ false)
+
+-- what a client knows of a loss
+abbrev pub known_loss : ClientView → Loss
+known_loss client = record { unsettled = unsettled_of client.stand; seen_error = has_failed client.stand }
+
+-- This is what is lost, by each history of the client.
+abbrev pub HandsBack : ClientView → Loss → Type 0
+HandsBack old loss = (run : Run) (fed : List ℕ) (heard : List BackMessage) (rest : List ℕ) (given : List Settled) (sent : List ℕ) (handed_back : Bool)
+    → IsRunOf run fed heard rest given sent handed_back old → Loses handed_back (story run heard) loss
+
+-- In each history of the client its request is handed back then.
+abbrev pub IsHandedBack : ClientView → ClientView → Type 0
+IsHandedBack old new = (run : Run) (fed : List ℕ) (heard : List BackMessage) (rest : List ℕ) (given : List Settled) (sent : List ℕ) (handed_back : Bool)
+    → IsRunOf run fed heard rest given sent handed_back old → IsRunOf run fed heard rest given sent true new

@@ -3,6 +3,7 @@ pub mod Session
 pub mod Client
 pub mod Facts
 pub mod Turns
+pub mod Answering
 -- How the client's place goes on from message to message. A run's history has these words; the law facts_of_a_run says what
 -- they mean in those above.
 pub mod Place

@@ -1,7 +1,7 @@
 -- Where the messages of an unfinished segment have come to, one message after another.
 use Rattle.std.specs.Prelude.{ℕ, List, [], ◌∷◌, ◌++◌, length, drop, Option, Some, None}
 use Rattle.pg_wire.specs.declared.message.BackMessage.{BackMessage}
-use Rattle.pg_wire.specs.declared.message.BackMessage.TheVariants.{RowDescription, DataRow, CommandComplete, EmptyQuery, ParseComplete, BindComplete, CloseComplete, NoData, PortalSuspended, ParameterDescription, ErrorResponse, CopyData, CopyDone}
+use Rattle.pg_wire.specs.declared.message.BackMessage.TheVariants.{RowDescription, DataRow, CommandComplete, EmptyQuery, ParseComplete, BindComplete, CloseComplete, NoData, PortalSuspended, ParameterDescription, CopyData, CopyDone}
 use Rattle.pg_wire.specs.declared.message.BackMessage.TheVariants as back
 use Rattle.pg_wire.specs.declared.message.Column.{Column}
 use Rattle.pg_wire.specs.declared.message.CopyHead.{CopyHead}
@@ -20,7 +20,7 @@ use Rattle.pg_client.specs.declared.place.Stage.TheVariants.{Within, Failed}
 use Rattle.pg_wire.specs.declared.message.Status.{Status}
 use Rattle.pg_wire.specs.declared.session.Aside.{Aside}
 use Rattle.pg_wire.specs.declared.session.Outcome.{Outcome}
-use Rattle.pg_wire.specs.Segment.{Fields, Asked, Results, Steps}
+use Rattle.pg_wire.specs.Segment.{Fields, error_of, Asked, Results, Steps}
 
 -- the first message of a result
 abbrev pub begins_result : BackMessage → Progress
@@ -117,10 +117,6 @@ abbrev pub after_progress : List Part → Progress → Option Place
 after_progress parts (Grows o) = Some (record { parts = parts; stage = Within o })
 after_progress parts (Closes p) = Some (record { parts = parts ++ p ∷ []; stage = Within begun.Nothing })
 after_progress parts Stuck = None
-
-abbrev pub error_of : BackMessage → Option Fields
-error_of (ErrorResponse fields) = Some fields
-error_of _ = None
 
 abbrev pub read_by : Asked → List Part → Stage → Option Fields → BackMessage → Option Place
 read_by a parts (Within o) (Some fields) m = Some (record { parts = parts; stage = Failed fields })

@@ -2,12 +2,10 @@
 
 mod feed;
 
-ghost use Rattle.std.specs.Prelude.{◌≡◌, ◌≤◌, ◌++◌, ◌∷◌, [], Bool, false, ℕ, IfErr, IfNone, IfSome, List, None, OnErr, OnOk, option_copied, Some, true};
-ghost use Rattle.pg_wire.specs.declared.message.BackMessage.{BackMessage};
-ghost use Rattle.pg_client.specs.Session.{Ask, Chunk, CopyEnd, CopyFail, Run, Start, Terminate};
-ghost use Rattle.pg_client.specs.Client.{Accepts, busy_phase_of, Cancels, first_cause, has_failed, IsOpenPhase, IsRunOf, Loses, phase_of, RefusesCopy, RefusesEnd, RefusesUnless, stage_failed, story, unsettled_of, value_of};
+ghost use Rattle.std.specs.Prelude.{◌≡◌, ◌≤◌, ◌∷◌, [], false, IfErr, IfNone, IfSome, None, OnErr, OnOk, option_copied, Some};
+ghost use Rattle.pg_client.specs.Session.{Ask, Chunk, CopyEnd, CopyFail, Start, Terminate};
+ghost use Rattle.pg_client.specs.Client.{Accepts, busy_phase_of, Cancels, first_cause, Gives, HandsBack, has_failed, IsHandedBack, IsOpenPhase, IsRunOf, phase_of, RefusesCopy, RefusesEnd, RefusesUnless, stage_failed, unsettled_of, value_of};
 ghost use Rattle.pg_client.specs.Private.Calling.{with_answer, with_request};
-ghost use Rattle.pg_client.specs.declared.settled.Settled.{Settled};
 
 use crate::fault::CallFault;
 use crate::parameters::Parameters;
@@ -49,7 +47,7 @@ impl Model for Client {
 }
 
 impl Client {
-    /// A client that was not started.
+    /// A client that was not started, in phase New. The limit of the settings is from 64 to 1,073,741,823. It takes no memory.
     pub fn new(alloc: Global, settings: Settings) -> Self
         requires { (64 ≤ settings.limit) × (settings.limit ≤ 1073741823) }
         ensures settings { result.settings ≡ settings }
@@ -70,7 +68,7 @@ impl Client {
         }
     }
 
-    /// Where the client stands.
+    /// Where the client stands ("Message Flow").
     pub fn phase(&self) -> Phase
         ensures { result ≡ phase_of self.now }
     {
@@ -85,21 +83,28 @@ impl Client {
         }
     }
 
-    /// The transaction status of the last ReadyForQuery.
+    /// The transaction status that the last ReadyForQuery said; None before the first one.
     pub fn status(&self) -> Option<Status>
         ensures { result ≡ self.now.status }
     {
         self.status
     }
 
-    /// The last value that the server sent of a run-time parameter.
-    pub fn parameter(&self, name: &[u8]) -> Option<&Seq<u8>>
+    /// The last value that the server sent of a run-time parameter ("Asynchronous Operations"); None where it sent none.
+    pub fn parameter(&self, name: &[u8]) -> Option<&[u8]>
         ensures { option_copied result ≡ value_of name.now self.now.parameters }
     {
-        self.parameters.get(name)
+        match self.parameters.get(name) {
+            Some(value) => Some(value.as_slice()),
+            None => None,
+        }
     }
 
-    /// Puts the startup packet out ("Start-up"). Allowed in phase New, and leads to Starting.
+    /// Puts the startup packet out ("Start-up"): `user`, `database` if one is given, then the further pairs. Allowed in phase New,
+    /// and leads to Starting.
+    ///
+    /// C1 NotReady: another phase. C3 Encode: HasZero, EmptyName or TooLong for the packet, or Memory where it has none of
+    /// these. After a refusal the client and `out` are as they were.
     pub fn start(&mut self, out: &mut Vec<u8>) -> Result<(), CallFault>
         ensures ok { OnOk result ((phase_of self.old ≡ Phase.New) × (phase_of self.new ≡ Phase.Starting)) }
         ensures run { OnOk result (Accepts Start self.old self.new out.old.items out.new.items) }
@@ -110,15 +115,18 @@ impl Client {
         if phase != Phase::New {
             return Err(CallFault::NotReady(phase));
         }
-        if let Err(fault) = put_startup(self.alloc, &self.settings, out) {
+        if let Err(fault) = put_startup(&self.settings, out) {
             return Err(CallFault::Encode(fault));
         }
         self.stand = Stand::Starting(Welcome::Fresh);
         Ok(())
     }
 
-    /// Makes a request: puts a Query out, or the messages of a group's steps and a Sync. Allowed in phase Ready, and leads to
-    /// Busy. A refusal hands the request back.
+    /// Makes a request: puts a Query out, or the messages of a group's steps and a Sync ("Simple Query", "Extended Query").
+    /// Allowed in phase Ready, and leads to Busy.
+    ///
+    /// C1 NotReady: another phase. C3 Encode: the fault of the first message that has one (HasZero, TooMany, TooLong), or Memory
+    /// where none has. A refusal hands the request back, and the client and `out` are as they were.
     pub fn request(
         &mut self,
         request: Request,
@@ -140,7 +148,10 @@ impl Client {
         Ok(())
     }
 
-    /// Puts a chunk of data out, as one CopyData, also where it is empty ("COPY Operations"). Allowed in phase CopyingIn.
+    /// Puts a chunk of data out, as one CopyData, also where it is empty ("COPY Operations"). Allowed in phase CopyingIn, which
+    /// stays.
+    ///
+    /// C2 NotCopying: another phase. C3 Encode: TooLong or Memory. After a refusal the client and `out` are as they were.
     pub fn copy_chunk(&mut self, bytes: &[u8], out: &mut Vec<u8>) -> Result<(), CallFault>
         ensures ok { OnOk result ((phase_of self.old ≡ Phase.CopyingIn) × (phase_of self.new ≡ Phase.CopyingIn)) }
         ensures run { OnOk result (Accepts (Chunk bytes.now) self.old self.new out.old.items out.new.items) }
@@ -157,7 +168,9 @@ impl Client {
         }
     }
 
-    /// Says that the data of a copy is complete. Allowed in phase CopyingIn, and leads to Busy.
+    /// Says that the data of a copy is complete, by a CopyDone ("COPY Operations"). Allowed in phase CopyingIn, and leads to Busy.
+    ///
+    /// C2 NotCopying: another phase. C3 Encode: Memory alone. After a refusal the client and `out` are as they were.
     pub fn copy_done(&mut self, out: &mut Vec<u8>) -> Result<(), CallFault>
         ensures ok { OnOk result ((phase_of self.old ≡ Phase.CopyingIn) × (phase_of self.new ≡ Phase.Busy)) }
         ensures run { OnOk result (Accepts CopyEnd self.old self.new out.old.items out.new.items) }
@@ -175,7 +188,10 @@ impl Client {
         Ok(())
     }
 
-    /// Says that a copy is to fail, for this reason. Allowed in phase CopyingIn, and leads to Busy.
+    /// Says that a copy is to fail for this reason, by a CopyFail ("COPY Operations"). Allowed in phase CopyingIn, and leads to
+    /// Busy; the server answers with an error.
+    ///
+    /// C2 NotCopying: another phase. C3 Encode: HasZero, TooLong or Memory. After a refusal the client and `out` are as they were.
     pub fn copy_fail(&mut self, reason: &[u8], out: &mut Vec<u8>) -> Result<(), CallFault>
         ensures ok { OnOk result ((phase_of self.old ≡ Phase.CopyingIn) × (phase_of self.new ≡ Phase.Busy)) }
         ensures run { OnOk result (Accepts (CopyFail reason.now) self.old self.new out.old.items out.new.items) }
@@ -195,6 +211,8 @@ impl Client {
 
     /// Ends the session: puts a Terminate out ("Termination"). Allowed but in phases New and Closed, and leads to
     /// Closed(Terminated). A request that is outstanding stays to be handed back by [`lost`](Client::lost).
+    ///
+    /// C1 NotReady: phase New or Closed. C3 Encode: Memory alone. After a refusal the client and `out` are as they were.
     pub fn terminate(&mut self, out: &mut Vec<u8>) -> Result<(), CallFault>
         ensures ok { OnOk result (IsOpenPhase (phase_of self.old) × (phase_of self.new ≡ Phase.Closed Cause.Terminated)) }
         ensures run { OnOk result (Accepts Terminate self.old self.new out.old.items out.new.items) }
@@ -213,7 +231,9 @@ impl Client {
     }
 
     /// Appends the packet that asks to cancel the outstanding request, for a connection of its own ("Canceling Requests in
-    /// Progress"). Allowed in any phase; C4 NoKey where the server has sent no key.
+    /// Progress"). It has the last key that the server sent. Allowed in any phase, and the client is unchanged.
+    ///
+    /// C3 Encode: Memory alone. C4 NoKey: the server has sent no key. After a refusal `out` is as it was.
     pub fn cancel_packet(&self, out: &mut Vec<u8>) -> Result<(), CallFault>
         ensures { Cancels self.now.key out.old.items result out.new.items }
     {
@@ -226,23 +246,25 @@ impl Client {
         }
     }
 
-    /// Takes the oldest settled group that wasn't taken.
+    /// Takes the oldest settled group that wasn't taken: a request with the outcome that its ReadyForQuery closed. None where all
+    /// were taken. It takes no memory.
     pub fn take_settled(&mut self) -> Option<Settled>
         ensures some { IfSome result (λ t. (self.old.settled ≡ t ∷ self.new.settled) × (self.new ≡ record self.old { settled = self.new.settled })) }
-        ensures run { IfSome result (λ t. (run : Run) (fed : List ℕ) (heard : List BackMessage) (rest : List ℕ) (given : List Settled) (sent : List ℕ) (handed_back : Bool) → IsRunOf run fed heard rest given sent handed_back self.old → IsRunOf run fed heard rest (given ++ t ∷ []) sent handed_back self.new) }
+        ensures run { IfSome result (λ t. Gives t self.old self.new) }
         ensures none { IfNone result ((self.old.settled ≡ []) × (self.new ≡ self.old)) }
     {
         self.settled.pop_front()
     }
 
     /// Says that the connection is gone. It hands back the request that isn't settled, and says whether an error came for it.
-    /// It leads to Closed(Lost), or a closed client keeps its cause. Asked again, it hands nothing back.
+    /// It leads to Closed(Lost), or a closed client keeps its cause; what is settled stays to be taken. Asked again, it hands
+    /// nothing back. It takes no memory.
     pub fn lost(&mut self) -> Loss
         ensures settings { self.new.settings ≡ self.old.settings }
         ensures closed { self.new.closed ≡ Some (first_cause self.old.closed Cause.Lost) }
         ensures settled { self.new.settled ≡ self.old.settled }
-        ensures loss { (run : Run) (fed : List ℕ) (heard : List BackMessage) (rest : List ℕ) (given : List Settled) (sent : List ℕ) (handed_back : Bool) → IsRunOf run fed heard rest given sent handed_back self.old → Loses handed_back (story run heard) result }
-        ensures run { (run : Run) (fed : List ℕ) (heard : List BackMessage) (rest : List ℕ) (given : List Settled) (sent : List ℕ) (handed_back : Bool) → IsRunOf run fed heard rest given sent handed_back self.old → IsRunOf run fed heard rest given sent true self.new }
+        ensures loss { HandsBack self.old result }
+        ensures run { IsHandedBack self.old self.new }
     {
         self.closed = Some(self.closed.unwrap_or(Cause::Lost));
         loss_of(mem::replace(&mut self.stand, Stand::New))

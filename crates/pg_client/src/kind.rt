@@ -16,6 +16,7 @@ pub enum Kind {
 }
 
 impl Kind {
+    /// The kind of a message.
     pub fn of(message: BackMessage) -> Kind
         ensures { IsKind message result }
     {

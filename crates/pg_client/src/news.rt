@@ -16,6 +16,7 @@ pub enum News {
 }
 
 impl News {
+    /// What a message says. It copies the name and the value of a parameter, which also stay with the request as an aside.
     pub fn of(message: &BackMessage) -> Result<News, AllocError>
         ensures { IfOk result (IsNews message.now) }
     {

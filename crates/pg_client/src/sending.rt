@@ -1,40 +1,32 @@
 //! What the calls put out.
 
-ghost use Rattle.std.specs.Prelude.{◌≡◌, ◌++◌, ◌∷◌, [], Err, IfOk, map};
-ghost use Rattle.pg_wire.specs.Encoder.{Encodes};
+ghost use Rattle.std.specs.Prelude.{◌≡◌, ◌++◌, ◌∷◌, [], map};
+ghost use Rattle.pg_wire.specs.Encoder.{Encodes, EncodesPacket};
 ghost use Rattle.pg_wire.specs.Frontend.{frontend};
 ghost use Rattle.pg_wire.specs.Segment.{request_messages, step_message};
+ghost use Rattle.pg_wire.specs.declared.message.First.TheVariants.{Startup};
 ghost use Rattle.pg_wire.specs.declared.message.FrontMessage.TheVariants.{Sync};
 ghost use Rattle.pg_wire.specs.declared.session.Request.TheVariants.{Group};
-ghost use Rattle.pg_client.specs.Client.{IsJudgedRequest, startup_pairs};
-ghost use Rattle.pg_client.specs.Private.Sending.{Puts, SendsAll, SendsStartup};
+ghost use Rattle.pg_client.specs.Client.{startup_pairs};
+ghost use Rattle.pg_client.specs.Private.Sending.{Puts, SendsAll, starved_after};
 
 use crate::settings::Settings;
 use pg_wire::{EncodeFault, Request, Seq, Step, frontend};
-use std::alloc::{AllocError, Global};
-
-// The parameters of the startup packet.
-fn startup_pairs(alloc: Global, settings: &Settings) -> Result<Vec<(Seq<u8>, Seq<u8>)>, AllocError>
-    ensures { IfOk result (λ pairs. pairs.items ≡ startup_pairs settings.now) }
-{
-    let mut pairs = Vec::new(alloc);
-    pairs.push((Seq::from_slice(alloc, b"user")?, settings.user.clone()?))?;
-    if let Some(name) = &settings.database {
-        pairs.push((Seq::from_slice(alloc, b"database")?, name.clone()?))?;
-    }
-    let mut others = settings.pairs.clone()?.into_vec();
-    pairs.append(&mut others)?;
-    Ok(pairs)
-}
 
 /// Puts the startup packet out.
-pub fn put_startup(alloc: Global, settings: &Settings, out: &mut Vec<u8>) -> Result<(), EncodeFault>
-    ensures { SendsStartup settings.now out.old.items result out.new.items }
+pub fn put_startup(settings: &Settings, out: &mut Vec<u8>) -> Result<(), EncodeFault>
+    ensures { EncodesPacket (Startup (startup_pairs settings.now)) out.old.items result out.new.items }
 {
-    match startup_pairs(alloc, settings) {
-        Ok(pairs) => frontend::startup_message(pairs.as_slice(), out),
-        Err(_) => Err(EncodeFault::Memory),
-    }
+    let database = match &settings.database {
+        Some(name) => Some(name.as_slice()),
+        None => None,
+    };
+    frontend::startup(
+        settings.user.as_slice(),
+        database,
+        settings.pairs.as_slice(),
+        out,
+    )
 }
 
 fn put_step(step: &Step, out: &mut Vec<u8>) -> Result<(), EncodeFault>
@@ -64,14 +56,30 @@ fn put_step(step: &Step, out: &mut Vec<u8>) -> Result<(), EncodeFault>
     }
 }
 
-// Puts the steps and a Sync out, as far as may be.
+// Whether memory was refused so far, after one more message was put out.
+fn starved_after(starved: bool, put: Result<(), EncodeFault>) -> Result<bool, EncodeFault>
+    ensures { result ≡ starved_after starved put }
+{
+    match put {
+        Ok(()) => Ok(starved),
+        Err(EncodeFault::Memory) => Ok(true),
+        Err(fault) => Err(fault),
+    }
+}
+
+// Puts the steps and a Sync out, as far as may be. All are judged, also behind one that memory was refused for.
 fn put_steps(steps: &[Step], out: &mut Vec<u8>) -> Result<(), EncodeFault>
     ensures { Puts (map step_message steps.now ++ Sync ∷ []) out.old.items result out.new.items }
 {
+    let mut starved = false;
     for step in steps {
-        put_step(step, out)?;
+        starved = starved_after(starved, put_step(step, out))?;
     }
-    frontend::sync(out)
+    if starved_after(starved, frontend::sync(out))? {
+        Err(EncodeFault::Memory)
+    } else {
+        Ok(())
+    }
 }
 
 // Puts a group out, or nothing.
@@ -90,8 +98,7 @@ fn put_group(steps: &Seq<Step>, out: &mut Vec<u8>) -> Result<(), EncodeFault>
 
 /// Puts a request out, or nothing.
 pub fn put_request(request: &Request, out: &mut Vec<u8>) -> Result<(), EncodeFault>
-    ensures sent { SendsAll (request_messages request.now) out.old.items result out.new.items }
-    ensures judged { result ≡ Err EncodeFault.Memory → IsJudgedRequest request.now }
+    ensures { SendsAll (request_messages request.now) out.old.items result out.new.items }
 {
     match request {
         Request::Query(text) => frontend::query(text.as_slice(), out),

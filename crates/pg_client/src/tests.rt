@@ -1,5 +1,7 @@
 use super::*;
-use pg_wire::{Aside, ErrorField, Outcome, Part, Request, Seq, Status, Step, WireFault};
+use pg_wire::{
+    Aside, EncodeFault, ErrorField, Outcome, Part, Request, Seq, Status, Step, Target, WireFault,
+};
 use std::alloc::Global;
 use std::test::Fail;
 
@@ -169,19 +171,32 @@ fn calls_put_their_bytes_out(rt: HostRuntime) -> Result<(), Fail> {
     let refused = client.request(query(alloc)?, &mut out);
     assert!(rt; refused == Err((query(alloc)?, CallFault::NotReady(Phase::Busy))));
     assert!(rt; client.copy_chunk(b"1", &mut out) == Err(CallFault::NotCopying(Phase::Busy)));
-    assert!(rt; client.cancel_packet(&mut out) == Err(CallFault::NoKey));
     assert!(rt; out.as_slice() == start.as_slice());
     out.clear();
     client.terminate(&mut out)?;
     assert!(rt; out.as_slice() == [0x58, 0, 0, 0, 4].as_slice());
     assert!(rt; client.phase() == Phase::Closed(Cause::Terminated));
 
+    Ok(())
+}
+
+#[test]
+fn the_last_key_and_value_count(rt: HostRuntime) -> Result<(), Fail> {
+    let alloc = rt.alloc();
+    let mut out = Vec::new(alloc);
+    let client = ready(alloc, &mut out)?;
+    out.clear();
+    assert!(rt; client.cancel_packet(&mut out) == Err(CallFault::NoKey));
+    assert!(rt; out.is_empty());
+
     let mut keyed = started(alloc, &mut out)?;
     keyed.feed(&AUTH_OK, &mut out)?;
+    keyed.feed(&[0x53, 0, 0, 0, 8, 0x61, 0, 0x63, 0], &mut out)?;
     keyed.feed(&[0x53, 0, 0, 0, 8, 0x61, 0, 0x62, 0], &mut out)?;
+    keyed.feed(&[0x4B, 0, 0, 0, 12, 0, 0, 0, 3, 0, 0, 0, 4], &mut out)?;
     keyed.feed(&[0x4B, 0, 0, 0, 12, 0, 0, 0, 1, 0, 0, 0, 2], &mut out)?;
     keyed.feed(&READY, &mut out)?;
-    assert!(rt; keyed.parameter(b"a") == Some(&Seq::from_slice(alloc, b"b")?));
+    assert!(rt; keyed.parameter(b"a") == Some(b"b".as_slice()));
     assert!(rt; keyed.parameter(b"b").is_none());
     out.clear();
     keyed.cancel_packet(&mut out)?;
@@ -192,7 +207,7 @@ fn calls_put_their_bytes_out(rt: HostRuntime) -> Result<(), Fail> {
 }
 
 #[test]
-fn copies_and_groups_go_their_way(rt: HostRuntime) -> Result<(), Fail> {
+fn copies_go_their_way(rt: HostRuntime) -> Result<(), Fail> {
     let alloc = rt.alloc();
     let mut out = Vec::new(alloc);
     let mut client = busy(alloc, &mut out)?;
@@ -214,7 +229,13 @@ fn copies_and_groups_go_their_way(rt: HostRuntime) -> Result<(), Fail> {
     refused.copy_fail(b"no", &mut out)?;
     assert!(rt; out.as_slice() == b"f\0\0\0\x07no\0".as_slice());
     assert!(rt; refused.feed(&OK, &mut out) == Err(FeedFault::Unexpected(67)));
+    Ok(())
+}
 
+#[test]
+fn groups_go_their_way(rt: HostRuntime) -> Result<(), Fail> {
+    let alloc = rt.alloc();
+    let mut out = Vec::new(alloc);
     let mut group = ready(alloc, &mut out)?;
     let mut steps = Vec::new(alloc);
     steps.push(Step::Execute {
@@ -232,5 +253,33 @@ fn copies_and_groups_go_their_way(rt: HostRuntime) -> Result<(), Fail> {
     group.feed(&READY, &mut out)?;
     assert!(rt; group.take_settled().is_some());
     assert!(rt; group.phase() == Phase::Ready);
+    Ok(())
+}
+
+// A group of two steps, of which the second has no spelling.
+fn unspelled(alloc: Global) -> Result<Request, Fail> {
+    let mut steps = Vec::new(alloc);
+    steps.push(Step::Execute {
+        portal: Seq::new(Vec::new(alloc)),
+        max_rows: 0,
+    })?;
+    steps.push(Step::Close {
+        target: Target::Portal,
+        name: Seq::from_slice(alloc, b"a\0")?,
+    })?;
+    Ok(Request::Group(Seq::new(steps)))
+}
+
+#[test]
+fn what_has_no_spelling_is_handed_back(rt: HostRuntime) -> Result<(), Fail> {
+    let alloc = rt.alloc();
+    let mut out = Vec::new(alloc);
+    let mut client = ready(alloc, &mut out)?;
+    out.clear();
+    let refused = client.request(unspelled(alloc)?, &mut out);
+    let fault = CallFault::Encode(EncodeFault::HasZero);
+    assert!(rt; refused == Err((unspelled(alloc)?, fault)));
+    assert!(rt; out.is_empty());
+    assert!(rt; client.phase() == Phase::Ready);
     Ok(())
 }

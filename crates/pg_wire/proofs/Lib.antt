@@ -8,5 +8,7 @@ pub mod Streams
 pub mod Rows
 pub mod FrontMessages
 pub mod Segments
+pub mod Cuts
 pub mod Encoding
 pub mod Packets
+pub mod Startups

@@ -1,10 +1,24 @@
 -- Worked examples, computed from the definitions alone but where a rest has to be judged.
-use Rattle.std.proofs.Common.{◌≡◌, true, [], ◌∷◌, Some, None, refl, arith, lit≤}
+use Rattle.std.proofs.Common.{◌≡◌, true, List, [], ◌∷◌, ◌++◌, Option, Some, None, refl, sym, ap, subst, ◌∙◌, append_assoc, arith, lit≤, inl, inr}
 use Rattle.std.specs.Prelude.{pos, negsuc}
+use Rattle.std.specs.List.{flat_map}
 use Rattle.std.proofs.lemmas.Int.{ints}
 use Rattle.pg_wire.specs.declared.fault.EncodeFault.TheVariants as faults
 use Rattle.pg_wire.specs.declared.fault.WireFault.TheVariants as wire
-use Rattle.pg_wire.specs.declared.message.Status.TheVariants.{Idle}
+use Rattle.pg_wire.specs.declared.message.Status.TheVariants.{Idle, InBlock}
+use Rattle.pg_wire.specs.declared.message.BackMessage.{BackMessage}
+use Rattle.pg_wire.specs.declared.message.BackMessage.TheVariants as back
+use Rattle.pg_wire.specs.declared.message.CopyHead.{CopyHead}
+use Rattle.pg_wire.specs.declared.message.Target.TheVariants.{Statement, Portal}
+use Rattle.pg_wire.specs.declared.session.Aside.TheVariants as aside
+use Rattle.pg_wire.specs.declared.session.ExecEnd.TheVariants as ends
+use Rattle.pg_wire.specs.declared.session.Outcome.{Outcome}
+use Rattle.pg_wire.specs.declared.session.Part.{Part}
+use Rattle.pg_wire.specs.declared.session.Part.TheVariants as part
+use Rattle.pg_wire.specs.declared.session.Request.TheVariants as asking
+use Rattle.pg_wire.specs.declared.session.Step.{Step}
+use Rattle.pg_wire.specs.declared.session.Step.TheVariants as step
+use Rattle.pg_wire.specs.Segment.{Fields, Fits, Begins, Reads, Answers, IsDone, IsCutOff, Asked, Results, Steps, is_result, is_answer, messages_of, without_asides, segments}
 use Rattle.pg_wire.specs.declared.backend.kind.BackKind.TheVariants as kinds
 use Rattle.pg_wire.specs.declared.message.BackMessage.TheVariants.{AuthOk, AuthOther, Ready, RowDescription, DataRow, CommandComplete, ErrorResponse}
 use Rattle.pg_wire.specs.declared.message.FrontMessage.TheVariants.{Query, Bind}
@@ -20,6 +34,7 @@ use Rattle.pg_wire.specs.Private.Reader.{counted_at, times_at, value_at}
 use Rattle.pg_wire.proofs.Packets.{no_code, packet_bad}
 use Rattle.pg_wire.proofs.BackMessages.{is_tag, no_tag, read_none}
 use Rattle.pg_wire.proofs.Rests.{short_open, partial_open, bad_fault}
+use Rattle.pg_wire.proofs.Segments.{last_same, error_in, HasNone, part_some}
 
 -- ---- spellings
 
@@ -143,3 +158,180 @@ ssl_with_content : IsFaultyPacket (0 ∷ 0 ∷ 0 ∷ 9 ∷ 4 ∷ 0xD2 ∷ 0x16 �
 ssl_with_content = packet_bad (0 ∷ 0 ∷ 0 ∷ 9 ∷ 4 ∷ 0xD2 ∷ 0x16 ∷ 0x2F ∷ 0 ∷ []) packets.Ssl 9 1
     (record { head = record { there = omega arith; length_is = refl }; code = record { there = omega arith; code_is = refl }; known = (first.Ssl, refl); not_short = omega arith; not_long = omega arith; there = omega arith })
     refl refl
+
+-- ---- segments
+
+abbrev head : CopyHead
+head = record { binary = true; formats = pos 1 ∷ [] }
+
+abbrev parse : Step
+parse = step.Parse [] (0x3B ∷ []) []
+
+-- a copy from the server, in two pieces
+copied_out : Fits (asking.Query []) (back.CopyOut head ∷ back.CopyData (1 ∷ []) ∷ back.CopyData [] ∷ back.CopyDone ∷ CommandComplete (0x43 ∷ []) ∷ Ready Idle ∷ [])
+    (record { parts = part.CopyOut head ((1 ∷ []) ∷ [] ∷ []) (0x43 ∷ []) ∷ []; error = None; status = Idle; asides = [] })
+copied_out = record {
+  body = back.CopyOut head ∷ back.CopyData (1 ∷ []) ∷ back.CopyData [] ∷ back.CopyDone ∷ CommandComplete (0x43 ∷ []) ∷ [];
+  closed = refl;
+  asides = refl;
+  reads = (Results, (refl, refl), tt, refl);
+}
+
+-- a copy to the server, which the server may ask for
+copied_in : Fits (asking.Query []) (back.CopyIn head ∷ CommandComplete (0x43 ∷ []) ∷ Ready Idle ∷ [])
+    (record { parts = part.CopyIn head (0x43 ∷ []) ∷ []; error = None; status = Idle; asides = [] })
+copied_in = record {
+  body = back.CopyIn head ∷ CommandComplete (0x43 ∷ []) ∷ [];
+  closed = refl;
+  asides = refl;
+  reads = (Results, (refl, refl), tt, refl);
+}
+
+copies_in : Begins (asking.Query []) (back.CopyIn head ∷ [])
+copies_in = (CommandComplete (0x43 ∷ []) ∷ Ready Idle ∷ [], _, copied_in)
+
+-- a group's answers, with asides among them
+abbrev five_steps : List Step
+five_steps = parse ∷ step.Bind [] [] [] [] [] ∷ step.Describe Statement [] ∷ step.Execute [] (pos 1) ∷ step.Close Statement [] ∷ []
+
+answered : Fits (asking.Group five_steps)
+    (back.ParseComplete ∷ back.NoticeResponse [] ∷ back.BindComplete ∷ back.ParameterDescription (23 ∷ []) ∷ back.ParameterStatus (0x61 ∷ []) [] ∷ back.NoData ∷ DataRow (None ∷ []) ∷ back.Notification (pos 1) [] [] ∷ back.PortalSuspended ∷ back.CloseComplete ∷ Ready InBlock ∷ [])
+    (record {
+      parts = part.Parsed ∷ part.Bound ∷ part.Described (Some (23 ∷ [])) None ∷ part.Executed ((None ∷ []) ∷ []) ends.Suspended ∷ part.Shut ∷ [];
+      error = None;
+      status = InBlock;
+      asides = aside.Notice [] ∷ aside.Parameter (0x61 ∷ []) [] ∷ aside.Notification (pos 1) [] [] ∷ [];
+    })
+answered = record {
+  body = back.ParseComplete ∷ back.NoticeResponse [] ∷ back.BindComplete ∷ back.ParameterDescription (23 ∷ []) ∷ back.ParameterStatus (0x61 ∷ []) [] ∷ back.NoData ∷ DataRow (None ∷ []) ∷ back.Notification (pos 1) [] [] ∷ back.PortalSuspended ∷ back.CloseComplete ∷ [];
+  closed = refl;
+  asides = refl;
+  reads = (Steps [], (refl, (refl, (refl, (refl, (refl, refl))))), tt, refl);
+}
+
+-- an error cuts a Describe's answer off
+cut_off : Fits (asking.Group five_steps) (back.ParseComplete ∷ back.BindComplete ∷ back.ParameterDescription (23 ∷ []) ∷ ErrorResponse [] ∷ Ready Idle ∷ [])
+    (record { parts = part.Parsed ∷ part.Bound ∷ []; error = Some []; status = Idle; asides = [] })
+cut_off = record {
+  body = back.ParseComplete ∷ back.BindComplete ∷ back.ParameterDescription (23 ∷ []) ∷ ErrorResponse [] ∷ [];
+  closed = refl;
+  asides = refl;
+  reads = (
+    Steps (step.Describe Statement [] ∷ step.Execute [] (pos 1) ∷ step.Close Statement [] ∷ []),
+    (refl, (refl, refl)),
+    back.ParameterDescription (23 ∷ []) ∷ [],
+    inr (part.Described (Some (23 ∷ [])) None, back.NoData, [], Steps (step.Execute [] (pos 1) ∷ step.Close Statement [] ∷ []), (refl, refl), refl),
+    [],
+    refl,
+  );
+}
+
+-- ---- what doesn't fit
+
+no_error_among : (ms xs w : List BackMessage) (fields : Fields) → HasNone ms → ms ≡ xs ++ ErrorResponse fields ∷ w → ⊥
+no_error_among [] [] w fields h e = absurd cc
+no_error_among [] (x ∷ xs) w fields h e = absurd cc
+no_error_among (m ∷ ms) [] w fields h e =
+    let first : ErrorResponse fields ≡ m = cc in
+    let k : Some fields ≡ None = ap error_in first ∙ h.0 in
+    absurd cc
+no_error_among (m ∷ ms) (x ∷ xs) w fields h e =
+    let tail : ms ≡ xs ++ ErrorResponse fields ∷ w = cc in
+    no_error_among ms xs w fields h.1 tail
+
+-- where there is no error message, there is no error
+unfailed : (a : Asked) (ms : List BackMessage) (parts : List Part) (fields : Fields) → HasNone ms → Reads a ms parts (Some fields) → ⊥
+unfailed a ms parts fields none r = no_error_among ms (flat_map messages_of parts ++ r.2) _ fields none (r.5 ∙ sym (append_assoc (flat_map messages_of parts) r.2 _))
+
+nothing_before : (xs ys : List BackMessage) → [] ≡ xs ++ ys → xs ≡ []
+nothing_before [] ys e = refl
+nothing_before (x ∷ xs) ys e = absurd cc
+
+-- a Parse without its answer
+unanswered : (outcome : Outcome) → Fits (asking.Group (parse ∷ [])) (Ready Idle ∷ []) outcome → ⊥
+unanswered outcome h = missing outcome.parts outcome.error (subst (λ (b : List BackMessage). Reads (Steps (parse ∷ [])) (without_asides b) outcome.parts outcome.error) (sym (last_same [] h.body (Ready Idle) (Ready outcome.status) h.closed).0) h.reads)
+  where
+    missing : (parts : List Part) (error : Option Fields) → Reads (Steps (parse ∷ [])) [] parts error → ⊥
+    missing [] None r = subst IsDone r.1 r.2
+    missing (p ∷ ps) None r = part_some p (nothing_before (messages_of p) (flat_map messages_of ps) r.3)
+    missing parts (Some fields) r = unfailed (Steps (parse ∷ [])) [] parts fields tt r
+
+-- columns without a tag behind them
+unfinished : (outcome : Outcome) → Fits (asking.Query []) (RowDescription [] ∷ Ready Idle ∷ []) outcome → ⊥
+unfinished outcome h = missing outcome.parts outcome.error (subst (λ (b : List BackMessage). Reads Results (without_asides b) outcome.parts outcome.error) (sym (last_same (RowDescription [] ∷ []) h.body (Ready Idle) (Ready outcome.status) h.closed).0) h.reads)
+  where
+    half : (p : Part) (z : List BackMessage) → is_result p ≡ true → RowDescription [] ∷ [] ≡ messages_of p ++ z → ⊥
+    half (part.Rows columns [] tag) z is e = absurd cc
+    half (part.Rows columns (r ∷ rows) tag) z is e = absurd cc
+    half (part.Command tag) z is e = absurd cc
+    half part.Empty z is e = absurd cc
+    half (part.CopyOut head chunks tag) z is e = absurd cc
+    half (part.CopyIn head tag) z is e = absurd cc
+    half part.Parsed z is e = absurd cc
+    half part.Bound z is e = absurd cc
+    half (part.Described parameters columns) z is e = absurd cc
+    half (part.Executed rows end) z is e = absurd cc
+    half part.Shut z is e = absurd cc
+
+    missing : (parts : List Part) (error : Option Fields) → Reads Results (RowDescription [] ∷ []) parts error → ⊥
+    missing [] None r = absurd (cc (r.3))
+    missing (p ∷ ps) None r = half p (flat_map messages_of ps) r.1.0 r.3
+    missing parts (Some fields) r = unfailed Results (RowDescription [] ∷ []) parts fields (refl, tt) r
+
+-- the server asks for no copy within a group, whatever its steps are
+uncopied : (steps : List Step) → Begins (asking.Group steps) (back.CopyIn head ∷ []) → ⊥
+uncopied steps b = in_body b.2.body b.2.closed b.2.reads
+  where
+    no_answer : (s : Step) (p : Part) (y z : List BackMessage) → is_answer s p ≡ true → back.CopyIn head ∷ y ≡ messages_of p ++ z → ⊥
+    no_answer (step.Parse name text types) (part.CopyIn head tag) y z is e = absurd cc
+    no_answer (step.Bind portal statement formats values result_formats) (part.CopyIn head tag) y z is e = absurd cc
+    no_answer (step.Describe Statement name) (part.CopyIn head tag) y z is e = absurd cc
+    no_answer (step.Describe Portal name) (part.CopyIn head tag) y z is e = absurd cc
+    no_answer (step.Execute portal most) (part.CopyIn head tag) y z is e = absurd cc
+    no_answer (step.Close target name) (part.CopyIn head tag) y z is e = absurd cc
+    no_answer s (part.Rows columns rows tag) y z is e = absurd cc
+    no_answer s (part.Command tag) y z is e = absurd cc
+    no_answer s part.Empty y z is e = absurd cc
+    no_answer s (part.CopyOut head chunks tag) y z is e = absurd cc
+    no_answer s part.Parsed y z is e = absurd cc
+    no_answer s part.Bound y z is e = absurd cc
+    no_answer s (part.Described (Some types) columns) y z is e = absurd cc
+    no_answer s (part.Described None (Some columns)) y z is e = absurd cc
+    no_answer s (part.Described None None) y z is e = absurd cc
+    no_answer s (part.Executed [] (ends.Complete tag)) y z is e = absurd cc
+    no_answer s (part.Executed [] ends.Empty) y z is e = absurd cc
+    no_answer s (part.Executed [] ends.Suspended) y z is e = absurd cc
+    no_answer s (part.Executed (r ∷ rows) end) y z is e = absurd cc
+    no_answer s part.Shut y z is e = absurd cc
+
+    no_part : (asked : List Step) (p : Part) (ps : List Part) (rest : Asked) (y z : List BackMessage) → Answers (Steps asked) (p ∷ ps) rest → back.CopyIn head ∷ y ≡ messages_of p ++ z → ⊥
+    no_part [] p ps rest y z h e = h
+    no_part (s ∷ ss) p ps rest y z h e = no_answer s p y z h.0 e
+
+    no_cut : (a : Asked) (cut : List BackMessage) (fields : Fields) (y w : List BackMessage) → a ≡ Steps steps → IsCutOff a cut → back.CopyIn head ∷ y ≡ cut ++ ErrorResponse fields ∷ w → ⊥
+    no_cut a [] fields y w is h e = absurd cc
+    no_cut a (c ∷ cut) fields y w is (inl none) e = absurd cc
+    no_cut a (c ∷ cut) fields y w is (inr k) e =
+        let first : back.CopyIn head ≡ c = cc in
+        no_part steps k.0 [] k.3 (cut ++ k.1 ∷ k.2) [] (subst (λ (x : Asked). Answers x (k.0 ∷ []) k.3) is k.4) (ap (λ (m : BackMessage). m ∷ cut ++ k.1 ∷ k.2) first ∙ sym k.5 ∙ sym (append_none (messages_of k.0)))
+      where
+        append_none : (xs : List BackMessage) → xs ++ [] ≡ xs
+        append_none [] = refl
+        append_none (x ∷ xs) = ap (λ (ys : List BackMessage). x ∷ ys) (append_none xs)
+
+    read : (y : List BackMessage) (parts : List Part) (error : Option Fields) → Reads (Steps steps) (back.CopyIn head ∷ y) parts error → ⊥
+    read y [] None r = absurd (cc (r.3))
+    read y (p ∷ ps) None r = no_part steps p ps r.0 y (flat_map messages_of ps) r.1 r.3
+    read y [] (Some fields) r = no_cut r.0 r.2 fields y _ r.1 r.3 r.5
+    read y (p ∷ ps) (Some fields) r = no_part steps p ps r.0 y _ r.1 (r.5 ∙ append_assoc (messages_of p) (flat_map messages_of ps) _)
+
+    in_body : (body : List BackMessage) → (back.CopyIn head ∷ []) ++ b.0 ≡ body ++ Ready b.1.status ∷ [] → Reads (Steps steps) (without_asides body) b.1.parts b.1.error → ⊥
+    in_body [] e r = absurd cc
+    in_body (m ∷ body) e r =
+        let first : m ≡ back.CopyIn head = cc in
+        read (without_asides body) b.1.parts b.1.error (subst (λ (x : BackMessage). Reads (Steps steps) (without_asides (x ∷ body)) b.1.parts b.1.error) first r)
+
+-- ---- segments of a session
+
+two_and_a_rest : segments (AuthOk ∷ Ready Idle ∷ back.NoticeResponse [] ∷ Ready InBlock ∷ ErrorResponse [] ∷ []) ≡ record { whole = (AuthOk ∷ Ready Idle ∷ []) ∷ (back.NoticeResponse [] ∷ Ready InBlock ∷ []) ∷ []; rest = ErrorResponse [] ∷ [] }
+two_and_a_rest = refl

@@ -22,7 +22,7 @@ use Rattle.pg_wire.specs.Segment.{Fields, asides_of, without_asides, messages_of
 -- ---- lists
 
 -- two lists with a last element are equal only where both parts are
-last_same : {A : Type 0} (xs ys : List A) (x y : A) → xs ++ x ∷ [] ≡ ys ++ y ∷ [] → (xs ≡ ys) × (x ≡ y)
+pub last_same : {A : Type 0} (xs ys : List A) (x y : A) → xs ++ x ∷ [] ≡ ys ++ y ∷ [] → (xs ≡ ys) × (x ≡ y)
 last_same [] [] x y e = (refl, cc)
 last_same [] (b ∷ []) x y e = absurd cc
 last_same [] (b ∷ c ∷ ys) x y e = absurd cc
@@ -176,11 +176,11 @@ first_next (Steps (s ∷ ss)) p ps rest h = ((Steps ss, (h.0, refl)), h.1)
 
 -- ---- errors stand in no part
 
-abbrev error_in : BackMessage → Option Fields
+abbrev pub error_in : BackMessage → Option Fields
 error_in (ErrorResponse fields) = Some fields
 error_in _ = None
 
-abbrev HasNone : List BackMessage → Type 0
+abbrev pub HasNone : List BackMessage → Type 0
 HasNone ms = AllByRecursion (λ m. error_in m ≡ None) ms
 
 none_append : (xs ys : List BackMessage) → HasNone xs → HasNone ys → HasNone (xs ++ ys)
@@ -221,7 +221,7 @@ cut_none a cut (inl is) = subst HasNone (sym is) tt
 cut_none a cut (inr h) = none_front cut (h.1 ∷ h.2) (subst HasNone h.5 (part_none h.0))
 
 -- a part has a message
-part_some : (p : Part) → messages_of p ≡ [] → ⊥
+pub part_some : (p : Part) → messages_of p ≡ [] → ⊥
 part_some (part.Executed [] (ends.Complete tag)) e = cc
 part_some (part.Executed [] ends.Empty) e = cc
 part_some (part.Executed [] ends.Suspended) e = cc

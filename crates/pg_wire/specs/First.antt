@@ -1,6 +1,6 @@
 -- First packets, which have no tag (Frontend/Backend Protocol, "Message Formats": StartupMessage, CancelRequest, SSLRequest,
 -- GSSENCRequest), and what a connection begins with.
-use Rattle.std.specs.Prelude.{ℕ, ℤ, pos, ◌≡◌, ◌≤◌, ◌+◌, ◌<ℤ◌, ◌≤ℤ◌, nat_lt, ◌==◌, if◌then◌else◌, Bool, true, false, ◌||◌, List, [], ◌∷◌, ◌++◌, length, take, drop, Option, Some, None}
+use Rattle.std.specs.Prelude.{ℕ, ℤ, pos, ◌≡◌, ◌≤◌, ◌+◌, ◌<ℤ◌, ◌≤ℤ◌, nat_lt, ◌==◌, if◌then◌else◌, Bool, true, false, ◌||◌, List, [], ◌∷◌, ◌++◌, length, take, drop, codes, Option, Some, None}
 use Rattle.std.specs.List.{flat_map, list_any, AllByRecursion}
 use Rattle.std.specs.Int.{w32, to_be_bytes, from_be_bytes, cast_signed}
 use Rattle.std.specs.Int.RustNames.{FitsSigned}
@@ -80,6 +80,16 @@ PacketIsOfType _ = Unit {0}
 pub record IsPacket (p : First) : Type 0 where
   pub of_type : PacketIsOfType p
   pub no_fault : packet_fault p ≡ None
+
+-- ---- the parameters of a startup ("Start-up")
+
+abbrev pub database_pair : Option (List ℕ) → List (List ℕ × List ℕ)
+database_pair None = []
+database_pair (Some name) = (codes "database", name) ∷ []
+
+-- the user, the database if one is named, and further parameters
+abbrev pub startup_parameters : List ℕ → Option (List ℕ) → List (List ℕ × List ℕ) → List (List ℕ × List ℕ)
+startup_parameters user database pairs = (codes "user", user) ∷ database_pair database ++ pairs
 
 -- ---- what a connection begins with
 

@@ -1,12 +1,14 @@
 -- Laws of spellings and streams, for every message and every list of bytes.
-use Rattle.std.specs.Prelude.{ℕ, ◌≡◌, ◌≤◌, Bool, true, false, List, ◌++◌}
+use Rattle.std.specs.Prelude.{ℕ, ◌≡◌, ◌≤◌, Bool, true, false, List, [], ◌∷◌, ◌++◌, None}
 use Rattle.std.specs.List.{flat_map, AllByRecursion}
 use Rattle.pg_wire.specs.declared.fault.WireFault.{WireFault}
 use Rattle.pg_wire.specs.declared.message.First.{First}
 use Rattle.pg_wire.specs.declared.message.BackMessage.{BackMessage}
+use Rattle.pg_wire.specs.declared.message.BackMessage.TheVariants.{Ready}
+use Rattle.pg_wire.specs.declared.message.Status.{Status}
 use Rattle.pg_wire.specs.declared.session.Outcome.{Outcome}
 use Rattle.pg_wire.specs.declared.session.Request.{Request}
-use Rattle.pg_wire.specs.Segment.{Fits}
+use Rattle.pg_wire.specs.Segment.{Fits, Segments, segments, status_of}
 use Rattle.pg_wire.specs.First.{packet, IsPacket, EndsIn, IsBeginning, IsFaultyPacket, BeginsNoPacket}
 use Rattle.pg_wire.specs.Direction.{Direction, spelling, HasSpelling}
 use Rattle.pg_wire.specs.Stream.{IsWithin, IsStream, IsFaulty, BeginsNoMessage}
@@ -75,3 +77,21 @@ PacketsAgain = (ps given : List First) (e f : Bool) (rest : List ℕ) → AllByR
 -- A segment fits a request with at most one outcome.
 abbrev pub OneOutcome : Type 0
 OneOutcome = (request : Request) (segment : List BackMessage) (one other : Outcome) → Fits request segment one → Fits request segment other → one ≡ other
+
+-- No ReadyForQuery is among the messages.
+abbrev pub NoReady : List BackMessage → Type 0
+NoReady ms = AllByRecursion (λ m. status_of m ≡ None) ms
+
+-- A ReadyForQuery is the last message, and no other is one.
+abbrev pub EndsAtReady : List BackMessage → Type 0
+EndsAtReady segment = (body : List BackMessage) × (status : Status) × (segment ≡ body ++ Ready status ∷ []) × NoReady body
+
+-- The messages are cut after each ReadyForQuery, and nowhere else.
+pub record AreSegments (ms : List BackMessage) (s : Segments) : Type 0 where
+  pub joined : ms ≡ flat_map (λ segment. segment) s.whole ++ s.rest
+  pub closed : AllByRecursion EndsAtReady s.whole
+  pub open_rest : NoReady s.rest
+
+-- The segments of a session are its messages, cut after each ReadyForQuery, and there is one such cut.
+abbrev pub OneCut : Type 0
+OneCut = ((ms : List BackMessage) → AreSegments ms (segments ms)) × ((ms : List BackMessage) (s t : Segments) → AreSegments ms s → AreSegments ms t → s ≡ t)

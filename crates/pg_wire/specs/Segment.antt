@@ -171,6 +171,11 @@ abbrev pub status_of : BackMessage → Option Status
 status_of (Ready status) = Some status
 status_of _ = None
 
+-- the fields of an error
+abbrev pub error_of : BackMessage → Option Fields
+error_of (ErrorResponse fields) = Some fields
+error_of _ = None
+
 -- the message before these segments; a ReadyForQuery is one more, of itself alone
 abbrev pub put_before : Option Status → BackMessage → List (List BackMessage) → List BackMessage → Segments
 put_before (Some status) m whole rest = record { whole = (m ∷ []) ∷ whole; rest = rest }

@@ -1,9 +1,9 @@
 //! The backend's messages: written by [`encode`], read by a [`BackDecoder`](crate::BackDecoder).
 //!
-//! A message that holds lists has a function of its own too, which is lent them. Each appends the one spelling of a message
-//! ("Message Formats", those marked B) to `buf`, and copies each byte once. Its fault is the first that holds of HasZero,
-//! TooMany, ReservedCode, TooLong and, where there is none of these, Memory for a buffer that could not grow. After a fault
-//! `buf` is as it was.
+//! A message that holds bytes or lists has a function of its own too, which is lent them. Each appends the one spelling of a message
+//! ("Message Formats", those marked B) to `buf`, and copies each byte once. A fault is the first that holds of those that a function
+//! names, in their order: Memory, for a buffer that could not grow, is answered only where there is no other. After a fault `buf` is
+//! as it was.
 
 mod kind;
 mod reading;
@@ -68,56 +68,57 @@ fn encode_copy_head(tag: u8, head: &CopyHead, buf: &mut Vec<u8>) -> Result<(), E
     append(tag, &Pair(format, Counted(head.formats.as_slice())), buf)
 }
 
-/// Appends a ParameterStatus: the value of a run-time parameter.
+/// Appends a ParameterStatus: the value of a run-time parameter. Its faults are HasZero, TooLong and Memory.
 pub fn parameter_status(name: &[u8], value: &[u8], buf: &mut Vec<u8>) -> Result<(), EncodeFault>
     ensures { Encodes backend (ParameterStatus name.now value.now) buf.old.items result buf.new.items }
 {
     append(b'S', &Pair(Text(name), Text(value)), buf)
 }
 
-/// Appends a RowDescription of these columns.
+/// Appends a RowDescription of these columns. Its faults are HasZero, TooMany, TooLong and Memory.
 pub fn row_description(columns: &[Column], buf: &mut Vec<u8>) -> Result<(), EncodeFault>
     ensures { Encodes backend (RowDescription columns.now) buf.old.items result buf.new.items }
 {
     append(b'T', &Counted(columns), buf)
 }
 
-/// Appends a DataRow of these values.
+/// Appends a DataRow of these values. Its faults are TooMany, TooLong and Memory.
 pub fn data_row(values: &[Option<Seq<u8>>], buf: &mut Vec<u8>) -> Result<(), EncodeFault>
     ensures { Encodes backend (DataRow values.now) buf.old.items result buf.new.items }
 {
     append(b'D', &Counted(values), buf)
 }
 
-/// Appends a CommandComplete with this tag.
+/// Appends a CommandComplete with this tag. Its faults are HasZero, TooLong and Memory.
 pub fn command_complete(tag: &[u8], buf: &mut Vec<u8>) -> Result<(), EncodeFault>
     ensures { Encodes backend (CommandComplete tag.now) buf.old.items result buf.new.items }
 {
     append(b'C', &Text(tag), buf)
 }
 
-/// Appends a ParameterDescription: the object ids of the types of a statement's parameters.
+/// Appends a ParameterDescription: the object ids of the types of a statement's parameters. Its faults are TooMany, TooLong and
+/// Memory.
 pub fn parameter_description(types: &[u32], buf: &mut Vec<u8>) -> Result<(), EncodeFault>
     ensures { Encodes backend (ParameterDescription types.now) buf.old.items result buf.new.items }
 {
     append(b't', &Counted(types), buf)
 }
 
-/// Appends an ErrorResponse with these fields.
+/// Appends an ErrorResponse with these fields. Its faults are HasZero (also for a code 0), TooLong and Memory.
 pub fn error_response(fields: &[ErrorField], buf: &mut Vec<u8>) -> Result<(), EncodeFault>
     ensures { Encodes backend (ErrorResponse fields.now) buf.old.items result buf.new.items }
 {
     append(b'E', &Terminated(fields), buf)
 }
 
-/// Appends a NoticeResponse with these fields.
+/// Appends a NoticeResponse with these fields. Its faults are HasZero (also for a code 0), TooLong and Memory.
 pub fn notice_response(fields: &[ErrorField], buf: &mut Vec<u8>) -> Result<(), EncodeFault>
     ensures { Encodes backend (NoticeResponse fields.now) buf.old.items result buf.new.items }
 {
     append(b'N', &Terminated(fields), buf)
 }
 
-/// Appends a NotificationResponse from the backend with this process id.
+/// Appends a NotificationResponse from the backend with this process id. Its faults are HasZero, TooLong and Memory.
 pub fn notification(
     process: i32,
     channel: &[u8],
@@ -130,21 +131,21 @@ pub fn notification(
     append(b'A', &Pair(names, Text(payload)), buf)
 }
 
-/// Appends a CopyInResponse with these formats.
+/// Appends a CopyInResponse with these formats. Its faults are TooMany, TooLong and Memory.
 pub fn copy_in(head: &CopyHead, buf: &mut Vec<u8>) -> Result<(), EncodeFault>
     ensures { Encodes backend (CopyIn head.now) buf.old.items result buf.new.items }
 {
     encode_copy_head(b'G', head, buf)
 }
 
-/// Appends a CopyOutResponse with these formats.
+/// Appends a CopyOutResponse with these formats. Its faults are TooMany, TooLong and Memory.
 pub fn copy_out(head: &CopyHead, buf: &mut Vec<u8>) -> Result<(), EncodeFault>
     ensures { Encodes backend (CopyOut head.now) buf.old.items result buf.new.items }
 {
     encode_copy_head(b'H', head, buf)
 }
 
-/// Appends a CopyData.
+/// Appends a CopyData. Its faults are TooLong and Memory.
 pub fn copy_data(bytes: &[u8], buf: &mut Vec<u8>) -> Result<(), EncodeFault>
     ensures { Encodes backend (CopyData bytes.now) buf.old.items result buf.new.items }
 {

@@ -1,6 +1,6 @@
 //! Laws of the formats: each function does nothing, and its contract is the law.
 
-ghost use Rattle.pg_wire.specs.Laws.{OneSpelling, OneReading, FaultyBeginsNone, OneFault, RoundTrip, OnePacket, OneBeginning, FaultyBeginsNoPacket, OnePacketFault, PacketsAgain, OneOutcome};
+ghost use Rattle.pg_wire.specs.Laws.{OneSpelling, OneReading, FaultyBeginsNone, OneFault, RoundTrip, OnePacket, OneBeginning, FaultyBeginsNoPacket, OnePacketFault, PacketsAgain, OneOutcome, OneCut};
 
 use crate::direction::Message;
 
@@ -63,4 +63,9 @@ pub fn packets_again()
 /// A segment fits a request with at most one outcome.
 pub fn one_outcome()
     ensures { OneOutcome }
+{}
+
+/// The segments of a session are its messages, cut after each ReadyForQuery, and there is one such cut.
+pub fn one_cut()
+    ensures { OneCut }
 {}

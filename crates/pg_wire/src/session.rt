@@ -3,7 +3,8 @@
 use crate::message::{Column, CopyHead, Fields, Status, Target, Values};
 use pg_seq::Seq;
 
-/// A step of an extended query ("Extended Query").
+/// A step of an extended query ("Extended Query"). Its texts hold no zero byte, and its lists have at most 65,535 elements: else a
+/// client refuses the request (C3).
 #[derive(Clone, Debug, PartialEq, Eq, Drop)]
 pub enum Step {
     /// Makes a prepared statement.
@@ -54,7 +55,8 @@ pub enum Step {
 /// What a client asks for. A ReadyForQuery ends the answer to each.
 #[derive(Clone, Debug, PartialEq, Eq, Drop)]
 pub enum Request {
-    /// A simple query: one message, which may hold several commands ("Simple Query").
+    /// A simple query: one message, which may hold several commands ("Simple Query"). The text holds no zero byte: else a client
+    /// refuses the request (C3).
     Query(Seq<u8>),
     /// An extended query: these steps, and a Sync behind them ("Extended Query").
     Group(Seq<Step>),

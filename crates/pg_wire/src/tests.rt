@@ -164,4 +164,6 @@ fn the_laws_are_called() {
     laws::faulty_begins_no_packet();
     laws::one_packet_fault();
     laws::packets_again();
+    laws::one_outcome();
+    laws::one_cut();
 }

@@ -1,5 +1,9 @@
 pub mod Decimals
 pub mod Pieces
+pub mod Readers
+pub mod Growing
+pub mod Converting
+pub mod Sent
 pub mod MessageLines
 pub mod PacketLines
 pub mod Stages

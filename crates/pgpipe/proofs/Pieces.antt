@@ -13,6 +13,14 @@ pub FoldsTo-append : {P A : Type 0} (R : P → A → P → Type 0) (p : P) (xs y
 FoldsTo-append R p [] ys q r e f = subst (λ (x : _). FoldsTo R x ys r) (sym e) f
 FoldsTo-append R p (x ∷ xs) ys q r e f = (e.0, e.1, FoldsTo-append R e.0 xs ys q r e.2 f)
 
+-- one more call
+pub one_more : {P : Type 0} (gives : P → List ℕ → P → Type 0) (p : P) (pieces : List (List ℕ)) (q : P) (piece : List ℕ) (r : P) → FoldsTo gives p pieces q → gives q piece r → FoldsTo gives p (pieces ++ piece ∷ []) r
+one_more gives p pieces q piece r f last = FoldsTo-append gives p pieces (piece ∷ []) q r f (r, last, refl)
+
+-- what pieces and one more are together
+pub joined : (pieces : List (List ℕ)) (piece : List ℕ) → concat pieces ++ piece ≡ concat (pieces ++ piece ∷ [])
+joined pieces piece = sym (concat-append pieces (piece ∷ []) ∙ ap (λ (l : List ℕ). concat pieces ++ l) (append-nil piece))
+
 module _ {K : Type 0} (takes : K → List ℕ → K → Type 0) (failures : K → ℕ) where
   abbrev pub Sent : {A : Type 0} → List ℕ → K → List ℕ → Result A LinkFault → List ℕ → K → Type 0
   Sent {A} c s t r c' s' = Puts {A = A} takes failures c s t r c' s'

@@ -1,14 +1,13 @@
 -- How the work goes on from piece to piece.
 use Rattle.std.proofs.Common.{◌≡◌, ℕ, ◌+◌, ◌*◌, ◌<◌, ◌≤◌, ◌^◌, Bool, List, [], ◌∷◌, ◌++◌, Ok, Err, refl, sym, ap, subst, ◌∙◌, append-nil, length, length-append, arith}
 use Rattle.std.specs.List.{FoldsTo, concat}
-use Rattle.std.proofs.lemmas.List.Folds.{concat-append}
 use Rattle.pg_wire.specs.Link.{HasRisen}
 use Rattle.pgpipe.specs.declared.halt.Halt.{Halt}
 use Rattle.pgpipe.specs.declared.halt.Halt.TheVariants as halt
 use Rattle.pgpipe.specs.declared.stage.Stage.{Stage}
 use Rattle.pgpipe.specs.Show.{most_receives, longest_piece, AreAllShown, AreShownBefore}
 use Rattle.pgpipe.specs.Private.Work.{is_front, kept_of, Stands, Steps, Halts, HaltsSource, HasRun, StepsSource}
-use Rattle.pgpipe.proofs.Pieces.{FoldsTo-append}
+use Rattle.pgpipe.proofs.Pieces.{joined, one_more}
 use Rattle.pgpipe.proofs.Stages.{all_shown, at_any_time, kept_within}
 
 -- So many pieces were received, and the work stands where it can go on.
@@ -21,17 +20,11 @@ pub record Runs {S K : Type 0} (gives : S → List ℕ → S → Type 0) (source
   pub side : is_front at ≡ front
   pub stands : Stands takes failures sink (concat pieces) at collected sink'
 
-joined : (pieces : List (List ℕ)) (piece : List ℕ) → concat pieces ++ piece ≡ concat (pieces ++ piece ∷ [])
-joined pieces piece = sym (concat-append pieces (piece ∷ []) ∙ ap (λ (l : List ℕ). concat pieces ++ l) (append-nil piece))
-
 -- a piece more is within a piece's bound more
 within_more : (pieces : List (List ℕ)) (piece : List ℕ) (n : ℕ) → length (concat pieces) ≤ longest_piece * n → length piece ≤ longest_piece → length (concat (pieces ++ piece ∷ [])) ≤ longest_piece * (n + 1)
 within_more pieces piece n all one = omega (arith, ap (λ (l : List ℕ). length l) (joined pieces piece), length-append (concat pieces) piece)
 
 module _ {S K : Type 0} (gives : S → List ℕ → S → Type 0) (source_failures : S → ℕ) (takes : K → List ℕ → K → Type 0) (failures : K → ℕ) (front : Bool) where
-  one_more : (source : S) (pieces : List (List ℕ)) (source' : S) (piece : List ℕ) (source'' : S) → FoldsTo gives source pieces source' → gives source' piece source'' → FoldsTo gives source (pieces ++ piece ∷ []) source''
-  one_more source pieces source' piece source'' f p = FoldsTo-append gives source pieces (piece ∷ []) source' source'' f (source'', p, refl)
-
   pub runs_none : (source : S) (sink : K) (at : Stage) (c : List ℕ) → is_front at ≡ front → Stands takes failures sink [] at c sink → Runs gives source_failures takes failures front source sink 0 source at c sink
   runs_none source sink at c side st = record { pieces = []; received = refl; counted = refl; within = omega arith; sound = refl; side = side; stands = st }
 
@@ -40,7 +33,7 @@ module _ {S K : Type 0} (gives : S → List ℕ → S → Type 0) (source_failur
       → Runs gives source_failures takes failures front source sink (n + 1) source'' at' c' sink''
   runs_more source sink n source' at c sink' piece source'' at' c' sink'' r fits p same next = record {
     pieces = r.pieces ++ piece ∷ [];
-    received = one_more source r.pieces source' piece source'' r.received p;
+    received = one_more gives source r.pieces source' piece source'' r.received p;
     counted = length-append r.pieces (piece ∷ []) ∙ ap (λ (k : ℕ). k + 1) r.counted;
     within = within_more r.pieces piece n r.within fits;
     sound = same ∙ r.sound;
@@ -75,7 +68,7 @@ module _ {S K : Type 0} (gives : S → List ℕ → S → Type 0) (source_failur
       → HasRun gives source_failures ended takes failures front source sink h source'' c' sink''
   run_halts ended source sink n source' at c sink' piece source'' h c' sink'' r fits p s halts = record {
     pieces = r.pieces ++ piece ∷ [];
-    received = one_more source r.pieces source' piece source'' r.received p;
+    received = one_more gives source r.pieces source' piece source'' r.received p;
     before = r.stands.text;
     shown_before = stood_before sink (concat r.pieces) piece (concat (r.pieces ++ piece ∷ [])) at c sink' r.stands r.side (sym (joined r.pieces piece)) fits;
     halts = subst (λ (f : Bool). Halts takes failures f sink (concat (r.pieces ++ piece ∷ [])) r.stands.text h c' sink'') r.side (subst (λ (bytes : List ℕ). Halts takes failures (is_front at) sink bytes r.stands.text h c' sink'') (joined r.pieces piece) halts);

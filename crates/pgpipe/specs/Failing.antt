@@ -1,7 +1,11 @@
 -- How the program fails.
-use Rattle.std.specs.Prelude.{ℕ, ◌≡◌, Result, Ok, Err}
+use Rattle.std.specs.Prelude.{ℕ, ◌≡◌, ◌<◌, ◌≤◌, Result, Ok, Err}
 use Rattle.pgpipe.specs.declared.failure.Failure.{Failure}
 use Rattle.pgpipe.specs.declared.failure.Failure.TheVariants as failure
+use Rattle.pgpipe.specs.declared.convert.Converted.{Converted}
+use Rattle.pgpipe.specs.declared.convert.Converted.TheVariants as converted
+use Rattle.pgpipe.specs.declared.words.Task.{Task}
+use Rattle.pgpipe.specs.declared.words.Task.TheVariants as task
 use Rattle.pgpipe.specs.declared.show.Shown.{Shown}
 use Rattle.pgpipe.specs.declared.show.Shown.TheVariants as shown
 use Rattle.pgpipe.specs.declared.show.ToolFault.{ToolFault}
@@ -12,6 +16,9 @@ abbrev pub status_of : Failure → ℕ
 status_of failure.NotUtf8 = 1
 status_of (failure.Rest n) = 2
 status_of (failure.Fault f) = 2
+status_of (failure.Text f) = 2
+status_of (failure.Binary f) = 2
+status_of (failure.Row f) = 2
 status_of failure.Device = 3
 status_of failure.Memory = 4
 
@@ -22,3 +29,16 @@ Results (Ok (shown.Rest n)) r = r ≡ Err (failure.Rest n)
 Results (Ok (shown.Fault f)) r = r ≡ Err (failure.Fault f)
 Results (Err fault.Device) r = r ≡ Err failure.Device
 Results (Err fault.Memory) r = r ≡ Err failure.Memory
+
+abbrev pub ConversionResults : Result Converted ToolFault → Result Unit Failure → Type 0
+ConversionResults (Ok converted.Whole) r = r ≡ Ok tt
+ConversionResults (Ok (converted.Text f)) r = r ≡ Err (failure.Text f)
+ConversionResults (Ok (converted.Binary f)) r = r ≡ Err (failure.Binary f)
+ConversionResults (Ok (converted.Row f)) r = r ≡ Err (failure.Row f)
+ConversionResults (Err fault.Device) r = r ≡ Err failure.Device
+ConversionResults (Err fault.Memory) r = r ≡ Err failure.Memory
+
+-- a task that can be done: a row has at least one field, and at most 32,767
+abbrev pub IsTask : Task → Type 0
+IsTask (task.Show front) = Unit {0}
+IsTask (task.Convert from to columns) = (0 < columns) × (columns ≤ 32767)

@@ -1,7 +1,9 @@
--- What a reader must believe: the line of a message, what is sent, what is shown of a stream, and how the program fails.
+-- What a reader must believe: the line of a message, what is sent, what is shown of a stream, what is converted of a file, and
+-- how the program fails.
 pub mod Lines
 pub mod Sending
 pub mod Show
+pub mod Convert
 pub mod Failing
 -- Words of private functions, which no public contract cites.
 pub mod Private

@@ -148,6 +148,6 @@ EndsWith ended (Ok (shown.Rest n)) = ended
 EndsWith ended _ = Unit {0}
 
 -- Unless the answer is Device, no call failed: the count of failures is what it was.
-abbrev pub CountsNoFailure : ℕ → Result Shown ToolFault → ℕ → Type 0
+abbrev pub CountsNoFailure : {A : Type 0} → ℕ → Result A ToolFault → ℕ → Type 0
 CountsNoFailure old (Err fault.Device) new = Unit {0}
 CountsNoFailure old _ new = new ≡ old

@@ -2,9 +2,11 @@
 
 ghost use Rattle.std.specs.Prelude.{◌≡◌, ◌≢◌};
 ghost use Rattle.std.specs.IoError.{error_kind};
-ghost use Rattle.pgpipe.specs.Failing.{status_of, Results};
+ghost use Rattle.pgpipe.specs.Failing.{status_of, Results, ConversionResults};
 
+use crate::convert::Converted;
 use crate::show::{Shown, ToolFault};
+use pg_copy::{BinaryFault, RowFault, TextFault};
 use pg_wire::WireFault;
 use std::io;
 use std::io::ErrorKind;
@@ -22,6 +24,15 @@ pub enum Failure {
     /// The input has a fault.
     #[error("{0}")]
     Fault(WireFault),
+    /// The text file on the input has a fault.
+    #[error("{0}")]
+    Text(TextFault),
+    /// The binary file on the input has a fault.
+    #[error("{0}")]
+    Binary(BinaryFault),
+    /// A row of the input has no place in the other format.
+    #[error("{0}")]
+    Row(RowFault),
     /// A stream failed.
     #[error("device")]
     Device,
@@ -39,6 +50,9 @@ impl Failure {
             Failure::NotUtf8 => 1,
             Failure::Rest(_) => 2,
             Failure::Fault(_) => 2,
+            Failure::Text(_) => 2,
+            Failure::Binary(_) => 2,
+            Failure::Row(_) => 2,
             Failure::Device => 3,
             Failure::Memory => 4,
         }
@@ -64,6 +78,20 @@ pub fn result_of(answer: Result<Shown, ToolFault>) -> Result<(), Failure>
         Ok(Shown::Whole) => Ok(()),
         Ok(Shown::Rest(count)) => Err(Failure::Rest(count)),
         Ok(Shown::Fault(fault)) => Err(Failure::Fault(fault)),
+        Err(ToolFault::Device) => Err(Failure::Device),
+        Err(ToolFault::Memory) => Err(Failure::Memory),
+    }
+}
+
+/// What an answer of `convert` means for the program: only a whole file is a success.
+pub fn conversion_result_of(answer: Result<Converted, ToolFault>) -> Result<(), Failure>
+    ensures { ConversionResults answer result }
+{
+    match answer {
+        Ok(Converted::Whole) => Ok(()),
+        Ok(Converted::Text(fault)) => Err(Failure::Text(fault)),
+        Ok(Converted::Binary(fault)) => Err(Failure::Binary(fault)),
+        Ok(Converted::Row(fault)) => Err(Failure::Row(fault)),
         Err(ToolFault::Device) => Err(Failure::Device),
         Err(ToolFault::Memory) => Err(Failure::Memory),
     }

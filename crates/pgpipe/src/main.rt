@@ -1,7 +1,11 @@
-//! Shows the byte stream of a PostgreSQL backend or client, a line a message.
+//! Shows the byte stream of a PostgreSQL backend or client, a line a message, and converts COPY files.
 #![tactic(auto)]
 
+mod bounds;
+mod convert;
+mod copy_rows;
 mod failure;
+mod format;
 mod halt;
 mod line;
 mod messages;
@@ -11,7 +15,8 @@ mod show;
 mod stage;
 mod words;
 
-use crate::failure::{Failure, result_of, words_failure};
+use crate::convert::convert;
+use crate::failure::{Failure, conversion_result_of, result_of, words_failure};
 use crate::show::show;
 use crate::words::{Task, task_of};
 use clap::error::ErrorKind;
@@ -37,15 +42,19 @@ fn run<R: Env + Input + Print + Eprint + AllocGlobal>(rt: &R) -> Result<ExitCode
         .map_err(|error| words_failure(&error))?
         .collect(rt.alloc())
         .map_err(|_| Failure::Memory)?;
-    match task_of(rt.alloc(), words.as_slice()) {
-        Ok(Task::Show { front }) => {
-            let mut source = Over::new(rt.reader());
-            let mut sink = Over::new(io::writer(rt));
-            result_of(show(rt.alloc(), front, &mut source, &mut sink))?;
-            Ok(ExitCode::SUCCESS)
+    let task = match task_of(rt.alloc(), words.as_slice()) {
+        Ok(task) => task,
+        Err(error) => return explain(rt, &error),
+    };
+    let mut source = Over::new(rt.reader());
+    let mut sink = Over::new(io::writer(rt));
+    match task {
+        Task::Show { front } => result_of(show(rt.alloc(), front, &mut source, &mut sink))?,
+        Task::Convert { from, to, columns } => {
+            conversion_result_of(convert(rt.alloc(), from, to, columns, &mut source, &mut sink))?
         }
-        Err(error) => explain(rt, &error),
     }
+    Ok(ExitCode::SUCCESS)
 }
 
 // Prints help, or why the words are no task.

@@ -25,6 +25,16 @@ fn send_all<K: Sink>(bytes: &[u8], sink: &mut K) -> Result<(), LinkFault>
     Ok(())
 }
 
+/// Sends all that stands in a buffer, and empties it. Where the sink fails a beginning was sent.
+pub fn send<K: Sink>(buf: &mut Vec<u8>, sink: &mut K) -> Result<(), LinkFault>
+    ensures puts { Puts K.takes K.failures buf.old.items sink.old [] result buf.new.items sink.new }
+    ensures nothing_left { OnOk result (buf.new.items ≡ []) }
+{
+    send_all(buf.as_slice(), sink)?;
+    buf.clear();
+    Ok(())
+}
+
 /// Collects text, and sends it in large pieces. It takes memory only when it is made.
 #[derive(Drop)]
 pub struct Outbox {

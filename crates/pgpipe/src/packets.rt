@@ -9,7 +9,7 @@ ghost use Rattle.pgpipe.specs.Private.Work.{PutsLine, PutsPackets, LeavesSource}
 
 use crate::halt::{Halt, halt_of};
 use crate::outbox::Outbox;
-use pg_wire::frontend::{cancel_request, ssl_request, startup_message};
+use pg_wire::frontend::encode_first;
 use pg_wire::{EncodeFault, First, FirstDecoder, Sink};
 
 /// What a client sends next.
@@ -52,15 +52,7 @@ fn spell(packet: &First, spelled: &mut Vec<u8>) -> Result<(), EncodeFault>
     ensures { EncodesPacket packet.now [] result spelled.new.items }
 {
     spelled.clear();
-    match packet {
-        First::Startup(pairs) => startup_message(pairs.as_slice(), spelled),
-        First::Cancel { process, secret } => cancel_request(*process, *secret, spelled),
-        First::Ssl => ssl_request(spelled),
-        First::Gss => match spelled.extend_from_slice(&[0, 0, 0, 8, 4, 210, 22, 48]) {
-            Ok(()) => Ok(()),
-            Err(_) => Err(EncodeFault::Memory),
-        },
-    }
+    encode_first(packet, spelled)
 }
 
 // Puts the line of a packet that is spelled so.

@@ -6,6 +6,7 @@ ghost use Rattle.pg_wire.specs.Link.{HasRisen};
 ghost use Rattle.pgpipe.specs.Show.{longest_piece, HasStopped, Answers, EndsWith, CountsNoFailure};
 ghost use Rattle.pgpipe.specs.Private.Work.{is_front, kept_of, IsSoundAt, Stands, Steps, StepsSource, HasRun, Settles, answer_of};
 
+use crate::bounds::{MOST_RECEIVES, PIECE};
 use crate::halt::Halt;
 use crate::outbox::Outbox;
 use crate::stage::Stage;
@@ -34,12 +35,6 @@ pub enum ToolFault {
     #[error("memory")]
     Memory,
 }
-
-// How many bytes are received at once.
-const PIECE: usize = 65_536;
-
-// How many calls of `receive` are made at most.
-const MOST_RECEIVES: u64 = 1_099_511_627_776;
 
 // What the work is done with.
 #[derive(Drop)]

@@ -1,15 +1,19 @@
+use crate::convert::{Converted, convert};
 use crate::failure::Failure;
+use crate::format::Format;
 use crate::show::{Shown, ToolFault, show};
 use crate::words::{Task, task_of};
 use clap::error::ErrorKind;
+use pg_copy::{BinaryFault, TextFault};
 use pg_wire::{LinkFault, Sink, Source, WireFault};
 use std::alloc::Global;
 use std::test::Fail;
 
-// Bytes that come five at a time, and fail once.
+// Bytes that come so many at a time, and fail once.
 #[derive(Drop)]
 struct Pieces<'a> {
     bytes: &'a [u8],
+    most: usize,
     calls: u64,
     fails_at: u64,
     failures: u64,
@@ -28,7 +32,7 @@ impl<'a> Source for Pieces<'a> {
             self.failures = self.failures.saturating_add(1);
             return Err(LinkFault);
         }
-        let count = self.bytes.len().min(into.len()).min(5);
+        let count = self.bytes.len().min(into.len()).min(self.most);
         let (piece, rest) = self.bytes.split_at(count);
         into.split_at_mut(count).0.copy_from_slice(piece);
         self.bytes = rest;
@@ -61,9 +65,11 @@ impl Sink for Paper {
     }
 }
 
+// Bytes that come five at a time.
 fn source_of(bytes: &[u8], fails_at: u64) -> Pieces<'_> {
     Pieces {
         bytes,
+        most: 5,
         calls: 0,
         fails_at,
         failures: 0,
@@ -201,12 +207,46 @@ fn words(rt: HostRuntime) -> Result<(), Fail> {
     Ok(())
 }
 
+fn conversion(from: Format, to: Format, columns: u16) -> Task {
+    Task::Convert { from, to, columns }
+}
+
+#[test]
+fn words_of_a_conversion(rt: HostRuntime) -> Result<(), Fail> {
+    let alloc = rt.alloc();
+    let (text, binary) = (Format::Text, Format::Binary);
+    let rows: [([&str; 3], Result<Task, ErrorKind>); 6] = [
+        (["text", "binary", "1"], Ok(conversion(text, binary, 1))),
+        (
+            ["binary", "text", "32767"],
+            Ok(conversion(binary, text, 32_767)),
+        ),
+        (["text", "binary", "0"], Err(ErrorKind::ValueValidation)),
+        (["text", "binary", "32768"], Err(ErrorKind::ValueValidation)),
+        (["csv", "binary", "1"], Err(ErrorKind::InvalidValue)),
+        (["text", "csv", "1"], Err(ErrorKind::InvalidValue)),
+    ];
+    for ([from, to, columns], wanted) in rows {
+        let words = ["convert", "--from", from, "--to", to, "--columns", columns];
+        assert_eq!(rt; task(alloc, &words)?, wanted, "{from} {to} {columns}");
+    }
+    assert_eq!(rt;
+        task(alloc, &["convert", "--from", "text", "--to", "binary"])?,
+        Err(ErrorKind::MissingRequiredArgument)
+    );
+    Ok(())
+}
+
 #[test]
 fn texts(rt: HostRuntime) -> Result<(), Fail> {
     let text = Failure::Rest(3).to_string(rt.alloc())?;
     assert_eq!(rt; text.as_str(), "rest 3");
     assert_eq!(rt; Failure::Device.to_string(rt.alloc())?.as_str(), "device");
     assert_eq!(rt; ToolFault::Memory.to_string(rt.alloc())?.as_str(), "memory");
+    let text = Failure::Text(TextFault::Columns(2)).to_string(rt.alloc())?;
+    assert_eq!(rt; text.as_str(), "T3 Columns 2");
+    let text = Failure::Binary(BinaryFault::FieldCount(-2)).to_string(rt.alloc())?;
+    assert_eq!(rt; text.as_str(), "B4 FieldCount -2");
     Ok(())
 }
 
@@ -300,5 +340,110 @@ fn a_client_that_fails(rt: HostRuntime) {
         );
         assert_eq!(rt; sink.text.len() as u64, 7 * (call - 1));
         assert!(rt; CLIENT_LINES.starts_with(sink.text.as_slice()), "at {call}");
+    }
+}
+
+// two columns: 1 and null
+const TEXT_ROW: &[u8] = b"1\t\\N\n";
+
+const BINARY_ROW: &[u8] =
+    b"PGCOPY\n\xFF\r\n\0\0\0\0\0\0\0\0\0\0\x02\0\0\0\x011\xFF\xFF\xFF\xFF\xFF\xFF";
+// the head, and a row of one column
+const ONE_ROW: &[u8] = b"PGCOPY\n\xFF\r\n\0\0\0\0\0\0\0\0\0\0\x01\0\0\0\x01a";
+
+// the formats, the number of columns, what is converted, what is written, and the answer
+type Conversion<'a> = (
+    Format,
+    Format,
+    u16,
+    &'a [u8],
+    &'a [u8],
+    Result<Converted, ToolFault>,
+);
+
+#[test]
+fn files_converted(rt: HostRuntime) {
+    let (text, binary) = (Format::Text, Format::Binary);
+    let columns = Ok(Converted::Text(TextFault::Columns(2)));
+    let truncated = Ok(Converted::Binary(BinaryFault::Truncated));
+    let whole = Ok(Converted::Whole);
+    let rows: [Conversion<'_>; 9] = [
+        (text, binary, 2, TEXT_ROW, BINARY_ROW, whole),
+        (binary, text, 2, BINARY_ROW, TEXT_ROW, whole),
+        (binary, binary, 2, BINARY_ROW, BINARY_ROW, whole),
+        (text, text, 1, b"a\nb\tc\n", b"a\n", columns),
+        (text, binary, 1, b"a\nb\tc\n", ONE_ROW, columns),
+        // the last line is open, and what follows the end mark is dropped
+        (text, text, 1, b"a\nb", b"a\nb\n", whole),
+        (text, text, 1, b"a\n\\.\n\r\n", b"a\n", whole),
+        (text, text, 1, b"", b"", whole),
+        (binary, text, 1, ONE_ROW, b"a\n", truncated),
+    ];
+    for (from, to, columns, input, output, answer) in rows {
+        for most in 1..40 {
+            let mut source = source_of(input, 0);
+            source.most = most;
+            let mut sink = sink_of(rt.alloc(), 0);
+            assert_eq!(rt;
+                convert(rt.alloc(), from, to, columns, &mut source, &mut sink),
+                answer
+            );
+            assert_eq!(rt; sink.text.as_slice(), output, "in pieces of {most}");
+        }
+    }
+}
+
+// A row that is longer than what is collected at once, and rows that together are.
+#[test]
+fn a_long_file(rt: HostRuntime) -> Result<(), Fail> {
+    let (text, binary) = (Format::Text, Format::Binary);
+    let mut bytes = Vec::new(rt.alloc());
+    for _ in 0..100_000 {
+        bytes.push(b'a')?;
+    }
+    for _ in 0..20_000 {
+        bytes.extend_from_slice(b"\nb\\n")?;
+    }
+    bytes.push(b'\n')?;
+    let mut source = source_of(bytes.as_slice(), 0);
+    source.most = 100_000;
+    let mut sink = sink_of(rt.alloc(), 0);
+    let answer = convert(rt.alloc(), text, binary, 1, &mut source, &mut sink);
+    assert_eq!(rt; answer, Ok(Converted::Whole));
+    // the head, six bytes and the value for each row, and the trailer
+    assert_eq!(rt; sink.text.len(), 19 + 100_006 + 20_000 * 8 + 2);
+    let mut source = source_of(sink.text.as_slice(), 0);
+    let mut back = sink_of(rt.alloc(), 0);
+    let answer = convert(rt.alloc(), binary, text, 1, &mut source, &mut back);
+    assert_eq!(rt; answer, Ok(Converted::Whole));
+    assert!(rt; back.text.as_slice() == bytes.as_slice());
+    Ok(())
+}
+
+#[test]
+fn conversions_that_fail(rt: HostRuntime) {
+    let (text, binary) = (Format::Text, Format::Binary);
+    // the failing receive, and how much the pieces of five bytes before it make: the head, and eleven bytes a row
+    for (call, size) in [(1, 19), (2, 30), (3, 41)] {
+        let mut source = source_of(b"1\t\\N\n2\t\\N\n", call);
+        let mut sink = sink_of(rt.alloc(), 0);
+        assert_eq!(rt;
+            convert(rt.alloc(), text, binary, 2, &mut source, &mut sink),
+            Err(ToolFault::Device),
+            "at {call}"
+        );
+        assert_eq!(rt; sink.text.len(), size, "at {call}");
+    }
+    // 32 bytes make five sends
+    for call in 1..6 {
+        let mut source = source_of(TEXT_ROW, 0);
+        let mut sink = sink_of(rt.alloc(), call);
+        assert_eq!(rt;
+            convert(rt.alloc(), text, binary, 2, &mut source, &mut sink),
+            Err(ToolFault::Device),
+            "at {call}"
+        );
+        assert_eq!(rt; sink.text.len() as u64, 7 * (call - 1));
+        assert!(rt; BINARY_ROW.starts_with(sink.text.as_slice()), "at {call}");
     }
 }

@@ -1,7 +1,11 @@
 //! The words of the command line.
 
-use clap::{Arg, ArgAction, Command, Error};
-use std::alloc::Global;
+ghost use Rattle.std.specs.Prelude.{◌<◌, ◌≤◌, IfOk};
+ghost use Rattle.pgpipe.specs.Failing.{IsTask};
+
+use crate::format::Format;
+use clap::{Arg, ArgAction, ArgMatches, Command, Error, value_parser};
+use std::alloc::{AllocError, Global};
 
 /// What the program is asked to do.
 #[derive(Clone, Copy, Debug, PartialEq, Eq)]
@@ -11,25 +15,90 @@ pub enum Task {
         /// It is a client's.
         front: bool,
     },
+    /// Convert the COPY file on standard input.
+    Convert {
+        /// The format that is read.
+        from: Format,
+        /// The format that is written.
+        to: Format,
+        /// How many fields a row has, 1 to 32,767.
+        columns: u16,
+    },
 }
 
-/// The task that the words name; no words mean `show`. The error has clap's text: help, or why the words name no task.
-pub fn task_of(alloc: Global, words: &[String]) -> Result<Task, Error> {
+const FORMATS: [&str; 2] = ["text", "binary"];
+
+// The subcommand that shows a stream.
+fn show_command<'a>(alloc: Global) -> Result<Command<'a>, AllocError> {
     let front = Arg::new(alloc, "front")
         .long("front")
         .action(ArgAction::SetTrue)
         .help("Read a client's side: its first packets, and then its messages");
-    let show = Command::new(alloc, "show")
+    Command::new(alloc, "show")
         .about("Print a line for each message of a backend's stream on standard input")
-        .arg(front)?;
+        .arg(front)
+}
+
+// A required format.
+fn format_arg<'a>(alloc: Global, name: &'a str, help: &'a str) -> Arg<'a> {
+    Arg::new(alloc, name)
+        .long(name)
+        .required(true)
+        .value_name("FORMAT")
+        .value_parser(FORMATS.as_slice())
+        .help(help)
+}
+
+// The subcommand that converts a file.
+fn convert_command<'a>(alloc: Global) -> Result<Command<'a>, AllocError> {
+    let columns = Arg::new(alloc, "columns")
+        .long("columns")
+        .required(true)
+        .value_name("N")
+        .value_parser(value_parser!(u16).range(1..=32_767))
+        .help("How many fields a row has");
+    Command::new(alloc, "convert")
+        .about("Convert the COPY file on standard input between the text and the binary format")
+        .arg(format_arg(alloc, "from", "The format to read"))?
+        .arg(format_arg(alloc, "to", "The format to write"))?
+        .arg(columns)
+}
+
+// The format that an argument names.
+fn format_of(matches: &ArgMatches<'_>, name: &str) -> Format {
+    match matches.get_str(name) {
+        Some("binary") => Format::Binary,
+        _ => Format::Text,
+    }
+}
+
+// The conversion that the words ask for.
+fn conversion_of(matches: &ArgMatches<'_>) -> Task
+    ensures { IsTask result }
+{
+    let columns = matches.get_one::<u16>("columns").unwrap_or(1);
+    Task::Convert {
+        from: format_of(matches, "from"),
+        to: format_of(matches, "to"),
+        // the parser took no number but these
+        columns: columns.clamp(1, 32_767),
+    }
+}
+
+/// The task that the words name; no words mean `show`. The error has clap's text: help, or why the words name no task.
+pub fn task_of(alloc: Global, words: &[String]) -> Result<Task, Error>
+    ensures { IfOk result IsTask }
+{
     let command = Command::new(alloc, "pgpipe")
-        .about("PostgreSQL protocol 3.0 on standard input and output")
-        .subcommand(show)?;
+        .about("PostgreSQL protocol 3.0 and COPY files on standard input and output")
+        .subcommand(show_command(alloc)?)?
+        .subcommand(convert_command(alloc)?)?;
     let matches = command.try_get_matches_from(words)?;
-    Ok(Task::Show {
-        front: match matches.subcommand() {
-            Some((_, show)) => show.get_flag("front"),
-            None => false,
+    Ok(match matches.subcommand() {
+        Some(("convert", convert)) => conversion_of(convert),
+        Some((_, show)) => Task::Show {
+            front: show.get_flag("front"),
         },
+        None => Task::Show { front: false },
     })
 }

@@ -1,45 +1,83 @@
-//! Replays a session that was recorded, line by line of the input, and writes what psql printed in it. The server's bytes are fed
-//! whole, then a byte at a time, then cut at each place, and have to settle the same.
+//! Replays sessions that were recorded, line by line of the input, and writes what psql printed in them, or what the server answered.
+//! The server's bytes are fed whole, then a byte at a time, then cut at each place, and have to settle the same. The client has to
+//! send what was recorded.
 #![tactic(auto)]
 
 mod act;
 mod print;
 mod replay;
+mod words;
 
 use act::Act;
 use anyhow::{Context, Result, bail};
 use print::print;
-use replay::{Cut, replay};
+use replay::{Cut, Ending, replay};
 use std::alloc::Global;
 use std::io;
 use std::io::{BufRead, BufReader, BufWriter, Write};
+use words::{write_ending, write_words};
 
-// What was recorded.
-fn read_acts(alloc: Global, input: impl BufRead + Drop) -> Result<Vec<Act>> {
-    let mut acts = Vec::new(alloc);
+/// What was recorded of one connection.
+#[derive(Drop)]
+struct Session {
+    /// The program that the client was.
+    name: String,
+    acts: Vec<Act>,
+}
+
+fn read_sessions(alloc: Global, input: impl BufRead + Drop) -> Result<Vec<Session>> {
+    let mut sessions: Vec<Session> = Vec::new(alloc);
     for line in input.lines(alloc) {
         let line = line?;
-        acts.push(Act::of_line(alloc, line.as_str()).context(format_args!("in {line:?}"))?)?;
+        if let Some(name) = line.as_str().strip_prefix("session ") {
+            sessions.push(Session {
+                name: String::from_str(alloc, name)?,
+                acts: Vec::new(alloc),
+            })?;
+        } else {
+            let act = Act::of_line(alloc, line.as_str()).context(format_args!("in {line:?}"))?;
+            match sessions.last_mut() {
+                Some(session) => session.acts.push(act)?,
+                None => bail!("an act stands in a session"),
+            }
+        }
     }
-    Ok(acts)
+    Ok(sessions)
+}
+
+// Replays the session in all ways, which have to end the same.
+fn replay_cut(alloc: Global, acts: &[Act]) -> Result<Ending> {
+    let ending = replay(alloc, acts, Cut::Nowhere)?;
+    if replay(alloc, acts, Cut::Everywhere)? != ending {
+        bail!("a byte at a time settles something else");
+    }
+    let longest = acts.iter().map(Act::server_bytes).max().unwrap_or(0);
+    for place in 0..longest {
+        if replay(alloc, acts, Cut::At(place))? != ending {
+            bail!("cut at {place} it settles something else");
+        }
+    }
+    Ok(ending)
 }
 
 fn main(rt: HostRuntime) -> Result<()> {
     let alloc = rt.alloc();
-    let acts = read_acts(alloc, BufReader::new(alloc, rt.reader())?)?;
-    let settled = replay(alloc, acts.as_slice(), Cut::Nowhere)?;
-    if replay(alloc, acts.as_slice(), Cut::Everywhere)?.as_slice() != settled.as_slice() {
-        bail!("a byte at a time settles something else");
-    }
-    let longest = acts.iter().map(Act::len).max().unwrap_or(0);
-    for place in 0..longest {
-        if replay(alloc, acts.as_slice(), Cut::At(place))?.as_slice() != settled.as_slice() {
-            bail!("cut at {place} it settles something else");
-        }
-    }
+    let sessions = read_sessions(alloc, BufReader::new(alloc, rt.reader())?)?;
     let mut out = BufWriter::new(alloc, io::writer(&rt))?;
-    for group in &settled {
-        print(group, &mut out)?;
+    for session in &sessions {
+        let name = session.name.as_str();
+        let ending = replay_cut(alloc, session.acts.as_slice()).context(format_args!("in {name}"))?;
+        writeln!(out, "session {name}")?;
+        if name == "psql" {
+            for group in &ending.settled {
+                print(group, &mut out)?;
+            }
+        } else {
+            for group in &ending.settled {
+                write_words(group, &mut out)?;
+            }
+            write_ending(&ending, &mut out)?;
+        }
     }
     out.flush()?;
     Ok(())

@@ -1,10 +1,13 @@
 //! A session made again with a client.
 
+ghost use Rattle.std.specs.Prelude.{◌≡◌, IfOk};
+
 use crate::act::Act;
 use anyhow::{Result, bail};
-use pg_client::{Client, Settings, Settled};
-use pg_wire::{Part, Request, Seq};
+use pg_client::{Cause, Client, FeedFault, Loss, Phase, Settings, Settled};
+use pg_wire::{Part, Request, Seq, Step};
 use std::alloc::Global;
+use std::mem;
 
 /// How the server's bytes are cut into pieces.
 #[derive(Clone, Copy, Debug)]
@@ -17,18 +20,46 @@ pub enum Cut {
     At(usize),
 }
 
+/// What came of a session.
+#[derive(Debug, PartialEq, Drop)]
+pub struct Ending {
+    pub settled: Vec<Settled>,
+    pub loss: Loss,
+}
+
+// A client, and what came of it so far.
+#[derive(Drop)]
+struct Running {
+    client: Client,
+    /// The steps of the group that isn't asked for yet.
+    steps: Vec<Step>,
+    /// What the client put out since it was last compared.
+    out: Vec<u8>,
+    settled: Vec<Settled>,
+}
+
+// Bytes that come behind a Terminate are refused.
+fn feed_piece(client: &mut Client, piece: &[u8], out: &mut Vec<u8>) -> Result<()> {
+    let ended = client.phase() == Phase::Closed(Cause::Terminated);
+    match client.feed(piece, out) {
+        Err(FeedFault::Closed) if ended => Ok(()),
+        Ok(()) if ended => bail!("a closed client takes bytes"),
+        other => Ok(other?),
+    }
+}
+
 fn feed(client: &mut Client, bytes: &[u8], cut: Cut, out: &mut Vec<u8>) -> Result<()> {
     match cut {
-        Cut::Nowhere => client.feed(bytes, out)?,
+        Cut::Nowhere => feed_piece(client, bytes, out)?,
         Cut::Everywhere => {
             for i in 0..bytes.len() {
-                client.feed(&bytes[i..i + 1], out)?;
+                feed_piece(client, &bytes[i..i + 1], out)?;
             }
         }
         Cut::At(place) => {
             let (front, back) = bytes.split_at(place.min(bytes.len()));
-            client.feed(front, out)?;
-            client.feed(back, out)?;
+            feed_piece(client, front, out)?;
+            feed_piece(client, back, out)?;
         }
     }
     Ok(())
@@ -49,45 +80,126 @@ fn compare_shown(client: &Client, settled: &Settled) -> Result<()> {
     let Some(Some(value)) = rows.get(0).and_then(|row| row.get(0)) else {
         bail!("SHOW gives a value");
     };
-    if client.parameter(name) != Some(value) {
+    if client.parameter(name) != Some(value.as_slice()) {
         bail!("the client knows another value");
     }
     Ok(())
 }
 
-fn make(client: &mut Client, act: &Act, cut: Cut, out: &mut Vec<u8>) -> Result<()> {
-    match act {
-        Act::Start => client.start(out)?,
-        Act::Query(text) => {
-            if let Err((_, fault)) = client.request(Request::Query(text.clone()?), out) {
-                return Err(fault.into());
-            }
-        }
-        Act::Chunk(bytes) => client.copy_chunk(bytes.as_slice(), out)?,
-        Act::Done => client.copy_done(out)?,
-        Act::Terminate => client.terminate(out)?,
-        Act::Bytes(bytes) => feed(client, bytes.as_slice(), cut, out)?,
+fn request(client: &mut Client, request: Request, out: &mut Vec<u8>) -> Result<()> {
+    match client.request(request, out) {
+        Ok(()) => Ok(()),
+        Err((_, fault)) => Err(fault.into()),
     }
-    Ok(())
 }
 
-/// Makes the session again, and gives what it settled.
-pub fn replay(alloc: Global, acts: &[Act], cut: Cut) -> Result<Vec<Settled>> {
-    let settings = Settings {
-        user: Seq::from_slice(alloc, b"postgres")?,
-        database: None,
-        pairs: Seq::new(Vec::new(alloc)),
-        limit: 65_536,
-    };
-    let mut client = Client::new(alloc, settings);
-    let mut out = Vec::new(alloc);
-    let mut settled = Vec::new(alloc);
-    for act in acts {
-        make(&mut client, act, cut, &mut out)?;
-        if let Some(group) = client.take_settled() {
-            compare_shown(&client, &group)?;
-            settled.push(group)?;
+impl Running {
+    fn new(alloc: Global, settings: Settings) -> Running
+        requires { settings.limit ≡ 65536 }
+    {
+        Running {
+            client: Client::new(alloc, settings),
+            steps: Vec::new(alloc),
+            out: Vec::new(alloc),
+            settled: Vec::new(alloc),
         }
     }
-    Ok(settled)
+
+    fn make(&mut self, alloc: Global, act: &Act, cut: Cut) -> Result<()> {
+        let Running {
+            client,
+            steps,
+            out,
+            ..
+        } = self;
+        match act {
+            Act::Start(_) => client.start(out)?,
+            Act::Query(text) => request(client, Request::Query(text.clone()?), out)?,
+            Act::Step(step) => steps.push(step.clone()?)?,
+            Act::Sync => {
+                let steps = mem::replace(steps, Vec::new(alloc));
+                request(client, Request::Group(Seq::new(steps)), out)?;
+            }
+            Act::Chunk(bytes) => client.copy_chunk(bytes.as_slice(), out)?,
+            Act::Done => client.copy_done(out)?,
+            Act::Fail(reason) => client.copy_fail(reason.as_slice(), out)?,
+            Act::Terminate => client.terminate(out)?,
+            Act::Sent(bytes) => {
+                if out.as_slice() != bytes.as_slice() {
+                    bail!("the client sends other bytes than {:?}", bytes);
+                }
+                out.clear();
+            }
+            Act::Bytes(bytes) => feed(client, bytes.as_slice(), cut, out)?,
+        }
+        Ok(())
+    }
+
+    // Takes what is settled. The client has to know its status.
+    fn settle(&mut self) -> Result<()> {
+        let Some(group) = self.client.take_settled() else {
+            return Ok(());
+        };
+        compare_shown(&self.client, &group)?;
+        if self.client.status() != Some(group.outcome.status) {
+            bail!("the client knows another status");
+        }
+        self.settled.push(group)?;
+        Ok(())
+    }
+
+    fn end(self) -> Result<Ending> {
+        let Running {
+            mut client,
+            steps,
+            out,
+            settled,
+        } = self;
+        if client.phase() != Phase::Closed(Cause::Terminated) {
+            bail!("the session ends in {:?}", client.phase());
+        }
+        if !steps.is_empty() || !out.is_empty() {
+            bail!("steps or bytes are left over");
+        }
+        let loss = client.lost();
+        Ok(Ending { settled, loss })
+    }
+}
+
+// The settings that a startup packet's parameters say: the user, maybe the database, and others.
+fn settings_of(alloc: Global, acts: &[Act]) -> Result<Settings>
+    ensures { IfOk result (λ settings. settings.limit ≡ 65536) }
+{
+    let Some(Act::Start(parameters)) = acts.first() else {
+        bail!("a session begins with its start");
+    };
+    let mut user = None;
+    let mut database = None;
+    let mut pairs = Vec::new(alloc);
+    for (name, value) in parameters {
+        match name.as_slice() {
+            b"user" => user = Some(value.clone()?),
+            b"database" => database = Some(value.clone()?),
+            _ => pairs.push((name.clone()?, value.clone()?))?,
+        }
+    }
+    let Some(user) = user else {
+        bail!("a startup names the user");
+    };
+    Ok(Settings {
+        user,
+        database,
+        pairs: Seq::new(pairs),
+        limit: 65_536,
+    })
+}
+
+/// Makes the session again.
+pub fn replay(alloc: Global, acts: &[Act], cut: Cut) -> Result<Ending> {
+    let mut running = Running::new(alloc, settings_of(alloc, acts)?);
+    for act in acts {
+        running.make(alloc, act, cut)?;
+        running.settle()?;
+    }
+    running.end()
 }

@@ -22,8 +22,8 @@ pub trait Subject: Drop {
 
     fn kept(&self) -> usize;
 
-    /// Encodes what was given, or answers false where nothing encodes it.
-    fn encode(item: &Self::Item, buf: &mut Vec<u8>) -> Result<bool, EncodeFault>;
+    /// Encodes what was given.
+    fn encode(item: &Self::Item, buf: &mut Vec<u8>) -> Result<(), EncodeFault>;
 }
 
 impl<M: Message + Debug + PartialEq> Subject for Decoder<M> {
@@ -45,9 +45,8 @@ impl<M: Message + Debug + PartialEq> Subject for Decoder<M> {
         Decoder::kept(self)
     }
 
-    fn encode(message: &M, buf: &mut Vec<u8>) -> Result<bool, EncodeFault> {
-        message.encode(buf)?;
-        Ok(true)
+    fn encode(message: &M, buf: &mut Vec<u8>) -> Result<(), EncodeFault> {
+        message.encode(buf)
     }
 }
 
@@ -70,13 +69,7 @@ impl Subject for FirstDecoder {
         FirstDecoder::kept(self)
     }
 
-    fn encode(packet: &First, buf: &mut Vec<u8>) -> Result<bool, EncodeFault> {
-        match packet {
-            First::Startup(pairs) => frontend::startup_message(pairs.as_slice(), buf)?,
-            First::Cancel { process, secret } => frontend::cancel_request(*process, *secret, buf)?,
-            First::Ssl => frontend::ssl_request(buf)?,
-            First::Gss => return Ok(false),
-        }
-        Ok(true)
+    fn encode(packet: &First, buf: &mut Vec<u8>) -> Result<(), EncodeFault> {
+        frontend::encode_first(packet, buf)
     }
 }

@@ -139,13 +139,12 @@ fn read_cut<D: Subject>(alloc: Global, bytes: &[u8], cut: Cut) -> Result<Reading
     Ok(found)
 }
 
-/// Demands that the encoder, if there is one, writes the message as these bytes.
+/// Demands that the encoder writes the message as these bytes.
 fn check_spelling<D: Subject>(alloc: Global, message: &D::Item, bytes: &[u8]) -> Result<(), Flaw> {
     let mut written = Vec::new(alloc);
     match D::encode(message, &mut written) {
-        Ok(false) => Ok(()),
-        Ok(true) if written.as_slice() == bytes => Ok(()),
-        Ok(true) => Err(Flaw::Respelled),
+        Ok(()) if written.as_slice() == bytes => Ok(()),
+        Ok(()) => Err(Flaw::Respelled),
         Err(EncodeFault::Memory) => Err(Flaw::Memory),
         Err(fault) => Err(Flaw::Unwritten(fault)),
     }

@@ -15,7 +15,7 @@ use Rattle.pg_client.specs.declared.phase.Cause.TheVariants as cause
 use Rattle.pg_client.specs.declared.place.Stand.TheVariants.{Idle}
 use Rattle.pg_client.specs.declared.settled.Settled.{Settled}
 use Rattle.pg_client.specs.Session.{Run, IsTerminated, AreAllowed, Expected}
-use Rattle.pg_client.specs.Client.{ClientView, IsAlike, IsSpelledAt, or_else, last_said, value_of, value_said, key_said, sent_in, story, cause_of}
+use Rattle.pg_client.specs.Client.{ClientView, AreOrdered, IsAlike, IsSpelledAt, or_else, last_said, value_of, value_said, key_said, sent_in, story, cause_of}
 use Rattle.pg_client.specs.Judged.{Stands}
 use Rattle.pg_client.specs.Machine.{Effect, Stays, Settles, Rejected, hear}
 use Rattle.pg_client.specs.Private.Hearing.{fault_at}
@@ -83,6 +83,7 @@ HearsNext old (Err f) new = (m : BackMessage) × (more : List ℕ) × IsWithin b
 pub record IsHearing (before : ℕ) (run : Run) (fed : List ℕ) (heard : List BackMessage) (given : List Settled) (sent : List ℕ) (client : ClientView) : Type 0 where
   pub stream : IsStream backend client.settings.limit fed heard client.kept
   pub places : AllByRecursion (λ c. c.1 ≤ before) run
+  pub ordered : AreOrdered run
   pub within : before ≤ length fed
   pub late : (m : BackMessage) (more : List ℕ) → IsWithin backend client.settings.limit m → client.kept ≡ spelling backend m ++ more → before < length (flat_map (spelling backend) heard) + length (spelling backend m)
   pub is_open : client.closed ≡ None

@@ -7,7 +7,7 @@ use Rattle.pg_wire.specs.declared.session.Part.{Part}
 use Rattle.pg_wire.specs.declared.session.Request.{Request}
 use Rattle.pg_wire.specs.declared.message.Status.{Status}
 use Rattle.pg_wire.specs.Backend.{tag}
-use Rattle.pg_wire.specs.Segment.{Fields, asked, aside_of, status_of}
+use Rattle.pg_wire.specs.Segment.{error_of, Fields, asked, aside_of, status_of}
 use Rattle.pg_client.specs.declared.fault.FeedFault.{FeedFault}
 use Rattle.pg_client.specs.declared.fault.FeedFault.TheVariants as feeding
 use Rattle.pg_client.specs.declared.hearing.Heard.{Heard}
@@ -22,7 +22,7 @@ use Rattle.pg_client.specs.declared.place.Stand.TheVariants.{Starting, Idle, Bus
 use Rattle.pg_client.specs.declared.place.Welcome.{Welcome}
 use Rattle.pg_client.specs.declared.place.Welcome.TheVariants.{Fresh, Admitted}
 use Rattle.pg_client.specs.declared.settled.Settled.{Settled}
-use Rattle.pg_client.specs.Place.{Place, error_of, left, stage_ending}
+use Rattle.pg_client.specs.Place.{Place, left, stage_ending}
 use Rattle.pg_client.specs.Machine.{Effect, Stays, Settles, Rejected, hear, greet}
 use Rattle.pg_client.specs.Client.{IsAlike}
 

@@ -1,29 +1,36 @@
 -- What a call puts out.
-use Rattle.std.specs.Prelude.{◌≡◌, ℕ, List, ◌++◌, Some, Result, Ok, Err}
+use Rattle.std.specs.Prelude.{◌≡◌, ℕ, List, ◌++◌, Bool, true, false, Some, None, Result, Ok, Err}
 use Rattle.std.specs.List.{flat_map, AllByRecursion}
 use Rattle.pg_wire.specs.declared.fault.EncodeFault.{EncodeFault}
 use Rattle.pg_wire.specs.declared.fault.EncodeFault.TheVariants as encoding
 use Rattle.pg_wire.specs.declared.message.FrontMessage.{FrontMessage}
 use Rattle.pg_wire.specs.Direction.{spelling, HasSpelling}
 use Rattle.pg_wire.specs.Frontend.{frontend}
-use Rattle.pg_client.specs.declared.settings.Settings.{Settings}
-use Rattle.pg_client.specs.Session.{Start}
-use Rattle.pg_client.specs.Client.{sent_by, IsSpelled, call_fault, first_fault}
-
--- The startup packet is appended, or nothing.
-abbrev pub SendsStartup : Settings → List ℕ → Result Unit EncodeFault → List ℕ → Type 0
-SendsStartup settings before (Ok x) after = IsSpelled settings Start × (after ≡ before ++ sent_by settings Start)
-SendsStartup settings before (Err encoding.Memory) after = after ≡ before
-SendsStartup settings before (Err f) after = (call_fault settings Start ≡ Some f) × (after ≡ before)
+use Rattle.pg_client.specs.Client.{first_fault}
 
 -- All messages are appended, or nothing.
 abbrev pub SendsAll : List FrontMessage → List ℕ → Result Unit EncodeFault → List ℕ → Type 0
 SendsAll messages before (Ok x) after = AllByRecursion (HasSpelling frontend) messages × (after ≡ before ++ flat_map (spelling frontend) messages)
-SendsAll messages before (Err encoding.Memory) after = after ≡ before
+SendsAll messages before (Err encoding.Memory) after = (first_fault messages ≡ None) × (after ≡ before)
 SendsAll messages before (Err f) after = (first_fault messages ≡ Some f) × (after ≡ before)
 
--- The messages are appended, or those before one that can't be, and maybe more.
+-- Something is appended, or nothing.
+abbrev pub Lengthens : List ℕ → List ℕ → Type 0
+Lengthens before after = (some : List ℕ) × (after ≡ before ++ some)
+
+-- The messages are appended, or some of their bytes.
 abbrev pub Puts : List FrontMessage → List ℕ → Result Unit EncodeFault → List ℕ → Type 0
 Puts messages before (Ok x) after = AllByRecursion (HasSpelling frontend) messages × (after ≡ before ++ flat_map (spelling frontend) messages)
-Puts messages before (Err encoding.Memory) after = (some : List ℕ) × (after ≡ before ++ some)
-Puts messages before (Err f) after = (first_fault messages ≡ Some f) × ((some : List ℕ) × (after ≡ before ++ some))
+Puts messages before (Err encoding.Memory) after = (first_fault messages ≡ None) × Lengthens before after
+Puts messages before (Err f) after = (first_fault messages ≡ Some f) × Lengthens before after
+
+-- whether memory was refused so far, or the fault of the message that was put out last
+abbrev pub starved_after : Bool → Result Unit EncodeFault → Result Bool EncodeFault
+starved_after starved (Ok x) = Ok starved
+starved_after starved (Err encoding.Memory) = Ok true
+starved_after starved (Err f) = Err f
+
+-- The messages are appended, unless memory was refused for one; none of them has a fault.
+abbrev pub ArePut : List FrontMessage → List ℕ → Bool → List ℕ → Type 0
+ArePut messages before false now = AllByRecursion (HasSpelling frontend) messages × (now ≡ before ++ flat_map (spelling frontend) messages)
+ArePut messages before true now = (first_fault messages ≡ None) × Lengthens before now

@@ -17,11 +17,14 @@ use pg_wire::{BackMessage, WireFault};
 
 impl Client {
     /// Takes the bytes that came from the server, all of the piece, in whatever pieces they come. Groups that are settled then
-    /// wait for [`take_settled`](Client::take_settled). What the server asks for goes to `out`.
+    /// wait for [`take_settled`](Client::take_settled). Nothing is put out.
     ///
-    /// F8 Closed: the client was closed before, and nothing changes. After any other fault it is closed with the cause of that
-    /// name: the messages before the fault have had their effect, groups that were settled stay to be taken, and a request that
-    /// is outstanding stays to be handed back by [`lost`](Client::lost). A piece without bytes takes no memory.
+    /// F1 Wire: the stream has a fault. F2 Unexpected: a message goes on with no segment that fits. F3 UnsupportedAuth and F4
+    /// PasswordWanted: the server asks for what the client can't give. F5 StartupError and F6 ServerEnd: an error came in phase
+    /// Starting or Ready. F7 Memory: memory was refused. After these the client is closed with the cause of that name: the
+    /// messages before the fault have had their effect, groups that were settled stay to be taken, and a request that is
+    /// outstanding stays to be handed back by [`lost`](Client::lost). F8 Closed: the client was closed before, and nothing
+    /// changes. A piece without bytes takes no memory.
     pub fn feed(&mut self, piece: &[u8], out: &mut Vec<u8>) -> Result<(), FeedFault>
         ensures settings { self.new.settings ≡ self.old.settings }
         ensures feeds { Feeds self.old piece.now result self.new }

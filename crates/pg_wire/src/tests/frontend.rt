@@ -41,6 +41,25 @@ fn first_packets_are_written(rt: HostRuntime) -> Result<(), Fail> {
 }
 
 #[test]
+fn a_startup_is_written_of_lent_parts(rt: HostRuntime) -> Result<(), Fail> {
+    let mut buf = Vec::new(rt.alloc());
+    let others = user_of_length(rt.alloc(), 1)?;
+    frontend::startup(b"a", Some(b"b"), &others.as_slice()[..0], &mut buf)?;
+    let written = b"\0\0\0\x1B\0\x03\0\0user\0a\0database\0b\0\0";
+    assert_eq!(rt; buf.as_slice(), written.as_slice());
+    buf.clear();
+    frontend::startup(b"a", None, others.as_slice(), &mut buf)?;
+    assert!(rt;
+        buf.as_slice()
+            .starts_with(b"\0\0\0\x17\0\x03\0\0user\0a\0user\0")
+    );
+    let refused = frontend::startup(b"a", Some(b"\0"), others.as_slice(), &mut buf);
+    assert_eq!(rt; refused, Err(EncodeFault::HasZero));
+    assert_eq!(rt; buf.len(), 23);
+    Ok(())
+}
+
+#[test]
 fn a_startup_has_at_most_ten_thousand_bytes(rt: HostRuntime) -> Result<(), Fail> {
     let mut buf = Vec::new(rt.alloc());
     let pairs = user_of_length(rt.alloc(), 9_985)?;

@@ -1,0 +1,134 @@
+-- What a client does and what comes goes by turns.
+use Rattle.std.proofs.Common.{◌≡◌, Bool, ℕ, suc, ◌≤◌, List, [], ◌∷◌, ◌++◌, length, drop, map, Option, Some, None, refl, sym, ap, subst, ◌∙◌, inl, inr, arith}
+use Rattle.std.specs.Prelude.{◌⊎◌, take}
+use Rattle.std.specs.List.{AllByRecursion}
+use Rattle.std.proofs.lemmas.List.{length-map}
+use Rattle.pg_wire.specs.declared.message.BackMessage.{BackMessage}
+use Rattle.pg_wire.specs.declared.session.Request.{Request}
+use Rattle.pg_client.specs.declared.phase.Cause.{Cause}
+use Rattle.pg_client.specs.declared.phase.Cause.TheVariants as cause
+use Rattle.pg_client.specs.declared.phase.Phase.TheVariants as phase
+use Rattle.pg_client.specs.declared.settled.Settled.{Settled}
+use Rattle.pg_client.specs.Session.{Run, Call, Start, Ask, Chunk, CopyEnd, CopyFail, Terminate, Happening, Did, requests_in, whole_in, rest_in, IsReady, IsCopyingIn, IsAsked, HasPlace, AreAllowed}
+use Rattle.pg_client.specs.Client.{ClientView, story, groups_in, IsRunOf}
+use Rattle.pg_client.specs.Facts.{SettledInOrder, IsPhase}
+use Rattle.pg_client.specs.Turns.{Turn, copies_of, turns_of, calls_in}
+use Rattle.pg_client.specs.Answering.{turns_in, IsCopyMessage, IsCopyCall, IsInTurn, TakesTurns}
+use Rattle.pg_client.proofs.Beginnings.{AreAsked, AllAfter, after_begins, allowed_begins, are_asked, are_answered}
+use Rattle.pg_client.proofs.Copying.{no_copy_in, copying_since, copy_under_way}
+use Rattle.pg_client.proofs.Facts.{run_facts}
+use Rattle.pg_client.proofs.Stories.{requests_of_calls}
+
+-- ---- how many turns there are, and how many are answered
+
+turns_length : (hs : List Happening) → length (turns_in hs) ≡ length (requests_in hs)
+turns_length hs = sym (ap length (requests_of_calls hs) ∙ length-map (turns_in hs) (λ (t : Turn). t.request))
+
+few_whole : (hs : List Happening) → AreAsked hs → length (whole_in hs) ≤ suc (length (requests_in hs))
+few_whole hs (inl le) = omega (arith, le)
+few_whole hs (inr p) = omega (arith, p.0)
+
+-- all whole segments but the startup's
+groups_length : (whole : List (List BackMessage)) → (length whole ≡ suc (length (drop 1 whole))) ⊎ ((length whole ≡ 0) × (length (drop 1 whole) ≡ 0))
+groups_length [] = inr (refl, refl)
+groups_length (w ∷ ws) = inl refl
+
+counted : (hs : List Happening) → AllAfter hs → AreAllowed hs → IsInTurn hs
+counted hs after allowed = by_groups (groups_length (whole_in hs)) (are_answered hs allowed) (few_whole hs (are_asked hs after))
+  where
+    by_groups : (length (whole_in hs) ≡ suc (length (groups_in hs))) ⊎ ((length (whole_in hs) ≡ 0) × (length (groups_in hs) ≡ 0)) → length (requests_in hs) ≤ length (whole_in hs) → length (whole_in hs) ≤ suc (length (requests_in hs)) → IsInTurn hs
+    by_groups (inl e) some few = record { one_at_most = omega (arith, e, some, turns_length hs); none_ahead = omega (arith, e, few, turns_length hs) }
+    by_groups (inr e) some few = record { one_at_most = omega (arith, e.0, e.1, some, turns_length hs); none_ahead = omega (arith, e.1) }
+
+ready_counted : (hs : List Happening) → IsReady hs → length (groups_in hs) ≡ length (turns_in hs)
+ready_counted hs ready = by_groups (groups_length (whole_in hs))
+  where
+    by_groups : (length (whole_in hs) ≡ suc (length (groups_in hs))) ⊎ ((length (whole_in hs) ≡ 0) × (length (groups_in hs) ≡ 0)) → length (groups_in hs) ≡ length (turns_in hs)
+    by_groups (inl e) = omega (arith, e, ready, turns_length hs)
+    by_groups (inr e) = absurd (omega (arith, e.0, ready))
+
+-- ---- copies
+
+not_empty : (rs : List Request) → (rs ≡ [] → ⊥) → 1 ≤ length rs
+not_empty [] some = absurd (some refl)
+not_empty (r ∷ rs) some = omega arith
+
+copy_counted : (hs : List Happening) → AllAfter hs → AreAllowed hs → IsAsked hs → IsCopyingIn hs → length (turns_in hs) ≡ suc (length (groups_in hs))
+copy_counted hs after allowed asked copying = by_groups (groups_length (whole_in hs)) (are_asked hs after) (are_answered hs allowed) (not_empty (requests_in hs) asked)
+  where
+    by_groups : (length (whole_in hs) ≡ suc (length (groups_in hs))) ⊎ ((length (whole_in hs) ≡ 0) × (length (groups_in hs) ≡ 0)) → AreAsked hs → length (requests_in hs) ≤ length (whole_in hs) → 1 ≤ length (requests_in hs) → length (turns_in hs) ≡ suc (length (groups_in hs))
+    by_groups g (inr p) some one = absurd (no_copy_in (rest_in hs) p.1 copying.0)
+    by_groups (inl e) (inl few) some one = omega (arith, e, few, some, turns_length hs)
+    by_groups (inr e) (inl few) some one = absurd (omega (arith, e.0, some, one))
+
+copies_only : (cs : List Call) → AllByRecursion IsCopyMessage (copies_of cs)
+copies_only [] = tt
+copies_only (Ask r ∷ cs) = tt
+copies_only (Chunk b ∷ cs) = (tt, copies_only cs)
+copies_only (CopyEnd ∷ cs) = (tt, copies_only cs)
+copies_only (CopyFail b ∷ cs) = (tt, copies_only cs)
+copies_only (Start ∷ cs) = copies_only cs
+copies_only (Terminate ∷ cs) = copies_only cs
+
+all_copies : (cs : List Call) → AllByRecursion (λ t. AllByRecursion IsCopyMessage t.copies) (turns_of cs)
+all_copies [] = tt
+all_copies (Ask r ∷ cs) = (copies_only cs, all_copies cs)
+all_copies (Chunk b ∷ cs) = all_copies cs
+all_copies (CopyEnd ∷ cs) = all_copies cs
+all_copies (CopyFail b ∷ cs) = all_copies cs
+all_copies (Start ∷ cs) = all_copies cs
+all_copies (Terminate ∷ cs) = all_copies cs
+
+-- ---- the settled groups
+
+settled_length : (rs : List Request) (ss : List (List BackMessage)) (ts : List Settled) → SettledInOrder rs ss ts → length ts ≡ length ss
+settled_length rs [] [] h = refl
+settled_length (r ∷ rs) (s ∷ ss) (t ∷ ts) h = ap suc (settled_length rs ss ts h.2)
+settled_length _ _ _ h = absurd h
+
+first_settled : (rs : List Request) (ss : List (List BackMessage)) (ts : List Settled) → SettledInOrder rs ss ts → map (λ t. t.request) ts ≡ take (length ts) rs
+first_settled rs [] [] h = refl
+first_settled (r ∷ rs) (s ∷ ss) (t ∷ ts) h = ap (λ (x : Request). x ∷ map (λ t. t.request) ts) h.0 ∙ ap (λ (xs : List Request). r ∷ xs) (first_settled rs ss ts h.2)
+first_settled _ _ _ h = absurd h
+
+-- ---- of a run
+
+open_ready : (hs : List Happening) (closed : Option Cause) → IsPhase hs closed phase.Ready → IsReady hs
+open_ready hs None h = h
+open_ready hs (Some c) e = absurd cc
+
+open_copying : (hs : List Happening) (closed : Option Cause) → IsPhase hs closed phase.CopyingIn → (closed ≡ None) × IsCopyingIn hs
+open_copying hs None h = (refl, h)
+open_copying hs (Some c) e = absurd cc
+
+not_closed : (closed : Option Cause) → closed ≡ None → closed ≡ Some cause.Terminated → ⊥
+not_closed closed none some = cc
+
+copied_in_turn : (hs before : List Happening) (c : Call) (later : List Happening) → AllAfter hs → AreAllowed hs → IsCopyCall c → hs ≡ before ++ Did c ∷ later → length (turns_in before) ≡ suc (length (groups_in before))
+copied_in_turn hs before c later after allowed copy e = by c copy (allowed before c later e).in_place
+  where
+    here : IsAsked before → IsCopyingIn before → length (turns_in before) ≡ suc (length (groups_in before))
+    here asked copying = copy_counted before (after_begins before (Did c ∷ later) (subst AllAfter e after)) (allowed_begins before (Did c ∷ later) (subst AreAllowed e allowed)) asked copying
+
+    by : (d : Call) → IsCopyCall d → HasPlace before d → length (turns_in before) ≡ suc (length (groups_in before))
+    by (Chunk b) i p = here p.0 p.1
+    by CopyEnd i p = here p.0 p.1
+    by (CopyFail b) i p = here p.0 p.1
+    by _ i p = absurd i
+
+pub takes_turns : (run : Run) (fed : List ℕ) (heard : List BackMessage) (rest : List ℕ) (given : List Settled) (sent : List ℕ) (handed_back : Bool) (client : ClientView) → IsRunOf run fed heard rest given sent handed_back client → TakesTurns (story run heard) (given ++ client.settled) client
+takes_turns run fed heard rest given sent handed_back client r =
+    let hs : List Happening = story run heard in
+    let facts = run_facts run fed heard rest given sent handed_back client r in
+    let after : AllAfter hs = r.expected.after in
+    record {
+      in_turn = λ before later e. counted before (after_begins before later (subst AllAfter e after)) (allowed_begins before later (subst AreAllowed e r.allowed));
+      asked = λ before q later e. ready_counted before (r.allowed before (Ask q) later e).in_place.1;
+      copied = λ before c later copy e. copied_in_turn hs before c later after r.allowed copy e;
+      copies = all_copies (calls_in hs);
+      settled_all = settled_length (requests_in hs) (groups_in hs) (given ++ client.settled) facts.in_order;
+      settled_first = first_settled (requests_in hs) (groups_in hs) (given ++ client.settled) facts.in_order ∙ ap (take (length (given ++ client.settled))) (requests_of_calls hs);
+      ready = λ e. settled_length (requests_in hs) (groups_in hs) (given ++ client.settled) facts.in_order ∙ ready_counted hs (open_ready hs client.closed ((facts.phase phase.Ready).0 e));
+      ended = λ e. copy_under_way hs after r.allowed (open_copying hs client.closed ((facts.phase phase.CopyingIn).0 e)).1;
+      copying = λ e. let o = open_copying hs client.closed ((facts.phase phase.CopyingIn).0 e) in copying_since hs after r.allowed (λ t. not_closed client.closed o.0 (r.terminated.0 t)) o.1;
+    }

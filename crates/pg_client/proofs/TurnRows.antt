@@ -1,0 +1,73 @@
+-- A copy in and a query, and the turns that they are, by computation.
+use Rattle.std.proofs.Common.{◌≡◌, List, [], ◌∷◌, length, false, refl}
+use Rattle.pg_wire.specs.declared.message.BackMessage.{BackMessage}
+use Rattle.pg_wire.specs.declared.message.BackMessage.TheVariants.{AuthOk, Ready, CommandComplete, NoticeResponse}
+use Rattle.pg_wire.specs.declared.message.BackMessage.TheVariants as back
+use Rattle.pg_wire.specs.declared.message.FrontMessage.TheVariants as front
+use Rattle.pg_wire.specs.declared.message.Status.TheVariants as status
+use Rattle.pg_wire.specs.declared.session.Request.{Request}
+use Rattle.pg_wire.specs.declared.session.Request.TheVariants.{Query}
+use Rattle.pg_client.specs.Session.{Run, Start, Ask, Chunk, CopyEnd, Terminate, Happening, Did, Came, rest_in}
+use Rattle.pg_client.specs.Client.{groups_in, story, with_ends}
+use Rattle.pg_client.specs.Turns.{turns_of}
+use Rattle.pg_client.specs.Answering.{calls_of, turns_in, turns_with, last_copies, copies_ended, copies_begun, IsCopyingSince}
+
+abbrev copy : Request
+copy = Query (67 ∷ [])
+
+abbrev select : Request
+select = Query (83 ∷ [])
+
+-- CopyInResponse
+abbrev begins : BackMessage
+begins = back.CopyIn (record { binary = false; formats = [] })
+
+abbrev run : Run
+run = (Start, 0) ∷ (Ask copy, 15) ∷ (Chunk (97 ∷ []), 23) ∷ (CopyEnd, 23) ∷ (Ask select, 37) ∷ (Terminate, 37) ∷ []
+
+abbrev heard : List BackMessage
+heard = AuthOk ∷ Ready status.Idle ∷ begins ∷ CommandComplete (79 ∷ 75 ∷ []) ∷ Ready status.Idle ∷ []
+
+-- where each message ends
+ends_are : with_ends 0 heard ≡ (AuthOk, 9) ∷ (Ready status.Idle, 15) ∷ (begins, 23) ∷ (CommandComplete (79 ∷ 75 ∷ []), 31) ∷ (Ready status.Idle, 37) ∷ []
+ends_are = refl
+
+-- calls stand behind the messages that were whole when they were made
+story_is : story run heard ≡ Did Start ∷ Came AuthOk ∷ Came (Ready status.Idle) ∷ Did (Ask copy) ∷ Came begins ∷ Did (Chunk (97 ∷ [])) ∷ Did CopyEnd ∷ Came (CommandComplete (79 ∷ 75 ∷ [])) ∷ Came (Ready status.Idle) ∷ Did (Ask select) ∷ Did Terminate ∷ []
+story_is = refl
+
+-- the chunk and its end belong to the copy
+turns_are : turns_of (calls_of run) ≡ record { request = copy; copies = front.CopyData (97 ∷ []) ∷ front.CopyDone ∷ [] } ∷ record { request = select; copies = [] } ∷ []
+turns_are = refl
+
+chunk_added : turns_with (turns_of (Start ∷ Ask copy ∷ [])) (Chunk (97 ∷ [])) ≡ record { request = copy; copies = front.CopyData (97 ∷ []) ∷ [] } ∷ []
+chunk_added = refl
+
+-- while the copy in is under way: one turn, no answer, and a chunk and a notice since the CopyInResponse
+abbrev under_way : List Happening
+under_way = Did Start ∷ Came AuthOk ∷ Came (Ready status.Idle) ∷ Did (Ask copy) ∷ Came begins ∷ Did (Chunk (97 ∷ [])) ∷ Came (NoticeResponse []) ∷ []
+
+one_turn : length (turns_in under_way) ≡ 1
+one_turn = refl
+
+no_answer : length (groups_in under_way) ≡ 0
+no_answer = refl
+
+one_begun : copies_begun (rest_in under_way) ≡ 1
+one_begun = refl
+
+none_ended : copies_ended (last_copies (turns_in under_way)) ≡ 0
+none_ended = refl
+
+chunks_since : IsCopyingSince under_way
+chunks_since = record {
+  before = Did Start ∷ Came AuthOk ∷ Came (Ready status.Idle) ∷ Did (Ask copy) ∷ [];
+  head = record { binary = false; formats = [] };
+  later = Did (Chunk (97 ∷ [])) ∷ Came (NoticeResponse []) ∷ [];
+  since = refl;
+  chunks = (tt, (refl, tt));
+}
+
+-- a copy that was ended is answered with its request
+both_answered : length (groups_in (story run heard)) ≡ 1
+both_answered = refl
