@@ -1,5 +1,7 @@
 //! Files of either format, read in pieces and written.
 
+ghost use Rattle.std.specs.Prelude.{◌≡◌, Some};
+
 use anyhow::{Result, bail};
 use pg_copy::{
     BinaryReader, Row, TextReader, write_binary_head, write_binary_row, write_binary_trailer,
@@ -45,7 +47,9 @@ pub trait File: Drop {
 }
 
 impl File for TextReader {
-    fn begin(alloc: Global) -> TextReader {
+    fn begin(alloc: Global) -> TextReader
+        ensures { result.columns ≡ Some 3 }
+    {
         TextReader::new(alloc, Some(COLUMNS))
     }
 
@@ -77,7 +81,9 @@ impl File for TextReader {
 }
 
 impl File for BinaryReader {
-    fn begin(alloc: Global) -> BinaryReader {
+    fn begin(alloc: Global) -> BinaryReader
+        ensures { (result.columns ≡ 3) × (result.limit ≡ 65536) }
+    {
         BinaryReader::new(alloc, COLUMNS, LIMIT)
     }
 

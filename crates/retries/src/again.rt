@@ -1,5 +1,7 @@
 //! Calls of readers and writers that are made once more where memory was refused.
 
+ghost use Rattle.std.specs.Prelude.{◌≡◌, Some};
+
 use anyhow::{Result, ensure};
 use pg_copy::{
     BinaryFault, BinaryReader, Row, RowFault, TextFault, TextReader, write_binary_head,
@@ -44,7 +46,9 @@ pub struct Text {
 }
 
 impl Text {
-    pub fn new(alloc: Global) -> Text {
+    pub fn new(alloc: Global) -> Text
+        ensures { result.reader.columns ≡ Some 3 }
+    {
         Text {
             reader: TextReader::new(alloc, Some(COLUMNS)),
         }
@@ -86,7 +90,9 @@ pub struct Binary {
 }
 
 impl Binary {
-    pub fn new(alloc: Global) -> Binary {
+    pub fn new(alloc: Global) -> Binary
+        ensures { (result.reader.columns ≡ 3) × (result.reader.limit ≡ 65536) }
+    {
         Binary {
             reader: BinaryReader::new(alloc, COLUMNS, LIMIT),
         }
