@@ -13,8 +13,8 @@ use Rattle.pg_copy.specs.declared.binary_part.NoPart.TheVariants.{Incomplete, Fa
 use Rattle.pg_copy.specs.Row.{Row}
 use Rattle.pg_copy.specs.Reading.{Reading, Ending, Open, Done, Ended, Bad, after_rows}
 use Rattle.pg_copy.proofs.TextEscapes.{same-bytes, other-bytes}
-use Rattle.pg_copy.specs.Binary.{IsBytes, signature, head, value, binary_row, trailer, IsHead, FitsValue, FitsBinary, IsFaultyRest, field_count, field_length, after_trailer, IsOpenRest, IsRest, IsFaultyHead, signature_differs, flag_set, extension_negative, IsOpenHead, IsHeadRest, IsBinaryFile, whole, headless}
-use Rattle.pg_copy.specs.BinaryReading.{◌>>=◌, number_at, bytes_at, signature_at, flags_at, extension_at, head_at, value_at, values_at, row_at, part_reading, rows_reading, body_reading, head_reading, binary_reading, trailer_reading}
+use Rattle.pg_copy.specs.Binary.{IsBytes, signature, head, value, binary_row, trailer, IsHead, FitsValue, FitsBinary, IsFaultyRest, field_count, field_length, after_trailer, IsOpenRest, IsRest, IsFaultyHead, signature_differs, flag_set, extension_negative, IsOpenHead, open_head, IsHeadRest, IsBinaryFile, whole, headless}
+use Rattle.pg_copy.specs.BinaryReading.{◌>>=◌, number_at, bytes_at, signature_at, flags_at, extension_at, fixed_at, head_at, value_at, values_at, row_at, part_reading, rows_reading, body_reading, head_reading, binary_reading, trailer_reading}
 use Rattle.pg_copy.proofs.TextReads.{after-none}
 use Rattle.pg_copy.proofs.BinaryReads.{body-step}
 use Rattle.pg_copy.proofs.BinaryRound.{wide16, wide32, number-again, bytes-again, value-again, row-again, head-again, rows-trip, body-trailer}
@@ -279,7 +279,7 @@ data HeadIs (bytes : List ℕ) : Result (List ℕ × List ℕ) NoPart → Type 0
   head_faulty : (f : BinaryFault) → IsFaultyHead bytes f → HeadIs bytes (Err (Faulty f))
   head_short : HeadIs bytes (Err Incomplete)
 
-extension-view : (bytes rest : List ℕ) (flags : ℕ) → flags < 65536 → bytes ≡ signature ++ (to_be_bytes w32 flags ++ rest) → IsBytes rest → HeadIs bytes (extension_at rest)
+extension-view : (bytes rest : List ℕ) (flags : ℕ) → flags < 65536 → bytes ≡ signature ++ (to_be_bytes w32 flags ++ rest) → IsBytes rest → HeadIs bytes (extension_at rest >>= λ n. bytes_at n.0 n.1)
 unfolding extension_at
 extension-view bytes rest flags low parts fits = go (number_at w32 rest) (number-view w32 (2 ^ 32) rest backed32 fits)
   where
@@ -292,31 +292,31 @@ extension-view bytes rest flags low parts fits = go (number_at w32 rest) (number
         head_there (head flags first) first after (flags, first, low, omega arith, refl) (all ∙ sym grouped) are
     full k behind short e _ bytes_short = head_short
 
-    sign : (k : ℕ) (behind : List ℕ) → k < 2 ^ 32 → rest ≡ to_be_bytes w32 k ++ behind → IsBytes behind → (t : Bool) → ltb k 2147483648 ≡ t → HeadIs bytes (cond t (bytes_at k behind) (Err (Faulty (Extension (cast_signed w32 k)))))
+    sign : (k : ℕ) (behind : List ℕ) → k < 2 ^ 32 → rest ≡ to_be_bytes w32 k ++ behind → IsBytes behind → (t : Bool) → ltb k 2147483648 ≡ t → HeadIs bytes (cond {A = Result (ℕ × List ℕ) NoPart} t (Ok (k, behind)) (Err (Faulty (Extension (cast_signed w32 k)))) >>= λ n. bytes_at n.0 n.1)
     sign k behind lt e are true h = full k behind (ltb-true k 2147483648 h) e (bytes_at k behind) (bytes-view k behind are)
     sign k behind lt e are false h = head_faulty (Extension (cast_signed w32 k)) (subst (λ (x : List ℕ). IsFaultyHead x (Extension (cast_signed w32 k))) (sym (parts ∙ ap (λ (x : List ℕ). signature ++ (to_be_bytes w32 flags ++ x)) e)) (extension_negative flags k behind low (omega (arith, ltb-false k 2147483648 h)) lt))
 
-    go : (r : Result (ℕ × List ℕ) NoPart) → NumberIs w32 (2 ^ 32) rest r → HeadIs bytes (r >>= λ n. cond (ltb n.0 2147483648) (bytes_at n.0 n.1) (Err (Faulty (Extension (cast_signed w32 n.0)))))
+    go : (r : Result (ℕ × List ℕ) NoPart) → NumberIs w32 (2 ^ 32) rest r → HeadIs bytes ((r >>= λ n. cond (ltb n.0 2147483648) (Ok n) (Err (Faulty (Extension (cast_signed w32 n.0))))) >>= λ n. bytes_at n.0 n.1)
     go _ (number_there k behind lt e are) = sign k behind lt e are (ltb k 2147483648) refl
     go _ number_short = head_short
 
-flags-view : (bytes rest : List ℕ) → bytes ≡ signature ++ rest → IsBytes rest → HeadIs bytes (flags_at rest >>= λ f. extension_at f.1)
+flags-view : (bytes rest : List ℕ) → bytes ≡ signature ++ rest → IsBytes rest → HeadIs bytes ((flags_at rest >>= λ f. extension_at f.1) >>= λ n. bytes_at n.0 n.1)
 unfolding flags_at
 flags-view bytes rest parts fits = go (number_at w32 rest) (number-view w32 (2 ^ 32) rest backed32 fits)
   where
-    low : (n : ℕ) (after : List ℕ) → n < 2 ^ 32 → rest ≡ to_be_bytes w32 n ++ after → IsBytes after → (t : Bool) → ltb n 65536 ≡ t → HeadIs bytes (cond {A = Result (ℕ × List ℕ) NoPart} t (Ok (n, after)) (Err (Faulty (Flags n))) >>= λ f. extension_at f.1)
+    low : (n : ℕ) (after : List ℕ) → n < 2 ^ 32 → rest ≡ to_be_bytes w32 n ++ after → IsBytes after → (t : Bool) → ltb n 65536 ≡ t → HeadIs bytes ((cond {A = Result (ℕ × List ℕ) NoPart} t (Ok (n, after)) (Err (Faulty (Flags n))) >>= λ f. extension_at f.1) >>= λ n. bytes_at n.0 n.1)
     low n after lt e are true h = extension-view bytes after n (ltb-true n 65536 h) (parts ∙ ap (λ (x : List ℕ). signature ++ x) e) are
     low n after lt e are false h = head_faulty (Flags n) (subst (λ (x : List ℕ). IsFaultyHead x (Flags n)) (sym (parts ∙ ap (λ (x : List ℕ). signature ++ x) e)) (flag_set n after (ltb-false n 65536 h) lt))
 
-    go : (r : Result (ℕ × List ℕ) NoPart) → NumberIs w32 (2 ^ 32) rest r → HeadIs bytes ((r >>= λ n. cond (ltb n.0 65536) (Ok n) (Err (Faulty (Flags n.0)))) >>= λ f. extension_at f.1)
+    go : (r : Result (ℕ × List ℕ) NoPart) → NumberIs w32 (2 ^ 32) rest r → HeadIs bytes (((r >>= λ n. cond (ltb n.0 65536) (Ok n) (Err (Faulty (Flags n.0)))) >>= λ f. extension_at f.1) >>= λ n. bytes_at n.0 n.1)
     go _ (number_there n after lt e are) = low n after lt e are (ltb n 65536) refl
     go _ number_short = head_short
 
 head-view : (bytes : List ℕ) → IsBytes bytes → HeadIs bytes (head_at bytes)
-unfolding head_at signature_at
+unfolding head_at fixed_at signature_at
 head-view bytes fits = go (bytes_at 11 bytes) (bytes-view 11 bytes fits)
   where
-    signed : (first rest : List ℕ) → length first ≡ 11 → bytes ≡ first ++ rest → IsBytes rest → (t : Bool) → bytes_eq first signature ≡ t → HeadIs bytes (cond {A = Result (List ℕ × List ℕ) NoPart} t (Ok (first, rest)) (Err (Faulty Signature)) >>= λ s. (flags_at s.1 >>= λ f. extension_at f.1))
+    signed : (first rest : List ℕ) → length first ≡ 11 → bytes ≡ first ++ rest → IsBytes rest → (t : Bool) → bytes_eq first signature ≡ t → HeadIs bytes ((cond {A = Result (List ℕ × List ℕ) NoPart} t (Ok (first, rest)) (Err (Faulty Signature)) >>= λ s. (flags_at s.1 >>= λ f. extension_at f.1)) >>= λ n. bytes_at n.0 n.1)
     signed first rest len parts are true e = flags-view bytes rest (parts ∙ ap (λ (x : List ℕ). x ++ rest) (same-bytes first signature e)) are
     signed first rest len parts are false e =
         let front : take 11 bytes ≡ first = ap (take 11) parts ∙ take_at first rest 11 len in
@@ -325,7 +325,7 @@ head-view bytes fits = go (bytes_at 11 bytes) (bytes-view 11 bytes fits)
         clash : false ≡ true → ⊥
         clash f = cc
 
-    go : (r : Result (List ℕ × List ℕ) NoPart) → BytesIs 11 bytes r → HeadIs bytes ((r >>= λ s. cond (bytes_eq s.0 signature) (Ok s) (Err (Faulty Signature))) >>= λ s. (flags_at s.1 >>= λ f. extension_at f.1))
+    go : (r : Result (List ℕ × List ℕ) NoPart) → BytesIs 11 bytes r → HeadIs bytes (((r >>= λ s. cond (bytes_eq s.0 signature) (Ok s) (Err (Faulty Signature))) >>= λ s. (flags_at s.1 >>= λ f. extension_at f.1)) >>= λ n. bytes_at n.0 n.1)
     go _ (bytes_there first rest len parts are) = signed first rest len parts are (bytes_eq first signature) refl
     go _ bytes_short = head_short
 
@@ -334,7 +334,7 @@ unfolding signature_at
 signature-read rest = rw (bytes-again signature rest 11 refl) refl
 
 head-fault-again : (bytes : List ℕ) (f : BinaryFault) → IsFaultyHead bytes f → head_at bytes ≡ Err (Faulty f)
-unfolding head_at signature_at flags_at extension_at
+unfolding head_at fixed_at signature_at flags_at extension_at
 head-fault-again _ _ (signature_differs bytes long ne) = rw (le-ltb (length bytes) 11 long, other-bytes (take 11 bytes) signature ne) refl
 head-fault-again _ _ (flag_set n more high lt) = rw (bytes-again signature (to_be_bytes w32 n ++ more) 11 refl, number-again w32 (2 ^ 32) n more wide32 lt, le-ltb n 65536 high) refl
 head-fault-again _ _ (extension_negative flags n more low high lt) =
@@ -367,7 +367,7 @@ pub file-there : (columns limit : ℕ) (bytes : List ℕ) → columns ≤ 32767 
 unfolding binary_reading
 file-there columns limit bytes few le fits = go (head_at bytes) refl (head-view bytes fits)
   where
-    go : (r : Result (List ℕ × List ℕ) NoPart) → head_at bytes ≡ r → HeadIs bytes r → IsBinaryFile columns limit bytes (head_reading bytes r (body_reading columns limit)).rows (head_reading bytes r (body_reading columns limit)).ending
+    go : (r : Result (List ℕ × List ℕ) NoPart) → head_at bytes ≡ r → HeadIs bytes r → IsBinaryFile columns limit bytes (head_reading (open_head bytes) r (body_reading columns limit)).rows (head_reading (open_head bytes) r (body_reading columns limit)).ending
     go _ found (head_there h extension rest is e are) =
         let b = body-view (suc (length rest)) columns limit rest few le (omega arith) are in
         whole h b.rest is b.each (e ∙ ap (λ (x : List ℕ). h ++ x) b.is ∙ sym (append_assoc h (flat_map binary_row (body_reading columns limit rest).rows) b.rest)) b.ends
@@ -383,7 +383,7 @@ file-once columns limit bytes rows ending few le fits (whole h rest is each e en
 file-once columns limit bytes rows ending few le fits (headless none h) = go ending h ∙ ap (λ (x : List Row). record { rows = x; ending = ending }) (sym none)
   where
     go : (ending : Ending BinaryFault) → IsHeadRest bytes ending → binary_reading columns limit bytes ≡ record { rows = []; ending = ending }
-    go (Open kept) (same, h) = ap (λ r. head_reading bytes r (body_reading columns limit)) (open-head-short bytes fits h) ∙ ap (λ (x : List ℕ). record { rows = []; ending = Open x }) (sym same)
+    go (Open kept) (same, h) = ap (λ r. head_reading (open_head bytes) r (body_reading columns limit)) (open-head-short bytes fits h) ∙ ap (λ (x : List ℕ). record { rows = []; ending = Open x }) (sym same)
     go Done h = absurd h
     go Ended h = absurd h
-    go (Bad f) h = ap (λ r. head_reading bytes r (body_reading columns limit)) (head-fault-again bytes f h)
+    go (Bad f) h = ap (λ r. head_reading (open_head bytes) r (body_reading columns limit)) (head-fault-again bytes f h)

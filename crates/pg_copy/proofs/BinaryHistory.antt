@@ -1,8 +1,8 @@
 -- What a reader of binary files has read.
 use Rattle.std.proofs.Common.{◌≡◌, ℕ, Bool, true, false, List, [], ◌∷◌, ◌++◌, Option, Some, None, Result, Ok, Err, refl, sym, ap, subst, ◌∙◌, append_assoc, arith, inl, inr}
-use Rattle.std.specs.Prelude.{◌⊎◌}
-use Rattle.std.proofs.lemmas.List.{append-nil, length-append}
-use Rattle.std.proofs.lemmas.Bool.{false≢true}
+use Rattle.std.specs.Prelude.{◌⊎◌, ◌<◌, ◌≤◌, ◌-◌, length, drop, OnOk}
+use Rattle.std.proofs.lemmas.List.{append-nil, length-append, drop_all}
+use Rattle.std.proofs.lemmas.Bool.{false≢true, cases_lt, lt-ltb, le-ltb, cond-true, cond-false}
 use Rattle.pg_copy.specs.declared.fault.BinaryFault.{BinaryFault}
 use Rattle.pg_copy.specs.declared.fault.BinaryFault.TheVariants.{Truncated, AfterTrailer, Memory}
 use Rattle.pg_copy.specs.declared.binary_part.NoPart.{NoPart}
@@ -10,14 +10,16 @@ use Rattle.pg_copy.specs.declared.binary_part.NoPart.TheVariants.{Incomplete, Fa
 use Rattle.pg_copy.specs.declared.binary_part.NoRow.{NoRow}
 use Rattle.pg_copy.specs.declared.binary_part.NoRow.TheVariants as no_row
 use Rattle.pg_copy.specs.declared.binary_reader.BinaryStage.{BinaryStage}
-use Rattle.pg_copy.specs.declared.binary_reader.BinaryStage.TheVariants.{Head, Rows, Closed, Failed}
+use Rattle.pg_copy.specs.declared.binary_reader.BinaryStage.TheVariants.{Head, Extension, Rows, Closed, Failed}
 use Rattle.pg_copy.specs.Row.{Row}
 use Rattle.pg_copy.specs.Reading.{Reading, Ending, Open, Done, Bad, after_rows, RowWaits, given_by, IsGood, Gives}
-use Rattle.pg_copy.specs.BinaryReading.{◌>>=◌, head_at, row_at, part_reading, row_reading, body_reading, head_reading, binary_reading, trailer_reading, last_ending, at_end, file_reading}
-use Rattle.pg_copy.specs.BinaryReader.{BinaryState, stage_reading, left, HasReadBinary, pushed_at, pushed_after, binary_ending}
-use Rattle.pg_copy.specs.Private.BinaryPart.{closed_at, row_or_trailer, body_at, part_at, behind_head, waiting_at, TakesPart}
+use Rattle.pg_copy.specs.Binary.{open_head}
+use Rattle.pg_copy.specs.BinaryReading.{◌>>=◌, bytes_at, fixed_at, head_at, row_at, part_reading, row_reading, body_reading, head_reading, binary_reading, trailer_reading, last_ending, at_end, file_reading}
+use Rattle.pg_copy.specs.BinaryReader.{BinaryState, stage_reading, left, HasReadBinary, kept_of, stage_behind, pushed_after, PushesBinary, WaitsWith, binary_ending}
+use Rattle.pg_copy.specs.Private.BinaryPart.{closed_at, row_or_trailer, body_at, part_at, left_of, in_extension, behind_head, waiting_at, waiting, TakesPart}
 use Rattle.pg_copy.proofs.TextReads.{after-after, after-none}
-use Rattle.pg_copy.proofs.BinaryReads.{Grows, row_grows, head_grows, body-step, part-rows}
+use Rattle.pg_copy.proofs.BinaryReads.{Grows, row_grows, head_grows, bytes_grow, body-step, part-rows}
+use Rattle.pg_copy.proofs.BinaryHeads.{head-open, open-few, open-many, skip-reads, skip-some, skip-all}
 
 -- ---- what a call does by the next part
 
@@ -43,14 +45,15 @@ finished (Err (no_row.NoPart (Faulty fault))) mid = record mid { ended = true }
 
 -- ---- the next part
 
--- the bytes behind a head that is whole
+-- the bytes behind a head that is whole, or an extension
 abbrev pub bytes_behind : Result (List ℕ × List ℕ) NoPart → List ℕ → List ℕ
 bytes_behind (Ok h) kept = h.1
 bytes_behind (Err stop) kept = kept
 
 -- the bytes of the part that isn't whole
 abbrev pub open_bytes : BinaryStage → List ℕ → List ℕ
-open_bytes Head bytes = bytes_behind (head_at bytes) bytes
+open_bytes Head bytes = bytes_behind (head_at bytes) (open_head bytes)
+open_bytes (Extension n) bytes = bytes_behind (bytes_at n bytes) []
 open_bytes Rows bytes = bytes
 open_bytes Closed bytes = bytes
 open_bytes (Failed fault) bytes = bytes
@@ -94,25 +97,27 @@ body-reads columns limit bytes = go (row_at columns limit bytes) refl
         let longer : row_at columns limit (bytes ++ more) ≡ Err (Faulty fault) = subst (λ t. Grows t (row_at columns limit (bytes ++ more)) more) e (row_grows columns limit bytes more) in
         body-step columns limit (bytes ++ more) ∙ ap (λ t. part_reading (bytes ++ more) t (body_reading columns limit)) longer
 
-head-reads : (columns limit : ℕ) (bytes : List ℕ) → PartReads columns limit (bytes_behind (head_at bytes) bytes) (head_at bytes >>= λ h. body_at columns limit h.1) (λ more. binary_reading columns limit (bytes ++ more))
-unfolding binary_reading
-head-reads columns limit bytes = go (head_at bytes) refl
+-- a head, or an extension, and what stands behind it
+front-reads : (front : List ℕ → Result (List ℕ × List ℕ) NoPart) (stays : List ℕ → List ℕ) (columns limit : ℕ) (bytes : List ℕ) → ((more : List ℕ) → Grows (front bytes) (front (bytes ++ more)) more)
+    → PartReads columns limit (bytes_behind (front bytes) (stays bytes)) (front bytes >>= λ h. body_at columns limit h.1) (λ more. head_reading (stays (bytes ++ more)) (front (bytes ++ more)) (body_reading columns limit))
+front-reads front stays columns limit bytes grows = go (front bytes) refl
   where
-    go : (r : Result (List ℕ × List ℕ) NoPart) → head_at bytes ≡ r → PartReads columns limit (bytes_behind r bytes) (r >>= λ h. body_at columns limit h.1) (λ more. head_reading (bytes ++ more) (head_at (bytes ++ more)) (body_reading columns limit))
+    go : (r : Result (List ℕ × List ℕ) NoPart) → front bytes ≡ r → PartReads columns limit (bytes_behind r (stays bytes)) (r >>= λ h. body_at columns limit h.1) (λ more. head_reading (stays (bytes ++ more)) (front (bytes ++ more)) (body_reading columns limit))
     go (Ok x) e =
-        reads-same columns limit x.1 (body_at columns limit x.1) (λ more. head_reading (bytes ++ more) (head_at (bytes ++ more)) (body_reading columns limit)) (λ more. body_reading columns limit (x.1 ++ more))
+        reads-same columns limit x.1 (body_at columns limit x.1) (λ more. head_reading (stays (bytes ++ more)) (front (bytes ++ more)) (body_reading columns limit)) (λ more. body_reading columns limit (x.1 ++ more))
         (λ more.
-        let longer : head_at (bytes ++ more) ≡ Ok (x.0, x.1 ++ more) = subst (λ t. Grows t (head_at (bytes ++ more)) more) e (head_grows bytes more) in
-        ap (λ t. head_reading (bytes ++ more) t (body_reading columns limit)) longer)
+        let longer : front (bytes ++ more) ≡ Ok (x.0, x.1 ++ more) = subst (λ t. Grows t (front (bytes ++ more)) more) e (grows more) in
+        ap (λ t. head_reading (stays (bytes ++ more)) t (body_reading columns limit)) longer)
         (body-reads columns limit x.1)
-    go (Err Incomplete) e = ap (λ (x : List ℕ). head_reading x (head_at x) (body_reading columns limit)) (append-nil bytes) ∙ ap (λ t. head_reading bytes t (body_reading columns limit)) e
+    go (Err Incomplete) e = ap (λ (x : List ℕ). head_reading (stays x) (front x) (body_reading columns limit)) (append-nil bytes) ∙ ap (λ t. head_reading (stays bytes) t (body_reading columns limit)) e
     go (Err (Faulty fault)) e = λ more.
-        let longer : head_at (bytes ++ more) ≡ Err (Faulty fault) = subst (λ t. Grows t (head_at (bytes ++ more)) more) e (head_grows bytes more) in
-        ap (λ t. head_reading (bytes ++ more) t (body_reading columns limit)) longer
+        let longer : front (bytes ++ more) ≡ Err (Faulty fault) = subst (λ t. Grows t (front (bytes ++ more)) more) e (grows more) in
+        ap (λ t. head_reading (stays (bytes ++ more)) t (body_reading columns limit)) longer
 
 pub part-reads : (stage : BinaryStage) (columns limit : ℕ) (bytes : List ℕ) → PartReads columns limit (open_bytes stage bytes) (part_at stage columns limit bytes) (λ more. stage_reading stage columns limit (bytes ++ more))
-unfolding part_at
-part-reads Head columns limit bytes = head-reads columns limit bytes
+unfolding part_at binary_reading
+part-reads Head columns limit bytes = front-reads head_at open_head columns limit bytes (head_grows bytes)
+part-reads (Extension n) columns limit bytes = front-reads (bytes_at n) (λ x. []) columns limit bytes (bytes_grow n bytes)
 part-reads Rows columns limit bytes = body-reads columns limit bytes
 part-reads Closed columns limit bytes = closed-reads columns limit bytes bytes
 part-reads (Failed fault) columns limit bytes = λ more. refl
@@ -147,28 +152,64 @@ HasRead-goes old new rows pushed given g h =
 pub Goes-same : (old : BinaryState) → Goes old old []
 Goes-same old = record { columns = refl; limit = refl; ended = refl; left = λ more. refl }
 
+-- a head that lacks bytes of its extension alone goes off
+enters : (columns limit : ℕ) (kept : List ℕ) (ended : Bool) → head_at kept ≡ Err Incomplete →
+    let old : BinaryState = record { columns = columns; limit = limit; kept = kept; stage = Head; ended = ended } in
+    Goes old (in_extension (left_of (fixed_at kept)) old) []
+enters columns limit kept ended short = go (fixed_at kept) refl
+  where
+    go : (r : Result (ℕ × List ℕ) NoPart) → fixed_at kept ≡ r →
+        let old : BinaryState = record { columns = columns; limit = limit; kept = kept; stage = Head; ended = ended } in
+        Goes old (in_extension (left_of r) old) []
+    go (Ok n) e =
+        let are = head-open kept (Ok n) short e in
+        record { columns = refl; limit = refl; ended = refl; left = λ more. skip-reads columns limit kept more n e are.0 are.1 }
+    go (Err stop) e = Goes-same (record { columns = columns; limit = limit; kept = kept; stage = Head; ended = ended })
+
+faulty-head : (columns limit : ℕ) (kept : List ℕ) (fault : BinaryFault) → head_at kept ≡ Err (Faulty fault) → part_at Head columns limit kept ≡ Err Incomplete → ⊥
+unfolding part_at
+faulty-head columns limit kept fault e h = clash (sym (ap (λ r. r >>= λ x. body_at columns limit x.1) e) ∙ h)
+  where
+    clash : ◌≡◌ {A = Result ((Option Row × BinaryStage) × List ℕ) NoPart} (Err (Faulty fault)) (Err Incomplete) → ⊥
+    clash f = cc
+
 -- a reader that waits has what it had, but for the head
-waits : (columns limit : ℕ) (kept : List ℕ) (stage : BinaryStage) (ended : Bool) →
+waits : (columns limit : ℕ) (kept : List ℕ) (stage : BinaryStage) (ended : Bool) → part_at stage columns limit kept ≡ Err Incomplete →
     let old : BinaryState = record { columns = columns; limit = limit; kept = kept; stage = stage; ended = ended } in
     Goes old (waiting_at stage old) []
 unfolding binary_reading
-waits columns limit kept Head ended = go (head_at kept) refl
+waits columns limit kept Head ended short = go (head_at kept) refl
   where
     go : (r : Result (List ℕ × List ℕ) NoPart) → head_at kept ≡ r →
         let old : BinaryState = record { columns = columns; limit = limit; kept = kept; stage = Head; ended = ended } in
-        Goes old (behind_head r old) []
+        Goes old (behind_head r (in_extension (left_of (fixed_at kept)) old) old) []
     go (Ok h) e = record {
       columns = refl;
       limit = refl;
       ended = refl;
       left = λ more.
           let longer : head_at (kept ++ more) ≡ Ok (h.0, h.1 ++ more) = subst (λ t. Grows t (head_at (kept ++ more)) more) e (head_grows kept more) in
-          ap (λ t. head_reading (kept ++ more) t (body_reading columns limit)) longer;
+          ap (λ t. head_reading (open_head (kept ++ more)) t (body_reading columns limit)) longer;
     }
-    go (Err stop) e = Goes-same (record { columns = columns; limit = limit; kept = kept; stage = Head; ended = ended })
-waits columns limit kept Rows ended = Goes-same (record { columns = columns; limit = limit; kept = kept; stage = Rows; ended = ended })
-waits columns limit kept Closed ended = Goes-same (record { columns = columns; limit = limit; kept = kept; stage = Closed; ended = ended })
-waits columns limit kept (Failed fault) ended = Goes-same (record { columns = columns; limit = limit; kept = kept; stage = Failed fault; ended = ended })
+    go (Err Incomplete) e = enters columns limit kept ended e
+    go (Err (Faulty fault)) e = absurd (faulty-head columns limit kept fault e short)
+waits columns limit kept (Extension n) ended short = go (bytes_at n kept) refl
+  where
+    go : (r : Result (List ℕ × List ℕ) NoPart) → bytes_at n kept ≡ r →
+        let old : BinaryState = record { columns = columns; limit = limit; kept = kept; stage = Extension n; ended = ended } in
+        Goes old (behind_head r old old) []
+    go (Ok h) e = record {
+      columns = refl;
+      limit = refl;
+      ended = refl;
+      left = λ more.
+          let longer : bytes_at n (kept ++ more) ≡ Ok (h.0, h.1 ++ more) = subst (λ t. Grows t (bytes_at n (kept ++ more)) more) e (bytes_grow n kept more) in
+          ap (λ t. head_reading [] t (body_reading columns limit)) longer;
+    }
+    go (Err stop) e = Goes-same (record { columns = columns; limit = limit; kept = kept; stage = Extension n; ended = ended })
+waits columns limit kept Rows ended short = Goes-same (record { columns = columns; limit = limit; kept = kept; stage = Rows; ended = ended })
+waits columns limit kept Closed ended short = Goes-same (record { columns = columns; limit = limit; kept = kept; stage = Closed; ended = ended })
+waits columns limit kept (Failed fault) ended short = Goes-same (record { columns = columns; limit = limit; kept = kept; stage = Failed fault; ended = ended })
 
 -- what the next part says of what is left
 abbrev Due : BinaryState → Result ((Option Row × BinaryStage) × List ℕ) NoPart → Type 0
@@ -182,7 +223,7 @@ Goes-part (Ok o) old new h =
     let r = due old (Ok ((o, new.stage), new.kept)) h.0 in
     rw h.1 (record { columns = refl; limit = refl; ended = refl; left = λ more. r.1 more })
 Goes-part (Err no_row.Memory) old new h = rw h.0 (Goes-same old)
-Goes-part (Err (no_row.NoPart Incomplete)) old new h = rw h.1 (waits old.columns old.limit old.kept old.stage old.ended)
+Goes-part (Err (no_row.NoPart Incomplete)) old new h = rw h.1 (waits old.columns old.limit old.kept old.stage old.ended h.0)
 Goes-part (Err (no_row.NoPart (Faulty fault))) old new h =
     let r : (more : List ℕ) → left old more ≡ record { rows = []; ending = Bad fault } = due old (Err (Faulty fault)) h.1 in
     rw h.2 (record { columns = refl; limit = refl; ended = refl; left = r })
@@ -215,12 +256,31 @@ left-fault old new fault h =
 abbrev EndsOpen : BinaryState → List ℕ → Type 0
 EndsOpen new bytes = (binary_ending new.stage new.kept ≡ Open bytes) × IsGood (binary_ending new.stage new.kept)
 
+enters-open : (columns limit : ℕ) (kept : List ℕ) (ended : Bool) → head_at kept ≡ Err Incomplete → EndsOpen (in_extension (left_of (fixed_at kept)) (record { columns = columns; limit = limit; kept = kept; stage = Head; ended = ended })) (open_head kept)
+enters-open columns limit kept ended short = go (fixed_at kept) refl
+  where
+    go : (r : Result (ℕ × List ℕ) NoPart) → fixed_at kept ≡ r → EndsOpen (in_extension (left_of r) (record { columns = columns; limit = limit; kept = kept; stage = Head; ended = ended })) (open_head kept)
+    go (Ok n) e =
+        let are = head-open kept (Ok n) short e in
+        (ap (λ (x : List ℕ). Open x) (sym (open-many kept are.0)), tt)
+    go (Err stop) e = (ap (λ (x : List ℕ). Open x) (sym (open-few kept (head-open kept (Err stop) short e))), tt)
+
 open-ending : (columns limit : ℕ) (kept : List ℕ) (stage : BinaryStage) (ended : Bool) → part_at stage columns limit kept ≡ Err Incomplete →
     EndsOpen (waiting_at stage (record { columns = columns; limit = limit; kept = kept; stage = stage; ended = ended })) (open_bytes stage kept)
 unfolding part_at
-open-ending columns limit kept Head ended e = go (head_at kept)
+open-ending columns limit kept Head ended e = go (head_at kept) refl
   where
-    go : (r : Result (List ℕ × List ℕ) NoPart) → EndsOpen (behind_head r (record { columns = columns; limit = limit; kept = kept; stage = Head; ended = ended })) (bytes_behind r kept)
+    go : (r : Result (List ℕ × List ℕ) NoPart) → head_at kept ≡ r →
+        let old : BinaryState = record { columns = columns; limit = limit; kept = kept; stage = Head; ended = ended } in
+        EndsOpen (behind_head r (in_extension (left_of (fixed_at kept)) old) old) (bytes_behind r (open_head kept))
+    go (Ok h) f = (refl, tt)
+    go (Err Incomplete) f = enters-open columns limit kept ended f
+    go (Err (Faulty fault)) f = absurd (faulty-head columns limit kept fault f e)
+open-ending columns limit kept (Extension n) ended e = go (bytes_at n kept)
+  where
+    go : (r : Result (List ℕ × List ℕ) NoPart) →
+        let old : BinaryState = record { columns = columns; limit = limit; kept = kept; stage = Extension n; ended = ended } in
+        EndsOpen (behind_head r old old) (bytes_behind r [])
     go (Ok h) = (refl, tt)
     go (Err stop) = (refl, tt)
 open-ending columns limit kept Rows ended e = (refl, tt)
@@ -247,6 +307,64 @@ Gives-next (Err (no_row.NoPart Incomplete)) old new pushed given going h k =
 Gives-next (Err (no_row.NoPart (Faulty fault))) old new pushed given going h k =
     let g = Goes-part (Err (no_row.NoPart (Faulty fault))) old new h in
     inr (ap (λ (s : BinaryState). binary_ending s.stage s.kept) h.2, whole-from old new pushed given (Bad fault) going g.columns g.limit k (left-fault old new fault h))
+
+-- what is kept where a row is waited for
+enters-with : (columns limit : ℕ) (kept : List ℕ) (ended : Bool) → head_at kept ≡ Err Incomplete →
+    let new : BinaryState = in_extension (left_of (fixed_at kept)) (record { columns = columns; limit = limit; kept = kept; stage = Head; ended = ended }) in
+    WaitsWith new.stage new.kept
+enters-with columns limit kept ended short = go (fixed_at kept) refl
+  where
+    go : (r : Result (ℕ × List ℕ) NoPart) → fixed_at kept ≡ r →
+        let new : BinaryState = in_extension (left_of r) (record { columns = columns; limit = limit; kept = kept; stage = Head; ended = ended }) in
+        WaitsWith new.stage new.kept
+    go (Ok n) e = refl
+    go (Err stop) e = head-open kept (Err stop) short e
+
+waits-with : (columns limit : ℕ) (kept : List ℕ) (stage : BinaryStage) (ended : Bool) → ((n : ℕ) → stage ≡ Extension n → kept ≡ []) → part_at stage columns limit kept ≡ Err Incomplete →
+    let new : BinaryState = waiting_at stage (record { columns = columns; limit = limit; kept = kept; stage = stage; ended = ended }) in
+    WaitsWith new.stage new.kept
+unfolding part_at
+waits-with columns limit kept Head ended skips e = go (head_at kept) refl
+  where
+    go : (r : Result (List ℕ × List ℕ) NoPart) → head_at kept ≡ r →
+        let old : BinaryState = record { columns = columns; limit = limit; kept = kept; stage = Head; ended = ended } in
+        let new : BinaryState = behind_head r (in_extension (left_of (fixed_at kept)) old) old in
+        WaitsWith new.stage new.kept
+    go (Ok h) f = tt
+    go (Err Incomplete) f = enters-with columns limit kept ended f
+    go (Err (Faulty fault)) f = absurd (faulty-head columns limit kept fault f e)
+waits-with columns limit kept (Extension n) ended skips e = go (bytes_at n kept)
+  where
+    go : (r : Result (List ℕ × List ℕ) NoPart) →
+        let old : BinaryState = record { columns = columns; limit = limit; kept = kept; stage = Extension n; ended = ended } in
+        let new : BinaryState = behind_head r old old in
+        WaitsWith new.stage new.kept
+    go (Ok h) = tt
+    go (Err stop) = skips n refl
+waits-with columns limit kept Rows ended skips e = tt
+waits-with columns limit [] Closed ended skips e = refl
+waits-with columns limit (b ∷ bs) Closed ended skips e = absurd cc
+waits-with columns limit kept (Failed fault) ended skips e = tt
+
+pub next-waits : (answer : Answer) (old new : BinaryState) → ((n : ℕ) → old.stage ≡ Extension n → old.kept ≡ []) → TakesPart answer old new → next_answer answer ≡ Ok None → WaitsWith new.stage new.kept
+next-waits (Ok (Some row)) old new skips h e = absurd cc
+next-waits (Ok None) old new skips h e =
+    let n = (due old (Ok ((None, new.stage), new.kept)) h.0).0 refl in
+    subst (λ (t : BinaryStage). WaitsWith t new.kept) (sym n.0) n.1
+next-waits (Err no_row.Memory) old new skips h e = absurd cc
+next-waits (Err (no_row.NoPart Incomplete)) old new skips h e =
+    let with = waits-with old.columns old.limit old.kept old.stage old.ended skips h.0 in
+    subst (λ (s : BinaryState). WaitsWith s.stage s.kept) (sym h.1) with
+next-waits (Err (no_row.NoPart (Faulty fault))) old new skips h e = absurd cc
+
+-- a reader within an extension takes no part
+pub stays-within : (old : BinaryState) (n : ℕ) → old.stage ≡ Extension n → (0 < n) × (old.kept ≡ []) → TakesPart (Err (no_row.NoPart Incomplete)) old old
+unfolding part_at
+stays-within old n e skips =
+    let none : bytes_at n old.kept ≡ Err Incomplete = ap (bytes_at n) skips.1 ∙ cond-true _ _ _ (lt-ltb 0 n skips.0) in (
+      ap (λ (t : BinaryStage). part_at t old.columns old.limit old.kept) e ∙ ap (λ r. r >>= λ h. body_at old.columns old.limit h.1) none,
+      ap (λ r. behind_head r old old) (sym none) ∙ ap (λ (t : BinaryStage). waiting_at t old) (sym e),
+    )
 
 given-next : (answer : Answer) → given_by (next_answer answer) ≡ answer_rows answer
 given-next (Ok (Some row)) = refl
@@ -294,12 +412,66 @@ HasRead-behind old (b ∷ bs) pushed given going e some h =
     wrong [] b more = refl
     wrong (c ∷ kept) b more = refl
 
-pub HasRead-nothing : (old : BinaryState) (pushed : List ℕ) (given : List Row) → HasReadBinary old pushed given → HasReadBinary old (pushed ++ []) given
-HasRead-nothing old pushed given h = rw (append-nil pushed) h
+-- how a push leaves a reader at this stage
+abbrev pushed_at : BinaryStage → BinaryState → List ℕ → BinaryState
+pushed_at stage old piece = record old { kept = old.kept ++ kept_of stage piece; stage = stage_behind stage piece }
+
+at_stage : (stage : BinaryStage) (old : BinaryState) (piece : List ℕ) → old.stage ≡ stage → pushed_at stage old piece ≡ pushed_after old piece
+at_stage stage old piece e = ap (λ (t : BinaryStage). pushed_at t old piece) (sym e)
+
+same-kept : (old : BinaryState) (stage : BinaryStage) (rest : List ℕ) → rest ≡ [] → record old { stage = stage } ≡ record old { kept = old.kept ++ rest; stage = stage }
+same-kept old stage rest e = ap (λ (x : List ℕ). record old { kept = x; stage = stage }) (sym (append-nil old.kept) ∙ ap (λ (x : List ℕ). old.kept ++ x) (sym e))
+
+pub pushed-among : (old : BinaryState) (piece : List ℕ) → (old.stage ≡ Head) ⊎ (old.stage ≡ Rows) → record old { kept = old.kept ++ piece } ≡ pushed_after old piece
+pushed-among old piece (inl e) = ap (λ (t : BinaryStage). record old { kept = old.kept ++ piece; stage = t }) e ∙ at_stage Head old piece e
+pushed-among old piece (inr e) = ap (λ (t : BinaryStage). record old { kept = old.kept ++ piece; stage = t }) e ∙ at_stage Rows old piece e
 
 pub pushed-behind : (old : BinaryState) (piece : List ℕ) → old.stage ≡ Closed → (piece ≡ [] → ⊥) → record old { stage = Failed AfterTrailer } ≡ pushed_after old piece
 pushed-behind old [] e some = absurd (some refl)
-pushed-behind old (b ∷ bs) e some = ap (λ (t : BinaryStage). pushed_at t old (b ∷ bs)) (sym e)
+pushed-behind old (b ∷ bs) e some = same-kept old (Failed AfterTrailer) [] refl ∙ at_stage Closed old (b ∷ bs) e
+
+pub pushed-nothing : (old : BinaryState) (piece : List ℕ) → old.stage ≡ Closed → piece ≡ [] → old ≡ pushed_after old piece
+pushed-nothing old [] e none = ap (λ (t : BinaryStage). record old { stage = t }) e ∙ same-kept old Closed [] refl ∙ at_stage Closed old [] e
+pushed-nothing old (b ∷ bs) e none = absurd cc
+
+pub pushed-within : (old : BinaryState) (piece : List ℕ) (n : ℕ) → old.stage ≡ Extension n → length piece < n → record old { stage = Extension (n - length piece) } ≡ pushed_after old piece
+pushed-within old piece n e lt =
+    same-kept old (Extension (n - length piece)) (drop n piece) (drop_all n piece (omega arith))
+    ∙ ap (λ (t : BinaryStage). record old { kept = old.kept ++ drop n piece; stage = t }) (sym (cond-true _ _ _ (lt-ltb (length piece) n lt)))
+    ∙ at_stage (Extension n) old piece e
+
+pub pushed-past : (old : BinaryState) (piece : List ℕ) (n : ℕ) → old.stage ≡ Extension n → n ≤ length piece → record old { kept = old.kept ++ drop n piece; stage = Rows } ≡ pushed_after old piece
+pushed-past old piece n e le =
+    ap (λ (t : BinaryStage). record old { kept = old.kept ++ drop n piece; stage = t }) (sym (cond-false _ _ _ (le-ltb (length piece) n le)))
+    ∙ at_stage (Extension n) old piece e
+
+-- a piece that is pushed within an extension
+HasRead-within : (old new : BinaryState) (piece pushed : List ℕ) (given : List Row) (n : ℕ) → old.ended ≡ false → old.stage ≡ Extension n → old.kept ≡ [] → new ≡ pushed_after old piece → HasReadBinary old pushed given → HasReadBinary new (pushed ++ piece) given
+HasRead-within old new piece pushed given n going e empty is h = elim (cases_lt (length piece) n) [
+  | inl lt ↦
+      let fewer : BinaryState = record old { stage = Extension (n - length piece) } in
+      let here : fewer ≡ new = pushed-within old piece n e lt ∙ sym is in
+      let some : HasReadBinary fewer (pushed ++ piece) given =
+      HasRead-pushed old fewer piece pushed given going refl refl (λ more. left_is (piece ++ more) ∙ skip-some old.columns old.limit n piece more lt ∙ ap (λ (x : List ℕ). stage_reading (Extension (n - length piece)) old.columns old.limit (x ++ more)) (sym empty)) h in
+      subst (λ (s : BinaryState). HasReadBinary s (pushed ++ piece) given) here some
+  | inr le ↦
+      let behind : BinaryState = record old { kept = old.kept ++ drop n piece; stage = Rows } in
+      let here : behind ≡ new = pushed-past old piece n e le ∙ sym is in
+      let all : HasReadBinary behind (pushed ++ piece) given =
+      HasRead-pushed old behind piece pushed given going refl refl (λ more. left_is (piece ++ more) ∙ skip-all old.columns old.limit n piece more le ∙ ap (λ (x : List ℕ). stage_reading Rows old.columns old.limit ((x ++ drop n piece) ++ more)) (sym empty)) h in
+      subst (λ (s : BinaryState). HasReadBinary s (pushed ++ piece) given) here all
+]
+  where
+    left_is : (more : List ℕ) → left old more ≡ stage_reading (Extension n) old.columns old.limit more
+    left_is more = ap (λ (t : BinaryStage). stage_reading t old.columns old.limit (old.kept ++ more)) e ∙ ap (λ (x : List ℕ). stage_reading (Extension n) old.columns old.limit (x ++ more)) empty
+
+pub HasRead-skip : (old new : BinaryState) (piece : List ℕ) (result : Result Unit BinaryFault) (n : ℕ) → old.ended ≡ false → old.stage ≡ Extension n → old.kept ≡ [] → PushesBinary old piece result new
+    → OnOk result ((pushed : List ℕ) (given : List Row) → HasReadBinary old pushed given → HasReadBinary new (pushed ++ piece) given)
+HasRead-skip old new piece (Ok x) n going e empty h = λ pushed given k. HasRead-within old new piece pushed given n going e empty h.1 k
+HasRead-skip old new piece (Err f) n going e empty h = tt
+
+pub HasRead-nothing : (old : BinaryState) (pushed : List ℕ) (given : List Row) → HasReadBinary old pushed given → HasReadBinary old (pushed ++ []) given
+HasRead-nothing old pushed given h = rw (append-nil pushed) h
 
 -- ---- the end of the input
 

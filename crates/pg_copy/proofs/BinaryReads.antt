@@ -10,10 +10,11 @@ use Rattle.pg_copy.specs.declared.binary_part.NoPart.{NoPart}
 use Rattle.pg_copy.specs.declared.binary_part.NoPart.TheVariants.{Incomplete, Faulty}
 use Rattle.pg_copy.specs.declared.binary_reader.BinaryStage.{BinaryStage}
 use Rattle.pg_copy.specs.declared.binary_reader.BinaryStage.TheVariants.{Head, Rows, Closed, Failed}
+use Rattle.pg_copy.specs.declared.binary_reader.BinaryStage.TheVariants as stages
 use Rattle.pg_copy.specs.Row.{Row}
 use Rattle.pg_copy.specs.Reading.{Reading, after_rows}
 use Rattle.pg_copy.specs.Binary.{signature}
-use Rattle.pg_copy.specs.BinaryReading.{◌>>=◌, number_at, bytes_at, signature_at, flags_at, extension_at, head_at, value_at, values_at, row_at, part_reading, row_reading, rows_reading, body_reading}
+use Rattle.pg_copy.specs.BinaryReading.{◌>>=◌, number_at, bytes_at, signature_at, flags_at, extension_at, fixed_at, head_at, value_at, values_at, row_at, part_reading, row_reading, rows_reading, body_reading}
 use Rattle.pg_copy.specs.Private.BinaryPart.{closed_at, row_or_trailer, body_at, part_at}
 
 -- ---- what is read stays so when bytes are added
@@ -32,7 +33,7 @@ grows_cond : {A : Type 0} (t : Bool) (x y x' y' : Result (A × List ℕ) NoPart)
 grows_cond true x y x' y' more h k = h
 grows_cond false x y x' y' more h k = k
 
-bytes_grow : (n : ℕ) (bytes more : List ℕ) → Grows (bytes_at n bytes) (bytes_at n (bytes ++ more)) more
+pub bytes_grow : (n : ℕ) (bytes more : List ℕ) → Grows (bytes_at n bytes) (bytes_at n (bytes ++ more)) more
 bytes_grow n bytes more = elim (cases_lt (length bytes) n) [
   | inl lt ↦ rw (lt-ltb (length bytes) n lt) tt
   | inr le ↦
@@ -58,13 +59,17 @@ flags_grow bytes more = grows_bind (number_at w32 bytes) (number_at w32 (bytes +
 
 extension_grows : (bytes more : List ℕ) → Grows (extension_at bytes) (extension_at (bytes ++ more)) more
 unfolding extension_at
-extension_grows bytes more = grows_bind (number_at w32 bytes) (number_at w32 (bytes ++ more)) more _ (number_grows w32 bytes more) (λ x. grows_cond (ltb x.0 2147483648) (bytes_at x.0 x.1) (Err (Faulty (Extension (cast_signed w32 x.0)))) (bytes_at x.0 (x.1 ++ more)) (Err (Faulty (Extension (cast_signed w32 x.0)))) more (bytes_grow x.0 x.1 more) refl)
+extension_grows bytes more = grows_bind (number_at w32 bytes) (number_at w32 (bytes ++ more)) more _ (number_grows w32 bytes more) (λ x. grows_cond (ltb x.0 2147483648) (Ok x) (Err (Faulty (Extension (cast_signed w32 x.0)))) (Ok (x.0, x.1 ++ more)) (Err (Faulty (Extension (cast_signed w32 x.0)))) more refl refl)
+
+pub fixed_grows : (bytes more : List ℕ) → Grows (fixed_at bytes) (fixed_at (bytes ++ more)) more
+unfolding fixed_at
+fixed_grows bytes more =
+    grows_bind (signature_at bytes) (signature_at (bytes ++ more)) more _ (signature_grows bytes more) (λ s.
+    grows_bind (flags_at s.1) (flags_at (s.1 ++ more)) more _ (flags_grow s.1 more) (λ f. extension_grows f.1 more))
 
 pub head_grows : (bytes more : List ℕ) → Grows (head_at bytes) (head_at (bytes ++ more)) more
 unfolding head_at
-head_grows bytes more =
-    grows_bind (signature_at bytes) (signature_at (bytes ++ more)) more _ (signature_grows bytes more) (λ s.
-    grows_bind (flags_at s.1) (flags_at (s.1 ++ more)) more _ (flags_grow s.1 more) (λ f. extension_grows f.1 more))
+head_grows bytes more = grows_bind (fixed_at bytes) (fixed_at (bytes ++ more)) more _ (fixed_grows bytes more) (λ n. bytes_grow n.0 n.1 more)
 
 pub value_grows : (limit : ℕ) (bytes more : List ℕ) → Grows (value_at limit bytes) (value_at limit (bytes ++ more)) more
 unfolding value_at
@@ -221,12 +226,16 @@ number_nm w bytes = elim (cases_lt (length bytes) (byte_len w)) [
   | inr le ↦ rw (le-ltb (length bytes) (byte_len w) le) tt
 ]
 
-head_nm : (bytes : List ℕ) → NoMemory (head_at bytes)
-unfolding head_at signature_at flags_at extension_at
-head_nm bytes =
+fixed_nm : (bytes : List ℕ) → NoMemory (fixed_at bytes)
+unfolding fixed_at signature_at flags_at extension_at
+fixed_nm bytes =
     nm_bind (signature_at bytes) _ (nm_bind (bytes_at 11 bytes) _ (bytes_nm 11 bytes) (λ s. nm_cond (bytes_eq s.0 signature) (Ok s) (Err (Faulty Signature)) tt (λ e. cc))) (λ s.
     nm_bind (flags_at s.1) _ (nm_bind (number_at w32 s.1) _ (number_nm w32 s.1) (λ n. nm_cond (ltb n.0 65536) (Ok n) (Err (Faulty (Flags n.0))) tt (λ e. cc))) (λ f.
-    nm_bind (number_at w32 f.1) _ (number_nm w32 f.1) (λ n. nm_cond (ltb n.0 2147483648) (bytes_at n.0 n.1) (Err (Faulty (Extension (cast_signed w32 n.0)))) (bytes_nm n.0 n.1) (λ e. cc))))
+    nm_bind (number_at w32 f.1) _ (number_nm w32 f.1) (λ n. nm_cond (ltb n.0 2147483648) (Ok n) (Err (Faulty (Extension (cast_signed w32 n.0)))) tt (λ e. cc))))
+
+head_nm : (bytes : List ℕ) → NoMemory (head_at bytes)
+unfolding head_at
+head_nm bytes = nm_bind (fixed_at bytes) _ (fixed_nm bytes) (λ n. bytes_nm n.0 n.1)
 
 value_nm : (limit : ℕ) (bytes : List ℕ) → NoMemory (value_at limit bytes)
 unfolding value_at
@@ -262,6 +271,7 @@ body_nm columns limit bytes =
 pub part_nm : (stage : BinaryStage) (columns limit : ℕ) (bytes : List ℕ) → (stage ≡ Failed Memory → ⊥) → NoMemory (part_at stage columns limit bytes)
 unfolding part_at
 part_nm Head columns limit bytes h = nm_bind (head_at bytes) _ (head_nm bytes) (λ x. body_nm columns limit x.1)
+part_nm (stages.Extension n) columns limit bytes h = nm_bind (bytes_at n bytes) _ (bytes_nm n bytes) (λ x. body_nm columns limit x.1)
 part_nm Rows columns limit bytes h = body_nm columns limit bytes
 part_nm Closed columns limit [] h = tt
 part_nm Closed columns limit (b ∷ bs) h = λ e. cc
@@ -269,12 +279,16 @@ part_nm (Failed fault) columns limit bytes h = λ e. h (ap Failed e)
 
 -- how many bytes a part takes
 
-pub head_takes : (bytes : List ℕ) → Takes 11 (head_at bytes) bytes
-unfolding head_at signature_at flags_at extension_at
-head_takes bytes =
+fixed_takes : (bytes : List ℕ) → Takes 11 (fixed_at bytes) bytes
+unfolding fixed_at signature_at flags_at extension_at
+fixed_takes bytes =
     takes_bind 11 (signature_at bytes) bytes _ (takes_bind 11 (bytes_at 11 bytes) bytes _ (bytes_take_all 11 bytes) (λ s. takes_cond 0 (bytes_eq s.0 signature) (Ok s) (Err (Faulty Signature)) s.1 (takes_none s.0 s.1) tt)) (λ s.
     takes_bind 0 (flags_at s.1) s.1 _ (takes_bind 0 (number_at w32 s.1) s.1 _ (less 0 4 (number_at w32 s.1) s.1 (omega arith) (number_takes w32 s.1)) (λ n. takes_cond 0 (ltb n.0 65536) (Ok n) (Err (Faulty (Flags n.0))) n.1 (takes_none n.0 n.1) tt)) (λ f.
-    takes_bind 0 (number_at w32 f.1) f.1 _ (less 0 4 (number_at w32 f.1) f.1 (omega arith) (number_takes w32 f.1)) (λ n. takes_cond 0 (ltb n.0 2147483648) (bytes_at n.0 n.1) (Err (Faulty (Extension (cast_signed w32 n.0)))) n.1 (bytes_take n.0 n.1) tt)))
+    takes_bind 0 (number_at w32 f.1) f.1 _ (less 0 4 (number_at w32 f.1) f.1 (omega arith) (number_takes w32 f.1)) (λ n. takes_cond 0 (ltb n.0 2147483648) (Ok n) (Err (Faulty (Extension (cast_signed w32 n.0)))) n.1 (takes_none n.0 n.1) tt)))
+
+pub head_takes : (bytes : List ℕ) → Takes 11 (head_at bytes) bytes
+unfolding head_at
+head_takes bytes = takes_bind 11 (fixed_at bytes) bytes _ (fixed_takes bytes) (λ n. bytes_take n.0 n.1)
 
 closed_takes : (bytes : List ℕ) → Takes 0 (closed_at bytes) bytes
 closed_takes [] = (0, omega arith, omega arith, refl)
@@ -291,6 +305,7 @@ body_takes columns limit bytes = takes_bind 0 (row_at columns limit bytes) bytes
 part_takes : (stage : BinaryStage) (columns limit : ℕ) (bytes : List ℕ) → Takes 0 (part_at stage columns limit bytes) bytes
 unfolding part_at
 part_takes Head columns limit bytes = takes_bind 0 (head_at bytes) bytes _ (less 0 11 (head_at bytes) bytes (omega arith) (head_takes bytes)) (λ h. body_takes columns limit h.1)
+part_takes (stages.Extension n) columns limit bytes = takes_bind 0 (bytes_at n bytes) bytes _ (bytes_take n bytes) (λ h. body_takes columns limit h.1)
 part_takes Rows columns limit bytes = body_takes columns limit bytes
 part_takes Closed columns limit bytes = closed_takes bytes
 part_takes (Failed fault) columns limit bytes = tt
@@ -335,6 +350,7 @@ body_stage columns limit bytes = stage_bind (row_at columns limit bytes) _ (λ r
 part_stage : (stage : BinaryStage) (columns limit : ℕ) (bytes : List ℕ) → StageHolds (part_at stage columns limit bytes)
 unfolding part_at
 part_stage Head columns limit bytes = stage_bind (head_at bytes) _ (λ h. body_stage columns limit h.1)
+part_stage (stages.Extension n) columns limit bytes = stage_bind (bytes_at n bytes) _ (λ h. body_stage columns limit h.1)
 part_stage Rows columns limit bytes = body_stage columns limit bytes
 part_stage Closed columns limit [] = λ e. cc
 part_stage Closed columns limit (b ∷ bs) = tt
@@ -364,6 +380,7 @@ body_row columns limit bytes = row_bind (row_at columns limit bytes) _ (λ r. go
 part_row : (stage : BinaryStage) (columns limit : ℕ) (bytes : List ℕ) → RowStands (part_at stage columns limit bytes)
 unfolding part_at
 part_row Head columns limit bytes = row_bind (head_at bytes) _ (λ h. body_row columns limit h.1)
+part_row (stages.Extension n) columns limit bytes = row_bind (bytes_at n bytes) _ (λ h. body_row columns limit h.1)
 part_row Rows columns limit bytes = body_row columns limit bytes
 part_row Closed columns limit [] = λ row e. absurd cc
 part_row Closed columns limit (b ∷ bs) = tt

@@ -8,8 +8,8 @@ use Rattle.std.proofs.lemmas.List.{take_at, drop_at, length-append}
 use Rattle.std.proofs.lemmas.Nat.{from_be_bytes-to_be_bytes_2, from_be_bytes-to_be_bytes_4}
 use Rattle.pg_copy.specs.Row.{Row}
 use Rattle.pg_copy.specs.Reading.{Done, after_rows}
-use Rattle.pg_copy.specs.Binary.{signature, value, binary_row, trailer, IsHead, FitsValue, FitsBinary}
-use Rattle.pg_copy.specs.BinaryReading.{number_at, bytes_at, signature_at, flags_at, extension_at, head_at, value_at, values_at, row_at, part_reading, body_reading, head_reading, binary_reading, at_end, file_reading}
+use Rattle.pg_copy.specs.Binary.{signature, open_head, value, binary_row, trailer, IsHead, FitsValue, FitsBinary}
+use Rattle.pg_copy.specs.BinaryReading.{number_at, bytes_at, signature_at, flags_at, extension_at, fixed_at, head_at, value_at, values_at, row_at, part_reading, body_reading, head_reading, binary_reading, at_end, file_reading}
 use Rattle.pg_copy.proofs.TextReads.{after-none}
 use Rattle.pg_copy.proofs.BinaryReads.{body-step}
 
@@ -71,7 +71,7 @@ bytes_same [] = refl
 bytes_same (x ∷ xs) = rw (eq-eqb x x refl) (bytes_same xs)
 
 pub head-again : (h rest : List ℕ) → IsHead h → (extension : List ℕ) × (head_at (h ++ rest) ≡ Ok (extension, rest))
-unfolding head_at signature_at flags_at extension_at
+unfolding head_at fixed_at signature_at flags_at extension_at
 head-again h rest is =
     let flags = is.0 in
     let extension = is.1 in
@@ -99,7 +99,7 @@ pub behind-head : (columns limit : ℕ) (h rest : List ℕ) → IsHead h → bin
 unfolding binary_reading
 behind-head columns limit h rest is =
     let e = head-again h rest is in
-    ap (λ r. head_reading (h ++ rest) r (body_reading columns limit)) e.1
+    ap (λ r. head_reading (open_head (h ++ rest)) r (body_reading columns limit)) e.1
 
 pub rows-trip : (columns limit : ℕ) (h : List ℕ) (rows : List Row) (rest : List ℕ) → columns ≤ 32767 → limit ≤ 2147483647 → IsHead h → AllByRecursion (FitsBinary columns limit) rows
     → binary_reading columns limit (h ++ flat_map binary_row rows ++ rest) ≡ after_rows rows (body_reading columns limit rest)

@@ -11,10 +11,10 @@ use Rattle.pg_copy.specs.declared.binary_part.NoPart.TheVariants.{Incomplete, Fa
 use Rattle.pg_copy.specs.declared.binary_part.Walk.{Walk}
 use Rattle.pg_copy.specs.declared.binary_part.Look.{Look}
 use Rattle.pg_copy.specs.declared.binary_reader.BinaryStage.{BinaryStage}
-use Rattle.pg_copy.specs.declared.binary_reader.BinaryStage.TheVariants.{Head, Rows, Closed, Failed}
+use Rattle.pg_copy.specs.declared.binary_reader.BinaryStage.TheVariants.{Head, Extension, Rows, Closed, Failed}
 use Rattle.pg_copy.specs.Row.{Row}
-use Rattle.pg_copy.specs.BinaryReading.{◌>>=◌, number_at, head_at, value_at, values_at, row_at}
-use Rattle.pg_copy.specs.Private.BinaryPart.{rest_of, IsBegun, IsWalked, row_or_trailer, closed_at, body_at, part_at, IsBehindHead, StartsRow, IsLooked, stage_of, is_head, behind_head, waiting_at, waiting, IsReader}
+use Rattle.pg_copy.specs.BinaryReading.{◌>>=◌, number_at, fixed_at, head_at, value_at, values_at, row_at}
+use Rattle.pg_copy.specs.Private.BinaryPart.{rest_of, IsBegun, IsWalked, row_or_trailer, closed_at, body_at, part_at, IsBehindHead, StartsRow, IsLooked, stage_of, is_head, left_of, in_extension, behind_head, waiting_at, waiting, IsReader}
 use Rattle.pg_copy.specs.BinaryReader.{BinaryState, IsReading}
 use Rattle.pg_copy.proofs.BinaryReads.{Grows, number_grows, values_grow, head_grows, Takes, value_takes, head_takes}
 
@@ -200,9 +200,42 @@ head-end bytes h rest e =
     let place : length bytes - length rest ≡ t.0 = omega (arith, t.2) in
     (omega arith, omega (arith, t.1), t.3 ∙ ap (λ (n : ℕ). drop n bytes) (sym place))
 
-pub reader-append : (columns limit : ℕ) (kept more : List ℕ) (l : Look) (stage : BinaryStage) → IsReader columns limit kept l stage → (stage ≡ Closed → ⊥) → IsReader columns limit (kept ++ more) l stage
-reader-append columns limit kept more l stage h taking =
-    record { columns_few = h.columns_few; looked = looked-append (is_head stage) columns limit kept more l h.looked; not_memory = h.not_memory; closed = λ e. absurd (taking e) }
+-- a reader that keeps what is pushed isn't behind the trailer, nor in an extension
+pub not-closed : (stage : BinaryStage) → (stage ≡ Head) ⊎ (stage ≡ Rows) → stage ≡ Closed → ⊥
+not-closed stage (inl h) e = absurd cc
+not-closed stage (inr h) e = absurd cc
+
+not-within : (stage : BinaryStage) (n : ℕ) → (stage ≡ Head) ⊎ (stage ≡ Rows) → stage ≡ Extension n → ⊥
+not-within stage n (inl h) e = absurd cc
+not-within stage n (inr h) e = absurd cc
+
+pub reader-append : (columns limit : ℕ) (kept more : List ℕ) (l : Look) (stage : BinaryStage) → IsReader columns limit kept l stage → (stage ≡ Head) ⊎ (stage ≡ Rows) → IsReader columns limit (kept ++ more) l stage
+reader-append columns limit kept more l stage h keeps = record {
+  columns_few = h.columns_few;
+  looked = looked-append (is_head stage) columns limit kept more l h.looked;
+  not_memory = h.not_memory;
+  closed = λ e. absurd (not-closed stage keeps e);
+  skips = λ n e. absurd (not-within stage n keeps e);
+}
+
+-- bytes behind an extension
+pub reader-behind : (columns limit n : ℕ) (kept more : List ℕ) (l : Look) (stage : BinaryStage) → stage ≡ Extension n → IsReader columns limit kept l stage → IsReader columns limit (kept ++ more) l Rows
+reader-behind columns limit n kept more l stage e h =
+    let looked : IsLooked false columns limit kept l = subst (λ (t : BinaryStage). IsLooked (is_head t) columns limit kept l) e h.looked in
+    record { columns_few = h.columns_few; looked = looked-append false columns limit kept more l looked; not_memory = λ f. cc; closed = λ f. absurd cc; skips = λ k f. absurd cc }
+
+-- fewer bytes of an extension are to come
+pub reader-within : (columns limit n m : ℕ) (kept : List ℕ) (l : Look) (stage : BinaryStage) → stage ≡ Extension n → 0 < m → IsReader columns limit kept l stage → IsReader columns limit kept l (Extension m)
+reader-within columns limit n m kept l stage e some h =
+    let looked : IsLooked false columns limit kept l = subst (λ (t : BinaryStage). IsLooked (is_head t) columns limit kept l) e h.looked in
+    record { columns_few = h.columns_few; looked = looked; not_memory = λ f. cc; closed = λ f. absurd cc; skips = λ k f. (subst (λ (t : BinaryStage). Within t) f some, (h.skips n e).1) }
+  where
+    Within : BinaryStage → Type 0
+    Within Head = Unit {0}
+    Within (Extension k) = 0 < k
+    Within Rows = Unit {0}
+    Within Closed = Unit {0}
+    Within (Failed fault) = Unit {0}
 
 -- ---- looks
 
@@ -303,14 +336,10 @@ start-behind false bytes start h rest e le read = absurd (false≢true e)
 
 -- ---- a reader
 
-pub reader-fresh : (columns limit : ℕ) (kept : List ℕ) (stage : BinaryStage) → columns ≤ 32767 → (stage ≡ Failed Memory → ⊥) → (stage ≡ Closed → kept ≡ []) → IsReader columns limit kept (record { start = 0; walk = record { at = 0; left = 0 } }) stage
-reader-fresh columns limit kept stage few h closed = record { columns_few = few; looked = looked-fresh (is_head stage) columns limit kept; not_memory = h; closed = closed }
+pub reader-fresh : (columns limit : ℕ) (kept : List ℕ) (stage : BinaryStage) → columns ≤ 32767 → (stage ≡ Failed Memory → ⊥) → (stage ≡ Closed → kept ≡ []) → ((n : ℕ) → stage ≡ Extension n → (0 < n) × (kept ≡ [])) → IsReader columns limit kept (record { start = 0; walk = record { at = 0; left = 0 } }) stage
+reader-fresh columns limit kept stage few h closed skips = record { columns_few = few; looked = looked-fresh (is_head stage) columns limit kept; not_memory = h; closed = closed; skips = skips }
 
--- a reader that still reads isn't behind the trailer, and has not failed
-pub not-closed : (stage : BinaryStage) → (stage ≡ Head) ⊎ (stage ≡ Rows) → stage ≡ Closed → ⊥
-not-closed stage (inl h) e = absurd cc
-not-closed stage (inr h) e = absurd cc
-
+-- a reader that still reads has not failed
 pub not-failed : (stage : BinaryStage) (fault : BinaryFault) → IsReading stage → stage ≡ Failed fault → ⊥
 not-failed stage fault h e = subst IsReading e h
 
@@ -334,13 +363,15 @@ started in_head bytes start n (le, behind, inr s) e z = absurd (omega (arith, s.
 pub waits-behind : (in_head : Bool) (columns limit : ℕ) (old : BinaryState) (l : Look) → old.stage ≡ stage_of in_head → IsLooked in_head columns limit old.kept l → 0 < l.start → record old { kept = drop l.start old.kept; stage = Rows } ≡ waiting old
 waits-behind true columns limit old l e h some =
     let x = rest-is (head_at old.kept) (drop l.start old.kept) (h.head (inr some)) in
-    ap (λ (r : Result (List ℕ × List ℕ) NoPart). behind_head r old) (sym x.1) ∙ ap (λ (t : BinaryStage). waiting_at t old) (sym e)
+    ap (λ (r : Result (List ℕ × List ℕ) NoPart). behind_head r (in_extension (left_of (fixed_at old.kept)) old) old) (sym x.1) ∙ ap (λ (t : BinaryStage). waiting_at t old) (sym e)
 waits-behind false columns limit old l e h some = absurd (omega (arith, h.none refl, some))
 
-pub waits-here : (in_head : Bool) (columns limit : ℕ) (old : BinaryState) (l : Look) (s : NoPart) → old.stage ≡ stage_of in_head → l.start ≤ 0 → (in_head ≡ true → l.start ≡ 0 → head_at old.kept ≡ Err s) → old ≡ waiting old
-waits-here true columns limit old l s e none h =
-    ap (λ (r : Result (List ℕ × List ℕ) NoPart). behind_head r old) (sym (h refl (omega (arith, none)))) ∙ ap (λ (t : BinaryStage). waiting_at t old) (sym e)
-waits-here false columns limit old l s e none h = ap (λ (t : BinaryStage). waiting_at t old) (sym e)
+pub waits-head : (old : BinaryState) (s : NoPart) → old.stage ≡ Head → head_at old.kept ≡ Err s → in_extension (left_of (fixed_at old.kept)) old ≡ waiting old
+waits-head old s e h =
+    ap (λ (r : Result (List ℕ × List ℕ) NoPart). behind_head r (in_extension (left_of (fixed_at old.kept)) old) old) (sym h) ∙ ap (λ (t : BinaryStage). waiting_at t old) (sym e)
+
+pub waits-here : (old : BinaryState) → old.stage ≡ Rows → old ≡ waiting old
+waits-here old e = ap (λ (t : BinaryStage). waiting_at t old) (sym e)
 
 pub head-of : (stage : BinaryStage) (in_head : Bool) → stage ≡ stage_of in_head → is_head stage ≡ in_head
 head-of stage true e = ap is_head e

@@ -10,6 +10,7 @@ pub mod BinaryRound
 pub mod BinaryFiles
 pub mod Writing
 pub mod BinaryReads
+pub mod BinaryHeads
 pub mod BinaryLoop
 pub mod BinaryHistory
 pub mod BinaryWalk

@@ -124,38 +124,38 @@ row_written : binary_row (Some (0x31 ∷ []) ∷ None ∷ []) ++ trailer ≡ 0x0
 row_written = refl
 
 no_rows : binary.file_reading 1 2147483647 (behind_head (0xFF ∷ 0xFF ∷ [])) ≡ binary_only [] Done
-unfolding behind_head signed binary_only binary.binary_reading binary.head_at binary.signature_at binary.flags_at binary.extension_at binary.rows_reading binary.row_at
+unfolding behind_head signed binary_only binary.binary_reading binary.head_at binary.fixed_at binary.signature_at binary.flags_at binary.extension_at binary.rows_reading binary.row_at
 no_rows = refl
 
 truncated : binary.file_reading 1 2147483647 (behind_head (0xFF ∷ [])) ≡ binary_only [] (Bad Truncated)
-unfolding behind_head signed binary_only binary.binary_reading binary.head_at binary.signature_at binary.flags_at binary.extension_at binary.rows_reading binary.row_at
+unfolding behind_head signed binary_only binary.binary_reading binary.head_at binary.fixed_at binary.signature_at binary.flags_at binary.extension_at binary.rows_reading binary.row_at
 truncated = refl
 
 after_trailer : binary.binary_reading 1 2147483647 (behind_head (0xFF ∷ 0xFF ∷ 0x00 ∷ [])) ≡ binary_only [] (Bad AfterTrailer)
-unfolding behind_head signed binary_only binary.binary_reading binary.head_at binary.signature_at binary.flags_at binary.extension_at binary.rows_reading binary.row_at
+unfolding behind_head signed binary_only binary.binary_reading binary.head_at binary.fixed_at binary.signature_at binary.flags_at binary.extension_at binary.rows_reading binary.row_at
 after_trailer = refl
 
 flags : binary.binary_reading 1 2147483647 (signed (0 ∷ 1 ∷ 0 ∷ 0 ∷ 0 ∷ 0 ∷ 0 ∷ 0 ∷ 0xFF ∷ 0xFF ∷ [])) ≡ binary_only [] (Bad (Flags 65536))
-unfolding signed binary_only binary.binary_reading binary.head_at binary.signature_at binary.flags_at
+unfolding signed binary_only binary.binary_reading binary.head_at binary.fixed_at binary.signature_at binary.flags_at
 flags = refl
 
 extension_skipped : binary.binary_reading 1 2147483647 (signed (0 ∷ 0 ∷ 0 ∷ 1 ∷ 0 ∷ 0 ∷ 0 ∷ 2 ∷ 0xAA ∷ 0xBB ∷ 0xFF ∷ 0xFF ∷ [])) ≡ binary_only [] Done
-unfolding signed binary_only binary.binary_reading binary.head_at binary.signature_at binary.flags_at binary.extension_at binary.rows_reading binary.row_at
+unfolding signed binary_only binary.binary_reading binary.head_at binary.fixed_at binary.signature_at binary.flags_at binary.extension_at binary.rows_reading binary.row_at
 extension_skipped = refl
 
 negative_extension : binary.binary_reading 1 2147483647 (signed (0 ∷ 0 ∷ 0 ∷ 0 ∷ 0xFF ∷ 0xFF ∷ 0xFF ∷ 0xFF ∷ [])) ≡ binary_only [] (Bad (Extension (negsuc 0)))
-unfolding signed binary_only binary.binary_reading binary.head_at binary.signature_at binary.flags_at binary.extension_at
+unfolding signed binary_only binary.binary_reading binary.head_at binary.fixed_at binary.signature_at binary.flags_at binary.extension_at
 negative_extension = refl
 
 field_count : binary.binary_reading 1 2147483647 (behind_head (0x00 ∷ 0x02 ∷ [])) ≡ binary_only [] (Bad (FieldCount (pos 2)))
-unfolding behind_head signed binary_only binary.binary_reading binary.head_at binary.signature_at binary.flags_at binary.extension_at binary.rows_reading binary.row_at
+unfolding behind_head signed binary_only binary.binary_reading binary.head_at binary.fixed_at binary.signature_at binary.flags_at binary.extension_at binary.rows_reading binary.row_at
 field_count = refl
 
 field_length : binary.binary_reading 1 2 (behind_head (0x00 ∷ 0x01 ∷ 0 ∷ 0 ∷ 0 ∷ 3 ∷ [])) ≡ binary_only [] (Bad (FieldLength (pos 3)))
-unfolding behind_head signed binary_only binary.binary_reading binary.head_at binary.signature_at binary.flags_at binary.extension_at binary.rows_reading binary.row_at binary.values_at binary.value_at
+unfolding behind_head signed binary_only binary.binary_reading binary.head_at binary.fixed_at binary.signature_at binary.flags_at binary.extension_at binary.rows_reading binary.row_at binary.values_at binary.value_at
 field_length = refl
 
 -- 1 and null
 one_row : binary.binary_reading 2 1073741823 (behind_head (0x00 ∷ 0x02 ∷ 0 ∷ 0 ∷ 0 ∷ 1 ∷ 0x31 ∷ 0xFF ∷ 0xFF ∷ 0xFF ∷ 0xFF ∷ 0xFF ∷ 0xFF ∷ [])) ≡ binary_only ((Some (0x31 ∷ []) ∷ None ∷ []) ∷ []) Done
-unfolding behind_head signed binary_only binary.binary_reading binary.head_at binary.signature_at binary.flags_at binary.extension_at binary.rows_reading binary.row_at binary.values_at binary.value_at
+unfolding behind_head signed binary_only binary.binary_reading binary.head_at binary.fixed_at binary.signature_at binary.flags_at binary.extension_at binary.rows_reading binary.row_at binary.values_at binary.value_at
 one_row = refl

@@ -1,5 +1,5 @@
 -- COPY binary files (PostgreSQL documentation, page COPY, "Binary Format"). Numbers are big-endian.
-use Rattle.std.specs.Prelude.{◌≡◌, ℕ, ◌^◌, ◌<◌, ◌≤◌, List, [], ◌∷◌, ◌++◌, length, take, slice_index, Option, Some, None}
+use Rattle.std.specs.Prelude.{◌≡◌, ℕ, ◌^◌, ◌<◌, ◌≤◌, nat_lt, if◌then◌else◌, List, [], ◌∷◌, ◌++◌, length, take, slice_index, Option, Some, None}
 use Rattle.std.specs.List.{flat_map, AllByRecursion}
 use Rattle.std.specs.Int.{w16, w32, to_be_bytes, cast_signed}
 use Rattle.pg_copy.specs.declared.fault.BinaryFault.{BinaryFault}
@@ -89,8 +89,12 @@ pub record IsOpenHead (bytes : List ℕ) : Type 0 where
   pub no_head : (h more : List ℕ) → IsHead h → bytes ≡ h ++ more → ⊥
   pub no_fault : (f : BinaryFault) → IsFaultyHead bytes f → ⊥
 
+-- Which bytes of a head that isn't whole are kept: of the extension, which stands behind the first 19, none are needed again.
+abbrev pub open_head : List ℕ → List ℕ
+open_head bytes = if nat_lt (length bytes) 19 then bytes else []
+
 abbrev pub IsHeadRest : List ℕ → Ending BinaryFault → Type 0
-IsHeadRest bytes (Open kept) = (kept ≡ bytes) × IsOpenHead bytes
+IsHeadRest bytes (Open kept) = (kept ≡ open_head bytes) × IsOpenHead bytes
 IsHeadRest bytes Done = ⊥
 IsHeadRest bytes Ended = ⊥
 IsHeadRest bytes (Bad f) = IsFaultyHead bytes f

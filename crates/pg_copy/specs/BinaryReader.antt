@@ -1,12 +1,12 @@
 -- A reader of a binary file as its callers see it, what its calls do, and what it was given and has given.
-use Rattle.std.specs.Prelude.{◌≡◌, ℕ, ◌<◌, ◌⊎◌, Bool, false, List, [], ◌∷◌, ◌++◌, length, Result, Ok, Err}
+use Rattle.std.specs.Prelude.{◌≡◌, ℕ, ◌-◌, ◌<◌, ◌⊎◌, nat_lt, if◌then◌else◌, Bool, false, List, [], ◌∷◌, ◌++◌, length, drop, Result, Ok, Err}
 use Rattle.pg_copy.specs.declared.fault.BinaryFault.{BinaryFault}
 use Rattle.pg_copy.specs.declared.fault.BinaryFault.TheVariants.{AfterTrailer, Memory}
 use Rattle.pg_copy.specs.declared.binary_reader.BinaryStage.{BinaryStage}
 use Rattle.pg_copy.specs.declared.binary_reader.BinaryStage.TheVariants as stages
 use Rattle.pg_copy.specs.Row.{Row}
 use Rattle.pg_copy.specs.Reading.{Reading, Ending, Open, Done, Bad, after_rows}
-use Rattle.pg_copy.specs.BinaryReading.{binary_reading, body_reading, trailer_reading, at_end, file_reading}
+use Rattle.pg_copy.specs.BinaryReading.{bytes_at, head_reading, binary_reading, body_reading, trailer_reading, at_end, file_reading}
 
 -- how many columns a row has, how long a value may be, the bytes that were given and are no part yet, where it stands, and
 -- whether the input has ended
@@ -20,6 +20,7 @@ pub record BinaryState : Type 0 where
 -- what is still to come from so many bytes
 abbrev pub stage_reading : BinaryStage → ℕ → ℕ → List ℕ → Reading BinaryFault
 stage_reading stages.Head columns limit bytes = binary_reading columns limit bytes
+stage_reading (stages.Extension n) columns limit bytes = head_reading [] (bytes_at n bytes) (body_reading columns limit)
 stage_reading stages.Rows columns limit bytes = body_reading columns limit bytes
 stage_reading stages.Closed columns limit bytes = trailer_reading bytes
 stage_reading (stages.Failed fault) columns limit bytes = record { rows = []; ending = Bad fault }
@@ -39,30 +40,50 @@ pub record HasReadBinary (s : BinaryState) (pushed : List ℕ) (given : List Row
 -- the ending at which a reader stands, where it has looked for a row
 abbrev pub binary_ending : BinaryStage → List ℕ → Ending BinaryFault
 binary_ending stages.Head kept = Open kept
+binary_ending (stages.Extension n) kept = Open []
 binary_ending stages.Rows kept = Open kept
 binary_ending stages.Closed kept = Done
 binary_ending (stages.Failed fault) kept = Bad fault
 
--- A push keeps the whole piece. Behind the trailer nothing is kept, and a byte is a fault.
-abbrev pub pushed_at : BinaryStage → BinaryState → List ℕ → BinaryState
-pushed_at stages.Head s piece = record s { kept = s.kept ++ piece }
-pushed_at stages.Rows s piece = record s { kept = s.kept ++ piece }
-pushed_at stages.Closed s [] = s
-pushed_at stages.Closed s (b ∷ bs) = record s { stage = stages.Failed AfterTrailer }
-pushed_at (stages.Failed fault) s piece = s
+-- What is kept where a row is waited for: a part of what every head begins with, none of an extension, and among the rows
+-- the part that isn't whole.
+abbrev pub WaitsWith : BinaryStage → List ℕ → Type 0
+WaitsWith stages.Head kept = length kept < 19
+WaitsWith (stages.Extension n) kept = kept ≡ []
+WaitsWith stages.Rows kept = Unit {0}
+WaitsWith stages.Closed kept = kept ≡ []
+WaitsWith (stages.Failed fault) kept = Unit {0}
+
+-- A piece is kept, but for what it has of an extension; behind the trailer nothing is.
+abbrev pub kept_of : BinaryStage → List ℕ → List ℕ
+kept_of stages.Head piece = piece
+kept_of (stages.Extension n) piece = drop n piece
+kept_of stages.Rows piece = piece
+kept_of stages.Closed piece = []
+kept_of (stages.Failed fault) piece = []
+
+-- where the reader stands behind a piece: an extension may end in it, and behind the trailer a byte is a fault
+abbrev pub stage_behind : BinaryStage → List ℕ → BinaryStage
+stage_behind stages.Head piece = stages.Head
+stage_behind (stages.Extension n) piece = if nat_lt (length piece) n then stages.Extension (n - length piece) else stages.Rows
+stage_behind stages.Rows piece = stages.Rows
+stage_behind stages.Closed [] = stages.Closed
+stage_behind stages.Closed (b ∷ bs) = stages.Failed AfterTrailer
+stage_behind (stages.Failed fault) piece = stages.Failed fault
 
 abbrev pub pushed_after : BinaryState → List ℕ → BinaryState
-pushed_after s piece = pushed_at s.stage s piece
+pushed_after s piece = record s { kept = s.kept ++ kept_of s.stage piece; stage = stage_behind s.stage piece }
 
--- at the head or among the rows: bytes are still read
+-- in the head or among the rows: bytes are still read
 abbrev pub IsReading : BinaryStage → Type 0
 IsReading stages.Head = Unit {0}
+IsReading (stages.Extension n) = Unit {0}
 IsReading stages.Rows = Unit {0}
 IsReading stages.Closed = ⊥
 IsReading (stages.Failed fault) = ⊥
 
--- A push is refused with the fault that was found, or for want of memory, which a piece without bytes never meets, nor one
--- behind the trailer. Then nothing changes.
+-- A push is refused with the fault that was found, or for want of memory, which a piece of which nothing is to be kept never
+-- meets: one without bytes, one within the extension, or one behind the trailer. Then nothing changes.
 abbrev pub PushesBinary : BinaryState → List ℕ → Result Unit BinaryFault → BinaryState → Type 0
 PushesBinary old piece (Ok x) new = ((f : BinaryFault) → old.stage ≡ stages.Failed f → ⊥) × (new ≡ pushed_after old piece)
-PushesBinary old piece (Err f) new = ((old.stage ≡ stages.Failed f) ⊎ ((f ≡ Memory) × IsReading old.stage × (0 < length piece))) × (new ≡ old)
+PushesBinary old piece (Err f) new = ((old.stage ≡ stages.Failed f) ⊎ ((f ≡ Memory) × IsReading old.stage × (0 < length (kept_of old.stage piece)))) × (new ≡ old)

@@ -8,7 +8,7 @@ use Rattle.pg_copy.specs.declared.binary_part.NoPart.{NoPart}
 use Rattle.pg_copy.specs.declared.binary_part.NoPart.TheVariants.{Incomplete, Faulty}
 use Rattle.pg_copy.specs.Row.{Row}
 use Rattle.pg_copy.specs.Reading.{Reading, Ending, Open, Done, Ended, Bad, after_rows}
-use Rattle.pg_copy.specs.Binary.{signature}
+use Rattle.pg_copy.specs.Binary.{signature, open_head}
 
 -- ---- a part and the bytes behind it, or Incomplete where fewer bytes are there, or the first fault
 
@@ -35,16 +35,24 @@ flags_at bytes = do
   n ← number_at w32 bytes
   if nat_lt n.0 65536 then Ok n else Err (Faulty (Flags n.0))
 
-unfoldable pub extension_at : List ℕ → Result (List ℕ × List ℕ) NoPart
+-- the extension's length, which isn't negative
+unfoldable pub extension_at : List ℕ → Result (ℕ × List ℕ) NoPart
 extension_at bytes = do
   n ← number_at w32 bytes
-  if nat_lt n.0 2147483648 then bytes_at n.0 n.1 else Err (Faulty (Extension (cast_signed w32 n.0)))
+  if nat_lt n.0 2147483648 then Ok n else Err (Faulty (Extension (cast_signed w32 n.0)))
 
-unfoldable pub head_at : List ℕ → Result (List ℕ × List ℕ) NoPart
-head_at bytes = do
+-- what every head begins with: the signature, the flags and the extension's length
+unfoldable pub fixed_at : List ℕ → Result (ℕ × List ℕ) NoPart
+fixed_at bytes = do
   s ← signature_at bytes
   f ← flags_at s.1
   extension_at f.1
+
+-- a head, of which the extension is given
+unfoldable pub head_at : List ℕ → Result (List ℕ × List ℕ) NoPart
+head_at bytes = do
+  n ← fixed_at bytes
+  bytes_at n.0 n.1
 
 unfoldable pub value_at : ℕ → List ℕ → Result (Option (List ℕ) × List ℕ) NoPart
 value_at limit bytes = do
@@ -92,13 +100,14 @@ rows_reading (suc n) columns limit bytes = part_reading bytes (row_at columns li
 abbrev pub body_reading : ℕ → ℕ → List ℕ → Reading BinaryFault
 body_reading columns limit bytes = rows_reading (suc (length bytes)) columns limit bytes
 
+-- what stands behind a head, or an extension; where it isn't whole, these bytes of it are kept
 abbrev pub head_reading : List ℕ → Result (List ℕ × List ℕ) NoPart → (List ℕ → Reading BinaryFault) → Reading BinaryFault
-head_reading bytes (Ok h) next = next h.1
-head_reading bytes (Err stop) next = stop_reading stop bytes
+head_reading kept (Ok h) next = next h.1
+head_reading kept (Err stop) next = stop_reading stop kept
 
 -- the rows of the bytes, up to the first fault or the first part that isn't whole
 unfoldable pub binary_reading : ℕ → ℕ → List ℕ → Reading BinaryFault
-binary_reading columns limit bytes = head_reading bytes (head_at bytes) (body_reading columns limit)
+binary_reading columns limit bytes = head_reading (open_head bytes) (head_at bytes) (body_reading columns limit)
 
 -- at the end of the input the trailer must have come
 abbrev pub last_ending : Ending BinaryFault → Ending BinaryFault

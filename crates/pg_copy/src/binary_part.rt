@@ -1,14 +1,14 @@
 //! The parts of a binary file, read from the front of its bytes.
 
-ghost use Rattle.std.specs.Prelude.{◌≡◌, ◌≤◌, ◌<◌, ◌⊎◌, false, length, drop, IfOk};
+ghost use Rattle.std.specs.Prelude.{◌≡◌, ◌≤◌, ◌<◌, ◌⊎◌, ℕ, false, length, drop, Some, Err, IfOk};
 ghost use Rattle.std.specs.Int.{w16, w32, cast_signed};
 ghost use Rattle.pg_copy.specs.declared.fault.BinaryFault.TheVariants.{FieldCount};
-ghost use Rattle.pg_copy.specs.declared.binary_part.NoPart.TheVariants.{Faulty};
+ghost use Rattle.pg_copy.specs.declared.binary_part.NoPart.TheVariants.{Faulty, Incomplete};
 ghost use Rattle.std.specs.Option.{option_copied};
 ghost use Rattle.pg_copy.specs.declared.binary_part.NoRow.TheVariants.{Memory};
-ghost use Rattle.pg_copy.specs.BinaryReading.{number_at, bytes_at, signature_at, flags_at, extension_at, head_at, value_at, values_at};
+ghost use Rattle.pg_copy.specs.BinaryReading.{number_at, bytes_at, signature_at, flags_at, extension_at, fixed_at, head_at, value_at, values_at};
 ghost use Rattle.pg_copy.specs.Row.{Row};
-ghost use Rattle.pg_copy.specs.Private.BinaryPart.{Gives, IsWalked, Finds, IsBehindHead, StartsRow, IsLooked, FindsPart};
+ghost use Rattle.pg_copy.specs.Private.BinaryPart.{Gives, IsWalked, Finds, IsBehindHead, StartsRow, IsLooked, FindsPart, left_of};
 
 use crate::fault::BinaryFault;
 use crate::format::{LONGEST, NULL, SIGNATURE, TRAILER};
@@ -87,14 +87,24 @@ fn flags_at(bytes: &[u8]) -> Result<(u32, &[u8]), NoPart>
 }
 
 #[tactic(auto, unfolding(crate::specs::BinaryReading::extension_at))]
-fn extension_at(bytes: &[u8]) -> Result<(&[u8], &[u8]), NoPart>
-    ensures { Gives (λ x. (x.0.now, x.1.now)) result (extension_at bytes.now) }
+fn extension_at(bytes: &[u8]) -> Result<(u32, &[u8]), NoPart>
+    ensures { Gives (λ x. (x.0, x.1.now)) result (extension_at bytes.now) }
 {
     let (len, rest) = u32_at(bytes)?;
     if len > LONGEST {
         return Err(NoPart::Faulty(BinaryFault::Extension(len.cast_signed())));
     }
-    take(rest, len as usize)
+    Ok((len, rest))
+}
+
+/// What every head begins with: the signature, the flags, and the length of the extension, which is given.
+#[tactic(auto, unfolding(crate::specs::BinaryReading::fixed_at))]
+fn fixed_at(bytes: &[u8]) -> Result<(u32, &[u8]), NoPart>
+    ensures { Gives (λ x. (x.0, x.1.now)) result (fixed_at bytes.now) }
+{
+    let (_, rest) = signature_at(bytes)?;
+    let (_, rest) = flags_at(rest)?;
+    extension_at(rest)
 }
 
 /// The extension of the head, and what stands behind it.
@@ -102,9 +112,20 @@ fn extension_at(bytes: &[u8]) -> Result<(&[u8], &[u8]), NoPart>
 pub fn head_at(bytes: &[u8]) -> Result<(&[u8], &[u8]), NoPart>
     ensures { Gives (λ x. (x.0.now, x.1.now)) result (head_at bytes.now) }
 {
-    let (_, rest) = signature_at(bytes)?;
-    let (_, rest) = flags_at(rest)?;
-    extension_at(rest)
+    let (len, rest) = fixed_at(bytes)?;
+    take(rest, len as usize)
+}
+
+/// How many bytes of the extension are to come, where the head isn't whole for want of them alone.
+pub fn extension_left(bytes: &[u8]) -> Option<u32>
+    requires { head_at bytes.now ≡ Err Incomplete }
+    ensures left { result ≡ left_of (fixed_at bytes.now) }
+    ensures some { (n : ℕ) → result ≡ Some n → 0 < n }
+{
+    match fixed_at(bytes) {
+        Ok((len, rest)) => Some(len - rest.len() as u32),
+        Err(_) => None,
+    }
 }
 
 /// A value, which is lent, and what stands behind it.

@@ -3,18 +3,18 @@
 ghost use Rattle.std.specs.Prelude.{◌≡◌, ◌++◌, ◌≤◌, ◌<◌, ◌↔◌, ◌⊎◌, ℕ, List, Ok, Err, [], true, false, IsTrue, OnOk};
 ghost use Rattle.pg_copy.specs.declared.fault.BinaryFault.{BinaryFault};
 ghost use Rattle.pg_copy.specs.declared.fault.BinaryFault.TheVariants.{Memory};
-ghost use Rattle.pg_copy.specs.declared.binary_reader.BinaryStage.TheVariants.{Head, Rows, Closed, Failed};
+ghost use Rattle.pg_copy.specs.declared.binary_reader.BinaryStage.TheVariants.{Head, Extension, Rows, Closed, Failed};
+ghost use Rattle.pg_copy.specs.declared.binary_part.NoPart.TheVariants.{Incomplete};
 ghost use Rattle.pg_copy.specs.Row.{Row};
 ghost use Rattle.pg_copy.specs.Reading.{RowWaits, given_by, Gives};
-ghost use Rattle.pg_copy.specs.BinaryReading.{binary_reading, file_reading};
-ghost use Rattle.pg_copy.specs.BinaryReader.{HasReadBinary, PushesBinary, IsReading, left, binary_ending};
-ghost use Rattle.pg_copy.specs.Private.BinaryPart.{TakesPart, FindsNext, stage_of};
+ghost use Rattle.pg_copy.specs.BinaryReading.{fixed_at, head_at, binary_reading, file_reading};
+ghost use Rattle.pg_copy.specs.BinaryReader.{HasReadBinary, PushesBinary, IsReading, WaitsWith, left, binary_ending};
+ghost use Rattle.pg_copy.specs.Private.BinaryPart.{TakesPart, FindsNext, stage_of, left_of, in_extension};
 
 use crate::Row;
-use crate::binary_part::{Look, NoPart, NoRow, Part, find_part, values_of};
-use crate::buffer::Buffer;
+use crate::binary_part::{Look, NoPart, NoRow, Part, extension_left, find_part, values_of};
 use crate::fault::BinaryFault;
-use pg_seq::Seq;
+use pg_seq::{Buffer, Seq};
 use std::alloc::Global;
 use std::marker::Model;
 
@@ -23,6 +23,8 @@ use std::marker::Model;
 pub enum BinaryStage {
     /// At the head, or at the first row behind it.
     Head,
+    /// In the head's extension, of which so many bytes are to come, 1 to 2,147,483,647.
+    Extension(u32),
     /// At a row, or at the trailer.
     Rows,
     /// Behind the trailer.
@@ -36,8 +38,9 @@ pub enum BinaryStage {
 /// `push` keeps a piece, `next` gives the rows that are whole, one by one, and `finish` those that are left at the end of the
 /// input, where the trailer must have come; no byte may stand behind it. The length -1 is a null. A fault stands in the place
 /// of its row, and is answered for good from then on. The flags that a reader need not know and the header's extension are
-/// skipped: the head is kept until it is whole, and then each row until it is. A row is looked over once, however the pieces
-/// are cut, and its values are copied once it is whole (PostgreSQL documentation, page COPY, "Binary Format").
+/// skipped. The extension's bytes are dropped as they come, so that no more is kept than a row until it is whole, and what was
+/// pushed since `next` was last called. A row is looked over once, however the pieces are cut, and its values are copied once
+/// it is whole (PostgreSQL documentation, page COPY, "Binary Format").
 #[derive(Drop)]
 pub struct BinaryReader {
     alloc: Global,
@@ -94,9 +97,11 @@ impl BinaryReader {
         self.ended
     }
 
-    /// Takes the next piece of the file, all of it. Behind the trailer nothing is kept: a byte is a fault, which the next call
-    /// answers. A fault that was found is answered again. After Memory nothing of the piece was taken and the reader is
-    /// unchanged; a piece without bytes, or one behind the trailer, wants no memory.
+    /// Takes the next piece of the file, all of it. What it has of the head's extension is dropped, once a call of `next` has
+    /// found that only the extension is to come of the head. Behind the trailer nothing is kept: a byte is a fault, which the
+    /// next call answers. A fault that was found is answered again. After Memory nothing of the piece was taken and the reader
+    /// is unchanged; a piece of which nothing is to be kept wants no memory: one without bytes, one within the extension, or
+    /// one behind the trailer.
     pub fn push(&mut self, piece: &[u8]) -> Result<(), BinaryFault>
         requires { self.old.ended ≡ false }
         ensures call { PushesBinary self.old piece.now result self.new }
@@ -110,6 +115,7 @@ impl BinaryReader {
                 }
                 Ok(())
             }
+            BinaryStage::Extension(missing) => self.skip(missing, piece),
             BinaryStage::Head | BinaryStage::Rows => match self.buffer.push(piece) {
                 Ok(()) => Ok(()),
                 Err(_) => Err(BinaryFault::Memory),
@@ -118,8 +124,9 @@ impl BinaryReader {
     }
 
     /// The next row, or None where no whole row waits or the trailer was read. A fault is found where no more rows stand before
-    /// it, and is then answered for good. Memory is answered only where a row waits, and leaves the reader unchanged
-    /// (PostgreSQL documentation, page COPY, "Binary Format").
+    /// it, and is then answered for good. Memory is answered only where a row waits, and leaves the reader unchanged. Where it
+    /// answers None, at most 18 bytes of a head are kept, and none of its extension (PostgreSQL documentation, page COPY,
+    /// "Binary Format").
     pub fn next(&mut self) -> Result<Option<Row>, BinaryFault>
         requires { self.old.ended ≡ false }
         ensures read { (pushed : List ℕ) (given : List Row) → HasReadBinary self.old pushed given → HasReadBinary self.new pushed (given ++ given_by result) }
@@ -127,6 +134,7 @@ impl BinaryReader {
         ensures same { (self.new.columns ≡ self.old.columns) × (self.new.limit ≡ self.old.limit) }
         ensures ended { self.new.ended ≡ false }
         ensures row { (row : Row) → result ≡ Ok (Some row) → self.new.stage ≡ Rows }
+        ensures waits { result ≡ Ok None → WaitsWith self.new.stage self.new.kept }
         ensures failed { (fault : BinaryFault) → self.old.stage ≡ Failed fault → (result ≡ Err fault) × (self.new ≡ self.old) }
         ensures closed { self.old.stage ≡ Closed → (result ≡ Ok None) × (self.new ≡ self.old) }
         ensures memory { result ≡ Err Memory → (self.new ≡ self.old) × RowWaits (left self.old []) }
@@ -134,7 +142,7 @@ impl BinaryReader {
         match self.stage {
             BinaryStage::Failed(fault) => Err(fault),
             BinaryStage::Closed => Ok(None),
-            BinaryStage::Head | BinaryStage::Rows => match self.read() {
+            BinaryStage::Head | BinaryStage::Extension(_) | BinaryStage::Rows => match self.read() {
                 Ok(row) => Ok(row),
                 Err(NoRow::Memory) => Err(BinaryFault::Memory),
                 Err(NoRow::NoPart(NoPart::Incomplete)) => Ok(None),
@@ -166,7 +174,7 @@ impl BinaryReader {
                 self.ended = true;
                 Ok(None)
             }
-            BinaryStage::Head | BinaryStage::Rows => match self.read() {
+            BinaryStage::Head | BinaryStage::Extension(_) | BinaryStage::Rows => match self.read() {
                 Ok(row) => {
                     self.end();
                     Ok(row)
@@ -185,11 +193,33 @@ impl BinaryReader {
         }
     }
 
+    /// Drops what a piece has of the extension, and keeps what stands behind it.
+    fn skip(&mut self, missing: u32, piece: &[u8]) -> Result<(), BinaryFault>
+        requires { self.old.stage ≡ Extension missing }
+        ensures { PushesBinary self.old piece.now result self.new }
+    {
+        if piece.len() < missing as usize {
+            self.stage = BinaryStage::Extension(missing - piece.len() as u32);
+            return Ok(());
+        }
+        let (_, rest) = piece.split_at(missing as usize);
+        match self.buffer.push(rest) {
+            Ok(()) => {
+                self.stage = BinaryStage::Rows;
+                Ok(())
+            }
+            Err(_) => Err(BinaryFault::Memory),
+        }
+    }
+
     /// Takes the next part of the file.
     fn read(&mut self) -> Result<Option<Row>, NoRow>
         requires { IsReading self.old.stage }
         ensures { TakesPart result self.old self.new }
     {
+        if let BinaryStage::Extension(_) = self.stage {
+            return Err(NoRow::NoPart(NoPart::Incomplete));
+        }
         let in_head = self.stage == BinaryStage::Head;
         match self.find_row(in_head) {
             Ok(row) => Ok(row),
@@ -202,7 +232,8 @@ impl BinaryReader {
     }
 
     /// Takes a row, or the trailer, in front of which the head may stand. Where neither is whole, a head that is goes off
-    /// alone, so that it isn't kept until the first row has come. At a fault nothing changes.
+    /// alone, so that it isn't kept until the first row has come, and so does one that lacks bytes of its extension alone. At a
+    /// fault nothing changes.
     fn find_row(&mut self, in_head: bool) -> Result<Option<Row>, NoRow>
         requires { self.old.stage ≡ stage_of in_head }
         ensures { FindsNext result self.old self.new }
@@ -215,6 +246,8 @@ impl BinaryReader {
                     self.buffer.take(self.look.start);
                     self.look.start = 0;
                     self.stage = BinaryStage::Rows;
+                } else if in_head {
+                    self.enter_extension();
                 }
                 Err(NoRow::NoPart(NoPart::Incomplete))
             }
@@ -234,6 +267,20 @@ impl BinaryReader {
                     Err(_) => Err(NoRow::Memory),
                 }
             }
+        }
+    }
+
+    /// Takes a head off that lacks bytes of its extension alone.
+    fn enter_extension(&mut self)
+        requires stage { self.old.stage ≡ Head }
+        requires open { head_at self.old.kept ≡ Err Incomplete }
+        ensures { self.new ≡ in_extension (left_of (fixed_at self.old.kept)) self.old }
+    {
+        if let Some(missing) = extension_left(self.buffer.as_slice()) {
+            let len = self.buffer.len();
+            self.buffer.take(len);
+            self.look = Look::start();
+            self.stage = BinaryStage::Extension(missing);
         }
     }
 

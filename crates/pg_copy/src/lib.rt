@@ -8,7 +8,6 @@
 mod binary_part;
 mod binary_reader;
 mod binary_writer;
-mod buffer;
 mod fault;
 mod format;
 pub mod laws;
@@ -24,7 +23,7 @@ pub use binary_writer::{write_binary_head, write_binary_row, write_binary_traile
 pub use fault::{BinaryFault, RowFault, TextFault};
 pub use pg_seq::Seq;
 pub use text_reader::TextReader;
-pub use text_writer::write_text_row;
+pub use text_writer::{write_text_field, write_text_row};
 
 /// The values of a row, in the order of its columns. None is null (PostgreSQL documentation, page COPY, "File Formats").
 pub type Row = Seq<Option<Seq<u8>>>;

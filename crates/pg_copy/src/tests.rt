@@ -2,17 +2,17 @@ use super::*;
 use std::alloc::Global;
 use std::test::Fail;
 
-/// Pushes the bytes in pieces of so many, writes each row as its canonical line, and returns the fault if there is one.
+/// Pushes the pieces, of so many bytes in all, writes each row as its canonical line, and returns the fault if there is one.
 macro_rules! give_all {
-    ($reader:ident, $bytes:ident, $size:ident, $out:ident) => {
-        for piece in $bytes.chunks($size.max(1)) {
+    ($reader:ident, $pieces:expr, $len:expr, $out:ident) => {
+        for piece in $pieces {
             if $reader.ended() {
                 break;
             }
             if let Err(fault) = $reader.push(piece) {
                 return Ok(Some(fault));
             }
-            for _ in 0..=$bytes.len() {
+            for _ in 0..=$len {
                 if $reader.ended() {
                     break;
                 }
@@ -23,7 +23,7 @@ macro_rules! give_all {
                 }
             }
         }
-        for _ in 0..=$bytes.len() {
+        for _ in 0..=$len {
             match $reader.finish() {
                 Ok(Some(row)) => write_text_row(&row, $out)?,
                 Ok(None) => break,
@@ -42,7 +42,7 @@ fn read_text(
     out: &mut Vec<u8>,
 ) -> Result<Option<TextFault>, Fail> {
     let mut reader = TextReader::new(alloc, Some(columns.clamp(1, 32_767)));
-    give_all!(reader, bytes, size, out);
+    give_all!(reader, bytes.chunks(size.max(1)), bytes.len(), out);
     Ok(None)
 }
 
@@ -56,7 +56,23 @@ fn read_binary(
     out: &mut Vec<u8>,
 ) -> Result<Option<BinaryFault>, Fail> {
     let mut reader = BinaryReader::new(alloc, 1, limit.clamp(1, 2_147_483_647));
-    give_all!(reader, bytes, size, out);
+    give_all!(reader, bytes.chunks(size.max(1)), bytes.len(), out);
+    Ok(None)
+}
+
+/// Reads a binary file of one column that is cut in three, and writes and gives the same.
+fn read_cut(
+    alloc: Global,
+    bytes: &[u8],
+    first: usize,
+    second: usize,
+    out: &mut Vec<u8>,
+) -> Result<Option<BinaryFault>, Fail> {
+    let (front, rest) = bytes.split_at(first.min(bytes.len()));
+    let (middle, back) = rest.split_at(second.min(rest.len()));
+    let pieces = [front, middle, back];
+    let mut reader = BinaryReader::new(alloc, 1, 1);
+    give_all!(reader, pieces.iter(), bytes.len(), out);
     Ok(None)
 }
 
@@ -91,7 +107,7 @@ fn text_files_are_read(rt: HostRuntime) -> Result<(), Fail> {
 
 #[test]
 fn binary_files_are_read(rt: HostRuntime) -> Result<(), Fail> {
-    let files: [(&[u8], &[u8], Option<BinaryFault>); 12] = [
+    let files: [(&[u8], &[u8], Option<BinaryFault>); 14] = [
         (b"\0\0\0\0\0\0\0\0\xFF\xFF", b"", None),
         (b"\0\0\0\0\0\0\0\0\xFF", b"", Some(BinaryFault::Truncated)),
         (
@@ -140,6 +156,12 @@ fn binary_files_are_read(rt: HostRuntime) -> Result<(), Fail> {
             b"a\n",
             Some(BinaryFault::Truncated),
         ),
+        (b"\0\0\0\0\0\0\0\x03ab", b"", Some(BinaryFault::Truncated)),
+        (
+            b"\0\0\0\0\x7F\xFF\xFF\xFF\0\x01\0\0\0\x01a\xFF\xFF",
+            b"",
+            Some(BinaryFault::Truncated),
+        ),
     ];
     for (rest, rows, fault) in files.iter() {
         let mut file = Vec::from_slice(rt.alloc(), b"PGCOPY\n\xFF\r\n\0")?;
@@ -154,6 +176,20 @@ fn binary_files_are_read(rt: HostRuntime) -> Result<(), Fail> {
     let mut out = Vec::new(rt.alloc());
     let answer = read_binary(rt.alloc(), 2, b"PGCOPY\r\xFF\r\n\0\0", 3, &mut out)?;
     assert_eq!(rt; answer, Some(BinaryFault::Signature));
+    Ok(())
+}
+
+#[test]
+fn extensions_are_skipped(rt: HostRuntime) -> Result<(), Fail> {
+    let file = b"PGCOPY\n\xFF\r\n\0\0\0\0\x01\0\0\0\x03abc\0\x01\0\0\0\x01d\xFF\xFF";
+    for first in 0..=file.len() {
+        for second in 0..=file.len() - first {
+            let mut out = Vec::new(rt.alloc());
+            let answer = read_cut(rt.alloc(), file, first, second, &mut out)?;
+            assert_eq!(rt; out.as_slice(), b"d\n".as_slice());
+            assert_eq!(rt; answer, None);
+        }
+    }
     Ok(())
 }
 
@@ -282,5 +318,15 @@ fn faults_have_their_texts(rt: HostRuntime) -> Result<(), Fail> {
     for (text, wanted) in texts.iter().zip(expected.iter()) {
         assert_eq!(rt; text.as_str(), *wanted);
     }
+    Ok(())
+}
+
+#[test]
+fn fields_written_one_by_one(rt: HostRuntime) -> Result<(), Fail> {
+    let mut line = Vec::new(rt.alloc());
+    write_text_field(None, &mut line)?;
+    line.push(b'\t')?;
+    write_text_field(Some(b"a\tb\\"), &mut line)?;
+    assert_eq!(rt; line.as_slice(), b"\\N\ta\\tb\\\\".as_slice());
     Ok(())
 }

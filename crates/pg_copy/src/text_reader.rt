@@ -12,11 +12,10 @@ ghost use Rattle.pg_copy.specs.Private.Units.{IsScanned, IsUnitAt};
 ghost use Rattle.pg_copy.specs.Private.TextLine.{TakesLine, TakesLast, Ends};
 
 use crate::Row;
-use crate::buffer::Buffer;
 use crate::fault::TextFault;
 use crate::scan::Scan;
 use crate::text_line::{Judged, fields_of, judge};
-use pg_seq::Seq;
+use pg_seq::{Buffer, Seq};
 use std::alloc::Global;
 use std::marker::Model;
 

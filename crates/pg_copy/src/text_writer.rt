@@ -1,6 +1,6 @@
 //! The canonical line of a row.
 
-ghost use Rattle.std.specs.Prelude.{◌≡◌, ◌++◌, ◌<◌, length, take, OnOk, OnErr};
+ghost use Rattle.std.specs.Prelude.{◌≡◌, ◌++◌, ◌<◌, true, None, length, option_copied, take, OnOk, OnErr};
 ghost use Rattle.std.specs.List.{flat_map};
 ghost use Rattle.pg_copy.specs.Row.{text_fault, Writes};
 ghost use Rattle.pg_copy.specs.Text.{letter_for, written_byte, written_field, written_row};
@@ -69,6 +69,27 @@ fn put_row(fields: &[Option<Seq<u8>>], buf: &mut Vec<u8>) -> Result<(), AllocErr
     }
     buf.push(b'\n')?;
     Ok(())
+}
+
+/// Appends one field as a line has it: null is `\N`, the bytes 08 to 0D are written by their letters, a backslash is doubled, and all
+/// other bytes are written as they are. A caller whose values don't stand in a `Row` writes a line by it, with a tab between two
+/// fields and a newline behind the last (PostgreSQL documentation, page COPY, "Text Format"). Memory is answered where the buffer
+/// could not grow, and leaves `buf` as it was.
+pub fn write_text_field(field: Option<&[u8]>, buf: &mut Vec<u8>) -> Result<(), RowFault>
+    ensures { Writes None (written_field (option_copied field.entry)) buf.old.items result buf.new.items }
+{
+    let before = buf.len();
+    let written = match field {
+        None => buf.extend_from_slice(&NULL_MARK),
+        Some(text) => put_text(text, buf),
+    };
+    match written {
+        Ok(()) => Ok(()),
+        Err(_) => {
+            buf.truncate(before);
+            Err(RowFault::Memory)
+        }
+    }
 }
 
 /// Appends the canonical line of the row: null is `\N`, the bytes 08 to 0D are written by their letters, a backslash is

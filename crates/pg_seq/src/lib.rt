@@ -1,5 +1,7 @@
-//! `Seq<T>`: a list that contracts see by its elements alone.
+//! `Seq<T>`: a list that contracts see by its elements alone. [`Buffer`]: a queue of bytes.
 #![tactic(auto)]
+
+mod buffer;
 
 ghost use Rattle.std.specs.Prelude.{◌≡◌, ◌↔◌, [], ◌∷◌, ◌++◌, length, slice_get, IsTrue, IfOk, IfErr, OnOk, OnErr};
 ghost use Rattle.std.specs.Cmp.Lexicographic.{pointwise, lists_equiv, lists_per};
@@ -11,12 +13,10 @@ ghost use Rattle.std.specs.Slice.Iter.{iter_rest, iter_steps};
 ghost use Rattle.std.specs.Vec.Iter.{into_iter_items, into_iter_steps};
 ghost use Rattle.std.specs.declared.alloc.Global.{Global};
 
+pub use buffer::Buffer;
 use std::alloc::{AllocError, AllocFailed, Global};
 use std::marker::Model;
 use std::{fmt, slice, vec};
-
-#[cfg(test)]
-mod tests;
 
 /// A list on the heap. A clause sees the list of its elements and no capacity, so two are equal where their elements are.
 #[derive(Drop)]

@@ -5,10 +5,10 @@ ghost use Rattle.pg_wire.specs.Stream.{Head};
 ghost use Rattle.pg_wire.specs.Decoder.{HasTaken, Pushes, Stays, Takes, given_after};
 ghost use Rattle.pg_wire.specs.Private.Found.{Judges, Finds};
 
-use crate::buffer::Buffer;
 use crate::direction::Message;
 use crate::fault::{BodyFault, WireFault};
 use crate::message::{BackMessage, FrontMessage};
+use pg_seq::Buffer;
 use std::alloc::Global;
 use std::marker::{Model, PhantomData};
 

@@ -11,13 +11,13 @@ ghost use Rattle.pg_wire.specs.Frontend.{frontend};
 ghost use Rattle.pg_wire.specs.Private.Reader.{Gives};
 ghost use Rattle.pg_wire.specs.Private.FirstReader.{first_of, JudgesPacket, FindsPacket};
 
-use crate::buffer::Buffer;
 use crate::decoder::FrontDecoder;
 use crate::fault::{BodyFault, WireFault};
 use crate::message::First;
 use crate::part::LONGEST_PACKET;
 use crate::reader::{ended, i32_at, terminated};
 use kind::FirstKind;
+use pg_seq::Buffer;
 use std::alloc::Global;
 use std::marker::Model;
 

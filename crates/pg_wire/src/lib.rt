@@ -7,7 +7,6 @@
 
 mod appender;
 pub mod backend;
-mod buffer;
 mod decoder;
 mod direction;
 mod fault;
@@ -33,6 +32,3 @@ pub use message::{
 pub use part::LONGEST;
 pub use pg_seq::Seq;
 pub use session::{Aside, ExecEnd, Outcome, Part, Request, Step};
-
-#[cfg(test)]
-mod tests;

@@ -11,10 +11,10 @@ use Rattle.pg_copy.specs.declared.binary_part.Look.{Look}
 use Rattle.pg_copy.specs.declared.binary_part.Part.{Part}
 use Rattle.pg_copy.specs.declared.binary_part.Part.TheVariants as parts
 use Rattle.pg_copy.specs.declared.binary_reader.BinaryStage.{BinaryStage}
-use Rattle.pg_copy.specs.declared.binary_reader.BinaryStage.TheVariants.{Head, Rows, Closed, Failed}
+use Rattle.pg_copy.specs.declared.binary_reader.BinaryStage.TheVariants.{Head, Extension, Rows, Closed, Failed}
 use Rattle.pg_copy.specs.Row.{Row}
 use Rattle.pg_copy.specs.Reading.{RowWaits}
-use Rattle.pg_copy.specs.BinaryReading.{◌>>=◌, number_at, head_at, values_at, row_at}
+use Rattle.pg_copy.specs.BinaryReading.{◌>>=◌, number_at, bytes_at, fixed_at, head_at, values_at, row_at}
 use Rattle.pg_copy.specs.BinaryReader.{BinaryState, left}
 
 -- what a function returned, seen by view, is what reading gives
@@ -59,6 +59,7 @@ body_at columns limit bytes = row_at columns limit bytes >>= λ r. row_or_traile
 
 unfoldable pub part_at : BinaryStage → ℕ → ℕ → List ℕ → Result ((Option Row × BinaryStage) × List ℕ) NoPart
 part_at Head columns limit bytes = head_at bytes >>= λ h. body_at columns limit h.1
+part_at (Extension n) columns limit bytes = bytes_at n bytes >>= λ h. body_at columns limit h.1
 part_at Rows columns limit bytes = body_at columns limit bytes
 part_at Closed columns limit bytes = closed_at bytes
 part_at (Failed fault) columns limit bytes = Err (Faulty fault)
@@ -94,6 +95,7 @@ FindsPart in_head columns limit bytes (Err stop) l = (part_at (stage_of in_head)
 
 abbrev pub is_head : BinaryStage → Bool
 is_head Head = true
+is_head (Extension n) = false
 is_head Rows = false
 is_head Closed = false
 is_head (Failed fault) = false
@@ -104,14 +106,26 @@ pub record IsReader (columns limit : ℕ) (kept : List ℕ) (look : Look) (stage
   pub looked : IsLooked (is_head stage) columns limit kept look
   pub not_memory : stage ≡ Failed Memory → ⊥
   pub closed : stage ≡ Closed → kept ≡ []
+  pub skips : (n : ℕ) → stage ≡ Extension n → (0 < n) × (kept ≡ [])
 
--- where a reader waits for the rest of a part: a head that is whole is taken off
-abbrev pub behind_head : Result (List ℕ × List ℕ) NoPart → BinaryState → BinaryState
-behind_head (Ok h) s = record s { kept = h.1; stage = Rows }
-behind_head (Err stop) s = s
+-- how much of an extension is to come, behind its length and what is there of it
+abbrev pub left_of : Result (ℕ × List ℕ) NoPart → Option ℕ
+left_of (Ok n) = Some (n.0 - length n.1)
+left_of (Err stop) = None
+
+-- a head that isn't whole goes off where only bytes of its extension are to come
+abbrev pub in_extension : Option ℕ → BinaryState → BinaryState
+in_extension None s = s
+in_extension (Some n) s = record s { kept = []; stage = Extension n }
+
+-- where a reader waits for the rest of a part: a head that is whole is taken off, and an extension
+abbrev pub behind_head : Result (List ℕ × List ℕ) NoPart → BinaryState → BinaryState → BinaryState
+behind_head (Ok h) stays s = record s { kept = h.1; stage = Rows }
+behind_head (Err stop) stays s = stays
 
 abbrev pub waiting_at : BinaryStage → BinaryState → BinaryState
-waiting_at Head s = behind_head (head_at s.kept) s
+waiting_at Head s = behind_head (head_at s.kept) (in_extension (left_of (fixed_at s.kept)) s) s
+waiting_at (Extension n) s = behind_head (bytes_at n s.kept) s s
 waiting_at Rows s = s
 waiting_at Closed s = s
 waiting_at (Failed fault) s = s

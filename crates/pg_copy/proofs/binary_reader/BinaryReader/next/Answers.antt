@@ -1,7 +1,9 @@
-use Rattle.std.proofs.Common.{Ok, Err}
+use Rattle.std.proofs.Common.{◌≡◌, ℕ, List, [], Ok, Err, ap, sym, ◌∙◌}
 use Rattle.pg_copy.specs.declared.binary_part.NoPart.TheVariants.{Incomplete, Faulty}
 use Rattle.pg_copy.specs.declared.binary_part.NoRow.TheVariants.{NoPart}
-use Rattle.pg_copy.proofs.BinaryHistory.{HasRead-next, Gives-next, next-row}
+use Rattle.pg_copy.specs.declared.binary_reader.BinaryStage.TheVariants.{Extension}
+use Rattle.pg_copy.specs.BinaryReader.{BinaryState}
+use Rattle.pg_copy.proofs.BinaryHistory.{HasRead-next, Gives-next, next-row, next-waits}
 use Rattle.pg_copy.proofs.binary_reader.BinaryReader.next.Goals as goal
 
 pub returns-in-Ok-clause-read : goal.returns-in-Ok-clause-read
@@ -32,3 +34,16 @@ pub returns-in-Err-NoPart-Faulty-clause-gives : goal.returns-in-Err-NoPart-Fault
 returns-in-Err-NoPart-Faulty-clause-gives c = λ pushed given h.
     let w = c.in-Err-NoPart-Faulty in
     Gives-next (Err (NoPart (Faulty w.fault))) c.args.self.now c.read.new.self pushed given c.requires (rw (w.field-0-is, w.field-0-0-is) at w.ensures) h
+
+pub returns-in-Ok-clause-waits : goal.returns-in-Ok-clause-waits
+returns-in-Ok-clause-waits c = λ e.
+    let kept = ap (λ (t : BinaryState). t.kept) (sym c.self.view_is) in
+    let stage = ap (λ (t : BinaryState). t.stage) c.self.view_is in
+    next-waits (Ok c.in-Ok.row) c.args.self.now c.read.new.self (λ n is. kept ∙ (c.self.invariant.skips n (stage ∙ is)).1) c.in-Ok.ensures e
+
+pub returns-in-Err-NoPart-Incomplete-clause-waits : goal.returns-in-Err-NoPart-Incomplete-clause-waits
+returns-in-Err-NoPart-Incomplete-clause-waits c = λ e.
+    let kept = ap (λ (t : BinaryState). t.kept) (sym c.self.view_is) in
+    let stage = ap (λ (t : BinaryState). t.stage) c.self.view_is in
+    let w = c.in-Err-NoPart-Incomplete in
+    next-waits (Err (NoPart Incomplete)) c.args.self.now c.read.new.self (λ n is. kept ∙ (c.self.invariant.skips n (stage ∙ is)).1) (rw (w.field-0-is, w.field-0-0-is) at w.ensures) e

@@ -34,6 +34,7 @@ fn drop_first(bytes: &mut Vec<u8>, n: usize)
 }
 
 impl Buffer {
+    /// A queue without bytes. It takes no memory.
     pub fn new(alloc: Global) -> Buffer
         ensures { result ≡ [] }
     {
@@ -43,19 +44,22 @@ impl Buffer {
         }
     }
 
+    /// How many bytes there are.
     pub fn len(&self) -> usize
         ensures { result ≡ length self.now }
     {
         self.bytes.len() - self.start
     }
 
+    /// The bytes, in the order in which they were pushed.
     pub fn as_slice(&self) -> &[u8]
         ensures { result.now ≡ self.now }
     {
         &self.bytes[self.start..]
     }
 
-    /// Adds a piece, which is all taken or not at all. A piece without bytes wants no memory.
+    /// Adds a piece, which is all taken or, where memory is refused, not at all. A piece without bytes wants no memory. A byte is
+    /// moved once on average, however small the pieces.
     pub fn push(&mut self, piece: &[u8]) -> Result<(), AllocError>
         ensures ok { OnOk result (self.new ≡ self.old ++ piece.now) }
         ensures err { OnErr result (self.new ≡ self.old) }
@@ -72,7 +76,7 @@ impl Buffer {
         self.bytes.extend_from_slice(piece)
     }
 
-    /// Takes the first n bytes off.
+    /// Takes the first n bytes off, of those that are there.
     pub fn take(&mut self, n: usize)
         requires { n ≤ length self.old }
         ensures { self.new ≡ drop n self.old }
