@@ -21,3 +21,4 @@ pub mod TakingTurns
 pub mod TurnRows
 pub mod Rows
 pub mod ParameterLaws
+pub mod SpelledTurns

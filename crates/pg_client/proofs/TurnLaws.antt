@@ -17,7 +17,7 @@ use Rattle.pg_client.proofs.History.{requests_in-more, IsStarted-more}
 
 -- ---- calls in order: start, then requests and their copies, then the end
 
-abbrev AsksOrEnds : List Call → Type 0
+abbrev pub AsksOrEnds : List Call → Type 0
 AsksOrEnds [] = Unit {0}
 AsksOrEnds (Ask r ∷ cs) = AsksOrEnds cs
 AsksOrEnds (Chunk bytes ∷ cs) = AsksOrEnds cs
@@ -26,13 +26,13 @@ AsksOrEnds (CopyFail reason ∷ cs) = AsksOrEnds cs
 AsksOrEnds (Terminate ∷ cs) = cs ≡ []
 AsksOrEnds (Start ∷ cs) = ⊥
 
-abbrev BeginsAsking : List Call → Type 0
+abbrev pub BeginsAsking : List Call → Type 0
 BeginsAsking [] = Unit {0}
 BeginsAsking (Ask r ∷ cs) = AsksOrEnds cs
 BeginsAsking (Terminate ∷ cs) = cs ≡ []
 BeginsAsking (_ ∷ cs) = ⊥
 
-abbrev IsOrderly : List Call → Type 0
+abbrev pub IsOrderly : List Call → Type 0
 IsOrderly [] = Unit {0}
 IsOrderly (Start ∷ cs) = BeginsAsking cs
 IsOrderly (_ ∷ cs) = ⊥
@@ -108,7 +108,7 @@ module _ where
   came_starts_not (Came x ∷ hs) m n s = came_starts_not hs m n s
 
   -- before start
-  orderly_from : (before hs : List Happening) → AreAllowed (before ++ hs) → (IsStarted before → ⊥) → requests_in before ≡ [] → IsOrderly (calls_in hs)
+  pub orderly_from : (before hs : List Happening) → AreAllowed (before ++ hs) → (IsStarted before → ⊥) → requests_in before ≡ [] → IsOrderly (calls_in hs)
   orderly_from before [] all n e = tt
   orderly_from before (Came m ∷ hs) all n e = orderly_from (before ++ Came m ∷ []) hs (behind before (Came m) hs all) (came_starts_not before m n) (no_request before m e)
   orderly_from before (Did Start ∷ hs) all n e = started_on (before ++ Did Start ∷ []) hs (behind before (Did Start) hs all) (started_last before) (requests_in-more before (Did Start) ∙ ap (λ (rs : List Request). rs ++ []) e)
@@ -133,7 +133,7 @@ asked_sent (CopyFail b ∷ cs) h = ap (λ (ms : List FrontMessage). front.CopyFa
 asked_sent (Terminate ∷ cs) h = rw h refl
 asked_sent (Start ∷ cs) h = absurd h
 
-started_sent : (cs : List Call) → BeginsAsking cs → flat_map call_messages cs ≡ flat_map turn_messages (turns_of cs) ++ farewell cs
+pub started_sent : (cs : List Call) → BeginsAsking cs → flat_map call_messages cs ≡ flat_map turn_messages (turns_of cs) ++ farewell cs
 started_sent [] h = refl
 started_sent (Ask r ∷ cs) h = asked_sent (Ask r ∷ cs) h
 started_sent (Terminate ∷ cs) h = rw h refl

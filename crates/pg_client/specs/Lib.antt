@@ -11,3 +11,4 @@ pub mod Machine
 pub mod Judged
 -- Words of private functions, which no public contract cites.
 pub mod Private
+pub mod Spelled

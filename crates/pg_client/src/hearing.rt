@@ -1,11 +1,12 @@
 //! What a message does to where the client stands.
 
-ghost use Rattle.std.specs.Prelude.{◌≡◌, Ok};
+ghost use Rattle.std.specs.Prelude.{◌≡◌, IfOk, Ok};
 ghost use Rattle.pg_wire.specs.declared.message.BackMessage.{BackMessage};
-ghost use Rattle.pg_wire.specs.declared.message.BackMessage.TheVariants.{ErrorResponse, Ready};
+ghost use Rattle.pg_wire.specs.declared.message.BackMessage.TheVariants.{ErrorResponse, ParameterStatus, Ready};
+ghost use Rattle.pg_wire.specs.declared.session.Aside.TheVariants as aside;
 ghost use Rattle.pg_wire.specs.Backend.{tag as tag_of};
 ghost use Rattle.pg_client.specs.Place.{stage_ending};
-ghost use Rattle.pg_client.specs.Private.Hearing.{error_in, failed_by, HearsAs, IsKind, IsPlain, Greets, may_end_at, may_end_busy, settled_at};
+ghost use Rattle.pg_client.specs.Private.Hearing.{error_in, failed_by, HearsAs, HearsParameter, IsKind, IsPlain, Greets, may_end_at, may_end_busy, settled_at};
 ghost use Rattle.pg_client.specs.declared.kind.Kind.TheVariants as kind;
 
 use crate::fault::FeedFault;
@@ -195,6 +196,34 @@ fn hear_plain(
             }
         }
     }
+}
+
+// A parameter's value as an aside of its own.
+fn copied(name: &Seq<u8>, value: &Seq<u8>) -> Result<Aside, AllocError>
+    ensures { IfOk result (λ a. a ≡ aside.Parameter name.now value.now) }
+{
+    Ok(Aside::Parameter {
+        name: name.clone()?,
+        value: value.clone()?,
+    })
+}
+
+/// Takes a parameter's value in. It is copied only where it stays as an aside: that of the startup is dropped. The answer says
+/// whether it may stand there.
+pub fn hear_parameter(
+    stand: &mut Stand,
+    name: &Seq<u8>,
+    value: &Seq<u8>,
+) -> Result<bool, AllocError>
+    ensures { HearsParameter stand.old (ParameterStatus name.now value.now) result stand.new }
+{
+    match stand {
+        Stand::New => return Ok(false),
+        Stand::Starting(_) => {}
+        Stand::Idle(asides) => asides.push(copied(name, value)?)?,
+        Stand::Busy { asides, .. } => asides.push(copied(name, value)?)?,
+    }
+    Ok(true)
 }
 
 /// Takes a message in. Where memory is refused the same request stays outstanding.

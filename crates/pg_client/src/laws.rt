@@ -7,6 +7,7 @@ ghost use Rattle.pg_client.specs.Session.{Run, Call, Happening, Came, Expected};
 ghost use Rattle.pg_client.specs.Client.{ClientView, IsRunOf, known_loss, Loses, story};
 ghost use Rattle.pg_client.specs.Facts.{Facts};
 ghost use Rattle.pg_client.specs.Turns.{InTurns, turns_of};
+ghost use Rattle.pg_client.specs.Spelled.{SendsSpelled};
 ghost use Rattle.pg_client.specs.Answering.{IsStoryOf, TakesTurns, calls_of, turns_with};
 
 /// What the history of a client means, in the words of the protocol: what it settled, and what its phase says.
@@ -44,4 +45,10 @@ pub fn expected_begins()
 pub fn answers_of_a_run()
     ensures { (run : Run) (fed : List ℕ) (heard : List BackMessage) (rest : List ℕ) (given : List Settled) (sent : List ℕ) (handed_back : Bool) (client : ClientView)
         → IsRunOf run fed heard rest given sent handed_back client → TakesTurns (story run heard) (given ++ client.settled) client }
+{}
+
+/// What went out has a spelling: the startup packet and each message.
+pub fn spelled_in_a_run()
+    ensures { (run : Run) (fed : List ℕ) (heard : List BackMessage) (rest : List ℕ) (given : List Settled) (sent : List ℕ) (handed_back : Bool) (client : ClientView)
+        → IsRunOf run fed heard rest given sent handed_back client → SendsSpelled client.settings (story run heard) }
 {}

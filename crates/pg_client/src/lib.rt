@@ -25,6 +25,3 @@ pub use fault::{CallFault, FeedFault};
 pub use phase::{Cause, Phase};
 pub use settings::Settings;
 pub use settled::{Loss, Settled};
-
-#[cfg(test)]
-mod tests;

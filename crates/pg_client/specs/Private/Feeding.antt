@@ -20,12 +20,16 @@ use Rattle.pg_client.specs.Judged.{Stands}
 use Rattle.pg_client.specs.Machine.{Effect, Stays, Settles, Rejected, hear}
 use Rattle.pg_client.specs.Private.Hearing.{fault_at}
 
--- The message says this.
+-- whether the message says the value of a parameter
+abbrev pub says_value : BackMessage → Bool
+says_value (ParameterStatus name value) = true
+says_value _ = false
+
+-- The message says this, beside the value of a parameter.
 abbrev pub IsNews : BackMessage → News → Type 0
 IsNews m (news.Status status) = m ≡ Ready status
-IsNews m (news.Parameter name value) = m ≡ ParameterStatus name value
 IsNews m (news.Key process secret) = m ≡ KeyData process secret
-IsNews m news.Nothing = (status_of m ≡ None) × (key_said m ≡ None) × ((name : List ℕ) → value_said name m ≡ None)
+IsNews m news.Nothing = (status_of m ≡ None) × (key_said m ≡ None)
 
 -- What the message says is known now.
 pub record Knows (m : BackMessage) (old new : ClientView) : Type 0 where
@@ -97,7 +101,7 @@ pub record IsHearing (before : ℕ) (run : Run) (fed : List ℕ) (heard : List B
   pub sent_is : sent ≡ sent_in client.settings (story run heard)
   pub spelled : AllByRecursion (IsSpelledAt client.settings) (story run heard)
 
--- What the client knows behind a message is noted, or memory was refused and it knows what it knew.
+-- Nothing but what the client knows has changed.
 pub record Notes (old new : ClientView) : Type 0 where
   pub settings : new.settings ≡ old.settings
   pub kept : new.kept ≡ old.kept

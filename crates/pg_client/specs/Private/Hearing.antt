@@ -18,7 +18,7 @@ use Rattle.pg_client.specs.declared.place.CopyAnswer.{CopyAnswer}
 use Rattle.pg_client.specs.declared.place.Stage.{Stage}
 use Rattle.pg_client.specs.declared.place.Stage.TheVariants.{Within, Failed}
 use Rattle.pg_client.specs.declared.place.Stand.{Stand}
-use Rattle.pg_client.specs.declared.place.Stand.TheVariants.{Starting, Idle, Busy}
+use Rattle.pg_client.specs.declared.place.Stand.TheVariants.{New, Starting, Idle, Busy}
 use Rattle.pg_client.specs.declared.place.Welcome.{Welcome}
 use Rattle.pg_client.specs.declared.place.Welcome.TheVariants.{Fresh, Admitted}
 use Rattle.pg_client.specs.declared.settled.Settled.{Settled}
@@ -78,6 +78,12 @@ Effects old m effect (Ok _) new = ⊥
 
 abbrev pub HearsAs : Stand → BackMessage → Result Heard AllocError → Stand → Type 0
 HearsAs old m result new = Effects old m (hear old m) result new
+
+-- The same of a parameter's value: it may not stand where nothing was begun.
+abbrev pub HearsParameter : Stand → BackMessage → Result Bool AllocError → Stand → Type 0
+HearsParameter old m (Err e) new = IsAlike old new
+HearsParameter old m (Ok true) new = hear old m ≡ Stays new
+HearsParameter old m (Ok false) new = (old ≡ New) × (new ≡ New)
 
 -- ---- parts of it
 

@@ -1,19 +1,24 @@
 //! The bytes that come from the server.
 
-ghost use Rattle.std.specs.Prelude.{◌≡◌, ◌<◌, ℕ, IfErr, IsSome, length, List, None, OnErr, OnOk};
+ghost use Rattle.std.specs.Prelude.{◌≡◌, ◌<◌, ℕ, false, length, List, None, OnOk};
+ghost use Rattle.std.specs.VecDeque.{deque_capacity};
 ghost use Rattle.pg_wire.specs.declared.message.BackMessage.{BackMessage};
-ghost use Rattle.pg_wire.specs.Segment.{aside_of};
+ghost use Rattle.pg_wire.specs.declared.message.BackMessage.TheVariants.{ParameterStatus};
+ghost use Rattle.pg_wire.specs.declared.message.Status.{Status};
 ghost use Rattle.pg_client.specs.Session.{Run};
 ghost use Rattle.pg_client.specs.Client.{Feeds, Hears};
-ghost use Rattle.pg_client.specs.Private.Feeding.{HearsMessage, HearsNext, IsHearing, IsNews, Knows, KnowsSame, Notes};
+ghost use Rattle.pg_client.specs.Private.Feeding.{HearsMessage, HearsNext, IsHearing, IsNews, Knows, Notes, says_value};
 ghost use Rattle.pg_client.specs.declared.settled.Settled.{Settled};
 
 use crate::client::Client;
 use crate::fault::FeedFault;
-use crate::hearing::{Heard, hear};
+use crate::hearing::{Heard, hear, hear_parameter};
 use crate::news::News;
 use crate::phase::Cause;
-use pg_wire::{BackMessage, WireFault};
+use crate::settled::Settled;
+use pg_wire::{BackMessage, Seq, WireFault};
+use std::alloc::AllocError;
+use std::collections::VecDeque;
 
 impl Client {
     /// Takes the bytes that came from the server, all of the piece, in whatever pieces they come. Groups that are settled then
@@ -82,39 +87,70 @@ impl Client {
     fn hear(&mut self, message: BackMessage) -> Result<(), FeedFault>
         ensures { HearsMessage message self.old result self.new }
     {
-        let Ok(news) = News::of(&message) else {
-            return Err(FeedFault::Memory);
-        };
-        if self.settled.reserve(1).is_err() {
+        match message {
+            BackMessage::ParameterStatus { name, value } => self.hear_parameter(name, value),
+            message => self.hear_other(message),
+        }
+    }
+
+    // Takes a parameter's value in.
+    fn hear_parameter(&mut self, name: Seq<u8>, value: Seq<u8>) -> Result<(), FeedFault>
+        ensures { HearsMessage (ParameterStatus name value) self.old result self.new }
+    {
+        match hear_parameter(&mut self.stand, &name, &value) {
+            Ok(true) => match self.parameters.set(name.into_vec(), value) {
+                Ok(()) => Ok(()),
+                Err(_) => Err(FeedFault::Memory),
+            },
+            Ok(false) => Err(FeedFault::Unexpected(b'S')),
+            Err(_) => Err(FeedFault::Memory),
+        }
+    }
+
+    // Takes a message in that says no parameter's value.
+    fn hear_other(&mut self, message: BackMessage) -> Result<(), FeedFault>
+        requires { says_value message ≡ false }
+        ensures { HearsMessage message self.old result self.new }
+    {
+        let news = News::of(&message);
+        if make_room(&mut self.settled, news).is_err() {
             return Err(FeedFault::Memory);
         }
         match hear(self.alloc, &mut self.stand, message) {
-            Ok(Heard::Stays) => self.note(news),
-            Ok(Heard::Settles(settled)) => match self.settled.push_back(settled) {
-                Ok(()) => self.note(news),
-                Err(_) => Err(FeedFault::Memory),
-            },
+            Ok(Heard::Stays) => {
+                self.note(news);
+                Ok(())
+            }
+            Ok(Heard::Settles(settled)) => {
+                self.settled.push_back_reserved(settled);
+                self.note(news);
+                Ok(())
+            }
             Ok(Heard::Refused(fault)) => Err(fault),
             Err(_) => Err(FeedFault::Memory),
         }
     }
 
     // Notes what a message says of the session.
-    fn note(&mut self, news: News) -> Result<(), FeedFault>
+    fn note(&mut self, news: News)
         ensures place { Notes self.old self.new }
-        ensures ok { OnOk result ((m : BackMessage) → IsNews m news → Knows m self.old self.new) }
-        ensures err { IfErr result (λ f. (f ≡ FeedFault.Memory) × KnowsSame self.old self.new × ((m : BackMessage) → IsNews m news → IsSome (aside_of m))) }
+        ensures knows { (m : BackMessage) → says_value m ≡ false → IsNews m news → Knows m self.old self.new }
     {
         match news {
             News::Nothing => {}
             News::Status(status) => self.status = Some(status),
-            News::Parameter { name, value } => {
-                if self.parameters.set(name.into_vec(), value).is_err() {
-                    return Err(FeedFault::Memory);
-                }
-            }
             News::Key { process, secret } => self.key = Some((process, secret)),
         }
-        Ok(())
+    }
+}
+
+// Makes room for the group that ends with a ReadyForQuery, before that is heard: no other message needs it.
+fn make_room(settled: &mut VecDeque<Settled>, news: News) -> Result<(), AllocError>
+    ensures items { settled.new.items ≡ settled.old.items }
+    ensures room { OnOk result ((status : Status) → news ≡ News.Status status → length settled.new.items < deque_capacity settled.new) }
+{
+    match news {
+        News::Status(_) => settled.reserve(1),
+        _ => Ok(()),
     }
 }

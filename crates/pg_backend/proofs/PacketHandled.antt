@@ -1,0 +1,120 @@
+-- What was handled, with one packet more.
+use Rattle.std.proofs.Common.{◌≡◌, ℕ, true, false, List, [], ◌∷◌, ◌++◌, Some, None, map, refl, ap, sym, ◌∙◌, append_assoc}
+use Rattle.std.specs.Prelude.{Ok}
+use Rattle.std.specs.List.{flat_map, AllByRecursion}
+use Rattle.std.proofs.lemmas.List.{append-nil, map-append}
+use Rattle.pg_wire.specs.declared.message.BackMessage.TheVariants as back
+use Rattle.pg_wire.specs.declared.message.First.{First}
+use Rattle.pg_wire.specs.declared.message.First.TheVariants as first
+use Rattle.pg_wire.specs.declared.message.FrontMessage.{FrontMessage}
+use Rattle.pg_wire.specs.First.{packet, is_last, IsPacket}
+use Rattle.pg_wire.specs.FirstDecoder.{FirstState, HasBegun, FirstTakes}
+use Rattle.pg_backend.specs.declared.script.Answer.{Answer}
+use Rattle.pg_backend.specs.declared.script.Logged.{Logged}
+use Rattle.pg_backend.specs.declared.script.Script.{Script}
+use Rattle.pg_backend.specs.declared.stage.Awaits.TheVariants as awaits
+use Rattle.pg_backend.specs.declared.stage.Ending.TheVariants as ending
+use Rattle.pg_backend.specs.declared.stage.Stage.{Stage}
+use Rattle.pg_backend.specs.declared.stage.Stage.TheVariants as stage
+use Rattle.pg_backend.specs.Session.{Between, Stray, replies}
+use Rattle.pg_backend.specs.Opening.{Sent, No, Says, welcome, user_from, Admission, Refused, Admitted, admission, admission_messages, sent_for}
+use Rattle.pg_backend.specs.Input.{Input, is_started, Takes, packet_taken, IsSpelled, sent_bytes, packets_log, admission_log, admission_end, At, Opening, Refusal, End, packets_end, end_phase, IsStray}
+use Rattle.pg_backend.specs.Backend.{BackendState, phase_of, phase_by, LetIn, StandsAt, HasHandled}
+use Rattle.pg_backend.specs.Private.Advancing.{Effect, applied, packet_effect, admission_effect, Begun}
+use Rattle.pg_backend.proofs.Goes.{starts}
+use Rattle.pg_backend.proofs.Handled.{GoOn, go_on, not_started, started_more, sent_more, log_more, end_more, log_none, output_more, spelled_more, packet_sent, admitted_all}
+
+abbrev pub first_input : List First → Input
+first_input ps = record { packets = ps; messages = []; faulty = false }
+
+-- The packet is one more, and the backend stands so behind it.
+packet_done : (s : Script) (limit : ℕ) (left : List Answer) (log : List Logged) (d d' : FirstState) (p : First) (ps : List First) (pushed rest sent : List ℕ) (st : Stage) (es : List Sent)
+    → GoOn ps → HasBegun d' pushed (ps ++ p ∷ [])
+    → HasHandled (record { script = s; limit = limit; left = left; stage = stage.First d; log = log }) pushed (first_input ps) rest sent
+    → es ≡ sent_for s (p ∷ []) [] → AllByRecursion IsSpelled es → packets_log s (p ∷ []) [] ≡ []
+    → phase_of st ≡ phase_by st (end_phase (packets_end s (p ∷ []) []))
+    → StandsAt s left pushed (first_input (ps ++ p ∷ [])) d'.kept st
+    → HasHandled (record { script = s; limit = limit; left = left; stage = st; log = log ++ [] }) pushed (first_input (ps ++ p ∷ [])) d'.kept (sent ++ flat_map sent_bytes es)
+packet_done s limit left log d d' p ps pushed rest sent st es go begun h is spelled no_log phase_is stands = record {
+  input = record { behind = d'.kept; ended = d'.ended; packets = begun.beginning; messages = record { whole = refl; each = tt }; started = λ _. refl };
+  sent_is = output_more s (first_input ps) (first_input (ps ++ p ∷ [])) es sent (packet_sent s ps p es go is) h.sent_is;
+  spelled = spelled_more s (first_input ps) (first_input (ps ++ p ∷ [])) es (packet_sent s ps p es go is) h.spelled spelled;
+  log_is = append-nil log ∙ h.log_is ∙ log_none s ps [] go ∙ sym no_log ∙ sym (log_more s ps (p ∷ []) [] go);
+  phase_is = phase_is ∙ ap (λ e. phase_by st (end_phase e)) (sym (end_more s ps (p ∷ []) [] go));
+  stands = stands;
+}
+
+-- behind a Startup that is let in, all that follows is the session's
+let_in : (s : Script) (ps : List First) (pairs : List (List ℕ × List ℕ)) → GoOn ps → ((more : List FrontMessage) → admission s.auth (user_from [] pairs) more ≡ Admitted more)
+    → LetIn s (ps ++ first.Startup pairs ∷ [])
+let_in s ps pairs go is = record {
+  before = sent_for s ps [] ++ map Says (welcome s);
+  sends = λ ms. sent_more s ps (first.Startup pairs ∷ []) ms go ∙ ap (λ a. sent_for s ps [] ++ map Says (admission_messages s a)) (is ms)
+      ∙ ap (λ l. sent_for s ps [] ++ l) (map-append Says (welcome s) (replies s.answers ms)) ∙ sym (append_assoc (sent_for s ps []) (map Says (welcome s)) (map Says (replies s.answers ms)));
+  logs = λ ms. log_more s ps (first.Startup pairs ∷ []) ms go ∙ ap (λ a. admission_log s a) (is ms);
+  ends = λ ms. end_more s ps (first.Startup pairs ∷ []) ms go ∙ ap (λ a. admission_end s a) (is ms);
+}
+
+-- What is told of the next packet.
+pub record PacketHandled (b : BackendState) (e : Effect) (pushed : List ℕ) (ps : List First) (p : First) (rest left sent : List ℕ) : Type 0 where
+  pub takes : Takes b.limit (first_input ps) rest (first_input (ps ++ p ∷ [])) left
+  pub place : IsStray b.script (first_input (ps ++ p ∷ [])) → ⊥
+  pub handled : HasHandled (applied b e) pushed (first_input (ps ++ p ∷ [])) left (sent ++ flat_map sent_bytes e.sent)
+
+takes_packet : (limit : ℕ) (ps : List First) (p : First) (rest left : List ℕ) → is_started ps ≡ false → IsPacket p → rest ≡ packet p ++ left → Takes limit (first_input ps) rest (first_input (ps ++ p ∷ [])) left
+takes_packet limit ps p rest left not_yet spelled is = rw is (packet_taken ps p left not_yet spelled)
+
+not_stray : (s : Script) (ps : List First) (p : First) (e : End) → GoOn ps → packets_end s (p ∷ []) [] ≡ e → (e ≡ At Stray → ⊥) → IsStray s (first_input (ps ++ p ∷ [])) → ⊥
+not_stray s ps p e go is none stray = none (sym is ∙ sym (end_more s ps (p ∷ []) [] go) ∙ stray)
+
+by_admission : (s : Script) (limit : ℕ) (left : List Answer) (log : List Logged) (d d' : FirstState) (pairs : List (List ℕ × List ℕ)) (ps : List First) (pushed rest sent : List ℕ) (a : Admission)
+    → let p = first.Startup pairs in let b : BackendState = record { script = s; limit = limit; left = left; stage = stage.First d; log = log } in let e = admission_effect b d' a in
+    GoOn ps → HasBegun d' pushed (ps ++ p ∷ []) → d'.ended ≡ true → d'.fault ≡ None → Takes limit (first_input ps) rest (first_input (ps ++ p ∷ [])) d'.kept
+    → HasHandled b pushed (first_input ps) rest sent → AllByRecursion IsSpelled e.sent → admission s.auth (user_from [] pairs) [] ≡ a → PacketHandled b e pushed ps p rest d'.kept sent
+by_admission s limit left log d d' pairs ps pushed rest sent (Refused fields) go begun ended none takes h spelled is = record {
+  takes = takes;
+  place = not_stray s ps (first.Startup pairs) Refusal go (ap (admission_end s) is) (λ e. cc);
+  handled = packet_done s limit left log d d' (first.Startup pairs) ps pushed rest sent (stage.Closed ending.Input) (Says (back.ErrorResponse fields) ∷ []) go begun h
+      (sym (ap (λ x. map Says (admission_messages s x)) is)) spelled (ap (admission_log s) is) (sym (ap (λ x. end_phase (admission_end s x)) is)) tt;
+}
+by_admission s limit left log d d' pairs ps pushed rest sent (Admitted ms) go begun ended none takes h spelled is =
+    let p = first.Startup pairs in
+    let all = (admitted_all s.auth (user_from [] pairs) ms is).1 in
+    record {
+      takes = takes;
+      place = not_stray s ps p (At Between) go (ap (admission_end s) (all [])) (λ e. cc);
+      handled = packet_done s limit left log d d' p ps pushed rest sent (stage.Open (record { kept = d'.kept; limit = limit; fault = d'.fault }) (awaits.Request [])) (map Says (welcome s)) go begun h
+          (ap (map Says) (sym (append-nil (welcome s))) ∙ sym (ap (λ x. map Says (admission_messages s x)) (all []))) spelled (ap (admission_log s) (all [])) (sym (ap (λ x. end_phase (admission_end s x)) (all [])))
+          (d'.kept, rw ended at begun.beginning, record { stream = record { whole = refl; each = tt }; fault = rw none tt }, refl, refl, started_more ps (p ∷ []) go, let_in s ps pairs go all, ([], rw h.stands.4 (starts s.answers)));
+    }
+
+by_packet : (s : Script) (limit : ℕ) (left : List Answer) (log : List Logged) (d d' : FirstState) (p : First) (ps : List First) (pushed rest sent : List ℕ)
+    → let b : BackendState = record { script = s; limit = limit; left = left; stage = stage.First d; log = log } in let e = packet_effect b d' p in
+    GoOn ps → HasBegun d' pushed (ps ++ p ∷ []) → d'.ended ≡ is_last p → d'.fault ≡ None → Takes limit (first_input ps) rest (first_input (ps ++ p ∷ [])) d'.kept
+    → HasHandled b pushed (first_input ps) rest sent → AllByRecursion IsSpelled e.sent → PacketHandled b e pushed ps p rest d'.kept sent
+by_packet s limit left log d d' first.Ssl ps pushed rest sent go begun ended none takes h spelled = record {
+  takes = takes;
+  place = not_stray s ps first.Ssl Opening go refl (λ e. cc);
+  handled = packet_done s limit left log d d' first.Ssl ps pushed rest sent (stage.First d') (No ∷ []) go begun h refl spelled refl refl (begun, refl, refl, refl, h.stands.4);
+}
+by_packet s limit left log d d' first.Gss ps pushed rest sent go begun ended none takes h spelled = record {
+  takes = takes;
+  place = not_stray s ps first.Gss Opening go refl (λ e. cc);
+  handled = packet_done s limit left log d d' first.Gss ps pushed rest sent (stage.First d') (No ∷ []) go begun h refl spelled refl refl (begun, refl, refl, refl, h.stands.4);
+}
+by_packet s limit left log d d' (first.Cancel process secret) ps pushed rest sent go begun ended none takes h spelled = record {
+  takes = takes;
+  place = not_stray s ps (first.Cancel process secret) Refusal go refl (λ e. cc);
+  handled = packet_done s limit left log d d' (first.Cancel process secret) ps pushed rest sent (stage.Closed ending.Input) [] go begun h refl spelled refl refl tt;
+}
+by_packet s limit left log d d' (first.Startup pairs) ps pushed rest sent go begun ended none takes h spelled =
+    by_admission s limit left log d d' pairs ps pushed rest sent (admission s.auth (user_from [] pairs) []) go begun ended none takes h spelled refl
+
+pub packet_handled : (s : Script) (limit : ℕ) (left : List Answer) (log : List Logged) (d d' : FirstState) (p : First) (ps : List First) (pushed rest sent : List ℕ)
+    → d.ended ≡ false → FirstTakes d (Ok (Some p)) d' → Begun d d' p
+    → let b : BackendState = record { script = s; limit = limit; left = left; stage = stage.First d; log = log } in let e = packet_effect b d' p in
+    HasHandled b pushed (first_input ps) rest sent → AllByRecursion IsSpelled e.sent → PacketHandled b e pushed ps p rest d'.kept sent
+packet_handled s limit left log d d' p ps pushed rest sent going takes begun h spelled =
+    let go = go_on ps (rw going at h.stands.0.beginning.last) in
+    by_packet s limit left log d d' p ps pushed rest sent go (begun pushed ps h.stands.0) (ap (λ (x : FirstState). x.ended) takes.4) (ap (λ (x : FirstState). x.fault) takes.4 ∙ takes.0)
+    (takes_packet limit ps p rest d'.kept (not_started ps go) takes.2 (sym h.stands.1 ∙ takes.3)) h spelled

@@ -1,0 +1,227 @@
+-- What a step has done, where this was handled before.
+use Rattle.std.proofs.Common.{◌≡◌, ℕ, Bool, true, false, List, [], ◌∷◌, ◌++◌, Some, None, refl, ap, sym, ◌∙◌, subst}
+use Rattle.std.specs.Prelude.{Result, Ok, Err}
+use Rattle.std.specs.List.{flat_map, AllByRecursion}
+use Rattle.std.proofs.lemmas.List.{append-nil}
+use Rattle.pg_wire.specs.declared.fault.WireFault.{WireFault}
+use Rattle.pg_wire.specs.declared.message.First.{First}
+use Rattle.pg_wire.specs.declared.message.FrontMessage.{FrontMessage}
+use Rattle.pg_wire.specs.Decoder.{DecoderState}
+use Rattle.pg_wire.specs.FirstDecoder.{FirstState}
+use Rattle.pg_wire.specs.Frontend.{frontend}
+use Rattle.pg_backend.specs.declared.fault.BackendFault.{BackendFault}
+use Rattle.pg_backend.specs.declared.fault.BackendFault.TheVariants as faults
+use Rattle.pg_backend.specs.declared.script.Answer.{Answer}
+use Rattle.pg_backend.specs.declared.script.Logged.{Logged}
+use Rattle.pg_backend.specs.declared.script.Script.{Script}
+use Rattle.pg_backend.specs.declared.stage.Awaits.{Awaits}
+use Rattle.pg_backend.specs.declared.stage.Awaits.TheVariants as awaits
+use Rattle.pg_backend.specs.declared.stage.Ending.TheVariants as ending
+use Rattle.pg_backend.specs.declared.stage.Next.{Next}
+use Rattle.pg_backend.specs.declared.stage.Next.TheVariants as next
+use Rattle.pg_backend.specs.declared.stage.Stage.{Stage}
+use Rattle.pg_backend.specs.declared.stage.Stage.TheVariants as stage
+use Rattle.std.proofs.lemmas.Option.{same_Some}
+use Rattle.pg_backend.specs.Session.{Place, Terminated, Stray, session}
+use Rattle.pg_backend.specs.Opening.{sent_for}
+use Rattle.pg_backend.specs.Input.{Input, Takes, IsSpelled, sent_bytes, last_word, At}
+use Rattle.pg_backend.specs.Standing.{awaited_place}
+use Rattle.pg_backend.specs.Backend.{BackendState, IsSound, HasHandled, Handles}
+use Rattle.pg_backend.specs.Private.Moves.{move}
+use Rattle.pg_backend.specs.Private.Advancing.{packet_effect, message_effect, stray_tag, Advances, AdvancesUnlessClosed, is_refused}
+use Rattle.pg_backend.proofs.Handled.{go_on, not_started, SentMore, output_more, spelled_more}
+use Rattle.pg_backend.proofs.PacketHandled.{packet_handled}
+use Rattle.pg_backend.proofs.MessageHandled.{open_input, message_handled}
+use Rattle.pg_backend.proofs.Moved.{NextStands, stands_at}
+
+abbrev pub at : Script → ℕ → List Answer → List Logged → Stage → BackendState
+at s limit left log st = record { script = s; limit = limit; left = left; stage = st; log = log }
+
+-- What a step has done, with what it has sent.
+abbrev pub Done : BackendState → List ℕ → Input → List ℕ → List ℕ → List ℕ → List ℕ → Result Bool BackendFault → BackendState → Type 0
+Done old pushed i rest sent before after r new = (added : List ℕ) × (after ≡ before ++ added) × Handles old pushed i rest sent added r new
+
+same_input : (i : Input) (ms : List FrontMessage) → i.messages ≡ ms → i.faulty ≡ false → i ≡ open_input i.packets ms
+same_input i ms m f = built i.packets i.messages ms i.faulty m f
+  where
+    built : (ps : List First) (ns ms : List FrontMessage) (b : Bool) → ns ≡ ms → b ≡ false → ◌≡◌ {A = Input} (record { packets = ps; messages = ns; faulty = b }) (open_input ps ms)
+    built ps ns ms b m f = rw (m, f) refl
+
+-- ---- nothing whole waits
+
+waits_first : (s : Script) (limit : ℕ) (left : List Answer) (log : List Logged) (d : FirstState) (new : BackendState) (before after pushed : List ℕ) (i : Input) (rest sent : List ℕ)
+    → d.ended ≡ false → Advances (at s limit left log (stage.First d)) before (Ok false) new after → HasHandled (at s limit left log (stage.First d)) pushed i rest sent
+    → Done (at s limit left log (stage.First d)) pushed i rest sent before after (Ok false) new
+waits_first s limit left log d new before after pushed i rest sent going a h =
+    let no_start = not_started i.packets (go_on i.packets (rw going at h.stands.0.beginning.last)) in
+    ([], a.2 ∙ sym (append-nil before), (rw (no_start, ← h.stands.1) a.0, rw a.1 h))
+
+waits_open : (s : Script) (limit : ℕ) (left : List Answer) (log : List Logged) (d : DecoderState) (w : Awaits) (new : BackendState) (before after pushed : List ℕ) (i : Input) (rest sent : List ℕ)
+    → d.limit ≡ limit → Advances (at s limit left log (stage.Open d w)) before (Ok false) new after → HasHandled (at s limit left log (stage.Open d w)) pushed i rest sent
+    → Done (at s limit left log (stage.Open d w)) pushed i rest sent before after (Ok false) new
+waits_open s limit left log d w new before after pushed i rest sent limited a h =
+    ([], a.2 ∙ sym (append-nil before), (rw (h.stands.5, ← h.stands.3, ← limited) a.0, rw a.1 h))
+
+-- ---- a faulty rest
+
+faulty_more : (s : Script) (i : Input) → i.faulty ≡ false → SentMore s i (record i { faulty = true }) (last_word true)
+faulty_more s i f = let told = sent_for s i.packets i.messages in record { more = ap (λ l. l ++ last_word true) (sym (append-nil told) ∙ ap (λ b. told ++ last_word b) (sym f)) }
+
+faulty_handled : (s : Script) (limit : ℕ) (left : List Answer) (log : List Logged) (st : Stage) (pushed : List ℕ) (i : Input) (rest sent : List ℕ)
+    → i.faulty ≡ false → AllByRecursion IsSpelled (last_word true) → HasHandled (at s limit left log st) pushed i rest sent
+    → HasHandled (at s limit left log (stage.Closed ending.Input)) pushed (record i { faulty = true }) rest (sent ++ flat_map sent_bytes (last_word true))
+faulty_handled s limit left log st pushed i rest sent f spelled h = record {
+  input = record { behind = h.input.behind; ended = h.input.ended; packets = h.input.packets; messages = h.input.messages; started = h.input.started };
+  sent_is = output_more s i (record i { faulty = true }) (last_word true) sent (faulty_more s i f) h.sent_is;
+  spelled = spelled_more s i (record i { faulty = true }) (last_word true) (faulty_more s i f) h.spelled spelled;
+  log_is = h.log_is;
+  phase_is = refl;
+  stands = tt;
+}
+
+breaks_first : (s : Script) (limit : ℕ) (left : List Answer) (log : List Logged) (d : FirstState) (f : WireFault) (new : BackendState) (before after pushed : List ℕ) (i : Input) (rest sent : List ℕ)
+    → d.ended ≡ false → Advances (at s limit left log (stage.First d)) before (Err (faults.Wire f)) new after → HasHandled (at s limit left log (stage.First d)) pushed i rest sent
+    → Done (at s limit left log (stage.First d)) pushed i rest sent before after (Err (faults.Wire f)) new
+breaks_first s limit left log d f new before after pushed i rest sent going a h =
+    let no_start = not_started i.packets (go_on i.packets (rw going at h.stands.0.beginning.last)) in
+    (flat_map sent_bytes (last_word true), a.2.appended, (rw (no_start, ← h.stands.1) a.0, rw a.1 (faulty_handled s limit left log (stage.First d) pushed i rest sent h.stands.3 a.2.spelled h)))
+
+breaks_open : (s : Script) (limit : ℕ) (left : List Answer) (log : List Logged) (d : DecoderState) (w : Awaits) (f : WireFault) (new : BackendState) (before after pushed : List ℕ) (i : Input) (rest sent : List ℕ)
+    → d.limit ≡ limit → Advances (at s limit left log (stage.Open d w)) before (Err (faults.Wire f)) new after → HasHandled (at s limit left log (stage.Open d w)) pushed i rest sent
+    → Done (at s limit left log (stage.Open d w)) pushed i rest sent before after (Err (faults.Wire f)) new
+breaks_open s limit left log d w f new before after pushed i rest sent limited a h =
+    (flat_map sent_bytes (last_word true), a.2.appended, (rw (h.stands.5, ← h.stands.3, ← limited) a.0, rw a.1 (faulty_handled s limit left log (stage.Open d w) pushed i rest sent h.stands.4 a.2.spelled h)))
+
+-- ---- a packet
+
+takes_first : (s : Script) (limit : ℕ) (left : List Answer) (log : List Logged) (d : FirstState) (new : BackendState) (before after pushed : List ℕ) (i : Input) (rest sent : List ℕ)
+    → d.ended ≡ false → Advances (at s limit left log (stage.First d)) before (Ok true) new after → HasHandled (at s limit left log (stage.First d)) pushed i rest sent
+    → Done (at s limit left log (stage.First d)) pushed i rest sent before after (Ok true) new
+takes_first s limit left log d new before after pushed i rest sent going a h =
+    let same = same_input i [] h.stands.2 h.stands.3 in
+    let p = a.1.0 in
+    let d' = a.1.1 in
+    let e = packet_effect (at s limit left log (stage.First d)) d' p in
+    let is : a.0 ≡ e = a.1.5 in
+    let sends = rw is at a.3 in
+    let ph = packet_handled s limit left log d d' p i.packets pushed rest sent going a.1.2 a.1.3 (subst (λ x. HasHandled (at s limit left log (stage.First d)) pushed x rest sent) same h) sends.spelled in
+    (flat_map sent_bytes e.sent, sends.appended, (open_input (i.packets ++ p ∷ []) [], d'.kept, subst (λ x. Takes limit x rest (open_input (i.packets ++ p ∷ []) []) d'.kept) (sym same) ph.takes, ph.place, rw (a.2, is) ph.handled))
+
+-- ---- a message
+
+awaits_no_stray : (w : Awaits) → awaited_place w ≡ Stray → ⊥
+awaits_no_stray (awaits.Request []) e = cc
+awaits_no_stray (awaits.Request (x ∷ xs)) e = cc
+awaits_no_stray (awaits.Data c) e = cc
+
+not_strayed : (answers left : List Answer) (ms : List FrontMessage) (tag : ℕ) (n : Next) → None ≡ stray_tag n → NextStands answers ms tag left n → (session answers ms).place ≡ Stray → ⊥
+not_strayed answers left ms tag (next.Goes w) is h stray = awaits_no_stray w (sym (stands_at answers ms left w h) ∙ stray)
+not_strayed answers left ms tag next.Ends is h stray = ends_no_stray (sym h ∙ stray)
+  where
+    ends_no_stray : Terminated ≡ Stray → ⊥
+    ends_no_stray e = cc
+not_strayed answers left ms tag (next.Strays t) is h stray = cc
+
+strayed : (answers left : List Answer) (ms : List FrontMessage) (tag t : ℕ) (n : Next) → Some t ≡ stray_tag n → NextStands answers ms tag left n → ((session answers ms).place ≡ Stray) × (tag ≡ t)
+strayed answers left ms tag t (next.Goes w) is h = cc
+strayed answers left ms tag t next.Ends is h = cc
+strayed answers left ms tag t (next.Strays u) is h = (h.0, (let e : t ≡ u = same_Some t u is in sym h.1 ∙ sym e))
+
+at_stray : (p : Place) → At p ≡ At Stray → p ≡ Stray
+at_stray p e = cc
+
+takes_open : (s : Script) (limit : ℕ) (left : List Answer) (log : List Logged) (d : DecoderState) (w : Awaits) (new : BackendState) (before after pushed : List ℕ) (i : Input) (rest sent : List ℕ)
+    → d.limit ≡ limit → Advances (at s limit left log (stage.Open d w)) before (Ok true) new after → HasHandled (at s limit left log (stage.Open d w)) pushed i rest sent
+    → Done (at s limit left log (stage.Open d w)) pushed i rest sent before after (Ok true) new
+takes_open s limit left log d w new before after pushed i rest sent limited a h =
+    let same = same_input i i.messages refl h.stands.4 in
+    let m = a.1.0 in
+    let d' = a.1.1 in
+    let v = move left w m in
+    let e = message_effect d' v in
+    let is : a.0 ≡ e = a.1.5 in
+    let sends = rw is at a.3 in
+    let mh = message_handled s limit left log d d' w m i.packets i.messages pushed rest sent limited a.1.2 a.1.3 (subst (λ x. HasHandled (at s limit left log (stage.Open d w)) pushed x rest sent) same h) sends.spelled in
+    let j = open_input i.packets (i.messages ++ m ∷ []) in (
+      flat_map sent_bytes e.sent,
+      sends.appended,
+      (
+        j,
+        d'.kept,
+        subst (λ x. Takes limit x rest j d'.kept) (sym same) mh.takes,
+        (λ stray. not_strayed s.answers v.left (i.messages ++ m ∷ []) (frontend.tag m) v.next a.1.4 mh.place (at_stray _ (sym mh.ends ∙ stray))),
+        rw (a.2, is) mh.handled,
+      ),
+    )
+
+strays_open : (s : Script) (limit : ℕ) (left : List Answer) (log : List Logged) (d : DecoderState) (w : Awaits) (t : ℕ) (new : BackendState) (before after pushed : List ℕ) (i : Input) (rest sent : List ℕ)
+    → d.limit ≡ limit → Advances (at s limit left log (stage.Open d w)) before (Err (faults.Unexpected t)) new after → HasHandled (at s limit left log (stage.Open d w)) pushed i rest sent
+    → Done (at s limit left log (stage.Open d w)) pushed i rest sent before after (Err (faults.Unexpected t)) new
+strays_open s limit left log d w t new before after pushed i rest sent limited a h =
+    let same = same_input i i.messages refl h.stands.4 in
+    let m = a.1.0 in
+    let d' = a.1.1 in
+    let v = move left w m in
+    let e = message_effect d' v in
+    let is : a.0 ≡ e = a.1.5 in
+    let sends = rw is at a.3 in
+    let mh = message_handled s limit left log d d' w m i.packets i.messages pushed rest sent limited a.1.2 a.1.3 (subst (λ x. HasHandled (at s limit left log (stage.Open d w)) pushed x rest sent) same h) sends.spelled in
+    let st = strayed s.answers v.left (i.messages ++ m ∷ []) (frontend.tag m) t v.next a.1.4 mh.place in
+    let j = record i { messages = i.messages ++ m ∷ [] } in
+    let same_j : j ≡ open_input i.packets (i.messages ++ m ∷ []) = same_input j (i.messages ++ m ∷ []) refl h.stands.4 in (
+      flat_map sent_bytes e.sent,
+      sends.appended,
+      (
+        m,
+        d'.kept,
+        st.1,
+        subst (λ x. Takes limit x rest j d'.kept) (sym same) (subst (λ x. Takes limit (open_input i.packets i.messages) rest x d'.kept) (sym same_j) mh.takes),
+        mh.ends ∙ ap At st.0,
+        subst (λ x. HasHandled new pushed x d'.kept (sent ++ flat_map sent_bytes e.sent)) (sym same_j) (rw (a.2, is) mh.handled),
+      ),
+    )
+
+-- ---- a step
+
+pub step_done : (s : Script) (limit : ℕ) (left : List Answer) (log : List Logged) (st : Stage) (new : BackendState) (before after : List ℕ) (r : Result Bool BackendFault) → IsSound limit st → (r ≡ Err faults.Memory → ⊥)
+    → AdvancesUnlessClosed (at s limit left log st) before r new after → (pushed : List ℕ) (i : Input) (rest sent : List ℕ) → HasHandled (at s limit left log st) pushed i rest sent
+    → Done (at s limit left log st) pushed i rest sent before after r new
+step_done s limit left log (stage.First d) new before after (Ok false) sound spared a pushed i rest sent h = waits_first s limit left log d new before after pushed i rest sent sound.1 a h
+step_done s limit left log (stage.Open d w) new before after (Ok false) sound spared a pushed i rest sent h = waits_open s limit left log d w new before after pushed i rest sent sound.1 a h
+step_done s limit left log (stage.Closed e) new before after (Ok false) sound spared a pushed i rest sent h = absurd a.0
+step_done s limit left log (stage.First d) new before after (Ok true) sound spared a pushed i rest sent h = takes_first s limit left log d new before after pushed i rest sent sound.1 a h
+step_done s limit left log (stage.Open d w) new before after (Ok true) sound spared a pushed i rest sent h = takes_open s limit left log d w new before after pushed i rest sent sound.1 a h
+step_done s limit left log (stage.Closed e) new before after (Ok true) sound spared a pushed i rest sent h = absurd a.1
+step_done s limit left log (stage.First d) new before after (Err (faults.Unexpected t)) sound spared a pushed i rest sent h = absurd (no_tag t a.1.4)
+  where
+    no_tag : (t : ℕ) → Some t ≡ None → ⊥
+    no_tag t e = cc
+step_done s limit left log (stage.Open d w) new before after (Err (faults.Unexpected t)) sound spared a pushed i rest sent h = strays_open s limit left log d w t new before after pushed i rest sent sound.1 a h
+step_done s limit left log (stage.Closed e) new before after (Err (faults.Unexpected t)) sound spared a pushed i rest sent h = absurd a.1
+step_done s limit left log (stage.First d) new before after (Err (faults.Wire f)) sound spared a pushed i rest sent h = breaks_first s limit left log d f new before after pushed i rest sent sound.1 a h
+step_done s limit left log (stage.Open d w) new before after (Err (faults.Wire f)) sound spared a pushed i rest sent h = breaks_open s limit left log d w f new before after pushed i rest sent sound.1 a h
+step_done s limit left log (stage.Closed e) new before after (Err (faults.Wire f)) sound spared a pushed i rest sent h = absurd a.0
+step_done s limit left log st new before after (Err faults.Closed) sound spared a pushed i rest sent h = ([], a.2 ∙ sym (append-nil before), rw a.1 h)
+step_done s limit left log st new before after (Err faults.Memory) sound spared a pushed i rest sent h = absurd (spared refl)
+
+pub refused_is : (r : Result Bool BackendFault) → is_refused r ≡ true → r ≡ Err faults.Memory
+refused_is (Err faults.Memory) e = refl
+refused_is (Err (faults.Wire f)) e = cc
+refused_is (Err faults.Closed) e = cc
+refused_is (Err (faults.Unexpected t)) e = cc
+refused_is (Ok x) e = cc
+
+pub spared_is : (r : Result Bool BackendFault) → is_refused r ≡ false → r ≡ Err faults.Memory → ⊥
+spared_is (Err faults.Memory) e is = cc
+spared_is (Err (faults.Wire f)) e is = cc
+spared_is (Err faults.Closed) e is = cc
+spared_is (Err (faults.Unexpected t)) e is = cc
+spared_is (Ok x) e is = cc
+
+-- a step that was refused memory
+pub refused_done : (s : Script) (limit : ℕ) (left : List Answer) (log : List Logged) (st : Stage) (mid new : BackendState) (before after : List ℕ) (r : Result Bool BackendFault)
+    → r ≡ Err faults.Memory → record mid { stage = stage.Closed ending.Memory } ≡ at s limit left log (stage.Closed ending.Memory) → new ≡ record mid { stage = stage.Closed ending.Memory } → after ≡ before
+    → (pushed : List ℕ) (i : Input) (rest sent : List ℕ) → HasHandled (at s limit left log st) pushed i rest sent
+    → Done (at s limit left log st) pushed i rest sent before after r new
+refused_done s limit left log st mid new before after r is same closed back pushed i rest sent h =
+    rw (is, closed, same) ([], back ∙ sym (append-nil before), record { input = h.input; sent_is = h.sent_is; spelled = h.spelled; log_is = h.log_is; phase_is = refl; stands = tt })

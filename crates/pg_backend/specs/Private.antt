@@ -1,0 +1,6 @@
+-- Words of private functions. No public contract cites them.
+pub mod Telling
+pub mod Moves
+pub mod Answering
+pub mod Sessions
+pub mod Advancing

@@ -1,0 +1,28 @@
+-- What the calls of a session do.
+use Rattle.std.specs.Prelude.{ℕ, ◌≡◌, List, [], ◌∷◌, ◌++◌, Result, Ok, Err}
+use Rattle.pg_backend.specs.declared.fault.BackendFault.{BackendFault}
+use Rattle.pg_backend.specs.declared.fault.BackendFault.TheVariants as faults
+use Rattle.pg_backend.specs.declared.script.Answer.{Answer}
+use Rattle.pg_backend.specs.declared.script.Logged.{Logged}
+use Rattle.pg_backend.specs.declared.script.Script.{Script}
+use Rattle.pg_backend.specs.declared.stage.Next.{Next}
+use Rattle.pg_backend.specs.Answers.{others}
+use Rattle.pg_backend.specs.Lists.{Begins}
+use Rattle.pg_backend.specs.Private.Moves.{Move}
+use Rattle.pg_backend.specs.Private.Telling.{Puts}
+
+-- the script, the answers that are left, and the log
+pub record SessionState : Type 0 where
+  pub script : Script
+  pub left : List Answer
+  pub log : List Logged
+
+-- A request is logged, and the next answer is the next one's; or memory was refused, and nothing has changed.
+abbrev pub Notes : Logged → SessionState → Result Unit BackendFault → SessionState → Type 0
+Notes l old (Ok x) new = new ≡ record old { left = others old.left; log = old.log ++ l ∷ [] }
+Notes l old (Err f) new = (f ≡ faults.Memory) × (new ≡ old)
+
+-- What a message does is done; or memory was refused, and but for some bytes behind what was there nothing has changed.
+abbrev pub Moves : Move → SessionState → List ℕ → Result Next BackendFault → SessionState → List ℕ → Type 0
+Moves v old before (Ok next) new after = (next ≡ v.next) × (new ≡ record old { left = v.left; log = old.log ++ v.logged }) × Puts v.sent before after
+Moves v old before (Err f) new after = (f ≡ faults.Memory) × (new ≡ old) × Begins before after

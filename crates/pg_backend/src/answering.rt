@@ -1,0 +1,287 @@
+//! Answering one request.
+
+ghost use Rattle.std.specs.Prelude.{◌≡◌, ◌++◌, ◌∷◌, [], map, MatchOption, MatchResult, Ok, Err, Some};
+ghost use Rattle.pg_wire.specs.declared.message.BackMessage.TheVariants.{Ready, CopyIn, CommandComplete};
+ghost use Rattle.pg_backend.specs.Answers.{parts_of};
+ghost use Rattle.pg_backend.specs.Replies.{aside_message, parts_sent, error_sent, end_sent, whole_outcome};
+ghost use Rattle.pg_backend.specs.declared.script.Load.TheVariants.{Refuse};
+ghost use Rattle.pg_backend.specs.Standing.{NotRefused};
+ghost use Rattle.pg_backend.specs.Private.Moves.{before_copy, behind_copy};
+ghost use Rattle.pg_backend.specs.Private.Telling.{Tells};
+ghost use Rattle.pg_backend.specs.Private.Answering.{IsSplit, Gives, BeginsCopy, Opens, Decides};
+
+use crate::fault::BackendFault;
+use crate::outcome::{copy_of_load, outcome, whole_outcome};
+use crate::script::{Answer, Load, Logged, ScriptPart};
+use crate::stage::Loading;
+use crate::telling::{Told, tell_all, tell_error, worse};
+use pg_wire::backend::{command_complete, copy_in, encode};
+use pg_wire::{BackMessage, CopyHead, EncodeFault, Fields, Request, Seq, Status};
+use std::alloc::Global;
+
+/// What a request comes to at once.
+#[derive(Drop)]
+pub enum Opened {
+    /// It is decided.
+    Decided(Logged),
+    /// The data of a copy is awaited.
+    Copies(Loading),
+}
+
+/// The parts of an answer, split at a copy from the client.
+#[derive(Drop)]
+pub enum Split<'a> {
+    /// There is none.
+    Whole,
+    /// The parts before it, its formats, what becomes of it, the parts behind it.
+    Copies(&'a [ScriptPart], &'a CopyHead, &'a Load, &'a [ScriptPart]),
+}
+
+/// Splits the parts at the first copy from the client.
+fn split_at_copy(parts: &[ScriptPart]) -> Split<'_>
+    ensures { IsSplit parts.now result }
+{
+    for (i, part) in parts.iter().enumerate() {
+        if let ScriptPart::CopyIn { head, load } = part {
+            let (before, rest) = parts.split_at(i);
+            let (_, behind) = rest.split_at(1);
+            return Split::Copies(before, head, load, behind);
+        }
+    }
+    Split::Whole
+}
+
+/// An error, if there is one, and ReadyForQuery.
+fn tell_end(error: &Option<Fields>, status: Status, out: &mut Vec<u8>) -> Result<(), EncodeFault>
+    ensures { Tells (error_sent error.now ++ Ready status ∷ []) out.old.items result out.new.items }
+{
+    let told = tell_error(error, out);
+    worse(told, encode(&BackMessage::Ready(status), out))
+}
+
+/// These parts, and the end of the answer.
+fn tell_rest(answer: &Answer, parts: &[ScriptPart], out: &mut Vec<u8>) -> Result<(), EncodeFault>
+    ensures { Tells (parts_sent parts.now ++ end_sent answer.now.error answer.now) out.old.items result out.new.items }
+{
+    let told = tell_all(parts, out);
+    worse(told, tell_end(&answer.error, answer.status, out))
+}
+
+/// An answer with these parts.
+fn tell_whole(answer: &Answer, parts: &[ScriptPart], out: &mut Vec<u8>) -> Result<(), EncodeFault>
+    ensures { Tells (map aside_message answer.now.before ++ (parts_sent parts.now ++ end_sent answer.now.error answer.now)) out.old.items result out.new.items }
+{
+    let told = tell_all(answer.before.as_slice(), out);
+    worse(told, tell_rest(answer, parts, out))
+}
+
+/// An answer up to a copy from the client.
+fn tell_opening(
+    answer: &Answer,
+    parts: &[ScriptPart],
+    head: &CopyHead,
+    out: &mut Vec<u8>,
+) -> Result<(), EncodeFault>
+    ensures { Tells (map aside_message answer.now.before ++ (parts_sent parts.now ++ CopyIn head.now ∷ [])) out.old.items result out.new.items }
+{
+    let asides = tell_all(answer.before.as_slice(), out);
+    let told = tell_all(parts, out);
+    let told = worse(told, copy_in(head, out));
+    worse(asides, told)
+}
+
+/// An answer up to a copy from the client that is refused at once with this error.
+fn tell_refusal(
+    answer: &Answer,
+    parts: &[ScriptPart],
+    head: &CopyHead,
+    error: &Option<Fields>,
+    out: &mut Vec<u8>,
+) -> Result<(), EncodeFault>
+    ensures { Tells (map aside_message answer.now.before ++ (parts_sent parts.now ++ CopyIn head.now ∷ end_sent error.now answer.now)) out.old.items result out.new.items }
+{
+    let told = tell_opening(answer, parts, head, out);
+    worse(told, tell_end(error, answer.status, out))
+}
+
+/// What comes behind a copy from the client that is complete with this tag.
+fn tell_behind(
+    answer: &Answer,
+    tag: &[u8],
+    parts: &[ScriptPart],
+    out: &mut Vec<u8>,
+) -> Result<(), EncodeFault>
+    ensures { Tells (CommandComplete tag.now ∷ (parts_sent parts.now ++ end_sent answer.now.error answer.now)) out.old.items result out.new.items }
+{
+    let told = command_complete(tag, out);
+    worse(told, tell_rest(answer, parts, out))
+}
+
+/// Want of memory: a message of a checked script has a spelling.
+pub fn put(told: Result<(), EncodeFault>) -> Result<(), BackendFault>
+    ensures { MatchResult told (λ _. result ≡ Ok record {}) (λ _. result ≡ Err BackendFault.Memory) }
+{
+    match told {
+        Ok(()) => Ok(()),
+        Err(_) => Err(BackendFault::Memory),
+    }
+}
+
+/// Answers a request whose answer is given whole at once.
+fn give_whole(
+    alloc: Global,
+    request: Request,
+    answer: &Answer,
+    out: &mut Vec<u8>,
+) -> Result<Logged, BackendFault>
+    ensures { Gives (map aside_message answer.now.before ++ (parts_sent answer.now.parts ++ end_sent answer.now.error answer.now)) (record { request = request; outcome = whole_outcome answer.now; loaded = [] }) out.old.items result out.new.items }
+{
+    put(tell_whole(answer, answer.parts.as_slice(), out))?;
+    Ok(Logged {
+        request,
+        outcome: whole_outcome(alloc, answer)?,
+        loaded: Seq::new(Vec::new(alloc)),
+    })
+}
+
+/// Answers a request whose copy is refused at once.
+fn refuse(
+    alloc: Global,
+    request: Request,
+    answer: &Answer,
+    before: &[ScriptPart],
+    head: &CopyHead,
+    fields: &Fields,
+    out: &mut Vec<u8>,
+) -> Result<Logged, BackendFault>
+    ensures { Gives (map aside_message answer.now.before ++ (parts_sent before.now ++ CopyIn head.now ∷ end_sent (Some fields.now) answer.now)) (record { request = request; outcome = record { parts = parts_of before.now; error = Some fields.now; status = answer.now.status; asides = answer.now.before }; loaded = [] }) out.old.items result out.new.items }
+{
+    let error = Some(fields.clone()?);
+    put(tell_refusal(answer, before, head, &error, out))?;
+    Ok(Logged {
+        request,
+        outcome: outcome(alloc, answer, before, error)?,
+        loaded: Seq::new(Vec::new(alloc)),
+    })
+}
+
+/// Answers a request up to a copy from the client.
+fn begin_copy(
+    alloc: Global,
+    request: Request,
+    answer: &Answer,
+    before: &[ScriptPart],
+    head: &CopyHead,
+    load: &Load,
+    out: &mut Vec<u8>,
+) -> Result<Loading, BackendFault>
+    ensures { BeginsCopy request answer.now before.now head.now load.now out.old.items result out.new.items }
+{
+    put(tell_opening(answer, before, head, out))?;
+    Ok(Loading {
+        request,
+        load: copy_of_load(load)?,
+        loaded: Seq::new(Vec::new(alloc)),
+    })
+}
+
+/// The error of a copy that is refused at once.
+fn refused_at_once(load: &Load) -> Option<&Fields>
+    ensures { MatchOption result (NotRefused load.now 0) (λ fields. load.now ≡ Refuse 0 fields.now) }
+{
+    match load {
+        Load::Accept(_) => None,
+        Load::Refuse { after, fields } => { if *after == 0 { Some(fields) } else { None } }
+    }
+}
+
+/// Answers a request as far as it can be answered at once.
+pub fn open(
+    alloc: Global,
+    request: Request,
+    answer: &Answer,
+    out: &mut Vec<u8>,
+) -> Result<Opened, BackendFault>
+    ensures { Opens request answer.now out.old.items result out.new.items }
+{
+    match split_at_copy(answer.parts.as_slice()) {
+        Split::Whole => Ok(Opened::Decided(give_whole(alloc, request, answer, out)?)),
+        Split::Copies(before, head, load, _) => match refused_at_once(load) {
+            Some(fields) => Ok(Opened::Decided(refuse(
+                alloc, request, answer, before, head, fields, out,
+            )?)),
+            None => Ok(Opened::Copies(begin_copy(
+                alloc, request, answer, before, head, load, out,
+            )?)),
+        },
+    }
+}
+
+/// The parts before a copy from the client, and those behind it.
+fn around_copy(parts: &[ScriptPart]) -> (&[ScriptPart], &[ScriptPart])
+    ensures before { result.0.now ≡ before_copy parts.now }
+    ensures behind { result.1.now ≡ behind_copy parts.now }
+{
+    match split_at_copy(parts) {
+        Split::Whole => (parts, &[]),
+        Split::Copies(before, _, _, behind) => (before, behind),
+    }
+}
+
+/// Ends an answer behind a copy from the client that is complete with this tag.
+fn complete(
+    alloc: Global,
+    request: Request,
+    answer: &Answer,
+    loaded: Seq<Seq<u8>>,
+    tag: Seq<u8>,
+    out: &mut Vec<u8>,
+) -> Result<Logged, BackendFault>
+    ensures { Decides request answer.now loaded (Ok tag) out.old.items result out.new.items }
+{
+    let (_, behind) = around_copy(answer.parts.as_slice());
+    put(tell_behind(answer, tag.as_slice(), behind, out))?;
+    Ok(Logged {
+        request,
+        outcome: whole_outcome(alloc, answer)?,
+        loaded,
+    })
+}
+
+/// Ends an answer with the error that ended its copy.
+fn fail(
+    alloc: Global,
+    request: Request,
+    answer: &Answer,
+    loaded: Seq<Seq<u8>>,
+    fields: Fields,
+    out: &mut Vec<u8>,
+) -> Result<Logged, BackendFault>
+    ensures { Decides request answer.now loaded (Err fields) out.old.items result out.new.items }
+{
+    let (before, _) = around_copy(answer.parts.as_slice());
+    let error = Some(fields);
+    put(tell_end(&error, answer.status, out))?;
+    Ok(Logged {
+        request,
+        outcome: outcome(alloc, answer, before, error)?,
+        loaded,
+    })
+}
+
+/// Ends an answer whose copy ended with this tag or this error.
+pub fn decide(
+    alloc: Global,
+    request: Request,
+    answer: &Answer,
+    loaded: Seq<Seq<u8>>,
+    end: Result<Seq<u8>, Fields>,
+    out: &mut Vec<u8>,
+) -> Result<Logged, BackendFault>
+    ensures { Decides request answer.now loaded end out.old.items result out.new.items }
+{
+    match end {
+        Ok(tag) => complete(alloc, request, answer, loaded, tag, out),
+        Err(fields) => fail(alloc, request, answer, loaded, fields, out),
+    }
+}

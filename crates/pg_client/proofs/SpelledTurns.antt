@@ -1,0 +1,52 @@
+-- What a run sends has a spelling.
+use Rattle.std.proofs.Common.{◌≡◌, List, [], ◌∷◌, ◌++◌, refl, subst, ap, sym, ◌∙◌}
+use Rattle.std.specs.List.{flat_map, AllByRecursion}
+use Rattle.pg_wire.specs.declared.message.First.TheVariants.{Startup}
+use Rattle.pg_wire.specs.declared.message.FrontMessage.{FrontMessage}
+use Rattle.pg_wire.specs.Direction.{HasSpelling}
+use Rattle.pg_wire.specs.First.{IsPacket}
+use Rattle.pg_wire.specs.Frontend.{frontend}
+use Rattle.pg_wire.specs.Segment.{request_messages}
+use Rattle.pg_client.specs.declared.settings.Settings.{Settings}
+use Rattle.pg_client.specs.Session.{Call, Start, Ask, Chunk, CopyEnd, CopyFail, Terminate, Happening, Did, Came, AreAllowed}
+use Rattle.pg_client.specs.Client.{startup_pairs, call_messages, IsSpelled, IsSpelledAt}
+use Rattle.pg_client.specs.Turns.{turn_messages, turns_of, calls_in, farewell}
+use Rattle.pg_client.specs.Spelled.{SendsSpelled}
+use Rattle.pg_client.proofs.TurnLaws.{IsOrderly, orderly_from, started_sent}
+
+all_of_both : {A : Type 0} (P : A → Type 0) (xs ys : List A) → AllByRecursion P xs → AllByRecursion P ys → AllByRecursion P (xs ++ ys)
+all_of_both P [] ys h k = k
+all_of_both P (x ∷ xs) ys h k = (h.0, all_of_both P xs ys h.1 k)
+
+calls_spelled : (settings : Settings) (hs : List Happening) → AllByRecursion (IsSpelledAt settings) hs → AllByRecursion (IsSpelled settings) (calls_in hs)
+calls_spelled settings [] h = tt
+calls_spelled settings (Did c ∷ hs) h = (h.0, calls_spelled settings hs h.1)
+calls_spelled settings (Came m ∷ hs) h = calls_spelled settings hs h.1
+
+messages_spelled : (settings : Settings) (cs : List Call) → AllByRecursion (IsSpelled settings) cs → AllByRecursion (HasSpelling frontend) (flat_map call_messages cs)
+messages_spelled settings [] h = tt
+messages_spelled settings (Start ∷ cs) h = messages_spelled settings cs h.1
+messages_spelled settings (Ask r ∷ cs) h = all_of_both (HasSpelling frontend) (request_messages r) (flat_map call_messages cs) h.0 (messages_spelled settings cs h.1)
+messages_spelled settings (Chunk b ∷ cs) h = (h.0.0, messages_spelled settings cs h.1)
+messages_spelled settings (CopyEnd ∷ cs) h = (h.0.0, messages_spelled settings cs h.1)
+messages_spelled settings (CopyFail b ∷ cs) h = (h.0.0, messages_spelled settings cs h.1)
+messages_spelled settings (Terminate ∷ cs) h = (h.0.0, messages_spelled settings cs h.1)
+
+orderly_messages : (cs : List Call) → IsOrderly cs → flat_map call_messages cs ≡ flat_map turn_messages (turns_of cs) ++ farewell cs
+orderly_messages [] h = refl
+orderly_messages (Start ∷ cs) h = started_sent cs h
+orderly_messages (_ ∷ cs) h = absurd h
+
+orderly_packet : (settings : Settings) (cs : List Call) → IsOrderly cs → AllByRecursion (IsSpelled settings) cs → (d : Call) (ds : List Call) → cs ≡ d ∷ ds → IsPacket (Startup (startup_pairs settings))
+orderly_packet settings [] h s d ds e = absurd cc
+orderly_packet settings (Start ∷ cs) h s d ds e = s.0
+orderly_packet settings (_ ∷ cs) h s d ds e = absurd h
+
+pub spelled_in_turns : (settings : Settings) (hs : List Happening) → AreAllowed hs → AllByRecursion (IsSpelledAt settings) hs → SendsSpelled settings hs
+spelled_in_turns settings hs all spelled =
+    let orderly : IsOrderly (calls_in hs) = orderly_from [] hs all (λ s. s) refl in
+    let calls = calls_spelled settings hs spelled in
+    record {
+      packet = orderly_packet settings (calls_in hs) orderly calls;
+      messages = subst (AllByRecursion (HasSpelling frontend)) (orderly_messages (calls_in hs) orderly) (messages_spelled settings (calls_in hs) calls);
+    }

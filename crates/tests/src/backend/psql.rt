@@ -1,0 +1,103 @@
+//! A session of a real client.
+
+ghost use Rattle.std.specs.Prelude.{◌<◌};
+
+use super::{answer, begin, run, silent, text};
+use pg_backend::{BackPhase, Backend, Load, Script, ScriptPart};
+use pg_wire::{Column, CopyHead, Seq};
+use std::alloc::{AllocError, Global};
+use std::test::Fail;
+
+/// What psql 15 sends for `SELECT 1`, for a COPY of two rows and for an empty query, as recorded/psql.hex has it.
+const SESSION: [u8; 141] = [
+    0x00, 0x00, 0x00, 0x08, 0x04, 0xD2, 0x16, 0x2F, 0x00, 0x00, 0x00, 0x46, 0x00, 0x03, 0x00, 0x00,
+    0x75, 0x73, 0x65, 0x72, 0x00, 0x75, 0x00, 0x64, 0x61, 0x74, 0x61, 0x62, 0x61, 0x73, 0x65, 0x00,
+    0x64, 0x00, 0x61, 0x70, 0x70, 0x6C, 0x69, 0x63, 0x61, 0x74, 0x69, 0x6F, 0x6E, 0x5F, 0x6E, 0x61,
+    0x6D, 0x65, 0x00, 0x70, 0x73, 0x71, 0x6C, 0x00, 0x63, 0x6C, 0x69, 0x65, 0x6E, 0x74, 0x5F, 0x65,
+    0x6E, 0x63, 0x6F, 0x64, 0x69, 0x6E, 0x67, 0x00, 0x55, 0x54, 0x46, 0x38, 0x00, 0x00, 0x51, 0x00,
+    0x00, 0x00, 0x0D, 0x53, 0x45, 0x4C, 0x45, 0x43, 0x54, 0x20, 0x31, 0x00, 0x51, 0x00, 0x00, 0x00,
+    0x16, 0x43, 0x4F, 0x50, 0x59, 0x20, 0x74, 0x20, 0x46, 0x52, 0x4F, 0x4D, 0x20, 0x53, 0x54, 0x44,
+    0x49, 0x4E, 0x00, 0x64, 0x00, 0x00, 0x00, 0x08, 0x61, 0x0A, 0x62, 0x0A, 0x63, 0x00, 0x00, 0x00,
+    0x04, 0x51, 0x00, 0x00, 0x00, 0x06, 0x3B, 0x00, 0x58, 0x00, 0x00, 0x00, 0x04,
+];
+
+fn column(alloc: Global) -> Result<Column, AllocError> {
+    Ok(Column {
+        name: text(alloc, b"n")?,
+        table_oid: 0,
+        attribute: 0,
+        type_oid: 25,
+        size: -1,
+        modifier: -1,
+        format: 0,
+    })
+}
+
+fn script(alloc: Global) -> Result<Script, AllocError> {
+    let row = Seq::new(vec![in alloc; Some(text(alloc, b"1")?)]?);
+    let rows = ScriptPart::Rows {
+        columns: Seq::new(vec![in alloc; column(alloc)?]?),
+        rows: Seq::new(vec![in alloc; row]?),
+        tag: text(alloc, b"SELECT 1")?,
+    };
+    let head = CopyHead {
+        binary: false,
+        formats: Seq::from_slice(alloc, &[0])?,
+    };
+    let copy = ScriptPart::CopyIn {
+        head,
+        load: Load::Accept(text(alloc, b"COPY 2")?),
+    };
+    let answers = vec![in alloc;
+        answer(alloc, rows)?,
+        answer(alloc, copy)?,
+        answer(alloc, ScriptPart::Empty)?,
+    ]?;
+    Ok(Script {
+        answers: Seq::new(answers),
+        ..silent(alloc)
+    })
+}
+
+/// What the backend sends for a session in pieces of this many bytes.
+fn served(alloc: Global, session: &[u8], size: usize) -> Result<(Backend, Vec<u8>), Fail>
+    requires { 0 < size }
+{
+    let mut backend = begin(alloc, script(alloc)?)?;
+    let mut out = Vec::new(alloc);
+    for piece in session.chunks(size) {
+        backend.push(piece)?;
+        run(&mut backend, &mut out)?;
+    }
+    Ok((backend, out))
+}
+
+#[test]
+fn psql_is_served(rt: HostRuntime) -> Result<(), Fail> {
+    let (backend, sent) = served(rt.alloc(), &SESSION, SESSION.len())?;
+    assert!(rt; backend.phase() == BackPhase::Closed);
+    assert!(rt; backend.log().len() == 3);
+    let begins = b"NR\0\0\0\x08\0\0\0\0Z\0\0\0\x05IT";
+    let ends = b"C\0\0\0\x0BCOPY 2\0Z\0\0\0\x05II\0\0\0\x04Z\0\0\0\x05I";
+    assert!(rt; sent.as_slice().starts_with(begins));
+    assert!(rt; sent.as_slice().ends_with(ends));
+    Ok(())
+}
+
+#[test]
+fn psql_loads_two_rows(rt: HostRuntime) -> Result<(), Fail> {
+    let chunk = text(rt.alloc(), b"a\nb\n")?;
+    let (backend, _sent) = served(rt.alloc(), &SESSION, SESSION.len())?;
+    let loaded = backend.log().get(1).map(|logged| logged.loaded.as_slice());
+    assert!(rt; loaded == Some(&[chunk]));
+    Ok(())
+}
+
+#[test]
+fn psql_is_served_a_byte_at_a_time(rt: HostRuntime) -> Result<(), Fail> {
+    let (whole, sent) = served(rt.alloc(), &SESSION, SESSION.len())?;
+    let (cut, sent_cut) = served(rt.alloc(), &SESSION, 1)?;
+    assert!(rt; sent == sent_cut);
+    assert!(rt; whole.log() == cut.log());
+    Ok(())
+}
