@@ -1,0 +1,155 @@
+-- Bytes that reach an end keep what is so of a pair.
+use Rattle.std.proofs.Common.{◌≡◌, ◌≤◌, ◌+◌, ℕ, false, Bool, List, [], ◌++◌, None, Result, length, take, refl, ap, sym, subst, ◌∙◌}
+use Rattle.std.proofs.lemmas.List.{append-nil}
+use Rattle.std.proofs.Math.Seq.{take-add}
+use Rattle.pg_wire.specs.declared.message.BackMessage.{BackMessage}
+use Rattle.pg_client.specs.declared.fault.FeedFault.{FeedFault}
+use Rattle.pg_client.specs.declared.settled.Settled.{Settled}
+use Rattle.pg_client.specs.Session.{Run}
+use Rattle.pg_client.specs.Client.{ClientView, IsRunOf, story, Feeds, FeedsWith, Hears}
+use Rattle.pg_client.specs.Judged.{Stands}
+use Rattle.pg_backend.specs.declared.stage.Stage.{Stage}
+use Rattle.pg_backend.specs.declared.stage.Stage.TheVariants as stage
+use Rattle.pg_backend.specs.Backend.{BackendState, HasHandled, was_lost, stored}
+use Rattle.pg_pair.specs.Applying.{IsStored, reached_more}
+use Rattle.pg_pair.specs.Standing.{Tied}
+use Rattle.pg_pair.specs.View.{Stream, arrived, waiting, PairView}
+use Rattle.pg_pair.proofs.Calling.{not_handed_back}
+
+-- with more bytes of those that wait
+arrived_with : (s : Stream) (bytes : List ℕ) → bytes ≡ take (length bytes) (waiting s) → arrived (reached_more s bytes) ≡ arrived s ++ bytes
+arrived_with s bytes e = take-add s.reached (length bytes) s.sent ∙ ap (λ l. arrived s ++ l) (sym e)
+
+-- ---- at the client
+
+-- a client without its settled groups, which are among those that it has given
+emptied : (run : Run) (fed : List ℕ) (heard : List BackMessage) (rest : List ℕ) (given : List Settled) (sent : List ℕ) (handed_back : Bool) (c : ClientView)
+    → IsRunOf run fed heard rest given sent handed_back c → IsRunOf run fed heard rest (given ++ c.settled) sent handed_back (record c { settled = [] })
+emptied run fed heard rest given sent handed_back c r = record {
+  stream = r.stream;
+  places = r.places;
+  ordered = r.ordered;
+  allowed = r.allowed;
+  terminated = r.terminated;
+  expected = r.expected;
+  was = r.was;
+  stands = subst (Stands (story run heard) r.was) (sym (append-nil (given ++ c.settled))) r.stands;
+  shows = r.shows;
+  ends = r.ends;
+  status = r.status;
+  parameters = r.parameters;
+  key = r.key;
+  sent_is = r.sent_is;
+  spelled = r.spelled;
+}
+
+-- the pair after the client was fed
+abbrev pub fed_pair : {C : Type 0} → PairView C → List ℕ → ClientView → PairView C
+fed_pair p bytes fed = record p { client = record fed { settled = [] }; to_client = reached_more p.to_client bytes; settled = p.settled ++ fed.settled }
+
+abbrev WithinMore : Stream → List ℕ → Type 0
+WithinMore s bytes = s.reached + length bytes ≤ length s.sent
+
+pub heard_more : {C : Type 0} (p : PairView C) (t : Tied p) (bytes : List ℕ) (result : Result Unit FeedFault) (fed : ClientView)
+    → p.client.closed ≡ None → bytes ≡ take (length bytes) (waiting p.to_client) → Feeds p.client bytes result fed
+    → Hears t.run (arrived p.to_client ++ bytes) t.heard p.settled p.to_backend.sent bytes result fed
+heard_more p t bytes result fed none e feeds =
+    let back = not_handed_back t.client_run.was p.client.stand p.client.closed t.handed_back none t.client_run.shows in
+    let was : IsRunOf t.run (arrived p.to_client) t.heard t.open_at_client p.settled p.to_backend.sent false p.client =
+    subst (λ b. IsRunOf t.run (arrived p.to_client) t.heard t.open_at_client p.settled p.to_backend.sent b p.client) back t.client_run in
+    let does : FeedsWith None p.client bytes result fed = subst (λ c. FeedsWith c p.client bytes result fed) none feeds in
+    does t.run (arrived p.to_client) t.heard t.open_at_client p.settled p.to_backend.sent was
+
+pub keeps_fed : {C : Type 0} (p : PairView C) (bytes : List ℕ) (result : Result Unit FeedFault) (fed : ClientView)
+    → p.client.closed ≡ None → bytes ≡ take (length bytes) (waiting p.to_client) → WithinMore p.to_client bytes → Feeds p.client bytes result fed
+    → Tied p → Tied (fed_pair p bytes fed)
+keeps_fed p bytes result fed none e within feeds t =
+    let hears = heard_more p t bytes result fed none e feeds in
+    let heard : List BackMessage = t.heard ++ hears.more in
+    let bytes_are : arrived p.to_client ++ bytes ≡ arrived (reached_more p.to_client bytes) = sym (arrived_with p.to_client bytes e) in
+    let run = emptied t.run (arrived p.to_client ++ bytes) heard hears.rest p.settled p.to_backend.sent false fed hears.run_is in
+    record {
+      checked = t.checked;
+      limit_is = t.limit_is;
+      run = t.run;
+      heard = heard;
+      open_at_client = hears.rest;
+      handed_back = false;
+      client_run = subst (λ l. IsRunOf t.run l heard hears.rest (p.settled ++ fed.settled) p.to_backend.sent false (record fed { settled = [] })) bytes_are run;
+      places_are = t.places_are;
+      taken = refl;
+      input = t.input;
+      open_at_backend = t.open_at_backend;
+      handled = t.handled;
+      faultless = t.faultless;
+      not_lost = t.not_lost;
+      in_turn = t.in_turn;
+      copied = t.copied;
+      handed_are = t.handed_are;
+      within_backend = t.within_backend;
+      within_client = within;
+    }
+
+-- ---- at the backend
+
+-- the pair after the backend has stored a piece
+abbrev pub stored_pair : {C : Type 0} → PairView C → List ℕ → BackendState → PairView C
+stored_pair p bytes b = record p { backend = b; to_backend = reached_more p.to_backend bytes }
+
+stored_lost : (s : Stage) (bytes : List ℕ) → was_lost (stored s bytes) ≡ was_lost s
+stored_lost (stage.First d) bytes = refl
+stored_lost (stage.Open d a) bytes = refl
+stored_lost (stage.Closed e) bytes = refl
+
+pub keeps_stored : {C : Type 0} (p : PairView C) (bytes : List ℕ) (b : BackendState)
+    → bytes ≡ take (length bytes) (waiting p.to_backend) → WithinMore p.to_backend bytes → IsStored p.backend bytes b → Tied p → Tied (stored_pair p bytes b)
+keeps_stored p bytes b e within stored_is t =
+    let same : b ≡ record p.backend { stage = stored p.backend.stage bytes } = stored_is.stores.1 in
+    record {
+      checked = rw same (t.checked);
+      limit_is = rw same (t.limit_is);
+      run = t.run;
+      heard = t.heard;
+      open_at_client = t.open_at_client;
+      handed_back = t.handed_back;
+      client_run = t.client_run;
+      places_are = t.places_are;
+      taken = t.taken;
+      input = t.input;
+      open_at_backend = t.open_at_backend ++ bytes;
+      handled = subst (λ l. HasHandled b l t.input (t.open_at_backend ++ bytes) p.to_client.sent) (sym (arrived_with p.to_backend bytes e))
+          (stored_is.handled (arrived p.to_backend) t.input t.open_at_backend p.to_client.sent t.handled);
+      faultless = t.faultless;
+      not_lost = λ h. ap (λ x. was_lost x.stage) same ∙ stored_lost p.backend.stage bytes ∙ t.not_lost h;
+      in_turn = rw same (t.in_turn);
+      copied = t.copied;
+      handed_are = t.handed_are;
+      within_backend = within;
+      within_client = t.within_client;
+    }
+
+-- ---- along the way
+
+-- what is so doesn't depend on the carrier
+pub keeps_carrier : {C : Type 0} (p : PairView C) (carrier : C) → Tied p → Tied (record p { carrier = carrier })
+keeps_carrier p carrier t = record {
+  checked = t.checked;
+  limit_is = t.limit_is;
+  run = t.run;
+  heard = t.heard;
+  open_at_client = t.open_at_client;
+  handed_back = t.handed_back;
+  client_run = t.client_run;
+  places_are = t.places_are;
+  taken = t.taken;
+  input = t.input;
+  open_at_backend = t.open_at_backend;
+  handled = t.handled;
+  faultless = t.faultless;
+  not_lost = t.not_lost;
+  in_turn = t.in_turn;
+  copied = t.copied;
+  handed_are = t.handed_are;
+  within_backend = t.within_backend;
+  within_client = t.within_client;
+}

@@ -1,0 +1,99 @@
+-- A break keeps what is so of a pair.
+use Rattle.std.proofs.Common.{◌≡◌, ℕ, true, false, List, Some, refl, sym, subst, ◌∙◌}
+use Rattle.pg_client.specs.declared.settled.Loss.{Loss}
+use Rattle.pg_client.specs.Client.{ClientView}
+use Rattle.pg_backend.specs.Backend.{BackendState, HasHandled, lost_stage}
+use Rattle.pg_backend.specs.Input.{Input}
+use Rattle.pg_pair.specs.declared.carry.Way.TheVariants.{ToClient}
+use Rattle.pg_pair.specs.Applying.{IsTold, broken, Breaks, is_closed, TellsClient}
+use Rattle.pg_pair.specs.Standing.{Tied}
+use Rattle.pg_pair.specs.View.{arrived, PairView}
+
+-- the pair after the way to the client broke, and after the way to the backend broke
+abbrev pub client_told : {C : Type 0} → PairView C → ClientView → Loss → PairView C
+client_told p c loss = record p { client = c; to_client = broken p.to_client; loss = Some loss }
+
+pub keeps_client_told : {C : Type 0} (p : PairView C) (c : ClientView) (loss : Loss) → IsTold p.client loss c → Tied p → Tied (client_told p c loss)
+keeps_client_told p c loss told t = record {
+  checked = t.checked;
+  limit_is = t.limit_is;
+  run = t.run;
+  heard = t.heard;
+  open_at_client = t.open_at_client;
+  handed_back = true;
+  client_run = told.run t.run (arrived p.to_client) t.heard t.open_at_client p.settled p.to_backend.sent t.handed_back t.client_run;
+  places_are = t.places_are;
+  taken = told.settled ∙ t.taken;
+  input = t.input;
+  open_at_backend = t.open_at_backend;
+  handled = t.handled;
+  faultless = t.faultless;
+  not_lost = t.not_lost;
+  in_turn = t.in_turn;
+  copied = t.copied;
+  handed_are = t.handed_are;
+  within_backend = t.within_backend;
+  within_client = t.within_client;
+}
+
+abbrev pub backend_told : {C : Type 0} → PairView C → BackendState → PairView C
+backend_told p b = record p { backend = b; to_backend = broken p.to_backend }
+
+-- a backend that is told that the connection is gone has handled what it had
+pub keeps_backend_told : {C : Type 0} (p : PairView C) (b : BackendState) → b ≡ record p.backend { stage = lost_stage p.backend.stage }
+    → ((pushed : List ℕ) (i : Input) (rest sent : List ℕ) → HasHandled p.backend pushed i rest sent → HasHandled b pushed i rest sent)
+    → Tied p → Tied (backend_told p b)
+keeps_backend_told p b e handled t = record {
+  checked = rw e t.checked;
+  limit_is = rw e (t.limit_is);
+  run = t.run;
+  heard = t.heard;
+  open_at_client = t.open_at_client;
+  handed_back = t.handed_back;
+  client_run = t.client_run;
+  places_are = t.places_are;
+  taken = t.taken;
+  input = t.input;
+  open_at_backend = t.open_at_backend;
+  handled = handled (arrived p.to_backend) t.input t.open_at_backend p.to_client.sent t.handled;
+  faultless = t.faultless;
+  not_lost = λ h. absurd cc;
+  in_turn = rw e (t.in_turn);
+  copied = t.copied;
+  handed_are = t.handed_are;
+  within_backend = t.within_backend;
+  within_client = t.within_client;
+}
+
+pub breaks_client : {C : Type 0} (p : PairView C) (c : ClientView) (loss : Loss) → is_closed ToClient p ≡ false → IsTold p.client loss c → Breaks ToClient p (client_told p c loss)
+breaks_client p c loss going told = subst (λ b. TellsClient b p (client_told p c loss)) (sym going) (loss, told, refl)
+
+-- a closed client isn't told
+abbrev pub client_marked : {C : Type 0} → PairView C → PairView C
+client_marked p = record p { to_client = broken p.to_client }
+
+pub keeps_marked : {C : Type 0} (p : PairView C) → Tied p → Tied (client_marked p)
+keeps_marked p t = record {
+  checked = t.checked;
+  limit_is = t.limit_is;
+  run = t.run;
+  heard = t.heard;
+  open_at_client = t.open_at_client;
+  handed_back = t.handed_back;
+  client_run = t.client_run;
+  places_are = t.places_are;
+  taken = t.taken;
+  input = t.input;
+  open_at_backend = t.open_at_backend;
+  handled = t.handled;
+  faultless = t.faultless;
+  not_lost = t.not_lost;
+  in_turn = t.in_turn;
+  copied = t.copied;
+  handed_are = t.handed_are;
+  within_backend = t.within_backend;
+  within_client = t.within_client;
+}
+
+pub breaks_closed : {C : Type 0} (p : PairView C) → is_closed ToClient p ≡ true → Breaks ToClient p (client_marked p)
+breaks_closed p closed = subst (λ b. TellsClient b p (client_marked p)) (sym closed) refl

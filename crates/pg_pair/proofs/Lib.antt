@@ -1,0 +1,22 @@
+-- Lemmas, by the subject.
+pub mod Beginnings
+pub mod Streams
+pub mod OneCopy
+pub mod Opening
+pub mod Meeting
+pub mod Settling
+pub mod Readiness
+pub mod Faults
+pub mod Sound
+pub mod Stored
+pub mod Stepping
+pub mod Breaking
+pub mod Copying
+pub mod Calling
+pub mod CopyCalls
+pub mod Arriving
+pub mod Counting
+pub mod Begun
+pub mod Delivering
+pub mod Moving
+pub mod Rows

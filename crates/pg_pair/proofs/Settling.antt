@@ -1,0 +1,201 @@
+-- What a client has settled is a beginning of what the backend has answered.
+use Rattle.std.proofs.Common.{◌≡◌, ℕ, List, [], ◌∷◌, ◌++◌, map, drop, refl, ap, sym, subst, ◌∙◌, append_assoc, ◌⊎◌, inl, inr, length, suc, arith, ◌≤◌}
+use Rattle.std.specs.List.{flat_map, AllByRecursion}
+use Rattle.std.proofs.lemmas.List.{append-nil, take-append-drop, length-map}
+use Rattle.pg_wire.specs.declared.message.BackMessage.{BackMessage}
+use Rattle.pg_wire.specs.declared.message.FrontMessage.{FrontMessage}
+use Rattle.pg_wire.specs.declared.message.FrontMessage.TheVariants as front
+use Rattle.pg_wire.specs.declared.session.Request.{Request}
+use Rattle.pg_wire.specs.Direction.{spelling, HasSpelling}
+use Rattle.pg_wire.specs.First.{IsPacket}
+use Rattle.pg_wire.specs.Frontend.{frontend}
+use Rattle.pg_wire.specs.Laws.{OneOutcome}
+use Rattle.pg_wire.specs.Segment.{Fits, Segments, segments}
+use Rattle.pg_client.specs.declared.settled.Settled.{Settled}
+use Rattle.pg_client.specs.Session.{Run, Call, Terminate, Happening, requests_in}
+use Rattle.pg_client.specs.Client.{story, groups_in}
+use Rattle.pg_client.specs.Facts.{SettledInOrder}
+use Rattle.pg_client.specs.Turns.{turns_of, calls_in, greeting, farewell}
+use Rattle.pg_client.specs.Turns as client
+use Rattle.pg_client.specs.Answering.{calls_of, turns_in}
+use Rattle.pg_backend.specs.declared.script.Logged.{Logged}
+use Rattle.pg_backend.specs.Laws.{FitEach, AreFirstOf}
+use Rattle.pg_backend.specs.Lists.{Begins}
+use Rattle.pg_backend.specs.Opening.{welcome}
+use Rattle.pg_backend.specs.Session.{replies, log_of}
+use Rattle.pg_backend.specs.Turns.{Turn, turn_messages}
+use Rattle.pg_backend.specs.Turns as backend
+use Rattle.pg_pair.specs.Copies.{as_turn, turns_made, TookEach}
+use Rattle.pg_pair.specs.Headline.{settled_as, answered_as}
+use Rattle.pg_pair.specs.Private.Known.{Known}
+use Rattle.pg_pair.specs.Standing.{Tied}
+use Rattle.pg_pair.specs.View.{arrived, waiting, PairView}
+use Rattle.pg_pair.proofs.Beginnings.{begins_nil, begins_head, begins_tail, begins_cons, begins_take}
+use Rattle.pg_pair.proofs.Meeting.{IsSilent, HasMet, meets}
+use Rattle.pg_pair.proofs.Opening.{opening, IsUnread, IsRead, reads}
+use Rattle.pg_pair.proofs.Streams.{segments_grow}
+
+-- ---- over lists
+
+-- groups that are settled in order, by the segments that a log's entries fit
+settled_first : OneOutcome → (rs : List Request) (xs : List (List BackMessage)) (ss : List Settled) (ls : List Logged) (ys : List (List BackMessage))
+    → SettledInOrder rs xs ss → FitEach ls ys → Begins xs ys → Begins (map (λ (l : Logged). l.request) ls) rs
+    → Begins (map settled_as ss) (map answered_as ls)
+settled_first one rs [] [] ls ys s f b q = begins_nil _
+settled_first one [] [] (t ∷ ts) ls ys s f b q = absurd s
+settled_first one (r ∷ rs) [] (t ∷ ts) ls ys s f b q = absurd s
+settled_first one [] (x ∷ xs) ss ls ys s f b q = absurd s
+settled_first one (r ∷ rs) (x ∷ xs) [] ls ys s f b q = absurd s
+settled_first one (r ∷ rs) (x ∷ xs) (t ∷ ts) [] [] s f b q = let e = b.1 in cc
+settled_first one (r ∷ rs) (x ∷ xs) (t ∷ ts) [] (y ∷ ys) s f b q = absurd f
+settled_first one (r ∷ rs) (x ∷ xs) (t ∷ ts) (l ∷ ls) [] s f b q = absurd f
+settled_first one (r ∷ rs) (x ∷ xs) (t ∷ ts) (l ∷ ls) (y ∷ ys) s f b q =
+    let same : x ≡ y = begins_head x y xs ys b in
+    let asks : l.request ≡ r = begins_head l.request r _ rs q in
+    let theirs : Fits r x l.outcome = subst (λ v. Fits v x l.outcome) asks (subst (λ v. Fits l.request v l.outcome) (sym same) f.0) in
+    let outcome : t.outcome ≡ l.outcome = one r x t.outcome l.outcome s.1 theirs in
+    rw (s.0, outcome, ← asks) (begins_cons (l.request, l.outcome) _ _ (settled_first one rs xs ts ls ys s.2 f.1 (begins_tail x y xs ys b) (begins_tail l.request r _ rs q)))
+
+without_first : (xs ys : List (List BackMessage)) (y : List BackMessage) → Begins xs (y ∷ ys) → Begins (drop 1 xs) ys
+without_first [] ys y h = begins_nil ys
+without_first (x ∷ xs) ys y h = begins_tail x y xs ys h
+
+took_each : (ls : List Logged) (hs : List (List (List ℕ))) → backend.TookEach ls hs → TookEach ls hs
+took_each [] hs h = tt
+took_each (l ∷ ls) [] h = absurd h
+took_each (l ∷ ls) (x ∷ hs) h = (record { first = begins_take l.loaded x h.0.begins; all = h.0.all }, took_each ls hs h.1)
+
+-- ---- what a run sends
+
+turns_messages : (ts : List client.Turn) → flat_map client.turn_messages ts ≡ flat_map turn_messages (map as_turn ts)
+turns_messages [] = refl
+turns_messages (t ∷ ts) = ap (λ l. client.turn_messages t ++ l) (turns_messages ts)
+
+turns_requests : (ts : List client.Turn) → map (λ (t : Turn). t.request) (map as_turn ts) ≡ map (λ (t : client.Turn). t.request) ts
+turns_requests [] = refl
+turns_requests (t ∷ ts) = ap (λ l. t.request ∷ l) (turns_requests ts)
+
+-- the messages of a run: those of its turns, and maybe a Terminate
+abbrev pub run_messages : Run → List FrontMessage
+run_messages run = flat_map turn_messages (turns_made run) ++ farewell (calls_of run)
+
+abbrev call_messages_of : List Call → List FrontMessage
+call_messages_of cs = flat_map client.turn_messages (turns_of cs) ++ farewell cs
+
+run_messages_are : (run : Run) → call_messages_of (calls_of run) ≡ run_messages run
+run_messages_are run = ap (λ l. l ++ farewell (calls_of run)) (turns_messages (turns_of (calls_of run)))
+
+one_farewell : (cs : List Call) → (farewell cs ≡ []) ⊎ (farewell cs ≡ front.Terminate ∷ [])
+one_farewell [] = inl refl
+one_farewell (Terminate ∷ cs) = inr refl
+one_farewell (_ ∷ cs) = one_farewell cs
+
+-- what is handled of the messages of a run
+handled_first : (ts : List Turn) (end handled left : List FrontMessage) → (end ≡ []) ⊎ (end ≡ front.Terminate ∷ []) → flat_map turn_messages ts ++ end ≡ handled ++ left → AreFirstOf handled ts
+handled_first ts end handled left (inl none) e =
+    (left ++ front.Terminate ∷ [], ap (λ l. l ++ front.Terminate ∷ []) (sym (append-nil (flat_map turn_messages ts)) ∙ ap (λ l. flat_map turn_messages ts ++ l) (sym none) ∙ e) ∙ append_assoc handled left (front.Terminate ∷ []))
+handled_first ts end handled left (inr said) e = (left, ap (λ l. flat_map turn_messages ts ++ l) (sym said) ∙ e)
+
+-- ---- of a pair
+
+abbrev Story : {C : Type 0} (p : PairView C) → Tied p → List Happening
+Story p t = story t.run t.heard
+
+-- what the client has sent, in the messages of its run
+pub sent_messages : Known → {C : Type 0} (p : PairView C) (t : Tied p) → p.to_backend.sent ≡ greeting p.client.settings (calls_of t.run) ++ flat_map (spelling frontend) (run_messages t.run)
+sent_messages k p t =
+    let turns = k.turns t.run (arrived p.to_client) t.heard t.open_at_client p.settled p.to_backend.sent t.handed_back p.client t.client_run in
+    let told = k.story_of t.run t.heard in
+    turns.sent_is ∙ ap (λ cs. greeting p.client.settings cs ++ flat_map (spelling frontend) (call_messages_of cs)) told.calls
+    ∙ ap (λ l. greeting p.client.settings (calls_of t.run) ++ flat_map (spelling frontend) l) (run_messages_are t.run)
+
+no_messages : (cs : List Call) → cs ≡ [] → call_messages_of cs ≡ []
+no_messages cs e = ap call_messages_of e
+
+-- what a run sends has a spelling
+pub tied_spelled : Known → {C : Type 0} (p : PairView C) (t : Tied p) → AllByRecursion (HasSpelling frontend) (run_messages t.run)
+tied_spelled k p t =
+    let told = k.story_of t.run t.heard in
+    let says = k.spelled t.run (arrived p.to_client) t.heard t.open_at_client p.settled p.to_backend.sent t.handed_back p.client t.client_run in
+    subst (AllByRecursion (HasSpelling frontend)) (ap call_messages_of told.calls ∙ run_messages_are t.run) says.messages
+
+pub tied_packet : Known → {C : Type 0} (p : PairView C) (t : Tied p) → (c : Call) (ds : List Call) → calls_of t.run ≡ c ∷ ds → IsPacket (opening p.client.settings)
+tied_packet k p t c ds e =
+    let told = k.story_of t.run t.heard in
+    let says = k.spelled t.run (arrived p.to_client) t.heard t.open_at_client p.settled p.to_backend.sent t.handed_back p.client t.client_run in
+    says.packet c ds (told.calls ∙ e)
+
+pub tied_none : {C : Type 0} (p : PairView C) (t : Tied p) → calls_of t.run ≡ [] → run_messages t.run ≡ []
+tied_none p t e = sym (run_messages_are t.run) ∙ no_messages (calls_of t.run) e
+
+-- what the backend has read of what the client has sent
+pub tied_reads : Known → {C : Type 0} (p : PairView C) (t : Tied p)
+    → IsUnread t.input ⊎ IsRead p.client.settings (run_messages t.run) t.input t.open_at_backend (waiting p.to_backend) p.to_backend.sent
+tied_reads k p t =
+    reads k.one_front k.one_packet p.client.settings (calls_of t.run) (run_messages t.run) p.backend.limit (arrived p.to_backend) (waiting p.to_backend) p.to_backend.sent t.input t.open_at_backend
+    (tied_packet k p t) (tied_spelled k p t) (tied_none p t) t.handled.input (take-append-drop p.to_backend.reached p.to_backend.sent) (sent_messages k p t)
+
+-- what the two ends have of each other
+pub tied_meets : Known → {C : Type 0} (p : PairView C) (t : Tied p)
+    → IsSilent t.heard p.backend.log ⊎ HasMet p.backend.script p.client.settings (run_messages t.run) t.input t.open_at_backend (waiting p.to_backend) p.to_backend.sent t.heard p.backend.log
+tied_meets k p t =
+    meets k.one_back p.backend.script p.client.settings (run_messages t.run) t.input t.open_at_backend (waiting p.to_backend) p.to_backend.sent t.heard p.backend.log
+    p.client.settings.limit (arrived p.to_client) t.open_at_client (waiting p.to_client) (tied_reads k p t)
+    t.faultless t.client_run.stream (take-append-drop p.to_client.reached p.to_client.sent ∙ t.handled.sent_is) t.handled.spelled t.handled.log_is
+
+-- the settled groups, by what was heard
+pub settled_by_heard : Known → {C : Type 0} (p : PairView C) (t : Tied p) → SettledInOrder (map (λ (x : Turn). x.request) (turns_made t.run)) (drop 1 (segments t.heard).whole) p.settled
+settled_by_heard k p t =
+    let facts = k.facts t.run (arrived p.to_client) t.heard t.open_at_client p.settled p.to_backend.sent t.handed_back p.client t.client_run in
+    let told = k.story_of t.run t.heard in
+    subst (λ rs. SettledInOrder rs (drop 1 (segments t.heard).whole) p.settled) (told.requests ∙ sym (turns_requests (turns_of (calls_of t.run))))
+    (subst (λ ms. SettledInOrder (requests_in (Story p t)) (drop 1 (segments ms).whole) p.settled) told.messages
+    (subst (SettledInOrder (requests_in (Story p t)) (groups_in (Story p t))) (ap (λ l. p.settled ++ l) t.taken ∙ append-nil p.settled) facts.in_order))
+
+none_settled : (rs : List Request) (xs : List (List BackMessage)) (ss : List Settled) → xs ≡ [] → SettledInOrder rs xs ss → ss ≡ []
+none_settled rs [] [] e h = refl
+none_settled [] [] (s ∷ ss) e h = absurd h
+none_settled (r ∷ rs) [] (s ∷ ss) e h = absurd h
+none_settled rs (x ∷ xs) ss e h = absurd cc
+
+-- the messages that the backend has handled, as the first of the turns'
+pub met_handled : {C : Type 0} (p : PairView C) (t : Tied p) → HasMet p.backend.script p.client.settings (run_messages t.run) t.input t.open_at_backend (waiting p.to_backend) p.to_backend.sent t.heard p.backend.log → AreFirstOf t.input.messages (turns_made t.run)
+met_handled p t m = handled_first (turns_made t.run) (farewell (calls_of t.run)) t.input.messages m.read.left (one_farewell (calls_of t.run)) m.read.messages
+
+met_begins : Known → {C : Type 0} (p : PairView C) (t : Tied p) → HasMet p.backend.script p.client.settings (run_messages t.run) t.input t.open_at_backend (waiting p.to_backend) p.to_backend.sent t.heard p.backend.log → Begins (map settled_as p.settled) (map answered_as p.backend.log)
+met_begins k p t m =
+    let answers = p.backend.script.answers in
+    let ms = t.input.messages in
+    let heard : Begins (segments t.heard).whole (welcome p.backend.script ∷ (segments (replies answers ms)).whole) =
+    subst (λ (s : Segments). Begins (segments t.heard).whole s.whole) (k.welcome_is_segment p.backend.script (replies answers ms)) (segments_grow t.heard (welcome p.backend.script ++ replies answers ms) m.heard_is) in
+    rw (m.log_is) (settled_first k.one_outcome (map (λ (x : Turn). x.request) (turns_made t.run)) (drop 1 (segments t.heard).whole) p.settled (log_of answers ms) (segments (replies answers ms)).whole
+    (settled_by_heard k p t) (k.segments_fit_log answers ms) (without_first (segments t.heard).whole (segments (replies answers ms)).whole (welcome p.backend.script) heard)
+    (k.turns_logged answers (turns_made t.run) ms t.in_turn (met_handled p t m)))
+
+pub settled_begin : Known → {C : Type 0} (p : PairView C) (t : Tied p) → Begins (map settled_as p.settled) (map answered_as p.backend.log)
+settled_begin k p t = elim (tied_meets k p t) [
+  | inl s ↦ rw (none_settled _ _ _ (ap (drop 1) s.none) (settled_by_heard k p t)) (begins_nil _)
+  | inr m ↦ met_begins k p t m
+]
+
+abbrev handed_of : List Turn → List (List (List ℕ))
+handed_of ts = map (λ (x : Turn). backend.chunks_of x.copies) ts
+
+pub all_taken : Known → {C : Type 0} (p : PairView C) (t : Tied p) → TookEach p.backend.log p.handed
+all_taken k p t = elim (tied_meets k p t) [
+  | inl s ↦ rw (s.no_log) tt
+  | inr m ↦ rw (m.log_is, t.handed_are) (took_each (log_of p.backend.script.answers t.input.messages) (handed_of (turns_made t.run))
+      (k.turns_loaded p.backend.script.answers (turns_made t.run) t.input.messages t.in_turn t.copied (met_handled p t m)))
+]
+
+-- at most one request isn't settled
+pub one_unsettled : Known → {C : Type 0} (p : PairView C) (t : Tied p) → length p.handed ≤ suc (length p.settled)
+one_unsettled k p t =
+    let hs = story t.run t.heard in
+    let turns = k.answering t.run (arrived p.to_client) t.heard t.open_at_client p.settled p.to_backend.sent t.handed_back p.client t.client_run in
+    let few : length (turns_in hs) ≤ suc (length (groups_in hs)) = (turns.in_turn hs [] (sym (append-nil hs))).one_at_most in
+    let made : length (turns_in hs) ≡ length (turns_of (calls_of t.run)) = ap (λ cs. length (turns_of cs)) ((k.story_of t.run t.heard).calls) in
+    let all : length (p.settled ++ p.client.settled) ≡ length (groups_in hs) = turns.settled_all in
+    let given : length (p.settled ++ p.client.settled) ≡ length p.settled = ap length (ap (λ l. p.settled ++ l) t.taken ∙ append-nil p.settled) in
+    let handed : length p.handed ≡ length (turns_of (calls_of t.run)) = ap length t.handed_are ∙ length-map (turns_made t.run) (λ (x : Turn). backend.chunks_of x.copies) ∙ length-map (turns_of (calls_of t.run)) as_turn in
+    omega arith

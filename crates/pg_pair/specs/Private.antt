@@ -1,0 +1,5 @@
+pub mod Inside
+pub mod Known
+pub mod Delivering
+pub mod Chunks
+pub mod Passing

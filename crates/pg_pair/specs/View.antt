@@ -1,0 +1,35 @@
+-- A pair as its callers see it.
+use Rattle.std.specs.Prelude.{ℕ, Bool, List, take, drop, Option}
+use Rattle.pg_client.specs.declared.settled.Settled.{Settled}
+use Rattle.pg_client.specs.declared.settled.Loss.{Loss}
+use Rattle.pg_client.specs.Client.{ClientView}
+use Rattle.pg_backend.specs.Backend.{BackendState}
+
+-- one way: all that one end has put out, how much of it has reached the other end, and whether the way is broken
+pub record Stream : Type 0 where
+  pub sent : List ℕ
+  pub reached : ℕ
+  pub broken : Bool
+
+-- the bytes that have reached the receiving end
+abbrev pub arrived : Stream → List ℕ
+arrived s = take s.reached s.sent
+
+-- the bytes that are under way
+abbrev pub waiting : Stream → List ℕ
+waiting s = drop s.reached s.sent
+
+pub record PairView (C : Type 0) : Type 0 where
+  pub client : ClientView
+  pub backend : BackendState
+  pub carrier : C
+  pub to_backend : Stream
+  pub to_client : Stream
+  -- for each call that the client has accepted, how many bytes had reached the client before it
+  pub places : List ℕ
+  -- the groups that the client has settled
+  pub settled : List Settled
+  -- for each request that was made, the chunks that were handed over
+  pub handed : List (List (List ℕ))
+  -- what the client said when the way to it broke
+  pub loss : Option Loss

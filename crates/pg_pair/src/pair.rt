@@ -1,0 +1,250 @@
+//! Both ends of a session, and the two streams between them.
+
+mod breaking;
+mod calling;
+mod carrying;
+mod chunks;
+mod delivering;
+mod stepping;
+
+ghost use Rattle.std.specs.Prelude.{◌≡◌, ◌≤◌, [], drop, false, length, option_copied};
+ghost use Rattle.pg_backend.specs.Check.{IsChecked};
+ghost use Rattle.pg_pair.specs.Headline.{Headline};
+ghost use Rattle.pg_pair.specs.Standing.{Tied};
+ghost use Rattle.pg_pair.specs.declared.event.Event.TheVariants as event;
+
+use crate::carry::{Carry, Way};
+use crate::event::{Applied, Call, Event, PairFault};
+use crate::laws::headline;
+use pg_backend::{Backend, Script};
+use pg_client::{Client, Loss, Settings, Settled};
+use pg_wire::Seq;
+use std::alloc::Global;
+use std::marker::Model;
+
+// The greatest length field of a message.
+const LONGEST: u32 = 1_073_741_823;
+
+// One way: all that one end has put out, and what has reached the other.
+#[derive(Drop)]
+struct Stream {
+    sent: Vec<u8>,
+    reached: usize,
+    broken: bool,
+}
+
+impl Stream {
+    fn new(alloc: Global) -> Stream
+        ensures { (result.sent.items ≡ []) × (result.reached ≡ 0) × (result.broken ≡ false) }
+    {
+        Stream {
+            sent: Vec::new(alloc),
+            reached: 0,
+            broken: false,
+        }
+    }
+
+    // The bytes that are under way.
+    fn waiting(&self) -> &[u8]
+        requires { self.now.reached ≤ length self.now.sent.items }
+        ensures { result.now ≡ drop self.now.reached self.now.sent.items }
+    {
+        &self.sent[self.reached..]
+    }
+}
+
+/// Both ends of a session, and the two streams between them.
+#[derive(Drop)]
+pub struct Pair<C: Carry> {
+    alloc: Global,
+    client: Client,
+    backend: Backend,
+    carrier: C,
+    to_backend: Stream,
+    to_client: Stream,
+    places: Vec<usize>,
+    settled: Vec<Settled>,
+    handed: Vec<Seq<Seq<u8>>>,
+    loss: Option<Loss>,
+}
+
+impl<C: Carry> Model for Pair<C> {
+    ghost use Rattle.std.specs.Prelude.{◌≤◌, length};
+    ghost use Rattle.std.specs.Vec.{vec_capacity};
+    ghost use Rattle.pg_pair.specs.View.{PairView};
+
+    ghost Value = { PairView C };
+
+    ghost use Rattle.pg_pair.specs.Standing.{Tied};
+    ghost use Rattle.pg_pair.specs.Private.Inside.{view_of};
+
+    ghost view = { view_of };
+
+    // there is room for a settled group of each request
+    ghost invariant = { λ p. ∥ Tied (view_of p) ∥₁ × (length p.handed.items ≤ vec_capacity p.settled) };
+}
+
+impl<C: Carry> Pair<C> {
+    ghost use Rattle.pg_pair.specs.Applying.{Applies, Ran, stream_of};
+    ghost use Rattle.pg_pair.specs.Beginning.{IsBegun};
+    ghost use Rattle.pg_pair.specs.Private.Passing.{Passes};
+
+    /// A pair of a client with these settings, whose limit is from 64 to 1,073,741,823, and a backend that plays this script,
+    /// whose `check` has answered Ok. Neither has begun. It takes no memory.
+    pub fn new(alloc: Global, settings: Settings, script: Script, carrier: C) -> Pair<C>
+        requires limit { (64 ≤ settings.limit) × (settings.limit ≤ 1073741823) }
+        requires checked { IsChecked script }
+        ensures { IsBegun settings script carrier result }
+    {
+        Pair {
+            alloc,
+            client: Client::new(alloc, settings),
+            backend: Backend::new(alloc, script, LONGEST),
+            carrier,
+            to_backend: Stream::new(alloc),
+            to_client: Stream::new(alloc),
+            places: Vec::new(alloc),
+            settled: Vec::new(alloc),
+            handed: Vec::new(alloc),
+            loss: None,
+        }
+    }
+
+    /// Applies an event. A call that the client refuses is answered Refused; a delivery goes in pieces of at most 4,096 bytes,
+    /// and ends where the carrier gives fewer than its piece or where the end answers a fault. Steps, deliveries and breaks for a
+    /// closed end or a broken way do nothing.
+    ///
+    /// P1 Memory: memory for what the pair keeps of a call was refused. Both ways are broken, the event is dropped, and what was
+    /// settled stays.
+    pub fn apply(&mut self, event: Event) -> Result<Applied, PairFault>
+        ensures applies { Applies C.carries event self.old result self.new }
+        ensures headline { Headline self.new }
+    {
+        let result = match event {
+            Event::Call(call) => self.call(call),
+            Event::Step => Ok(self.step()),
+            Event::ToBackend(most) => Ok(self.deliver(Way::ToBackend, most)),
+            Event::ToClient(most) => Ok(self.deliver(Way::ToClient, most)),
+            Event::BreakToBackend => Ok(self.break_way(Way::ToBackend)),
+            Event::BreakToClient => Ok(self.break_way(Way::ToClient)),
+        };
+        self.stand();
+        result
+    }
+
+    // The client is called.
+    fn call(&mut self, call: Call) -> Result<Applied, PairFault>
+        ensures { Applies C.carries (event.Call call) self.old result self.new }
+    {
+        match call {
+            Call::Start => self.start(),
+            Call::Request(request) => self.request(request),
+            Call::Chunk(bytes) => self.hand_chunk(bytes),
+            Call::Done => self.finish_copy(),
+            Call::Fail(reason) => self.fail_copy(reason),
+            Call::Terminate => self.terminate(),
+        }
+    }
+
+    /// Applies events one after the other. Only P1 Memory, as [`apply`](Pair::apply) says it, ends this early.
+    pub fn run(&mut self, events: Vec<Event>) -> Result<(), PairFault>
+        ensures ran { Ran C.carries events.items self.old result self.new }
+        ensures headline { Headline self.new }
+    {
+        self.stand();
+        for event in events {
+            if let Err(fault) = self.pass(event) {
+                return Err(fault);
+            }
+        }
+        Ok(())
+    }
+
+    // Applies an event, and says no more of it than whether it was dropped.
+    fn pass(&mut self, event: Event) -> Result<(), PairFault>
+        ensures passes { Passes C.carries event self.old result self.new }
+        ensures headline { Headline self.new }
+    {
+        match self.apply(event) {
+            Ok(_) => Ok(()),
+            Err(fault) => Err(fault),
+        }
+    }
+
+    // The pair as it stands. It does nothing.
+    fn stand(&self)
+        ensures tied { ∥ Tied self.now ∥₁ }
+        ensures headline { Headline self.now }
+    {
+        self.settled();
+    }
+
+    /// The groups that the client has settled, in their order.
+    pub fn settled(&self) -> &[Settled]
+        ensures value { result.now ≡ self.now.settled }
+        ensures reports { ∥ Tied self.now ∥₁ }
+        ensures headline { Headline self.now }
+    {
+        headline::<C>();
+        self.settled.as_slice()
+    }
+
+    /// For each request that was made, the chunks that were handed over for its copies.
+    pub fn handed(&self) -> &[Seq<Seq<u8>>]
+        ensures { result.now ≡ self.now.handed }
+    {
+        self.handed.as_slice()
+    }
+
+    /// What the client said when the way to it broke, if it wasn't closed by then.
+    pub fn loss(&self) -> Option<&Loss>
+        ensures { option_copied result ≡ self.now.loss }
+    {
+        self.loss.as_ref()
+    }
+
+    /// All that was put out along a way.
+    pub fn sent(&self, way: Way) -> &[u8]
+        ensures { result.now ≡ (stream_of way self.now).sent }
+    {
+        match way {
+            Way::ToBackend => self.to_backend.sent.as_slice(),
+            Way::ToClient => self.to_client.sent.as_slice(),
+        }
+    }
+
+    /// How many bytes of a way have reached the receiving end: the first of those that were sent.
+    pub fn reached(&self, way: Way) -> usize
+        ensures value { result ≡ (stream_of way self.now).reached }
+        ensures within { result ≤ length (stream_of way self.now).sent }
+    {
+        match way {
+            Way::ToBackend => self.to_backend.reached,
+            Way::ToClient => self.to_client.reached,
+        }
+    }
+
+    /// Whether a way is broken, so that nothing arrives there any more.
+    pub fn broken(&self, way: Way) -> bool
+        ensures { result ≡ (stream_of way self.now).broken }
+    {
+        match way {
+            Way::ToBackend => self.to_backend.broken,
+            Way::ToClient => self.to_client.broken,
+        }
+    }
+
+    /// The client.
+    pub fn client(&self) -> &Client
+        ensures { result.now ≡ self.now.client }
+    {
+        &self.client
+    }
+
+    /// The backend.
+    pub fn backend(&self) -> &Backend
+        ensures { result.now ≡ self.now.backend }
+    {
+        &self.backend
+    }
+}
