@@ -202,7 +202,7 @@ source_of ended old mid new pieces stop.Endless e s = absurd s
 
 -- nothing was read, and nothing is at fault
 pub nothing_read : (r : RowReader) → HasReadBy r [] [] → ended_of r ≡ false → (ending : Ending Converted) × IsGood ending × (file_by r false [] ≡ after_rows [] (none_left ending))
-unfolding text_reading.reading file_reading.binary_reading file_reading.head_at file_reading.signature_at
+unfolding text_reading.reading file_reading.binary_reading file_reading.head_at file_reading.fixed_at file_reading.signature_at
 nothing_read (reader.Text s) h on = (Open [], tt, refl)
 nothing_read (reader.Binary s) h on = (Open [], tt, refl)
 

@@ -10,3 +10,8 @@ pub mod Stages
 pub mod Runs
 pub mod Settling
 pub mod Rows
+pub mod LineWriting
+pub mod Loops
+pub mod LoopGroups
+pub mod LoopEnds
+pub mod LoopRows

@@ -1,5 +1,7 @@
 -- What a reader of either format gives.
-use Rattle.std.proofs.Common.{◌≡◌, ℕ, Bool, true, false, List, [], ◌++◌, Option, Some, None, Result, Ok, Err, refl, sym, ap, subst, ◌∙◌, ◌⊎◌, inl, inr, append-nil}
+use Rattle.std.proofs.Common.{◌≡◌, ℕ, ◌<◌, length, Bool, true, false, List, [], ◌++◌, Option, Some, None, Result, Ok, Err, refl, sym, ap, subst, ◌∙◌, ◌⊎◌, inl, inr, append-nil}
+use Rattle.std.specs.Result.{OnOk, IsErrAnd, MatchResult}
+use Rattle.std.proofs.lemmas.Result.{err_from_is_err_and}
 use Rattle.pg_copy.specs.declared.fault.BinaryFault.{BinaryFault}
 use Rattle.pg_copy.specs.declared.fault.BinaryFault.TheVariants as binary_fault
 use Rattle.pg_copy.specs.declared.fault.TextFault.{TextFault}
@@ -8,18 +10,19 @@ use Rattle.pg_copy.specs.declared.text_reader.TextStage.{TextStage}
 use Rattle.pg_copy.specs.declared.text_reader.TextStage.TheVariants as stages
 use Rattle.pg_copy.specs.declared.binary_reader.BinaryStage.{BinaryStage}
 use Rattle.pg_copy.specs.declared.binary_reader.BinaryStage.TheVariants as binary_stages
-use Rattle.pg_copy.specs.BinaryReader.{BinaryState, HasReadBinary, binary_ending}
+use Rattle.pg_copy.specs.BinaryReader.{BinaryState, HasReadBinary, stage_reading, kept_of, IsReading, PushesBinary, binary_ending}
 use Rattle.pg_copy.specs.BinaryReading as binary
 use Rattle.pg_copy.specs.Reading.{Reading, Ending, Open, Done, Ended, Bad, IsGood, Gives, after_rows, given_by}
 use Rattle.pg_copy.specs.Row.{Row}
 use Rattle.pg_copy.specs.Text as text
 use Rattle.pg_copy.specs.TextReader.{TextState, HasRead, ending_at, last_ending_at}
+use Rattle.pgpipe.specs.declared.convert.Stop.{Stop}
 use Rattle.pgpipe.specs.declared.convert.Converted.{Converted}
 use Rattle.pgpipe.specs.declared.convert.Converted.TheVariants as converted
 use Rattle.pgpipe.specs.declared.copy_rows.RowReader.{RowReader}
 use Rattle.pgpipe.specs.declared.copy_rows.RowReader.TheVariants as reader
 use Rattle.pgpipe.specs.Convert.{FileReading, text_file, binary_file, answered, answered_ending, none_left, IsEnd}
-use Rattle.pgpipe.specs.Private.Conversion.{text_stop, binary_stop, stopped, file_by, ended_of, HasReadBy, ComeNext, EndsAs, GivesRow}
+use Rattle.pgpipe.specs.Private.Conversion.{text_stop, binary_stop, stopped, file_by, ended_of, HasReadBy, ComeNext, EndsAs, TakesPiece, GivesRow}
 
 abbrev pub reading_of : List Row → Ending Converted → Reading Converted
 reading_of rows ending = record { rows = rows; ending = ending }
@@ -128,3 +131,31 @@ finish_binary old new (Err f) bytes given h same closed read gives memory =
     binary_stops true (reader.Binary old) (reader.Binary new) f
     (gives_fault binary_fault.Memory converted.Binary true (reader.Binary old) (reader.Binary new) (λ p. binary.file_reading new.columns new.limit p) (binary_ending new.stage new.kept) (λ p. ap (λ (f : FileReading). f true p) (same_file old new same)) f gives)
     (λ e. ap reader.Binary (memory (ap Err e)))
+
+-- a piece that a reader of a binary file is given
+stops_at : (old new : BinaryState) (piece : List ℕ) (f : BinaryFault) → ((f ≡ binary_fault.Memory → ⊥) → (p : List ℕ) (g : List Row) → HasReadBinary old p g → file_by (reader.Binary old) false (p ++ piece) ≡ after_rows g (none_left (Bad (converted.Binary f)))) → new ≡ old
+    → TakesPiece (reader.Binary old) piece (Err (binary_stop f)) (reader.Binary new)
+stops_at old new piece binary_fault.Signature come same = come (λ e. absurd cc)
+stops_at old new piece (binary_fault.Flags n) come same = come (λ e. absurd cc)
+stops_at old new piece (binary_fault.Extension n) come same = come (λ e. absurd cc)
+stops_at old new piece (binary_fault.FieldCount n) come same = come (λ e. absurd cc)
+stops_at old new piece (binary_fault.FieldLength n) come same = come (λ e. absurd cc)
+stops_at old new piece binary_fault.Truncated come same = come (λ e. absurd cc)
+stops_at old new piece binary_fault.AfterTrailer come same = come (λ e. absurd cc)
+stops_at old new piece binary_fault.Memory come same = ap reader.Binary same
+
+pub push_binary : (old new : BinaryState) (piece : List ℕ) (r : Result Unit BinaryFault) (out : Result Unit Stop) → old.ended ≡ false → PushesBinary old piece r new
+    → OnOk r ((p : List ℕ) (g : List Row) → HasReadBinary old p g → HasReadBinary new (p ++ piece) g)
+    → MatchResult r (λ x. out ≡ Ok x) (λ f. IsErrAnd out (λ s. s ≡ binary_stop f)) → TakesPiece (reader.Binary old) piece out (reader.Binary new)
+push_binary old new piece (Ok x) out going h read made =
+    rw made (same_file old new (ap (λ (s : BinaryState). s.columns) h.1, ap (λ (s : BinaryState). s.limit) h.1), ap (λ (s : BinaryState). s.ended) h.1, read)
+push_binary old new piece (Err f) out going h read made =
+    let s = err_from_is_err_and out made in
+    rw (s.1, s.2) (stops_at old new piece f come h.1)
+  where
+    come : (f ≡ binary_fault.Memory → ⊥) → (p : List ℕ) (g : List Row) → HasReadBinary old p g → file_by (reader.Binary old) false (p ++ piece) ≡ after_rows g (none_left (Bad (converted.Binary f)))
+    come other p g k = by_cases h.0
+      where
+        by_cases : (old.stage ≡ binary_stages.Failed f) ⊎ ((f ≡ binary_fault.Memory) × IsReading old.stage × (0 < length (kept_of old.stage piece))) → file_by (reader.Binary old) false (p ++ piece) ≡ after_rows g (none_left (Bad (converted.Binary f)))
+        by_cases (inl e) = ap (answered converted.Binary) (k.so_far going piece ∙ ap (λ (t : BinaryStage). after_rows g (stage_reading t old.columns old.limit (old.kept ++ piece))) e)
+        by_cases (inr m) = absurd (other m.0)

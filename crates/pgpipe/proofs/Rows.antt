@@ -89,7 +89,7 @@ text_to_binary ended e = record {
 }
 
 pub binary_to_text : (ended : Type 0) → ended → IsOutput (file_of format.Binary 2) format.Text ended binary_file converted.Whole text_row
-unfolding binary.binary_reading binary.head_at binary.signature_at binary.flags_at binary.extension_at binary.rows_reading binary.row_at binary.values_at binary.value_at
+unfolding binary.binary_reading binary.head_at binary.fixed_at binary.signature_at binary.flags_at binary.extension_at binary.rows_reading binary.row_at binary.values_at binary.value_at
 binary_to_text ended e = record {
   left = none_left Done;
   answer = (Done, tt, refl);
@@ -125,7 +125,7 @@ no_trailer_after_a_fault ended = record {
 
 -- a binary file without its trailer has a fault only where the input has ended
 pub no_trailer_read : (ended : Type 0) → ended → IsOutput (file_of format.Binary 1) format.Text ended (behind_head (0x00 ∷ 0x01 ∷ 0x00 ∷ 0x00 ∷ 0x00 ∷ 0x01 ∷ 0x61 ∷ [])) (converted.Binary binary_fault.Truncated) (0x61 ∷ 0x0A ∷ [])
-unfolding binary.binary_reading binary.head_at binary.signature_at binary.flags_at binary.extension_at binary.rows_reading binary.row_at binary.values_at binary.value_at
+unfolding binary.binary_reading binary.head_at binary.fixed_at binary.signature_at binary.flags_at binary.extension_at binary.rows_reading binary.row_at binary.values_at binary.value_at
 no_trailer_read ended e = record {
   left = none_left (Bad (converted.Binary binary_fault.Truncated));
   answer = refl;

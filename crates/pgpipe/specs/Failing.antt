@@ -4,6 +4,12 @@ use Rattle.pgpipe.specs.declared.failure.Failure.{Failure}
 use Rattle.pgpipe.specs.declared.failure.Failure.TheVariants as failure
 use Rattle.pgpipe.specs.declared.convert.Converted.{Converted}
 use Rattle.pgpipe.specs.declared.convert.Converted.TheVariants as converted
+use Rattle.pg_backend.specs.declared.fault.ScriptFault.{ScriptFault}
+use Rattle.pg_backend.specs.declared.fault.ScriptFault.TheVariants as check
+use Rattle.pgpipe.specs.declared.line_fault.LineFault.{LineFault}
+use Rattle.pgpipe.specs.declared.line_fault.LineFault.TheVariants as line
+use Rattle.pgpipe.specs.declared.run_loop.Ran.{Ran}
+use Rattle.pgpipe.specs.declared.run_loop.Ran.TheVariants as ran
 use Rattle.pgpipe.specs.declared.words.Task.{Task}
 use Rattle.pgpipe.specs.declared.words.Task.TheVariants as task
 use Rattle.pgpipe.specs.declared.show.Shown.{Shown}
@@ -19,6 +25,9 @@ status_of (failure.Fault f) = 2
 status_of (failure.Text f) = 2
 status_of (failure.Binary f) = 2
 status_of (failure.Row f) = 2
+status_of (failure.Script n) = 2
+status_of (failure.Calls n) = 2
+status_of (failure.Check f) = 2
 status_of failure.Device = 3
 status_of failure.Memory = 4
 
@@ -38,7 +47,27 @@ ConversionResults (Ok (converted.Row f)) r = r ≡ Err (failure.Row f)
 ConversionResults (Err fault.Device) r = r ≡ Err failure.Device
 ConversionResults (Err fault.Memory) r = r ≡ Err failure.Memory
 
--- a task that can be done: a row has at least one field, and at most 32,767
+-- what a fault of a loop's files and what the answer of a loop mean for the program
+abbrev pub script_failure : LineFault → Failure
+script_failure (line.Line n) = failure.Script n
+script_failure line.Memory = failure.Memory
+
+abbrev pub calls_failure : LineFault → Failure
+calls_failure (line.Line n) = failure.Calls n
+calls_failure line.Memory = failure.Memory
+
+abbrev pub check_failure : ScriptFault → Failure
+check_failure check.Memory = failure.Memory
+check_failure f = failure.Check f
+
+abbrev pub LoopResults : Result Ran ToolFault → Result Unit Failure → Type 0
+LoopResults (Ok ran.Whole) r = r ≡ Ok tt
+LoopResults (Ok ran.CarrierFailed) r = r ≡ Err failure.Device
+LoopResults (Err fault.Device) r = r ≡ Err failure.Device
+LoopResults (Err fault.Memory) r = r ≡ Err failure.Memory
+
+-- a task that can be done: a row has at least one field, and at most 32,767, and a delivery 1 to 4,096 bytes
 abbrev pub IsTask : Task → Type 0
 IsTask (task.Show front) = Unit {0}
 IsTask (task.Convert from to columns) = (0 < columns) × (columns ≤ 32767)
+IsTask (task.Loop cut script calls) = (0 < cut) × (cut ≤ 4096)

@@ -2,10 +2,13 @@
 
 ghost use Rattle.std.specs.Prelude.{◌≡◌, ◌≢◌};
 ghost use Rattle.std.specs.IoError.{error_kind};
-ghost use Rattle.pgpipe.specs.Failing.{status_of, Results, ConversionResults};
+ghost use Rattle.pgpipe.specs.Failing.{status_of, Results, ConversionResults, LoopResults, script_failure, calls_failure, check_failure};
 
 use crate::convert::Converted;
+use crate::line_fault::LineFault;
+use crate::run_loop::Ran;
 use crate::show::{Shown, ToolFault};
+use pg_backend::ScriptFault;
 use pg_copy::{BinaryFault, RowFault, TextFault};
 use pg_wire::WireFault;
 use std::io;
@@ -33,7 +36,16 @@ pub enum Failure {
     /// A row of the input has no place in the other format.
     #[error("{0}")]
     Row(RowFault),
-    /// A stream failed.
+    /// This row of SCRIPT is refused.
+    #[error("SCRIPT line {0}")]
+    Script(usize),
+    /// This row of CALLS is refused.
+    #[error("CALLS line {0}")]
+    Calls(usize),
+    /// The script can't be played.
+    #[error("{0}")]
+    Check(ScriptFault),
+    /// A file, a stream or a carrier failed.
     #[error("device")]
     Device,
     /// Memory was refused.
@@ -53,6 +65,9 @@ impl Failure {
             Failure::Text(_) => 2,
             Failure::Binary(_) => 2,
             Failure::Row(_) => 2,
+            Failure::Script(_) => 2,
+            Failure::Calls(_) => 2,
+            Failure::Check(_) => 2,
             Failure::Device => 3,
             Failure::Memory => 4,
         }
@@ -92,6 +107,59 @@ pub fn conversion_result_of(answer: Result<Converted, ToolFault>) -> Result<(), 
         Ok(Converted::Text(fault)) => Err(Failure::Text(fault)),
         Ok(Converted::Binary(fault)) => Err(Failure::Binary(fault)),
         Ok(Converted::Row(fault)) => Err(Failure::Row(fault)),
+        Err(ToolFault::Device) => Err(Failure::Device),
+        Err(ToolFault::Memory) => Err(Failure::Memory),
+    }
+}
+
+/// What it means that a file can't be read.
+pub fn file_failure(error: &io::Error) -> Failure
+    ensures memory { error_kind error.now ≡ ErrorKind.OutOfMemory → result ≡ Failure.Memory }
+    ensures device { error_kind error.now ≢ ErrorKind.OutOfMemory → result ≡ Failure.Device }
+{
+    if matches!(error.kind(), ErrorKind::OutOfMemory) {
+        return Failure::Memory;
+    }
+    Failure::Device
+}
+
+/// What a fault of SCRIPT means for the program.
+pub fn script_failure(fault: LineFault) -> Failure
+    ensures { result ≡ script_failure fault }
+{
+    match fault {
+        LineFault::Line(number) => Failure::Script(number),
+        LineFault::Memory => Failure::Memory,
+    }
+}
+
+/// What a fault of CALLS means for the program.
+pub fn calls_failure(fault: LineFault) -> Failure
+    ensures { result ≡ calls_failure fault }
+{
+    match fault {
+        LineFault::Line(number) => Failure::Calls(number),
+        LineFault::Memory => Failure::Memory,
+    }
+}
+
+/// What it means for the program that a script can't be played.
+pub fn check_failure(fault: ScriptFault) -> Failure
+    ensures { result ≡ check_failure fault }
+{
+    match fault {
+        ScriptFault::Memory => Failure::Memory,
+        _ => Failure::Check(fault),
+    }
+}
+
+/// What an answer of `run_loop` means for the program: a carrier that failed is no success.
+pub fn loop_result_of(answer: Result<Ran, ToolFault>) -> Result<(), Failure>
+    ensures { LoopResults answer result }
+{
+    match answer {
+        Ok(Ran::Whole) => Ok(()),
+        Ok(Ran::CarrierFailed) => Err(Failure::Device),
         Err(ToolFault::Device) => Err(Failure::Device),
         Err(ToolFault::Memory) => Err(Failure::Memory),
     }

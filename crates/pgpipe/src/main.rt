@@ -1,29 +1,48 @@
-//! Shows the byte stream of a PostgreSQL backend or client, a line a message, and converts COPY files.
+//! Shows the byte stream of a PostgreSQL backend or client, a line a message; converts COPY files; and runs a client's calls against
+//! a scripted backend.
 #![tactic(auto)]
 
+mod arguments;
 mod bounds;
+mod calls_file;
 mod convert;
 mod copy_rows;
+mod each;
+mod event_lines;
 mod failure;
+mod file_lines;
 mod format;
 mod halt;
 mod line;
+mod line_buffer;
+mod line_fault;
 mod messages;
 mod outbox;
 mod packets;
+mod run_loop;
+mod script_file;
+mod settled_lines;
+mod short_lines;
 mod show;
 mod stage;
 mod words;
 
+use crate::calls_file::read_calls;
 use crate::convert::convert;
-use crate::failure::{Failure, conversion_result_of, result_of, words_failure};
+use crate::failure::{
+    Failure, calls_failure, check_failure, conversion_result_of, file_failure, loop_result_of,
+    result_of, script_failure, words_failure,
+};
+use crate::run_loop::run_loop;
+use crate::script_file::read_script;
 use crate::show::show;
 use crate::words::{Task, task_of};
 use clap::error::ErrorKind;
-use pg_wire::Over;
+use pg_pair::Direct;
+use pg_wire::{Over, Sink};
 use std::process::ExitCode;
-use std::rt::Env;
-use std::{env, io};
+use std::rt::{Env, Files};
+use std::{env, fs, io};
 
 fn main(rt: HostRuntime) -> ExitCode {
     match run(&rt) {
@@ -37,7 +56,7 @@ fn main(rt: HostRuntime) -> ExitCode {
 }
 
 // Does what the words ask for.
-fn run<R: Env + Input + Print + Eprint + AllocGlobal>(rt: &R) -> Result<ExitCode, Failure> {
+fn run<R: Env + Files + Input + Print + Eprint + AllocGlobal>(rt: &R) -> Result<ExitCode, Failure> {
     let words: Vec<String> = env::args(rt)
         .map_err(|error| words_failure(&error))?
         .collect(rt.alloc())
@@ -53,8 +72,31 @@ fn run<R: Env + Input + Print + Eprint + AllocGlobal>(rt: &R) -> Result<ExitCode
         Task::Convert { from, to, columns } => {
             conversion_result_of(convert(rt.alloc(), from, to, columns, &mut source, &mut sink))?
         }
+        Task::Loop { cut, script, calls } => run_files(
+            rt,
+            cut,
+            script.as_str(),
+            calls.as_str(),
+            &mut sink,
+        )?,
     }
     Ok(ExitCode::SUCCESS)
+}
+
+// Runs a loop of these files: SCRIPT is judged, then CALLS, and then whether the script can be played.
+fn run_files<R: Files + AllocGlobal, K: Sink>(
+    rt: &R,
+    cut: u32,
+    script: &str,
+    calls: &str,
+    sink: &mut K,
+) -> Result<(), Failure> {
+    let bytes = fs::read(rt, script).map_err(|error| file_failure(&error))?;
+    let script = read_script(rt.alloc(), bytes.as_slice()).map_err(script_failure)?;
+    let bytes = fs::read(rt, calls).map_err(|error| file_failure(&error))?;
+    let calls = read_calls(rt.alloc(), bytes.as_slice()).map_err(calls_failure)?;
+    script.check(rt.alloc()).map_err(check_failure)?;
+    loop_result_of(run_loop(rt.alloc(), script, calls, cut, Direct, sink))
 }
 
 // Prints help, or why the words are no task.
@@ -70,5 +112,13 @@ fn explain<R: Print + Eprint>(rt: &R, error: &clap::Error) -> Result<ExitCode, F
     })
 }
 
+#[cfg(test)]
+mod loop_file_tests;
+#[cfg(test)]
+mod loop_line_tests;
+#[cfg(test)]
+mod loop_run_tests;
+#[cfg(test)]
+mod loop_values;
 #[cfg(test)]
 mod tests;

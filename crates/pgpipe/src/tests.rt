@@ -238,6 +238,46 @@ fn words_of_a_conversion(rt: HostRuntime) -> Result<(), Fail> {
 }
 
 #[test]
+fn words_of_a_loop(rt: HostRuntime) -> Result<(), Fail> {
+    let alloc = rt.alloc();
+    for (cut, wanted) in [("1", 1), ("4096", 4_096), ("", 4_096)] {
+        let words: [&str; 5] = ["loop", "--cut", cut, "s", "c"];
+        let wanted = Ok(Task::Loop {
+            cut: wanted,
+            script: String::from_str(alloc, "s")?,
+            calls: String::from_str(alloc, "c")?,
+        });
+        let task = if cut.is_empty() {
+            task(alloc, &["loop", "s", "c"])?
+        } else {
+            task(alloc, &words)?
+        };
+        assert_eq!(rt; task, wanted, "{cut}");
+    }
+    let rows: [(&[&str], ErrorKind); 6] = [
+        (&["loop", "s"], ErrorKind::MissingRequiredArgument),
+        (&["loop", "s", "c", "d"], ErrorKind::UnknownArgument),
+        (&["loop", "--tcp", "s", "c"], ErrorKind::UnknownArgument),
+        (
+            &["loop", "--cut", "0", "s", "c"],
+            ErrorKind::ValueValidation,
+        ),
+        (
+            &["loop", "--cut", "4097", "s", "c"],
+            ErrorKind::ValueValidation,
+        ),
+        (
+            &["loop", "--cut", "x", "s", "c"],
+            ErrorKind::ValueValidation,
+        ),
+    ];
+    for (words, wanted) in rows {
+        assert_eq!(rt; task(alloc, words)?, Err(wanted));
+    }
+    Ok(())
+}
+
+#[test]
 fn texts(rt: HostRuntime) -> Result<(), Fail> {
     let text = Failure::Rest(3).to_string(rt.alloc())?;
     assert_eq!(rt; text.as_str(), "rest 3");
