@@ -6,7 +6,7 @@ mod rows;
 ghost use Rattle.std.specs.Prelude.{◌≡◌, IfOk};
 
 use pg_backend::{Answer, Auth, BackPhase, Logged, Script, ScriptPart};
-use pg_client::{CallFault, Cause, Client, Loss, Phase, Settings, Settled};
+use pg_client::{Cause, Client, Phase, Settings, Settled};
 use pg_pair::{Applied, Call, Carry, CarryFault, Direct, Event, Pair, PairFault, Way};
 use pg_wire::{Aside, Column, CopyHead, ErrorField, Fields, Request, Seq, Status};
 use std::alloc::{AllocError, Global};
@@ -177,11 +177,6 @@ fn row_run(alloc: Global, cut: u32) -> Result<(Pair<Direct>, usize), Fail> {
 // Whether an event is answered Done.
 fn is_done<C: Carry>(pair: &mut Pair<C>, event: Event) -> Result<bool, PairFault> {
     Ok(pair.apply(event)? == Applied::Done)
-}
-
-// Whether it is answered Nothing.
-fn is_nothing<C: Carry>(pair: &mut Pair<C>, event: Event) -> Result<bool, PairFault> {
-    Ok(pair.apply(event)? == Applied::Nothing)
 }
 
 fn is_logged(group: &Settled, logged: &Logged) -> bool {

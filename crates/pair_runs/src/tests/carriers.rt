@@ -55,46 +55,6 @@ fn with_flaw(flaw: Flaw, at: u64) -> Flawed {
     }
 }
 
-// The first row, with a carrier that has a flaw in this call.
-fn run(alloc: Global, flaw: Flaw, at: u64) -> Result<Pair<Flawed>, Fail> {
-    let mut pair = row_pair(alloc, with_flaw(flaw, at))?;
-    started(&mut pair, 4_096)?;
-    ask(alloc, &mut pair, b"SELECT 1", 4_096)?;
-    Ok(pair)
-}
-
-// How many calls the first row makes.
-const CALLS: u64 = 4;
-
-#[test]
-fn fewer_bytes_break_nothing(rt: HostRuntime) -> Result<(), Fail> {
-    let alloc = rt.alloc();
-    for at in 1..=CALLS {
-        let pair = run(alloc, Flaw::Fewer, at)?;
-        assert!(rt; !pair.broken(Way::ToBackend) && !pair.broken(Way::ToClient));
-        assert_eq!(rt; pair.settled().len(), 1);
-        assert_begins(&rt, &pair);
-    }
-    Ok(())
-}
-
-#[test]
-fn other_bytes_and_faults_break_a_way(rt: HostRuntime) -> Result<(), Fail> {
-    let alloc = rt.alloc();
-    for flaw in [Flaw::Differs, Flaw::Fails] {
-        for at in 1..=CALLS {
-            let pair = run(alloc, flaw, at)?;
-            assert!(rt;
-                pair.broken(Way::ToBackend) || pair.broken(Way::ToClient),
-                "at {at}"
-            );
-            assert_eq!(rt; pair.settled().len(), 0);
-            assert_begins(&rt, &pair);
-        }
-    }
-    Ok(())
-}
-
 // What the delivery of the startup packet is answered, with a flaw in it.
 fn first_delivery(alloc: Global, flaw: Flaw) -> Result<(Pair<Flawed>, Applied), Fail> {
     let mut pair = row_pair(alloc, with_flaw(flaw, 1))?;

@@ -47,19 +47,6 @@ fn counts(pair: &Pair<Direct>) -> (usize, usize) {
 }
 
 #[test]
-fn an_accepted_copy_is_loaded_whole(rt: HostRuntime) -> Result<(), Fail> {
-    let alloc = rt.alloc();
-    let mut pair = copying(alloc, accept(alloc)?)?;
-    assert!(rt; is_done(&mut pair, Event::Call(Call::Done))?);
-    flow(&mut pair, 4_096)?;
-    assert_begins(&rt, &pair);
-    assert_eq!(rt; pair.settled().len(), 1);
-    assert_eq!(rt; counts(&pair), (2, 2));
-    assert!(rt; is_done(&mut pair, Event::Call(Call::Terminate))?);
-    Ok(())
-}
-
-#[test]
 fn a_refused_copy_is_loaded_in_part(rt: HostRuntime) -> Result<(), Fail> {
     let alloc = rt.alloc();
     let mut pair = copying(alloc, refuse(alloc)?)?;
