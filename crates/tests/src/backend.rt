@@ -1,5 +1,6 @@
 mod psql;
 
+use crate::text;
 use pg_backend::{Answer, Auth, BackPhase, Backend, BackendFault, Script, ScriptFault, ScriptPart};
 use pg_wire::{Seq, Status, WireFault};
 use std::alloc::{AllocError, Global};
@@ -11,10 +12,6 @@ const OPENING: [u8; 24] = [
     0x00, 0x00, 0x00, 0x08, 0x04, 0xD2, 0x16, 0x2F, 0x00, 0x00, 0x00, 0x10, 0x00, 0x03, 0x00, 0x00,
     0x75, 0x73, 0x65, 0x72, 0x00, 0x75, 0x00, 0x00,
 ];
-
-fn text(alloc: Global, bytes: &[u8]) -> Result<Seq<u8>, AllocError> {
-    Seq::from_slice(alloc, bytes)
-}
 
 fn answer(alloc: Global, part: ScriptPart) -> Result<Answer, AllocError> {
     Ok(Answer {

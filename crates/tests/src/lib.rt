@@ -7,7 +7,10 @@
 mod backend;
 #[cfg(test)]
 mod client;
+mod data;
 #[cfg(test)]
 mod seq;
 #[cfg(test)]
 mod wire;
+
+pub use data::text;

@@ -2,7 +2,8 @@
 
 ghost use Rattle.std.specs.Prelude.{◌<◌};
 
-use super::{answer, begin, run, silent, text};
+use super::{answer, begin, run, silent};
+use crate::text;
 use pg_backend::{BackPhase, Backend, Load, Script, ScriptPart};
 use pg_wire::{Column, CopyHead, Seq};
 use std::alloc::{AllocError, Global};
