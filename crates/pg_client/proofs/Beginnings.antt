@@ -8,11 +8,11 @@ use Rattle.pg_wire.specs.declared.message.BackMessage.TheVariants.{Ready}
 use Rattle.pg_wire.specs.declared.message.Status.{Status}
 use Rattle.pg_wire.specs.declared.session.Aside.{Aside}
 use Rattle.pg_wire.specs.declared.session.Request.{Request}
-use Rattle.pg_wire.specs.Segment.{aside_of, kept_with, without_asides, Fits, Begins, Segments, segments, status_of}
+use Rattle.pg_wire.specs.Segment.{aside_of, without_asides, Fits, Begins, Segments, segments, status_of}
 use Rattle.pg_client.specs.Session.{Call, Start, Ask, Chunk, CopyEnd, CopyFail, Terminate, Happening, Did, Came, messages_in, requests_in, whole_in, rest_in, IsStartup, BeginsStartup, FitAll, IsSession, IsAside, IsAfterItsCall, Expected, AreAllowed}
 use Rattle.pg_client.proofs.History.{requests_in-more}
 use Rattle.pg_client.proofs.OneMessage.{put_after, segments-more}
-use Rattle.pg_client.proofs.Outcomes.{without_asides-append}
+use Rattle.pg_client.proofs.Outcomes.{kept_with, without_asides-append}
 use Rattle.pg_client.proofs.Stories.{messages_in-append}
 
 -- ---- one more happening
@@ -96,7 +96,7 @@ are_asked hs all = along AreAsked hs (inl (omega arith)) step
     step before (Came m) later e a =
         subst (λ (rs : List Request). AskedFor rs (whole_in (before ++ Came m ∷ [])) (rest_in (before ++ Came m ∷ []))) (sym (requests_came before m))
         (subst (λ (s : Segments). AskedFor (requests_in before) s.whole s.rest) (sym (segments_came before m))
-        (came_asked (requests_in before) (whole_in before) (rest_in before) m (status_of m) refl (all before m later e).in_place.asked_for a))
+        (came_asked (requests_in before) (whole_in before) (rest_in before) m (status_of m) refl (all before m later e).asked_for a))
 
 -- ---- the requests so far were answered
 

@@ -10,34 +10,21 @@ use Rattle.pg_wire.specs.declared.message.FrontMessage.TheVariants as front
 use Rattle.pg_wire.specs.declared.message.Status.{Status}
 use Rattle.pg_wire.specs.declared.session.Aside.{Aside}
 use Rattle.pg_wire.specs.declared.session.Request.{Request}
-use Rattle.pg_wire.specs.Segment.{aside_of, kept_with, without_asides, Segments, segments, status_of}
+use Rattle.pg_wire.specs.Segment.{aside_of, without_asides, Segments, segments, status_of}
 use Rattle.pg_client.specs.declared.place.CopyAnswer.{CopyAnswer}
 use Rattle.pg_client.specs.declared.place.CopyAnswer.TheVariants.{Awaited, Done, Refused}
-use Rattle.pg_client.specs.Session.{Call, Start, Ask, Chunk, CopyEnd, CopyFail, Terminate, Happening, Did, Came, messages_in, requests_in, whole_in, rest_in, copy_answer_after, copy_answer_from, copy_answer, EndInCopyIn, IsAside, IsStarted, IsTerminated, IsReady, IsCopyingIn, AreAllowed}
+use Rattle.pg_client.specs.Session.{Call, Start, Ask, Chunk, CopyEnd, CopyFail, Terminate, Happening, Did, Came, messages_in, requests_in, whole_in, rest_in, EndInCopyIn, IsAside, IsStarted, IsTerminated, IsReady, IsCopyingIn, AreAllowed}
+use Rattle.pg_client.specs.Machine.{copy_answer_after, copy_answer}
 use Rattle.pg_client.specs.Turns.{Turn, turns_of, calls_in}
 use Rattle.pg_client.specs.Answering.{turns_in, turns_with, with_copy, last_copies, copies_ended, copies_begun, IsChunkOrAside, IsCopyingSince}
+use Rattle.pg_client.proofs.Agreeing.{never_ends, no_copy_in, aside_says_nothing, is_aside, not_ready, copying_begun, answer_is_said}
 use Rattle.pg_client.proofs.Beginnings.{segments_did, segments_came, requests_came, AreAsked, AllAfter, after_begins, allowed_begins, kept_aside, along, are_asked, are_answered}
-use Rattle.pg_client.proofs.History.{requests_in-more, IsStarted-more}
+use Rattle.pg_client.proofs.History.{requests_in-more, IsStarted-more, copy_answer_from-more}
 use Rattle.pg_client.proofs.OneMessage.{put_after}
-use Rattle.pg_client.proofs.Outcomes.{snoc_front, without_asides-append}
+use Rattle.pg_client.proofs.Said.{IsCopyAwaited, copy_awaited}
 use Rattle.pg_client.proofs.Stories.{messages_in-append, calls_in-append, turns_more}
 
-never_ends : (before : List BackMessage) (m : BackMessage) → [] ≡ before ++ m ∷ [] → ⊥
-never_ends [] m e = cc
-never_ends (x ∷ xs) m e = cc
-
-pub no_copy_in : (rest : List BackMessage) → without_asides rest ≡ [] → EndInCopyIn rest → ⊥
-no_copy_in rest none k = never_ends k.0 (back.CopyIn k.1) (sym none ∙ k.2)
-
 -- ---- since the last CopyInResponse
-
-said_from : (answer : CopyAnswer) (hs : List Happening) (h : Happening) → copy_answer_from answer (hs ++ h ∷ []) ≡ copy_answer_after (copy_answer_from answer hs) h
-said_from answer [] h = refl
-said_from answer (x ∷ hs) h = said_from (copy_answer_after answer x) hs h
-
-aside_says_nothing : (m : BackMessage) (said : CopyAnswer) → IsAside m → copy_answer_after said (Came m) ≡ said
-aside_says_nothing (back.CopyIn head) said aside = absurd (let k : IsSome {T = Aside} None = aside in cc)
-aside_says_nothing _ said aside = refl
 
 chunks_more : (hs : List Happening) (h : Happening) → AllByRecursion IsChunkOrAside hs → IsChunkOrAside h → AllByRecursion IsChunkOrAside (hs ++ h ∷ [])
 chunks_more [] h all one = (one, tt)
@@ -68,8 +55,8 @@ heard_after_start hs all = along (λ x. (messages_in x ≡ []) ⊎ IsStarted x) 
     step before (Did c) later e (inr s) = inr (IsStarted-more before (Did c) s)
 
 -- what a call leaves of a copy in
-did_copying : (before : List Happening) (c : Call) → IsCopyingIn (before ++ Did c ∷ []) → EndInCopyIn (rest_in before) × (copy_answer_after (copy_answer before) (Did c) ≡ Awaited)
-did_copying before c k = (subst (λ (s : Segments). EndInCopyIn s.rest) (segments_did before c) k.0, sym (said_from Awaited before (Did c)) ∙ k.1)
+did_copying : (before : List Happening) (c : Call) → IsCopyAwaited (before ++ Did c ∷ []) → EndInCopyIn (rest_in before) × (copy_answer_after (copy_answer before) (Did c) ≡ Awaited)
+did_copying before c k = (subst (λ (s : Segments). EndInCopyIn s.rest) (segments_did before c) k.0, sym (copy_answer_from-more Awaited before (Did c)) ∙ k.1)
 
 not_started : (before : List Happening) → AllAfter before → (IsStarted before → ⊥) → EndInCopyIn (rest_in before) → ⊥
 not_started before all never k = by (heard_after_start before all)
@@ -78,32 +65,18 @@ not_started before all never k = by (heard_after_start before all)
     by (inl none) = never_ends k.0 (back.CopyIn k.1) (sym (ap (λ (ms : List BackMessage). without_asides (segments ms).rest) none) ∙ k.2)
     by (inr s) = never s
 
-not_ready : (before : List Happening) → AreAsked before → IsReady before → EndInCopyIn (rest_in before) → ⊥
-not_ready before (inl le) ready k = omega (arith, le, ready)
-not_ready before (inr p) ready k = no_copy_in (rest_in before) p.1 k
-
-kept_other : (rest : List BackMessage) (m : BackMessage) → aside_of m ≡ None → without_asides (rest ++ m ∷ []) ≡ without_asides rest ++ m ∷ []
-kept_other rest m e = without_asides-append rest (m ∷ []) ∙ ap (λ (o : Option Aside). without_asides rest ++ kept_with o m []) e
-
 -- an aside leaves it
-copying_kept : (before : List Happening) (m : BackMessage) → IsAside m → EndInCopyIn (rest_in before ++ m ∷ []) → copy_answer_after (copy_answer before) (Came m) ≡ Awaited → IsCopyingIn before
+copying_kept : (before : List Happening) (m : BackMessage) → IsAside m → EndInCopyIn (rest_in before ++ m ∷ []) → copy_answer_after (copy_answer before) (Came m) ≡ Awaited → IsCopyAwaited before
 copying_kept before m aside ends said = ((ends.0, ends.1, sym (kept_aside (rest_in before) m aside) ∙ ends.2), sym (aside_says_nothing m (copy_answer before) aside) ∙ said)
 
--- and no other message is where one begins
-copying_begun : (rest : List BackMessage) (m : BackMessage) → aside_of m ≡ None → (ends : EndInCopyIn (rest ++ m ∷ [])) → m ≡ back.CopyIn ends.1
-copying_begun rest m e ends = (snoc_front (without_asides rest) ends.0 m (back.CopyIn ends.1) (sym (kept_other rest m e) ∙ ends.2)).1
-
-is_aside : (m : BackMessage) (a : Aside) → aside_of m ≡ Some a → IsAside m
-is_aside m a e = subst (λ (x : Option Aside). IsSome x) (sym e) refl
-
-came_copying : (before : List Happening) (m : BackMessage) (p : Option Status) (o : Option Aside) → aside_of m ≡ o → (IsCopyingIn before → IsCopyingSince before) → EndInCopyIn (put_after p m (whole_in before) (rest_in before)).rest → copy_answer_after (copy_answer before) (Came m) ≡ Awaited → IsCopyingSince (before ++ Came m ∷ [])
+came_copying : (before : List Happening) (m : BackMessage) (p : Option Status) (o : Option Aside) → aside_of m ≡ o → (IsCopyAwaited before → IsCopyingSince before) → EndInCopyIn (put_after p m (whole_in before) (rest_in before)).rest → copy_answer_after (copy_answer before) (Came m) ≡ Awaited → IsCopyingSince (before ++ Came m ∷ [])
 came_copying before m (Some status) o e copies ends said = absurd (no_copy_in [] refl ends)
 came_copying before m None (Some a) e copies ends said = since_more before (Came m) (is_aside m a e) (copies (copying_kept before m (is_aside m a e) ends said))
 came_copying before m None None e copies ends said = record { before = before; head = ends.1; later = []; since = ap (λ (x : BackMessage). before ++ Came x ∷ []) (copying_begun (rest_in before) m e ends); chunks = tt }
 
 module _ (hs : List Happening) (after : AllAfter hs) (allowed : AreAllowed hs) (not_terminated : IsTerminated hs → ⊥) where
   Copies : List Happening → Type 0
-  Copies x = IsCopyingIn x → IsCopyingSince x
+  Copies x = IsCopyAwaited x → IsCopyingSince x
 
   begun_after : (before : List Happening) (h : Happening) (later : List Happening) → hs ≡ before ++ h ∷ later → AllAfter before
   begun_after before h later e = after_begins before (h ∷ later) (subst AllAfter e after)
@@ -117,11 +90,11 @@ module _ (hs : List Happening) (after : AllAfter hs) (allowed : AreAllowed hs) (
   copies_step before (Did (CopyFail b)) later e copies k = absurd (let d : Refused ≡ Awaited = (did_copying before (CopyFail b) k).1 in cc)
   copies_step before (Did Terminate) later e copies k = absurd (not_terminated (subst IsTerminated (sym e) (terminated_within before later)))
   copies_step before (Came m) later e copies k =
-      came_copying before m (status_of m) (aside_of m) refl copies (subst (λ (s : Segments). EndInCopyIn s.rest) (segments_came before m) k.0) (sym (said_from Awaited before (Came m)) ∙ k.1)
+      came_copying before m (status_of m) (aside_of m) refl copies (subst (λ (s : Segments). EndInCopyIn s.rest) (segments_came before m) k.0) (sym (copy_answer_from-more Awaited before (Came m)) ∙ k.1)
 
   pub copying_since : IsCopyingIn hs → IsCopyingSince hs
   unfolding Copies
-  copying_since = along Copies hs (λ k. absurd (no_copy_in [] refl k.0)) copies_step
+  copying_since k = along Copies hs (λ none. absurd (no_copy_in [] refl none.0)) copies_step (copy_awaited hs (answer_is_said hs after allowed) k)
 
 -- ---- each copy ended before had its own CopyInResponse
 
@@ -162,7 +135,7 @@ ended_came hs m = ap (λ (cs : List Call). copies_ended (last_copies (turns_of c
 -- in the last request's segment, while it isn't whole
 record InBalance (hs : List Happening) : Type 0 where
   level : length (whole_in hs) ≤ length (requests_in hs) → EndedIn hs ≤ copies_begun (rest_in hs)
-  one_open : IsCopyingIn hs → suc (EndedIn hs) ≤ copies_begun (rest_in hs)
+  one_open : IsCopyAwaited hs → suc (EndedIn hs) ≤ copies_begun (rest_in hs)
 
 module _ (hs : List Happening) (after : AllAfter hs) (allowed : AreAllowed hs) where
   rest_did : (before : List Happening) (c : Call) → copies_begun (rest_in (before ++ Did c ∷ [])) ≡ copies_begun (rest_in before)
@@ -179,7 +152,7 @@ module _ (hs : List Happening) (after : AllAfter hs) (allowed : AreAllowed hs) w
   }
 
   -- a call that ends a copy
-  did_end : (before : List Happening) (c : Call) → ((a : CopyAnswer) → copy_answer_after a (Did c) ≡ Awaited → ⊥) → copies_ended (last_copies (turns_with (turns_in before) c)) ≤ EndedIn before + 1 → IsCopyingIn before → InBalance before → InBalance (before ++ Did c ∷ [])
+  did_end : (before : List Happening) (c : Call) → ((a : CopyAnswer) → copy_answer_after a (Did c) ≡ Awaited → ⊥) → copies_ended (last_copies (turns_with (turns_in before) c)) ≤ EndedIn before + 1 → IsCopyAwaited before → InBalance before → InBalance (before ++ Did c ∷ [])
   did_end before c other few copying b = record {
     level = λ le. omega (arith, few, ended_did before c, rest_did before c, b.one_open copying);
     one_open = λ k. absurd (other (copy_answer before) (did_copying before c k).1);
@@ -201,17 +174,21 @@ module _ (hs : List Happening) (after : AllAfter hs) (allowed : AreAllowed hs) w
   came_open before m None None e (inl aside) b ends said = absurd (let k : IsSome {T = Aside} None = subst (λ (x : Option Aside). IsSome x) e aside in cc)
   came_open before m None None e (inr le) b ends said = omega (arith, b.level le, begun-append (rest_in before) (m ∷ []), ap (λ (x : BackMessage). copies_begun (x ∷ [])) (copying_begun (rest_in before) m e ends))
 
+  -- where a call for a copy was made, none was made for it before
+  awaited_then : (before : List Happening) (c : Call) (later : List Happening) → hs ≡ before ++ Did c ∷ later → IsCopyingIn before → IsCopyAwaited before
+  awaited_then before c later e copying = copy_awaited before (answer_is_said before (after_begins before (Did c ∷ later) (subst AllAfter e after)) (allowed_begins before (Did c ∷ later) (subst AreAllowed e allowed))) copying
+
   balance_step : (before : List Happening) (h : Happening) (later : List Happening) → hs ≡ before ++ h ∷ later → InBalance before → InBalance (before ++ h ∷ [])
   balance_step before (Did Start) later e b = did_plainly before Start refl (λ a. refl) (omega arith) b
   balance_step before (Did (Ask r)) later e b = did_ask before r (are_asked before (after_begins before (Did (Ask r) ∷ later) (subst AllAfter e after))) (allowed before (Ask r) later e).in_place.1
   balance_step before (Did (Chunk x)) later e b = did_plainly before (Chunk x) refl (λ a. refl) (omega (arith, ended_with (front.CopyData x) (turns_in before))) b
-  balance_step before (Did CopyEnd) later e b = did_end before CopyEnd (λ a k. cc) (ended_with front.CopyDone (turns_in before)) (allowed before CopyEnd later e).in_place.1 b
-  balance_step before (Did (CopyFail x)) later e b = did_end before (CopyFail x) (λ a k. cc) (ended_with (front.CopyFail x) (turns_in before)) (allowed before (CopyFail x) later e).in_place.1 b
+  balance_step before (Did CopyEnd) later e b = did_end before CopyEnd (λ a k. cc) (ended_with front.CopyDone (turns_in before)) (awaited_then before CopyEnd later e (allowed before CopyEnd later e).in_place.1) b
+  balance_step before (Did (CopyFail x)) later e b = did_end before (CopyFail x) (λ a k. cc) (ended_with (front.CopyFail x) (turns_in before)) (awaited_then before (CopyFail x) later e (allowed before (CopyFail x) later e).in_place.1) b
   balance_step before (Did Terminate) later e b = did_plainly before Terminate refl (λ a. refl) (omega arith) b
   balance_step before (Came m) later e b = record {
     level = λ le. omega (arith, ended_came before m, ap (λ (s : Segments). copies_begun s.rest) (segments_came before m), came_level before m (status_of m) (are_answered before (allowed_begins before (Came m ∷ later) (subst AreAllowed e allowed))) b (omega (arith, le, ap (λ (s : Segments). length s.whole) (segments_came before m), ap length (requests_came before m))));
-    one_open = λ k. omega (arith, ended_came before m, ap (λ (s : Segments). copies_begun s.rest) (segments_came before m), came_open before m (status_of m) (aside_of m) refl (after before m later e).in_place.asked_for b (subst (λ (s : Segments). EndInCopyIn s.rest) (segments_came before m) k.0) (sym (said_from Awaited before (Came m)) ∙ k.1));
+    one_open = λ k. omega (arith, ended_came before m, ap (λ (s : Segments). copies_begun s.rest) (segments_came before m), came_open before m (status_of m) (aside_of m) refl (after before m later e).asked_for b (subst (λ (s : Segments). EndInCopyIn s.rest) (segments_came before m) k.0) (sym (copy_answer_from-more Awaited before (Came m)) ∙ k.1));
   }
 
   pub copy_under_way : IsCopyingIn hs → suc (EndedIn hs) ≤ copies_begun (rest_in hs)
-  copy_under_way = (along InBalance hs (record { level = λ le. omega arith; one_open = λ k. absurd (no_copy_in [] refl k.0) }) balance_step).one_open
+  copy_under_way k = (along InBalance hs (record { level = λ le. omega arith; one_open = λ none. absurd (no_copy_in [] refl none.0) }) balance_step).one_open (copy_awaited hs (answer_is_said hs after allowed) k)

@@ -16,7 +16,9 @@ use Rattle.pg_client.specs.declared.settled.Settled.{Settled}
 use Rattle.pg_client.specs.Session.{Run, Happening, IsStarted, IsStarting, IsReady, IsCopyingIn}
 use Rattle.pg_client.specs.Client.{ClientView, story, stand_phase, busy_phase_of, phase_with, Shows, IsRunOf}
 use Rattle.pg_client.specs.Facts.{IsPhase, Facts}
+use Rattle.pg_client.proofs.Agreeing.{answer_is_said}
 use Rattle.pg_client.proofs.FactsHold.{StandFacts, stand_facts}
+use Rattle.pg_client.proofs.Said.{AnswerIsSaid, copying_in, copy_awaited}
 
 never_closed : (stand : Stand) (c : Cause) → stand_phase stand ≡ phase.Closed c → ⊥
 never_closed New c e = cc
@@ -57,11 +59,11 @@ module _ (hs : List Happening) (p : Phase)
   open_phase phase.Busy = (busy_then, λ h. busy_only p refl h)
   open_phase (phase.Closed c) = (no_cause c, λ h. absurd h)
 
-phase_by : (hs : List Happening) (was now : Stand) (closed : Option Cause) (handed_back : Bool) (settled : List Settled) → StandFacts hs was settled → Shows was now closed handed_back → (p : Phase) → (phase_with closed now ≡ p) ↔ IsPhase hs closed p
-phase_by hs was now (Some c) handed_back settled f shows p = (λ e. sym e, λ e. sym e)
-phase_by hs was now None true settled f shows p = absurd shows
-phase_by hs was now None false settled f shows p =
-    subst (λ (s : Stand). (stand_phase s ≡ p) ↔ IsPhase hs None p) (sym shows) (open_phase hs (stand_phase was) f.new f.starting f.ready f.copying (never_closed was) p)
+phase_by : (hs : List Happening) (was now : Stand) (closed : Option Cause) (handed_back : Bool) (settled : List Settled) → AnswerIsSaid hs → StandFacts hs was settled → Shows was now closed handed_back → (p : Phase) → (phase_with closed now ≡ p) ↔ IsPhase hs closed p
+phase_by hs was now (Some c) handed_back settled same f shows p = (λ e. sym e, λ e. sym e)
+phase_by hs was now None true settled same f shows p = absurd shows
+phase_by hs was now None false settled same f shows p =
+    subst (λ (s : Stand). (stand_phase s ≡ p) ↔ IsPhase hs None p) (sym shows) (open_phase hs (stand_phase was) f.new f.starting f.ready (λ e. copying_in hs same (f.copying.0 e), λ k. f.copying.1 (copy_awaited hs same k)) (never_closed was) p)
 
 pub run_facts : (run : Run) (fed : List ℕ) (heard : List BackMessage) (rest : List ℕ) (given : List Settled) (sent : List ℕ) (handed_back : Bool) (client : ClientView) → IsRunOf run fed heard rest given sent handed_back client → Facts (story run heard) (given ++ client.settled) client
 run_facts run fed heard rest given sent handed_back client r =
@@ -69,5 +71,5 @@ run_facts run fed heard rest given sent handed_back client r =
     record {
       expected = r.expected;
       in_order = f.in_order;
-      phase = phase_by (story run heard) r.was client.stand client.closed handed_back (given ++ client.settled) f r.shows;
+      phase = phase_by (story run heard) r.was client.stand client.closed handed_back (given ++ client.settled) (answer_is_said (story run heard) r.expected.after r.allowed) f r.shows;
     }

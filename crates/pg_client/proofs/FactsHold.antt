@@ -9,7 +9,7 @@ use Rattle.pg_wire.specs.declared.message.CopyHead.{CopyHead}
 use Rattle.pg_wire.specs.declared.session.Aside.{Aside}
 use Rattle.pg_wire.specs.declared.session.Part.{Part}
 use Rattle.pg_wire.specs.declared.session.Request.{Request}
-use Rattle.pg_wire.specs.Segment.{error_of, Fields, aside_of, kept_with, without_asides, Asked as What, asked}
+use Rattle.pg_wire.specs.Segment.{error_of, Fields, aside_of, without_asides, Asked as What, asked}
 use Rattle.pg_client.specs.declared.place.Open.TheVariants as begun
 use Rattle.pg_client.specs.declared.place.Progress.{Progress}
 use Rattle.pg_client.specs.declared.place.Progress.TheVariants.{Grows, Closes, Stuck}
@@ -25,14 +25,16 @@ use Rattle.pg_client.specs.declared.settled.Settled.{Settled}
 use Rattle.pg_client.specs.declared.phase.Phase.{Phase}
 use Rattle.pg_client.specs.declared.phase.Phase.TheVariants as phase
 use Rattle.pg_client.specs.Place.{left, Place, read, read_by, read_from, after_progress, progress}
-use Rattle.pg_client.specs.Session.{Happening, requests_in, rest_in, IsStarted, IsStarting, IsReady, IsCopyingIn, EndInCopyIn, copy_answer, Expected}
-use Rattle.pg_client.specs.Machine.{greet, greet_from, greet_all}
+use Rattle.pg_client.specs.Session.{Happening, requests_in, rest_in, IsStarted, IsStarting, IsReady, EndInCopyIn, Expected}
+use Rattle.pg_client.specs.Machine.{greet, greet_from, greet_all, copy_answer}
 use Rattle.pg_client.specs.Judged.{SettledAs, Stands}
 use Rattle.pg_client.specs.Client.{stand_phase, busy_phase_of, unsettled_of, has_failed, stage_failed, groups_in, has_error}
 use Rattle.pg_client.specs.Facts.{SettledInOrder}
 use Rattle.pg_client.proofs.Complete.{at}
+use Rattle.pg_client.proofs.Outcomes.{kept_with}
 use Rattle.pg_client.proofs.Startup.{greet_from-append}
 use Rattle.pg_client.proofs.OneMessage.{SettledAs-length, ends_open, open_ends}
+use Rattle.pg_client.proofs.Said.{IsCopyAwaited}
 
 -- ---- errors
 
@@ -126,7 +128,7 @@ pub record StandFacts (hs : List Happening) (stand : Stand) (settled : List Sett
   pub new : (stand_phase stand ≡ phase.New) ↔ (IsStarted hs → ⊥)
   pub starting : (stand_phase stand ≡ phase.Starting) ↔ IsStarting hs
   pub ready : (stand_phase stand ≡ phase.Ready) ↔ IsReady hs
-  pub copying : (stand_phase stand ≡ phase.CopyingIn) ↔ IsCopyingIn hs
+  pub copying : (stand_phase stand ≡ phase.CopyingIn) ↔ IsCopyAwaited hs
   pub unsettled : unsettled_of stand ≡ slice_get (requests_in hs) (length (groups_in hs))
   pub seen_error : has_failed stand ≡ has_error (rest_in hs)
 
@@ -184,7 +186,7 @@ module _ (hs : List Happening) (settled : List Settled) where
       seen_error = subst (λ (x : Option Place). IfSome x (λ q. stage_failed q.stage ≡ has_error (without_asides (rest_in hs)))) h.1.place (errors_by (asked request) (at [] (Within begun.Nothing)) false (without_asides (rest_in hs)) refl) ∙ errors_kept (rest_in hs);
     }
       where
-        opened : (head : CopyHead) × (stage ≡ Within (begun.CopyIn head)) × (answer ≡ Awaited) → IsCopyingIn hs
+        opened : (head : CopyHead) × (stage ≡ Within (begun.CopyIn head)) × (answer ≡ Awaited) → IsCopyAwaited hs
         opened k = let o = open_ends (asked request) (without_asides (rest_in hs)) parts k.0 (h.1.place ∙ ap (at parts) k.1) in ((o.0, k.0, o.1), sym h.1.answer_is ∙ k.2)
 
         closing : EndInCopyIn (rest_in hs) → copy_answer hs ≡ Awaited → busy_phase_of stage answer ≡ phase.CopyingIn

@@ -29,6 +29,7 @@ use Rattle.pg_client.specs.Judged.{Stands}
 use Rattle.pg_client.specs.Client.{ClientView, with_ends, story, or_else, last_from, value_of, value_said, key_said, sent_in, IsSpelledAt, IsFresh, IsError, AsksPassword, AsksOther, HasNoName, IsFaultFor, IsRefusedAt, cause_of, IsKept, Ends, Shows, IsRunOf, Answers, Hears, FeedsWith, Feeds, unsettled_of, has_failed}
 use Rattle.pg_client.specs.Private.Hearing.{fault_at, fresh_fault, admitted_fault, idle_fault}
 use Rattle.pg_client.specs.Private.Feeding.{Knows, HearsNothing, MovesBy, HearsOne, HearsNext, IsHearing, leaving}
+use Rattle.pg_client.proofs.Agreeing.{answer_is_said}
 use Rattle.pg_client.proofs.FactsHold.{stand_facts}
 use Rattle.pg_client.proofs.History.{Hears as Judges, hears, expected_came, rejected_unexpected}
 use Rattle.pg_client.proofs.Messages.{IsNamed, fault_named}
@@ -99,7 +100,7 @@ module _ (before : ℕ) (run : Run) (fed : List ℕ) (heard : List BackMessage) 
   pub next_heard : (new : ClientView) → HearsNext client (Ok true) new → (m : BackMessage) × IsHearing before run fed (heard ++ m ∷ []) given sent new
   next_heard new h =
       let one : HearsOne h.0 (leaving client new.kept) new = h.3 in
-      (h.0, by_effect h.0 new.kept h.1 h.2 new (hear client.stand h.0) one.settings refl (one.closed ∙ r.is_open) (record { status = one.knows.status; parameters = one.knows.parameters; key = one.knows.key }) (moved one.moves) (hears (story run heard) client.stand (given ++ client.settled) h.0 r.stands))
+      (h.0, by_effect h.0 new.kept h.1 h.2 new (hear client.stand h.0) one.settings refl (one.closed ∙ r.is_open) (record { status = one.knows.status; parameters = one.knows.parameters; key = one.knows.key }) (moved one.moves) (hears (story run heard) client.stand (given ++ client.settled) h.0 (answer_is_said (story run heard) r.expected.after r.allowed) r.stands))
     where
       moved_by : (e : Effect) → MovesBy e (leaving client new.kept) new → MovesBy e client new
       moved_by (Stays s) k = k
@@ -282,7 +283,7 @@ module _ (before : ℕ) (run : Run) (fed : List ℕ) (heard : List BackMessage) 
         more = h.1;
         begins = h.3;
         within = h.2;
-        unexpected = rejected_unexpected (story run heard) client.stand (given ++ client.settled) m r.stands h.4;
+        unexpected = rejected_unexpected (story run heard) client.stand (given ++ client.settled) m (answer_is_said (story run heard) r.expected.after r.allowed) r.stands h.4;
         fault = subst (IsFaultFor (story run heard) m) (sym h.5) (fault_for (story run heard) client.stand (given ++ client.settled) m r.expected r.stands);
       } in
       named_closes f new named refused h.6 h.7

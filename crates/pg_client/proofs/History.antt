@@ -16,11 +16,12 @@ use Rattle.pg_client.specs.declared.place.Stand.TheVariants.{New, Starting, Idle
 use Rattle.pg_client.specs.declared.settled.Settled.{Settled}
 use Rattle.pg_wire.specs.Segment.{asked, Segments, segments, status_of}
 use Rattle.pg_client.specs.Place.{read_all}
-use Rattle.pg_client.specs.Session.{Call, Start, Ask, Chunk, CopyEnd, CopyFail, Terminate, Happening, Did, Came, requests_in, messages_in, whole_in, rest_in, IsStarted, FitAll, IsSession, copy_answer_after, copy_answer_from, copy_answer, IsAfterItsCall, Expected}
-use Rattle.pg_client.specs.Machine.{Effect, Stays, Settles, Rejected, hear}
+use Rattle.pg_client.specs.Session.{Call, Start, Ask, Chunk, CopyEnd, CopyFail, Terminate, Happening, Did, Came, requests_in, messages_in, whole_in, rest_in, IsStarted, FitAll, IsSession, IsAfterItsCall, Expected}
+use Rattle.pg_client.specs.Machine.{Effect, Stays, Settles, Rejected, copy_answer_after, copy_answer_from, copy_answer, hear}
 use Rattle.pg_client.specs.Judged.{StandsBy, Stands}
 use Rattle.pg_client.proofs.Outcomes.{front_splits, read_begins}
 use Rattle.pg_client.proofs.Startup.{greeted_begins}
+use Rattle.pg_client.proofs.Said.{AnswerIsSaid, after_its_call, may_stand}
 use Rattle.pg_client.proofs.OneMessage.{put_after, segments-more, all_fit, fit_and_begin, StandsThen, Verdict, hear_verdict}
 
 -- ---- one more happening at the end
@@ -46,7 +47,7 @@ IsStarted-more [] h s = absurd s
 IsStarted-more (Did Start ∷ hs) h s = tt
 IsStarted-more (_ ∷ hs) h s = IsStarted-more hs h s
 
-copy_answer_from-more : (answer : CopyAnswer) (hs : List Happening) (h : Happening) → copy_answer_from answer (hs ++ h ∷ []) ≡ copy_answer_after (copy_answer_from answer hs) h
+pub copy_answer_from-more : (answer : CopyAnswer) (hs : List Happening) (h : Happening) → copy_answer_from answer (hs ++ h ∷ []) ≡ copy_answer_after (copy_answer_from answer hs) h
 copy_answer_from-more answer [] h = refl
 copy_answer_from-more answer (x ∷ hs) h = copy_answer_from-more (copy_answer_after answer x) hs h
 
@@ -74,19 +75,19 @@ Hears hs settled m (Stays stand) = Stands (hs ++ Came m ∷ []) stand settled ×
 Hears hs settled m (Settles t) = Stands (hs ++ Came m ∷ []) (Idle []) (settled ++ t ∷ []) × IsAfterItsCall hs m
 Hears hs settled m Rejected = Expected (hs ++ Came m ∷ []) → ⊥
 
-hears_by : (hs : List Happening) (settled : List Settled) (m : BackMessage) (effect : Effect) → IsStarted hs → Verdict (requests_in hs) (whole_in hs) (rest_in hs) (copy_answer hs) settled m (status_of m) effect → Hears hs settled m effect
-hears_by hs settled m (Stays stand) s v = (stands_came hs m stand settled settled s v.0, record { started = s; in_place = v.1 })
-hears_by hs settled m (Settles t) s v = (stands_came hs m (Idle []) settled (settled ++ t ∷ []) s v.0, record { started = s; in_place = v.1 })
-hears_by hs settled m Rejected s v = λ expected.
+hears_by : (hs : List Happening) (settled : List Settled) (m : BackMessage) (effect : Effect) → AnswerIsSaid hs → IsStarted hs → Verdict (requests_in hs) (whole_in hs) (rest_in hs) (copy_answer hs) settled m (status_of m) effect → Hears hs settled m effect
+hears_by hs settled m (Stays stand) same s v = (stands_came hs m stand settled settled s v.0, after_its_call hs same m s v.1)
+hears_by hs settled m (Settles t) same s v = (stands_came hs m (Idle []) settled (settled ++ t ∷ []) s v.0, after_its_call hs same m s v.1)
+hears_by hs settled m Rejected same s v = λ expected.
     v (subst (λ (x : Segments). IsSession (requests_in hs) x.whole x.rest) (segments-came hs m)
     (subst (λ (rs : List Request). IsSession rs (segments (messages_in (hs ++ Came m ∷ []))).whole (segments (messages_in (hs ++ Came m ∷ []))).rest) (requests_in-more hs (Came m) ∙ append-nil (requests_in hs)) expected.session))
-    (expected.after hs m [] refl).in_place
+    (may_stand hs same m (expected.after hs m [] refl))
 
-pub hears : (hs : List Happening) (stand : Stand) (settled : List Settled) (m : BackMessage) → Stands hs stand settled → Hears hs settled m (hear stand m)
-hears hs New settled m h = λ expected. subst IsStarted h.0 ((expected.after hs m [] refl).started)
-hears hs (Starting w) settled m h = hears_by hs settled m (hear (Starting w) m) h.0 (hear_verdict (requests_in hs) (whole_in hs) (rest_in hs) (copy_answer hs) settled m (Starting w) h.1)
-hears hs (Idle asides) settled m h = hears_by hs settled m (hear (Idle asides) m) h.0 (hear_verdict (requests_in hs) (whole_in hs) (rest_in hs) (copy_answer hs) settled m (Idle asides) h.1)
-hears hs (Busy request parts stage asides answer) settled m h = hears_by hs settled m (hear (Busy request parts stage asides answer) m) h.0 (hear_verdict (requests_in hs) (whole_in hs) (rest_in hs) (copy_answer hs) settled m (Busy request parts stage asides answer) h.1)
+pub hears : (hs : List Happening) (stand : Stand) (settled : List Settled) (m : BackMessage) → AnswerIsSaid hs → Stands hs stand settled → Hears hs settled m (hear stand m)
+hears hs New settled m same h = λ expected. subst IsStarted h.0 ((expected.after hs m [] refl).started)
+hears hs (Starting w) settled m same h = hears_by hs settled m (hear (Starting w) m) same h.0 (hear_verdict (requests_in hs) (whole_in hs) (rest_in hs) (copy_answer hs) settled m (Starting w) h.1)
+hears hs (Idle asides) settled m same h = hears_by hs settled m (hear (Idle asides) m) same h.0 (hear_verdict (requests_in hs) (whole_in hs) (rest_in hs) (copy_answer hs) settled m (Idle asides) h.1)
+hears hs (Busy request parts stage asides answer) settled m same h = hears_by hs settled m (hear (Busy request parts stage asides answer) m) same h.0 (hear_verdict (requests_in hs) (whole_in hs) (rest_in hs) (copy_answer hs) settled m (Busy request parts stage asides answer) h.1)
 
 -- ---- where the client stands, the session is one
 
@@ -180,14 +181,6 @@ did_terminate hs (Starting w) settled s h = stands_did hs Terminate (Starting w)
 did_terminate hs (Idle asides) settled s h = stands_did hs Terminate (Idle asides) settled s (same_by hs (Idle asides) settled h.1)
 did_terminate hs (Busy request parts stage asides answer) settled s h = stands_did hs Terminate (Busy request parts stage asides answer) settled s (same_by hs (Busy request parts stage asides answer) settled h.1)
 
--- what the laws say
-pub rejected_unexpected : (hs : List Happening) (stand : Stand) (settled : List Settled) (m : BackMessage) → Stands hs stand settled → hear stand m ≡ Rejected → Expected (hs ++ Came m ∷ []) → ⊥
-rejected_unexpected hs stand settled m h e = subst (Hears hs settled m) e (hears hs stand settled m h)
-
-pub heard_expected : (hs : List Happening) (stand : Stand) (settled : List Settled) (m : BackMessage) → Expected hs → Stands hs stand settled → (hear stand m ≡ Rejected → ⊥) → Expected (hs ++ Came m ∷ [])
-heard_expected hs stand settled m e h n = go (hear stand m) (hears hs stand settled m h) n
-  where
-    go : (effect : Effect) → Hears hs settled m effect → (effect ≡ Rejected → ⊥) → Expected (hs ++ Came m ∷ [])
-    go (Stays s) k n = expected_came hs m s settled e k.0 k.1
-    go (Settles t) k n = expected_came hs m (Idle []) (settled ++ t ∷ []) e k.0 k.1
-    go Rejected k n = absurd (n refl)
+-- what the client refuses isn't expected
+pub rejected_unexpected : (hs : List Happening) (stand : Stand) (settled : List Settled) (m : BackMessage) → AnswerIsSaid hs → Stands hs stand settled → hear stand m ≡ Rejected → Expected (hs ++ Came m ∷ []) → ⊥
+rejected_unexpected hs stand settled m same h e = subst (Hears hs settled m) e (hears hs stand settled m same h)

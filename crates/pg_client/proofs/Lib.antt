@@ -3,6 +3,7 @@ pub mod Sound
 pub mod Complete
 pub mod Outcomes
 pub mod Startup
+pub mod Said
 pub mod OneMessage
 pub mod History
 pub mod FactsHold
@@ -16,6 +17,7 @@ pub mod Facts
 pub mod TurnLaws
 pub mod Stories
 pub mod Beginnings
+pub mod Agreeing
 pub mod Copying
 pub mod TakingTurns
 pub mod TurnRows

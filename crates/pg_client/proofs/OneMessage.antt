@@ -26,14 +26,15 @@ use Rattle.pg_client.specs.declared.place.Welcome.TheVariants.{Fresh, Admitted}
 use Rattle.pg_client.specs.declared.place.Stand.{Stand}
 use Rattle.pg_client.specs.declared.place.Stand.TheVariants.{New, Starting, Idle, Busy}
 use Rattle.pg_client.specs.declared.settled.Settled.{Settled}
-use Rattle.pg_wire.specs.Segment.{aside_of, asides_with, asides_of, kept_with, without_asides, Asked as What, Results, Steps, asked, Fits, Begins, messages_of, Segments, segments, status_of, put_before}
+use Rattle.pg_wire.specs.Segment.{aside_of, asides_of, without_asides, Asked as What, Results, Steps, asked, Fits, Begins, messages_of, Segments, segments, status_of, put_before}
 use Rattle.pg_client.specs.Place.{left, Place, read, read_by, read_from, read_all, after_progress, progress, begins, begins_answer, outcome_at}
-use Rattle.pg_client.specs.Session.{Came, IsStartup, BeginsStartup, FitAll, IsSession, copy_answer_after, IsAside, MayStand}
-use Rattle.pg_client.specs.Machine.{Effect, Stays, Settles, Rejected, greet, greet_from, greet_all, starting_at, welcome_ends, hear_starting, hear_idle, gate, answer_after, settles, busy_at, hear_busy, hear}
+use Rattle.pg_client.specs.Session.{Came, IsStartup, BeginsStartup, FitAll, IsSession, IsAside}
+use Rattle.pg_client.specs.Machine.{copy_answer_after, Effect, Stays, Settles, Rejected, greet, greet_from, greet_all, starting_at, welcome_ends, hear_starting, hear_idle, gate, answer_after, settles, busy_at, hear_busy, hear}
 use Rattle.pg_client.specs.Judged.{SettledAs, StandsStarting, StandsIdle, StandsBusy, StandsBy}
+use Rattle.pg_client.proofs.Said.{MayStand}
 use Rattle.pg_client.proofs.Sound.{Reached, read_all_sound}
 use Rattle.pg_client.proofs.Complete.{at, read_from-append}
-use Rattle.pg_client.proofs.Outcomes.{snoc_front, asides_of-append, without_asides-append, read_outcome, fits_read, read_fits, begins_read}
+use Rattle.pg_client.proofs.Outcomes.{kept_with, snoc_front, asides_of-append, without_asides-append, read_outcome, fits_read, read_fits, begins_read}
 use Rattle.pg_client.proofs.Startup.{greet_from-append, startup_admitted, admitted_startup, begins_greeted}
 use Rattle.std.specs.List.{flat_map}
 
@@ -95,10 +96,10 @@ kept : (rest : List BackMessage) (m : BackMessage) → aside_of m ≡ None → w
 kept rest m e = without_asides-append rest (m ∷ []) ∙ ap (λ (o : Option Aside). without_asides rest ++ kept_with o m []) e
 
 collected : (rest : List BackMessage) (m : BackMessage) (a : Aside) → aside_of m ≡ Some a → asides_of (rest ++ m ∷ []) ≡ asides_of rest ++ a ∷ []
-collected rest m a e = asides_of-append rest (m ∷ []) ∙ ap (λ (o : Option Aside). asides_of rest ++ asides_with o []) e
+collected rest m a e = asides_of-append rest (m ∷ []) ∙ rw e refl
 
 uncollected : (rest : List BackMessage) (m : BackMessage) → aside_of m ≡ None → asides_of (rest ++ m ∷ []) ≡ asides_of rest
-uncollected rest m e = asides_of-append rest (m ∷ []) ∙ ap (λ (o : Option Aside). asides_of rest ++ asides_with o []) e ∙ append-nil (asides_of rest)
+uncollected rest m e = asides_of-append rest (m ∷ []) ∙ rw e (append-nil (asides_of rest))
 
 -- ---- lists of groups
 

@@ -1,6 +1,6 @@
 -- A segment is read to an outcome exactly if it fits with that outcome, and to a place exactly if it begins one that fits.
 use Rattle.std.proofs.Common.{◌≡◌, List, [], ◌∷◌, ◌++◌, map, Option, Some, None, refl, sym, ap, subst, ◌∙◌, append_assoc, inl, inr}
-use Rattle.std.specs.Prelude.{IfSome}
+use Rattle.std.specs.Prelude.{IfSome, cond, is_none}
 use Rattle.std.specs.List.{flat_map}
 use Rattle.std.proofs.lemmas.List.{append-nil, append_cancel_left}
 use Rattle.pg_wire.specs.declared.message.BackMessage.{BackMessage}
@@ -17,7 +17,7 @@ use Rattle.pg_client.specs.declared.place.Progress.{Progress}
 use Rattle.pg_client.specs.declared.place.Progress.TheVariants.{Grows, Closes, Stuck}
 use Rattle.pg_client.specs.declared.place.Stage.{Stage}
 use Rattle.pg_client.specs.declared.place.Stage.TheVariants.{Within, Failed}
-use Rattle.pg_wire.specs.Segment.{error_of, Fields, aside_of, asides_with, asides_of, kept_with, without_asides, Asked, Results, Steps, asked, IsDone, IsCutOff, Reads, Fits, Begins, messages_of}
+use Rattle.pg_wire.specs.Segment.{error_of, Fields, aside_of, asides_of, without_asides, Asked, Results, Steps, asked, IsDone, IsCutOff, Reads, Fits, Begins, messages_of}
 use Rattle.pg_client.specs.Place.{left, Place, read, read_by, read_from, read_all, after_progress, progress, done_ending, stage_ending, ending, outcome_with, outcome_at}
 use Rattle.pg_client.proofs.Sound.{left_is, Partway, Reached, read_all_sound}
 use Rattle.pg_client.proofs.Complete.{at, read_from-append, Passes, part_passes, front_of, last_of, front_last, parts_read}
@@ -54,13 +54,17 @@ append_empty (x ∷ xs) ys e = absurd cc
 
 -- ---- asides
 
-asides_with-append : (o : Option Aside) (xs ys : List Aside) → asides_with o (xs ++ ys) ≡ asides_with o xs ++ ys
-asides_with-append None xs ys = refl
-asides_with-append (Some a) xs ys = refl
-
 pub asides_of-append : (xs ys : List BackMessage) → asides_of (xs ++ ys) ≡ asides_of xs ++ asides_of ys
 asides_of-append [] ys = refl
-asides_of-append (x ∷ xs) ys = ap (asides_with (aside_of x)) (asides_of-append xs ys) ∙ asides_with-append (aside_of x) (asides_of xs) (asides_of ys)
+asides_of-append (x ∷ xs) ys = by (aside_of x) refl (asides_of-append xs ys)
+  where
+    by : (o : Option Aside) → aside_of x ≡ o → asides_of (xs ++ ys) ≡ asides_of xs ++ asides_of ys → asides_of (x ∷ (xs ++ ys)) ≡ asides_of (x ∷ xs) ++ asides_of ys
+    by None e same = rw e same
+    by (Some a) e same = rw e (ap (λ (others : List Aside). a ∷ others) same)
+
+-- the message before the others, unless it is an aside
+abbrev pub kept_with : Option Aside → BackMessage → List BackMessage → List BackMessage
+kept_with o m others = cond (is_none o) (m ∷ others) others
 
 kept_with-append : (o : Option Aside) (m : BackMessage) (xs ys : List BackMessage) → kept_with o m (xs ++ ys) ≡ kept_with o m xs ++ ys
 kept_with-append None m xs ys = refl

@@ -1,9 +1,11 @@
 -- Worked rows, by computation.
-use Rattle.std.proofs.Common.{◌≡◌, ℕ, List, [], ◌∷◌, ◌++◌, true, false, Some, None, refl, inl, Err, length, map, ap, inr, arith, length-append}
+use Rattle.std.proofs.Common.{◌≡◌, ℕ, List, [], ◌∷◌, ◌++◌, true, false, Some, None, refl, subst, inl, Err, length, map, ap, inr, arith, length-append}
 use Rattle.std.specs.Prelude.{pos, ℤ, ◌⊎◌}
+use Rattle.std.specs.List.{AllByRecursion}
 use Rattle.pg_wire.specs.declared.message.BackMessage.{BackMessage}
 use Rattle.pg_wire.specs.declared.message.BackMessage.TheVariants.{AuthOk, AuthCleartext, AuthOther, Ready, RowDescription, DataRow, CommandComplete, EmptyQuery, ErrorResponse, NoticeResponse, ParameterStatus, KeyData, ParseComplete, PortalSuspended}
 use Rattle.pg_wire.specs.declared.message.BackMessage.TheVariants as back
+use Rattle.pg_wire.specs.declared.message.CopyHead.{CopyHead}
 use Rattle.pg_wire.specs.declared.message.First.TheVariants.{Cancel}
 use Rattle.pg_wire.specs.declared.message.Status.TheVariants as status
 use Rattle.pg_wire.specs.declared.session.Aside.TheVariants as aside
@@ -26,7 +28,7 @@ use Rattle.pg_client.specs.declared.place.Stage.TheVariants.{Within}
 use Rattle.pg_client.specs.declared.place.Stand.TheVariants.{Starting, Idle, Busy}
 use Rattle.pg_client.specs.declared.place.Welcome.TheVariants.{Fresh, Admitted}
 use Rattle.pg_client.specs.declared.settings.Settings.{Settings}
-use Rattle.pg_client.specs.Session.{Start, Ask, CopyEnd, Terminate, Happening, Did, Came, timeline, IsReady, Run, Chunk, Expected, IsStartup, key_data}
+use Rattle.pg_client.specs.Session.{Call, Start, Ask, CopyEnd, CopyFail, Terminate, Happening, Did, Came, timeline, IsReady, IsCopyingIn, IsNoCopyIn, IsSaid, IsAfterItsCall, Run, Chunk, Expected, IsStartup, key_data}
 use Rattle.pg_client.specs.Client.{Loses, last_said, value_said, key_said, sent_by, stand_phase, AsksPassword, AsksOther, ClientView, Cancels, cause_of, groups_in, IsFaultFor, IsFresh, RefusesCopy, RefusesUnless, story, with_ends}
 use Rattle.pg_client.specs.Machine.{Stays, Rejected, hear}
 use Rattle.pg_client.specs.Private.Calling.{with_request}
@@ -264,6 +266,47 @@ copy_too_early = refl
 copy_in_time : hear (Busy (Query []) [] (Within (begun.CopyIn (record { binary = false; formats = [] }))) [] Done) (CommandComplete ok)
     ≡ Stays (Busy (Query []) (part.CopyIn (record { binary = false; formats = [] }) ok ∷ []) (Within begun.Nothing) [] Done)
 copy_in_time = refl
+
+-- a query was answered with a CopyInResponse, and nothing was called for it
+head : CopyHead
+head = record { binary = false; formats = [] }
+
+copying : List Happening
+copying = Did Start ∷ Came AuthOk ∷ Came (Ready status.Idle) ∷ Did (Ask select) ∷ Came (back.CopyIn head) ∷ []
+
+not_said : (c : Call) (hs : List Happening) → AllByRecursion (λ h. h ≡ Did c → ⊥) hs → IsSaid c hs → ⊥
+not_said c hs others s = go hs others s.before s.called
+  where
+    go : (xs : List Happening) → AllByRecursion (λ h. h ≡ Did c → ⊥) xs → (before : List Happening) → xs ≡ before ++ Did c ∷ s.since → ⊥
+    go [] none [] e = cc
+    go [] none (b ∷ bs) e = cc
+    go (x ∷ xs) none [] e = none.0 (let k : x ∷ xs ≡ Did c ∷ s.since = e in cc)
+    go (x ∷ xs) none (b ∷ bs) e = go xs none.1 bs (let k : x ∷ xs ≡ b ∷ (bs ++ Did c ∷ s.since) = e in cc)
+
+is_copying : IsCopyingIn copying
+unfolding copying head
+is_copying = (([], head, refl), not_said CopyEnd copying ((λ e. cc), ((λ e. cc), ((λ e. cc), ((λ e. cc), ((λ e. cc), tt))))), λ reason. not_said (CopyFail reason) copying ((λ e. cc), ((λ e. cc), ((λ e. cc), ((λ e. cc), ((λ e. cc), tt))))))
+
+-- its end is too early then; behind copy_done it is in time, and the client isn't copying in
+ends_too_early : IsAfterItsCall copying (CommandComplete ok) → ⊥
+ends_too_early a = is_copying.1 (a.copy_ended ok refl is_copying.0)
+
+done_said : IsSaid CopyEnd (copying ++ Did CopyEnd ∷ Came (NoticeResponse []) ∷ [])
+done_said = record { before = copying; since = Came (NoticeResponse []) ∷ []; called = refl; for_the_last = (tt, tt) }
+
+ends_in_time : IsAfterItsCall (copying ++ Did CopyEnd ∷ []) (CommandComplete ok)
+unfolding copying
+ends_in_time = record { started = tt; asked_for = inr (omega arith); copy_ended = λ tag e ends. record { before = copying; since = []; called = refl; for_the_last = tt } }
+
+not_copying_then : IsCopyingIn (copying ++ Did CopyEnd ∷ Came (NoticeResponse []) ∷ []) → ⊥
+not_copying_then k = k.1 done_said
+
+-- behind another CopyInResponse it isn't said
+said_of_another : (before since : List Happening) → Did CopyEnd ∷ Came (back.CopyIn head) ∷ [] ≡ before ++ Did CopyEnd ∷ since → AllByRecursion IsNoCopyIn since → ⊥
+said_of_another [] since e all = let k : since ≡ Came (back.CopyIn head) ∷ [] = cc in (subst (AllByRecursion IsNoCopyIn) k all).0
+said_of_another (b ∷ []) since e all = cc
+said_of_another (b ∷ c ∷ []) since e all = cc
+said_of_another (b ∷ c ∷ d ∷ bs) since e all = cc
 
 -- a group has no copy in
 group_refuses : hear (Busy (Group (step.Parse [] [] [] ∷ [])) [] (Within begun.Nothing) [] Awaited) (back.CopyIn (record { binary = false; formats = [] })) ≡ Rejected

@@ -15,7 +15,8 @@ use Rattle.pg_client.specs.Facts.{SettledInOrder, IsPhase}
 use Rattle.pg_client.specs.Turns.{Turn, copies_of, turns_of, calls_in}
 use Rattle.pg_client.specs.Answering.{turns_in, IsCopyMessage, IsCopyCall, IsInTurn, TakesTurns}
 use Rattle.pg_client.proofs.Beginnings.{AreAsked, AllAfter, after_begins, allowed_begins, are_asked, are_answered}
-use Rattle.pg_client.proofs.Copying.{no_copy_in, copying_since, copy_under_way}
+use Rattle.pg_client.proofs.Agreeing.{no_copy_in}
+use Rattle.pg_client.proofs.Copying.{copying_since, copy_under_way}
 use Rattle.pg_client.proofs.Facts.{run_facts}
 use Rattle.pg_client.proofs.Stories.{requests_of_calls}
 

@@ -108,9 +108,11 @@ pub record IsInTurn (hs : List Happening) : Type 0 where
 pub record TakesTurns (hs : List Happening) (settled : List Settled) (client : ClientView) : Type 0 where
   pub in_turn : (before later : List Happening) → hs ≡ before ++ later → IsInTurn before
   -- a request is made where all turns before it are answered
-  pub asked : (before : List Happening) (r : Request) (later : List Happening) → hs ≡ before ++ Did (Ask r) ∷ later → length (groups_in before) ≡ length (turns_in before)
+  pub asked : (before : List Happening) (r : Request) (later : List Happening)
+      → hs ≡ before ++ Did (Ask r) ∷ later → length (groups_in before) ≡ length (turns_in before)
   -- what is called for a copy belongs to the turn that isn't answered
-  pub copied : (before : List Happening) (c : Call) (later : List Happening) → IsCopyCall c → hs ≡ before ++ Did c ∷ later → length (turns_in before) ≡ suc (length (groups_in before))
+  pub copied : (before : List Happening) (c : Call) (later : List Happening)
+      → IsCopyCall c → hs ≡ before ++ Did c ∷ later → length (turns_in before) ≡ suc (length (groups_in before))
   pub copies : AllByRecursion (λ t. AllByRecursion IsCopyMessage t.copies) (turns_in hs)
   -- the settled requests are those of the first turns, one for each group that is whole
   pub settled_all : length settled ≡ length (groups_in hs)

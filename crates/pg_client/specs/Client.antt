@@ -291,7 +291,9 @@ pub record Accepts (c : Call) (old new : ClientView) (before after : List ℕ) :
   pub settings : new.settings ≡ old.settings
   pub others : new ≡ record old { stand = new.stand; closed = new.closed }
   pub put : after ≡ before ++ sent_by old.settings c
-  pub run : (run : Run) (fed : List ℕ) (heard : List BackMessage) (rest : List ℕ) (given : List Settled) (sent : List ℕ) → IsRunOf run fed heard rest given sent false old → IsRunOf (run ++ (c, length fed) ∷ []) fed heard rest given (sent ++ sent_by old.settings c) false new
+  pub run : (run : Run) (fed : List ℕ) (heard : List BackMessage) (rest : List ℕ) (given : List Settled) (sent : List ℕ)
+      → IsRunOf run fed heard rest given sent false old
+      → IsRunOf (run ++ (c, length fed) ∷ []) fed heard rest given (sent ++ sent_by old.settings c) false new
 
 -- Why what a call would send is refused: it can't be sent for this reason, or there is no such reason and memory was refused.
 abbrev pub IsRefusedBy : Settings → Call → CallFault → Type 0
@@ -357,7 +359,8 @@ pub record Hears (run : Run) (fed : List ℕ) (heard : List BackMessage) (given 
 -- What feed does to a client that was closed before, and to an open one.
 abbrev pub FeedsWith : Option Cause → ClientView → List ℕ → Result Unit FeedFault → ClientView → Type 0
 FeedsWith (Some c) old piece result new = (result ≡ Err feeding.Closed) × (new ≡ old)
-FeedsWith None old piece result new = (run : Run) (fed : List ℕ) (heard : List BackMessage) (rest : List ℕ) (given : List Settled) (sent : List ℕ) → IsRunOf run fed heard rest given sent false old → Hears run (fed ++ piece) heard given sent piece result new
+FeedsWith None old piece result new = (run : Run) (fed : List ℕ) (heard : List BackMessage) (rest : List ℕ) (given : List Settled) (sent : List ℕ)
+    → IsRunOf run fed heard rest given sent false old → Hears run (fed ++ piece) heard given sent piece result new
 
 abbrev pub Feeds : ClientView → List ℕ → Result Unit FeedFault → ClientView → Type 0
 Feeds old piece result new = FeedsWith old.closed old piece result new

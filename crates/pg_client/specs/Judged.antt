@@ -12,8 +12,8 @@ use Rattle.pg_client.specs.declared.place.Stand.TheVariants.{New, Starting, Idle
 use Rattle.pg_client.specs.declared.settled.Settled.{Settled}
 use Rattle.pg_wire.specs.Segment.{asides_of, without_asides, asked, Fits}
 use Rattle.pg_client.specs.Place.{read_all}
-use Rattle.pg_client.specs.Session.{Happening, requests_in, whole_in, rest_in, IsStarted, IsStartup, copy_answer}
-use Rattle.pg_client.specs.Machine.{greet_all}
+use Rattle.pg_client.specs.Session.{Happening, requests_in, whole_in, rest_in, IsStarted, IsStartup}
+use Rattle.pg_client.specs.Machine.{greet_all, copy_answer}
 
 -- the settled groups are these requests, each with the outcome that its segment fits
 abbrev pub SettledAs : List Request → List (List BackMessage) → List Settled → Type 0

@@ -1,4 +1,4 @@
--- What one message does to where the client stands.
+-- What one message does to where the client stands, and what it keeps of the calls for a copy in.
 use Rattle.std.specs.Prelude.{List, [], ◌∷◌, ◌++◌, Option, Some, None}
 use Rattle.pg_wire.specs.declared.message.BackMessage.{BackMessage}
 use Rattle.pg_wire.specs.declared.message.BackMessage.TheVariants.{AuthOk, KeyData, CommandComplete}
@@ -11,7 +11,7 @@ use Rattle.pg_client.specs.declared.place.Open.TheVariants as begun
 use Rattle.pg_client.specs.declared.place.Stage.{Stage}
 use Rattle.pg_client.specs.declared.place.Stage.TheVariants.{Within}
 use Rattle.pg_client.specs.declared.place.CopyAnswer.{CopyAnswer}
-use Rattle.pg_client.specs.declared.place.CopyAnswer.TheVariants.{Awaited, Done}
+use Rattle.pg_client.specs.declared.place.CopyAnswer.TheVariants.{Awaited, Done, Refused}
 use Rattle.pg_client.specs.declared.place.Welcome.{Welcome}
 use Rattle.pg_client.specs.declared.place.Welcome.TheVariants.{Fresh, Admitted}
 use Rattle.pg_client.specs.declared.place.Stand.{Stand}
@@ -19,6 +19,7 @@ use Rattle.pg_client.specs.declared.place.Stand.TheVariants.{New, Starting, Idle
 use Rattle.pg_client.specs.declared.settled.Settled.{Settled}
 use Rattle.pg_wire.specs.Segment.{aside_of, asked, status_of}
 use Rattle.pg_client.specs.Place.{Place, read, outcome_at}
+use Rattle.pg_client.specs.Session.{Ask, CopyEnd, CopyFail, Happening, Did, Came}
 
 pub data Effect : Type 0 where
   Stays : Stand → Effect
@@ -60,6 +61,23 @@ abbrev pub hear_starting : Welcome → Option Aside → Option Status → BackMe
 hear_starting w (Some a) status m = Stays (Starting w)
 hear_starting w None (Some status) m = welcome_ends w
 hear_starting w None None m = starting_at (greet w m)
+
+-- ---- a copy in
+
+-- what the client keeps of the calls for the last copy in: a request or a CopyInResponse begins anew
+abbrev pub copy_answer_after : CopyAnswer → Happening → CopyAnswer
+copy_answer_after answer (Came (back.CopyIn head)) = Awaited
+copy_answer_after answer (Did (Ask r)) = Awaited
+copy_answer_after answer (Did CopyEnd) = Done
+copy_answer_after answer (Did (CopyFail reason)) = Refused
+copy_answer_after answer _ = answer
+
+abbrev pub copy_answer_from : CopyAnswer → List Happening → CopyAnswer
+copy_answer_from answer [] = answer
+copy_answer_from answer (h ∷ hs) = copy_answer_from (copy_answer_after answer h) hs
+
+abbrev pub copy_answer : List Happening → CopyAnswer
+copy_answer hs = copy_answer_from Awaited hs
 
 -- ---- a request's segment
 

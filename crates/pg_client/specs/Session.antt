@@ -1,15 +1,14 @@
 -- What a client did and what came, in order, and what may come (Frontend/Backend Protocol, "Message Flow").
-use Rattle.std.specs.Prelude.{◌≡◌, ℕ, ℤ, suc, ◌≤◌, nat_lt, cond, List, [], ◌∷◌, ◌++◌, length, map, IsSome, ◌⊎◌}
+use Rattle.std.specs.Prelude.{◌≡◌, ℕ, ℤ, suc, ◌≤◌, nat_lt, cond, List, [], ◌∷◌, ◌++◌, length, map, filter_map, Option, Some, None, IsSome, ◌⊎◌}
+use Rattle.std.specs.List.{AllByRecursion}
 use Rattle.pg_wire.specs.declared.message.BackMessage.{BackMessage}
-use Rattle.pg_wire.specs.declared.message.BackMessage.TheVariants.{AuthOk, AuthCleartext, AuthMd5, KeyData, Ready, CommandComplete}
+use Rattle.pg_wire.specs.declared.message.BackMessage.TheVariants.{AuthOk, KeyData, Ready, CommandComplete}
 use Rattle.pg_wire.specs.declared.message.BackMessage.TheVariants as back
 use Rattle.pg_wire.specs.declared.message.CopyHead.{CopyHead}
 use Rattle.pg_wire.specs.declared.message.Status.{Status}
 use Rattle.pg_wire.specs.declared.session.Outcome.{Outcome}
 use Rattle.pg_wire.specs.declared.session.Request.{Request}
 use Rattle.pg_wire.specs.Segment.{aside_of, without_asides, Fits, Begins, segments}
-use Rattle.pg_client.specs.declared.place.CopyAnswer.{CopyAnswer}
-use Rattle.pg_client.specs.declared.place.CopyAnswer.TheVariants.{Awaited, Done, Refused}
 
 -- ---- calls and messages
 
@@ -46,16 +45,19 @@ abbrev pub timeline : Run → List (BackMessage × ℕ) → List Happening
 timeline run [] = map (λ c. Did c.0) run
 timeline run (m ∷ ms) = made_before m.1 run ++ Came m.0 ∷ timeline (made_since m.1 run) ms
 
+abbrev pub message_of : Happening → Option BackMessage
+message_of (Came m) = Some m
+message_of (Did c) = None
+
 abbrev pub messages_in : List Happening → List BackMessage
-messages_in [] = []
-messages_in (Did c ∷ hs) = messages_in hs
-messages_in (Came m ∷ hs) = m ∷ messages_in hs
+messages_in hs = filter_map message_of hs
+
+abbrev pub request_of : Happening → Option Request
+request_of (Did (Ask r)) = Some r
+request_of _ = None
 
 abbrev pub requests_in : List Happening → List Request
-requests_in [] = []
-requests_in (Did (Ask r) ∷ hs) = r ∷ requests_in hs
-requests_in (Did _ ∷ hs) = requests_in hs
-requests_in (Came m ∷ hs) = requests_in hs
+requests_in hs = filter_map request_of hs
 
 -- the messages cut after each ReadyForQuery: the startup's segment, and one for each request that was answered
 abbrev pub whole_in : List Happening → List (List BackMessage)
@@ -96,20 +98,16 @@ abbrev pub IsSession : List Request → List (List BackMessage) → List BackMes
 IsSession requests [] rest = BeginsStartup rest
 IsSession requests (s ∷ ss) rest = IsStartup s × FitAll requests ss rest
 
--- what was called for the last copy in: a request or a CopyInResponse begins anew ("COPY Operations")
-abbrev pub copy_answer_after : CopyAnswer → Happening → CopyAnswer
-copy_answer_after answer (Came (back.CopyIn head)) = Awaited
-copy_answer_after answer (Did (Ask r)) = Awaited
-copy_answer_after answer (Did CopyEnd) = Done
-copy_answer_after answer (Did (CopyFail reason)) = Refused
-copy_answer_after answer _ = answer
+abbrev pub IsNoCopyIn : Happening → Type 0
+IsNoCopyIn (Came (back.CopyIn head)) = ⊥
+IsNoCopyIn _ = Unit {0}
 
-abbrev pub copy_answer_from : CopyAnswer → List Happening → CopyAnswer
-copy_answer_from answer [] = answer
-copy_answer_from answer (h ∷ hs) = copy_answer_from (copy_answer_after answer h) hs
-
-abbrev pub copy_answer : List Happening → CopyAnswer
-copy_answer hs = copy_answer_from Awaited hs
+-- This was called for the last copy in: no CopyInResponse came since ("COPY Operations").
+pub record IsSaid (c : Call) (hs : List Happening) : Type 0 where
+  pub before : List Happening
+  pub since : List Happening
+  pub called : hs ≡ before ++ Did c ∷ since
+  pub for_the_last : AllByRecursion IsNoCopyIn since
 
 -- The messages, asides left out, end in a CopyInResponse.
 abbrev pub EndInCopyIn : List BackMessage → Type 0
@@ -124,18 +122,14 @@ IsStarted [] = ⊥
 IsStarted (Did Start ∷ hs) = Unit {0}
 IsStarted (_ ∷ hs) = IsStarted hs
 
--- The message comes after the call that it needs, with these requests and segments before it, and this said of the last copy in.
-pub record MayStand (requests : List Request) (whole : List (List BackMessage)) (rest : List BackMessage) (said : CopyAnswer) (m : BackMessage) : Type 0 where
-  -- one of a request's segment that is no aside comes after that request
-  pub asked_for : IsAside m ⊎ (length whole ≤ length requests)
-  -- the end of a copy in comes after its copy_done
-  pub copy_ended : (tag : List ℕ) → m ≡ CommandComplete tag → EndInCopyIn rest → said ≡ Done
-
 -- The message comes after the call that it needs.
 pub record IsAfterItsCall (before : List Happening) (m : BackMessage) : Type 0 where
   -- any message comes after start
   pub started : IsStarted before
-  pub in_place : MayStand (requests_in before) (whole_in before) (rest_in before) (copy_answer before) m
+  -- one of a request's segment that is no aside comes after that request
+  pub asked_for : IsAside m ⊎ (length (whole_in before) ≤ length (requests_in before))
+  -- the end of a copy in comes after its copy_done
+  pub copy_ended : (tag : List ℕ) → m ≡ CommandComplete tag → EndInCopyIn (rest_in before) → IsSaid CopyEnd before
 
 -- These messages may come so, with these calls.
 pub record Expected (hs : List Happening) : Type 0 where
@@ -158,9 +152,9 @@ IsStarting hs = IsStarted hs × (whole_in hs ≡ [])
 abbrev pub IsReady : List Happening → Type 0
 IsReady hs = length (whole_in hs) ≡ suc (length (requests_in hs))
 
--- The segment that isn't whole ends in a CopyInResponse, for which nothing was called.
+-- The segment that isn't whole ends in a CopyInResponse, for which neither copy_done nor copy_fail was called.
 abbrev pub IsCopyingIn : List Happening → Type 0
-IsCopyingIn hs = EndInCopyIn (rest_in hs) × (copy_answer hs ≡ Awaited)
+IsCopyingIn hs = EndInCopyIn (rest_in hs) × (IsSaid CopyEnd hs → ⊥) × ((reason : List ℕ) → IsSaid (CopyFail reason) hs → ⊥)
 
 -- A request was made.
 abbrev pub IsAsked : List Happening → Type 0

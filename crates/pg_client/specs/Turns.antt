@@ -1,5 +1,5 @@
 -- What a client sends, request by request: a turn is a request and what was called for its copies.
-use Rattle.std.specs.Prelude.{◌≡◌, ℕ, List, [], ◌∷◌, ◌++◌, map}
+use Rattle.std.specs.Prelude.{◌≡◌, ℕ, List, [], ◌∷◌, ◌++◌, map, filter_map, Option, Some, None}
 use Rattle.std.specs.List.{flat_map}
 use Rattle.pg_wire.specs.declared.message.First.TheVariants.{Startup}
 use Rattle.pg_wire.specs.declared.message.FrontMessage.{FrontMessage}
@@ -35,12 +35,14 @@ turns_of [] = []
 turns_of (Ask r ∷ cs) = record { request = r; copies = copies_of cs } ∷ turns_of cs
 turns_of (c ∷ cs) = turns_of cs
 
-abbrev pub calls_in : List Happening → List Call
-calls_in [] = []
-calls_in (Did c ∷ hs) = c ∷ calls_in hs
-calls_in (Came m ∷ hs) = calls_in hs
+abbrev pub call_of : Happening → Option Call
+call_of (Did c) = Some c
+call_of (Came m) = None
 
--- what is sent before the first turn: the startup packet, once there is a call
+abbrev pub calls_in : List Happening → List Call
+calls_in hs = filter_map call_of hs
+
+-- what is sent before the first turn: the startup packet, once there is a call, as the first one is that of start
 abbrev pub greeting : Settings → List Call → List ℕ
 greeting settings [] = []
 greeting settings (c ∷ cs) = packet (Startup (startup_pairs settings))

@@ -3,6 +3,7 @@
 mod feed;
 
 ghost use Rattle.std.specs.Prelude.{◌≡◌, ◌≤◌, ◌∷◌, [], false, IfErr, IfNone, IfSome, None, OnErr, OnOk, option_copied, Some};
+ghost use Rattle.pg_wire.specs.Direction.{IsLimit};
 ghost use Rattle.pg_client.specs.Session.{Ask, Chunk, CopyEnd, CopyFail, Start, Terminate};
 ghost use Rattle.pg_client.specs.Client.{Accepts, busy_phase_of, Cancels, first_cause, Gives, HandsBack, has_failed, IsHandedBack, IsOpenPhase, IsRunOf, phase_of, RefusesCopy, RefusesEnd, RefusesUnless, stage_failed, unsettled_of, value_of};
 ghost use Rattle.pg_client.specs.Private.Calling.{with_answer, with_request};
@@ -49,7 +50,7 @@ impl Model for Client {
 impl Client {
     /// A client that was not started, in phase New. The limit of the settings is from 64 to 1,073,741,823. It takes no memory.
     pub fn new(alloc: Global, settings: Settings) -> Self
-        requires { (64 ≤ settings.limit) × (settings.limit ≤ 1073741823) }
+        requires { IsLimit settings.limit }
         ensures settings { result.settings ≡ settings }
         ensures phase { phase_of result ≡ Phase.New }
         ensures run { IsRunOf [] [] [] [] [] [] false result }
@@ -115,9 +116,7 @@ impl Client {
         if phase != Phase::New {
             return Err(CallFault::NotReady(phase));
         }
-        if let Err(fault) = put_startup(&self.settings, out) {
-            return Err(CallFault::Encode(fault));
-        }
+        put_startup(&self.settings, out)?;
         self.stand = Stand::Starting(Welcome::Fresh);
         Ok(())
     }
@@ -162,10 +161,7 @@ impl Client {
         if phase != Phase::CopyingIn {
             return Err(CallFault::NotCopying(phase));
         }
-        match frontend::copy_data(bytes, out) {
-            Ok(()) => Ok(()),
-            Err(fault) => Err(CallFault::Encode(fault)),
-        }
+        Ok(frontend::copy_data(bytes, out)?)
     }
 
     /// Says that the data of a copy is complete, by a CopyDone ("COPY Operations"). Allowed in phase CopyingIn, and leads to Busy.
@@ -181,9 +177,7 @@ impl Client {
         if phase != Phase::CopyingIn {
             return Err(CallFault::NotCopying(phase));
         }
-        if let Err(fault) = frontend::copy_done(out) {
-            return Err(CallFault::Encode(fault));
-        }
+        frontend::copy_done(out)?;
         answer_copy(&mut self.stand, CopyAnswer::Done);
         Ok(())
     }
@@ -202,9 +196,7 @@ impl Client {
         if phase != Phase::CopyingIn {
             return Err(CallFault::NotCopying(phase));
         }
-        if let Err(fault) = frontend::copy_fail(reason, out) {
-            return Err(CallFault::Encode(fault));
-        }
+        frontend::copy_fail(reason, out)?;
         answer_copy(&mut self.stand, CopyAnswer::Refused);
         Ok(())
     }
@@ -223,9 +215,7 @@ impl Client {
         if !phase.is_open() {
             return Err(CallFault::NotReady(phase));
         }
-        if let Err(fault) = frontend::terminate(out) {
-            return Err(CallFault::Encode(fault));
-        }
+        frontend::terminate(out)?;
         self.closed = Some(Cause::Terminated);
         Ok(())
     }
@@ -240,10 +230,7 @@ impl Client {
         let Some((process, secret)) = self.key else {
             return Err(CallFault::NoKey);
         };
-        match frontend::cancel_request(process, secret, out) {
-            Ok(()) => Ok(()),
-            Err(fault) => Err(CallFault::Encode(fault)),
-        }
+        Ok(frontend::cancel_request(process, secret, out)?)
     }
 
     /// Takes the oldest settled group that wasn't taken: a request with the outcome that its ReadyForQuery closed. None where all

@@ -2,9 +2,12 @@
 
 ghost use Rattle.std.specs.Prelude.{◌≡◌};
 ghost use Rattle.pg_client.specs.Client.{cause_of};
+ghost use Rattle.pg_client.specs.declared.fault.CallFault.TheVariants.{Encode};
+ghost use Rattle.pg_client.specs.declared.fault.FeedFault.TheVariants as feeding;
 
 use crate::phase::{Cause, Phase};
 use pg_wire::{EncodeFault, Fields, WireFault};
+use std::alloc::AllocError;
 use thiserror::Error;
 
 /// Why a call was refused: the first of these that holds. The client and its output are then as they were.
@@ -22,6 +25,14 @@ pub enum CallFault {
     /// The server has sent no key.
     #[error("C4 NoKey")]
     NoKey,
+}
+
+impl From<EncodeFault> for CallFault {
+    ghost from_gives = { λ f e. e ≡ Encode f };
+
+    fn from(fault: EncodeFault) -> CallFault {
+        CallFault::Encode(fault)
+    }
 }
 
 /// Why bytes were refused. All but Closed leave the client closed with the cause of that name. The messages before the fault
@@ -52,6 +63,14 @@ pub enum FeedFault {
     /// The client was closed before.
     #[error("F8 Closed")]
     Closed,
+}
+
+impl From<AllocError> for FeedFault {
+    ghost from_gives = { λ _ e. e ≡ feeding.Memory };
+
+    fn from(_e: AllocError) -> FeedFault {
+        FeedFault::Memory
+    }
 }
 
 impl FeedFault {

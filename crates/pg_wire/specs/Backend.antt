@@ -128,7 +128,8 @@ has_reserved_code _ = false
 
 -- The numbers are of their types.
 abbrev pub ColumnIsOfType : Column → Type 0
-ColumnIsOfType c = (c.table_oid < 2 ^ 32) × FitsSigned w16 c.attribute × (c.type_oid < 2 ^ 32) × FitsSigned w16 c.size × FitsSigned w32 c.modifier × FitsSigned w16 c.format
+ColumnIsOfType c = (c.table_oid < 2 ^ 32) × FitsSigned w16 c.attribute × (c.type_oid < 2 ^ 32)
+    × FitsSigned w16 c.size × FitsSigned w32 c.modifier × FitsSigned w16 c.format
 
 abbrev pub IsOfType : BackMessage → Type 0
 IsOfType (AuthMd5 salt) = length salt ≡ 4

@@ -43,7 +43,8 @@ abbrev pub Takes : {M : Type 0} → Direction M → DecoderState → Result (Opt
 Takes d old (Ok None) new = (old.fault ≡ None) × (new ≡ old) × IsOpen d old.limit old.kept × (length old.kept < old.limit + 1)
 Takes d old (Ok (Some m)) new = (old.fault ≡ None) × IsWithin d old.limit m × (old.kept ≡ spelling d m ++ new.kept) × (new ≡ record old { kept = new.kept })
 Takes d old (Err wire.Memory) new = (old.fault ≡ None) × (new ≡ old) × WantsMemory d old.limit old.kept
-Takes d old (Err f) new = ((old.fault ≡ Some f) × (new ≡ old)) ⊎ ((old.fault ≡ None) × (new ≡ record old { fault = Some f }) × IsFaulty d old.limit old.kept f)
+Takes d old (Err f) new = ((old.fault ≡ Some f) × (new ≡ old))
+    ⊎ ((old.fault ≡ None) × (new ≡ record old { fault = Some f }) × IsFaulty d old.limit old.kept f)
 
 -- the messages given, after a call of next
 abbrev pub given_after : {M : Type 0} → List M → Result (Option M) WireFault → List M

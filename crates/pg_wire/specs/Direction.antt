@@ -1,6 +1,6 @@
 -- A direction of the protocol: a tagged message as bytes, and which messages have no spelling
 -- (Frontend/Backend Protocol, "Message Formats").
-use Rattle.std.specs.Prelude.{ℕ, ◌≡◌, ◌+◌, ◌++◌, ◌∷◌, nat_lt, if◌then◌else◌, Bool, List, length, Option, Some, None}
+use Rattle.std.specs.Prelude.{ℕ, ◌≡◌, ◌≤◌, ◌+◌, ◌++◌, ◌∷◌, nat_lt, if◌then◌else◌, Bool, List, length, Option, Some, None}
 use Rattle.std.specs.Int.{w32, to_be_bytes}
 use Rattle.pg_wire.specs.declared.fault.EncodeFault.{EncodeFault}
 use Rattle.pg_wire.specs.declared.fault.EncodeFault.TheVariants as faults
@@ -22,6 +22,10 @@ length_field d m = 4 + length (d.body m)
 -- the greatest length field
 abbrev pub longest : ℕ
 longest = 1073741823
+
+-- What a decoder's limit may be.
+abbrev pub IsLimit : ℕ → Type 0
+IsLimit n = (64 ≤ n) × (n ≤ longest)
 
 -- a tagged message as bytes: its tag, its length field, its body
 abbrev pub tagged : ℕ → List ℕ → List ℕ

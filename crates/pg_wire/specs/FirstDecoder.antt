@@ -37,9 +37,12 @@ NoMorePackets false rest = IsOpenPacket rest × (length rest < longest_packet)
 -- rest's fault. Memory is wanted only for a packet that is all there by its length.
 abbrev pub FirstTakes : FirstState → Result (Option First) WireFault → FirstState → Type 0
 FirstTakes old (Ok None) new = (old.fault ≡ None) × (new ≡ old) × NoMorePackets old.ended old.kept
-FirstTakes old (Ok (Some p)) new = (old.fault ≡ None) × (old.ended ≡ false) × IsPacket p × (old.kept ≡ packet p ++ new.kept) × (new ≡ record old { kept = new.kept; ended = is_last p })
-FirstTakes old (Err wire.Memory) new = (old.fault ≡ None) × (old.ended ≡ false) × (new ≡ old) × (c : ℤ) × (len : ℕ) × IsWholePacket old.kept c len
-FirstTakes old (Err f) new = ((old.fault ≡ Some f) × (new ≡ old)) ⊎ ((old.fault ≡ None) × (old.ended ≡ false) × (new ≡ record old { fault = Some f }) × IsFaultyPacket old.kept f)
+FirstTakes old (Ok (Some p)) new = (old.fault ≡ None) × (old.ended ≡ false) × IsPacket p × (old.kept ≡ packet p ++ new.kept)
+    × (new ≡ record old { kept = new.kept; ended = is_last p })
+FirstTakes old (Err wire.Memory) new = (old.fault ≡ None) × (old.ended ≡ false) × (new ≡ old)
+    × (c : ℤ) × (len : ℕ) × IsWholePacket old.kept c len
+FirstTakes old (Err f) new = ((old.fault ≡ Some f) × (new ≡ old))
+    ⊎ ((old.fault ≡ None) × (old.ended ≡ false) × (new ≡ record old { fault = Some f }) × IsFaultyPacket old.kept f)
 
 -- the packets given, after a call of next
 abbrev pub packets_after : List First → Result (Option First) WireFault → List First

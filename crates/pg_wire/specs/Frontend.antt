@@ -35,7 +35,8 @@ target_byte Portal = 80  -- P
 abbrev pub body : FrontMessage → List ℕ
 body (Query text) = string text
 body (Parse name text types) = string name ++ string text ++ counted oid types
-body (Bind portal statement formats values result_formats) = string portal ++ string statement ++ counted int16 formats ++ counted value values ++ counted int16 result_formats
+body (Bind portal statement formats values result_formats) = string portal ++ string statement ++ counted int16 formats
+    ++ counted value values ++ counted int16 result_formats
 body (Describe target name) = (target_byte target ∷ []) ++ string name
 body (Close target name) = (target_byte target ∷ []) ++ string name
 body (Execute portal max_rows) = string portal ++ int32 max_rows

@@ -24,7 +24,8 @@ OneSpelling {M} d = (m n : M) (x y : List ℕ) → HasSpelling d m → HasSpelli
 -- Two readings of the same bytes differ only in how far they go: where no further message begins the rest of the second,
 -- the first is a beginning of it.
 abbrev pub OneReading : {M : Type 0} → Direction M → Type 0
-OneReading {M} d = (limit : ℕ) (bytes : List ℕ) (ms ns : List M) (x y : List ℕ) → IsStream d limit bytes ms x → IsStream d limit bytes ns y → BeginsNoMessage d limit y
+OneReading {M} d = (limit : ℕ) (bytes : List ℕ) (ms ns : List M) (x y : List ℕ)
+    → IsStream d limit bytes ms x → IsStream d limit bytes ns y → BeginsNoMessage d limit y
     → (later : List M) × (ns ≡ ms ++ later) × (x ≡ flat_map (spelling d) later ++ y)
 
 -- A faulty rest begins no message.

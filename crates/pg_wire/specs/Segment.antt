@@ -1,5 +1,5 @@
 -- Segments: what a server may send for one request, up to its ReadyForQuery (Frontend/Backend Protocol, "Message Flow").
-use Rattle.std.specs.Prelude.{◌≡◌, ℕ, Bool, true, false, List, [], ◌∷◌, ◌++◌, map, Option, Some, None, ◌⊎◌}
+use Rattle.std.specs.Prelude.{◌≡◌, ℕ, Bool, true, false, List, [], ◌∷◌, ◌++◌, map, filter, filter_map, Option, Some, None, is_none, ◌⊎◌}
 use Rattle.std.specs.List.{flat_map}
 use Rattle.pg_wire.specs.declared.message.BackMessage.{BackMessage}
 use Rattle.pg_wire.specs.declared.message.BackMessage.TheVariants.{Ready, RowDescription, DataRow, CommandComplete, EmptyQuery, ParseComplete, BindComplete, CloseComplete, NoData, PortalSuspended, ParameterDescription, ErrorResponse, NoticeResponse, Notification, ParameterStatus, CopyData, CopyDone}
@@ -47,25 +47,13 @@ aside_of (ParameterStatus name value) = Some (aside.Parameter name value)
 aside_of (Notification process channel payload) = Some (aside.Notification process channel payload)
 aside_of _ = None
 
--- an aside, if there is one, before the others
-abbrev pub asides_with : Option Aside → List Aside → List Aside
-asides_with None others = others
-asides_with (Some a) others = a ∷ others
-
 -- the asides among the messages, in order
 abbrev pub asides_of : List BackMessage → List Aside
-asides_of [] = []
-asides_of (m ∷ ms) = asides_with (aside_of m) (asides_of ms)
-
--- the message before the others, unless it is an aside
-abbrev pub kept_with : Option Aside → BackMessage → List BackMessage → List BackMessage
-kept_with None m others = m ∷ others
-kept_with (Some a) m others = others
+asides_of ms = filter_map aside_of ms
 
 -- the messages that are no asides, in order
 abbrev pub without_asides : List BackMessage → List BackMessage
-without_asides [] = []
-without_asides (m ∷ ms) = kept_with (aside_of m) m (without_asides ms)
+without_asides ms = filter (λ m. is_none (aside_of m)) ms
 
 -- ---- results and answers ("Simple Query", "Extended Query", "COPY Operations")
 
@@ -140,13 +128,16 @@ IsDone (Steps (s ∷ ss)) = ⊥
 
 -- the messages are the first ones of a next answer, maybe none, and not all of it
 abbrev pub IsCutOff : Asked → List BackMessage → Type 0
-IsCutOff a messages = (messages ≡ []) ⊎ ((p : Part) × (next : BackMessage) × (others : List BackMessage) × (rest : Asked) × Answers a (p ∷ []) rest × (messages_of p ≡ messages ++ next ∷ others))
+IsCutOff a messages = (messages ≡ [])
+    ⊎ ((p : Part) × (next : BackMessage) × (others : List BackMessage) × (rest : Asked)
+    × Answers a (p ∷ []) rest × (messages_of p ≡ messages ++ next ∷ others))
 
 -- A request's messages up to its ReadyForQuery, asides left out: whole results or answers, and where an error comes, maybe the
 -- first messages of one that it cuts off, the error, and further errors, which are dropped.
 abbrev pub Reads : Asked → List BackMessage → List Part → Option Fields → Type 0
 Reads a messages parts None = (rest : Asked) × Answers a parts rest × IsDone rest × (messages ≡ flat_map messages_of parts)
-Reads a messages parts (Some fields) = (rest : Asked) × Answers a parts rest × (cut : List BackMessage) × IsCutOff rest cut × (more : List Fields) × (messages ≡ flat_map messages_of parts ++ (cut ++ ErrorResponse fields ∷ map ErrorResponse more))
+Reads a messages parts (Some fields) = (rest : Asked) × Answers a parts rest × (cut : List BackMessage) × IsCutOff rest cut
+    × (more : List Fields) × (messages ≡ flat_map messages_of parts ++ (cut ++ ErrorResponse fields ∷ map ErrorResponse more))
 
 -- A whole segment of messages answers the request with this outcome.
 pub record Fits (request : Request) (segment : List BackMessage) (outcome : Outcome) : Type 0 where

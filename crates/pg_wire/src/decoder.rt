@@ -1,6 +1,7 @@
 //! A stream of one direction, taken in pieces.
 
 ghost use Rattle.std.specs.Prelude.{◌≡◌, ◌<◌, ◌≤◌, ◌++◌, [], List, ℕ, length, None, OnOk, MatchOption};
+ghost use Rattle.pg_wire.specs.Direction.{IsLimit};
 ghost use Rattle.pg_wire.specs.Stream.{Head};
 ghost use Rattle.pg_wire.specs.Decoder.{HasTaken, Pushes, Stays, Takes, given_after};
 ghost use Rattle.pg_wire.specs.Private.Found.{Judges, Finds};
@@ -31,7 +32,7 @@ fn head(rest: &[u8]) -> Option<(u8, i32)>
 }
 
 fn judge<M: Message>(limit: u32, rest: &[u8]) -> Judged
-    requires { (64 ≤ limit) × (limit ≤ 1073741823) }
+    requires { IsLimit limit }
     ensures { Judges M.direction limit rest.now result }
 {
     let Some((tag, len)) = head(rest) else {
@@ -56,7 +57,7 @@ fn judge<M: Message>(limit: u32, rest: &[u8]) -> Judged
 
 /// The message at the beginning of a rest, and how many bytes it takes.
 fn find<M: Message>(alloc: Global, limit: u32, rest: &[u8]) -> Result<Option<(M, usize)>, WireFault>
-    requires { (64 ≤ limit) × (limit ≤ 1073741823) }
+    requires { IsLimit limit }
     ensures { Finds M.direction limit rest.now result }
 {
     match judge::<M>(limit, rest) {
@@ -108,7 +109,7 @@ impl<M: Message> Decoder<M> {
         limit: u32,
         fault: Option<WireFault>,
     ) -> Self
-        requires limit { (64 ≤ limit) × (limit ≤ 1073741823) }
+        requires limit { IsLimit limit }
         requires fault { Stays fault }
         ensures { result ≡ record { kept = buffer; limit = limit; fault = fault } }
     {
@@ -123,7 +124,7 @@ impl<M: Message> Decoder<M> {
 
     /// A decoder that takes messages with a length field of at most `limit`, which is from 64 to 1,073,741,823.
     pub fn new(alloc: Global, limit: u32) -> Self
-        requires { (64 ≤ limit) × (limit ≤ 1073741823) }
+        requires { IsLimit limit }
         ensures value { result ≡ record { kept = []; limit = limit; fault = None } }
         ensures taken { HasTaken M.direction result [] [] }
     {
@@ -146,10 +147,7 @@ impl<M: Message> Decoder<M> {
         if let Some(fault) = self.fault {
             return Err(fault);
         }
-        match self.buffer.push(piece) {
-            Ok(()) => Ok(()),
-            Err(_) => Err(WireFault::Memory),
-        }
+        Ok(self.buffer.push(piece)?)
     }
 
     /// The next message, or None where more bytes are to come. A fault is found where no more messages stand before it, and

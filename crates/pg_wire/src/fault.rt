@@ -2,6 +2,7 @@
 
 ghost use Rattle.std.specs.Prelude.{◌≡◌};
 ghost use Rattle.pg_wire.specs.declared.fault.BodyFault.TheVariants.{Memory};
+ghost use Rattle.pg_wire.specs.declared.fault.WireFault.TheVariants as wire;
 
 use std::alloc::{AllocError, AllocFailed};
 use thiserror::Error;
@@ -52,6 +53,14 @@ pub enum WireFault {
     /// Memory was refused.
     #[error("W6 Memory")]
     Memory,
+}
+
+impl From<AllocError> for WireFault {
+    ghost from_gives = { λ _ e. e ≡ wire.Memory };
+
+    fn from(_e: AllocError) -> WireFault {
+        WireFault::Memory
+    }
 }
 
 /// Why no message was made of a body.

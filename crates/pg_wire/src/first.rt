@@ -7,6 +7,7 @@ ghost use Rattle.pg_wire.specs.declared.message.First.{First};
 ghost use Rattle.pg_wire.specs.First.{PacketHead, PacketCode, is_last};
 ghost use Rattle.pg_wire.specs.FirstDecoder.{HasBegun, FirstPushes, FirstTakes, packets_after};
 ghost use Rattle.pg_wire.specs.Decoder.{HasTaken};
+ghost use Rattle.pg_wire.specs.Direction.{IsLimit};
 ghost use Rattle.pg_wire.specs.Frontend.{frontend};
 ghost use Rattle.pg_wire.specs.Private.Reader.{Gives};
 ghost use Rattle.pg_wire.specs.Private.FirstReader.{first_of, JudgesPacket, FindsPacket};
@@ -170,10 +171,7 @@ impl FirstDecoder {
         if let Some(fault) = self.fault {
             return Err(fault);
         }
-        match self.buffer.push(piece) {
-            Ok(()) => Ok(()),
-            Err(_) => Err(WireFault::Memory),
-        }
+        Ok(self.buffer.push(piece)?)
     }
 
     /// The next packet, or None where more bytes are to come or the last packet was given. A fault is found where no more
@@ -208,7 +206,7 @@ impl FirstDecoder {
     /// 64 to 1,073,741,823. It has the bytes that are kept, and answers the fault that was found, if one was. It takes no
     /// memory.
     pub fn into_front(self, limit: u32) -> FrontDecoder
-        requires { (64 ≤ limit) × (limit ≤ 1073741823) }
+        requires { IsLimit limit }
         ensures value { result ≡ record { kept = self.kept; limit = limit; fault = self.fault } }
         ensures taken { self.fault ≡ None → HasTaken frontend result self.kept [] }
     {

@@ -52,7 +52,8 @@ impl Client {
     fn hear_all(&mut self) -> Result<(), FeedFault>
         requires { self.old.closed ≡ None }
         ensures settings { self.new.settings ≡ self.old.settings }
-        ensures all { (before : ℕ) (run : Run) (fed : List ℕ) (heard : List BackMessage) (given : List Settled) (sent piece : List ℕ) → 0 < length piece → IsHearing before run fed heard given sent self.old → Hears run fed heard given sent piece result self.new }
+        ensures all { (before : ℕ) (run : Run) (fed : List ℕ) (heard : List BackMessage) (given : List Settled) (sent piece : List ℕ)
+            → 0 < length piece → IsHearing before run fed heard given sent self.old → Hears run fed heard given sent piece result self.new }
     {
         while self.hear_next()? {}
         Ok(())
@@ -97,14 +98,10 @@ impl Client {
     fn hear_parameter(&mut self, name: Seq<u8>, value: Seq<u8>) -> Result<(), FeedFault>
         ensures { HearsMessage (ParameterStatus name value) self.old result self.new }
     {
-        match hear_parameter(&mut self.stand, &name, &value) {
-            Ok(true) => match self.parameters.set(name.into_vec(), value) {
-                Ok(()) => Ok(()),
-                Err(_) => Err(FeedFault::Memory),
-            },
-            Ok(false) => Err(FeedFault::Unexpected(b'S')),
-            Err(_) => Err(FeedFault::Memory),
+        if !hear_parameter(&mut self.stand, &name, &value)? {
+            return Err(FeedFault::Unexpected(b'S'));
         }
+        Ok(self.parameters.set(name.into_vec(), value)?)
     }
 
     // Takes a message in that says no parameter's value.

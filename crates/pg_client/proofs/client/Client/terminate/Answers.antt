@@ -9,5 +9,5 @@ use Rattle.pg_client.proofs.client.Client.terminate.Goals as goal
 pub returns-clause-run : goal.returns-clause-run
 returns-clause-run c =
     let k : IsOpenPhase (phase_of c.args.self.now) = search rules in
-    let e = encoded Terminate c.args.out.now.items c.terminate.new.buf.items c.in_default.ensures in
+    let e = encoded Terminate c.args.out.now.items c.terminate.new.buf.items c.in_ok-terminate.ensures in
     terminate_accepted (the_view c.self.inside) c.args.self.now c.args.out.now.items c.terminate.new.buf.items c.self.view_is k e.spelled e.put
