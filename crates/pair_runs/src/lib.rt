@@ -2,9 +2,13 @@
 //! in another crate draws from the contracts of a pair.
 #![tactic(auto)]
 
-ghost use Rattle.std.specs.Prelude.{◌≡◌, ◌≤◌, length, map, take};
-ghost use Rattle.pg_pair.specs.Headline.{answered_as, settled_as};
+ghost use Rattle.std.specs.Prelude.{◌≡◌, ◌≤◌, IfSome, false, length, map, take, true};
+ghost use Rattle.pg_backend.specs.Backend.{is_spared};
+ghost use Rattle.pg_client.specs.Client.{phase_of};
+ghost use Rattle.pg_client.specs.declared.phase.Phase.TheVariants.{Ready};
+ghost use Rattle.pg_pair.specs.Headline.{answered_as, settled_as, StandsReady};
 
+use pg_client::{Phase, Settled};
 use pg_pair::{Carry, Pair};
 
 #[cfg(test)]
@@ -17,4 +21,16 @@ pub fn answers_settled<C: Carry>(pair: &Pair<C>) -> usize
     ensures beginning { map settled_as pair.now.settled ≡ take result (map answered_as pair.now.backend.log) }
 {
     pair.settled().len()
+}
+
+/// What a pair has settled, where its client stands ready for a request. Unless the way to the backend is broken, or a step of it was
+/// refused memory, the backend then stands ready too, with only copy messages left to drop.
+pub fn settled_when_ready<C: Carry>(pair: &Pair<C>) -> Option<&[Settled]>
+    ensures client { IfSome result (λ groups. phase_of pair.now.client ≡ Ready) }
+    ensures backend { IfSome result (λ groups. pair.now.to_backend.broken ≡ false → is_spared pair.now.backend.stage ≡ true → StandsReady pair.now) }
+{
+    if pair.client().phase() != Phase::Ready {
+        return None;
+    }
+    Some(pair.settled())
 }

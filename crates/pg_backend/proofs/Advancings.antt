@@ -63,8 +63,12 @@ not_waiting (stage.Open d a) f h w = w.no_fault f h
 not_waiting (stage.Closed e) f h w = w
 
 wanted : (s : Stage) (f : WireFault) → Reason s f → WantsMemory s
-wanted s f (inl h) = inl h.1
-wanted s f (inr h) = inr (not_waiting s f h.1)
+wanted (stage.First d) f (inl h) = inl h.1
+wanted (stage.First d) f (inr h) = inr (not_waiting (stage.First d) f h.1)
+wanted (stage.Open d a) f (inl h) = inl h.1
+wanted (stage.Open d a) f (inr h) = inr (not_waiting (stage.Open d a) f h.1)
+wanted (stage.Closed e) f (inl h) = h.1
+wanted (stage.Closed e) f (inr h) = h.1
 
 broken : (s : Stage) (f g : WireFault) → f ≡ g → g ≢ wire.Memory → Reason s f → IsBroken s g
 broken s f g e not_memory (inl h) = absurd (not_memory (sym e ∙ h.0))

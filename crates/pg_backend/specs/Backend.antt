@@ -75,8 +75,9 @@ IsThere (stage.First d) = (c : ℤ) × (len : ℕ) × IsWholePacket d.kept c len
 IsThere (stage.Open d a) = decoder.WantsMemory frontend d.limit d.kept
 IsThere (stage.Closed e) = ⊥
 
--- Memory is wanted only where a packet or a message is all there, or the rest isn't open.
+-- Memory is wanted only where a packet or a message is all there, or the rest isn't open; never where it is closed.
 abbrev pub WantsMemory : Stage → Type 0
+WantsMemory (stage.Closed e) = ⊥
 WantsMemory s = IsThere s ⊎ (IsWaiting s → ⊥)
 
 -- ---- the calls

@@ -8,6 +8,7 @@ ghost use Rattle.pg_backend.specs.Backend.{phase_of, lost_stage, IsSound, Stores
 ghost use Rattle.pg_backend.specs.Private.Moves.{move};
 ghost use Rattle.pg_backend.specs.Private.Advancing.{BreaksOff, Advances, AdvancesUnlessClosed, is_refused, TakesEffect, Hands, only_sends, admission_effect, packet_effect};
 ghost use Rattle.pg_wire.specs.declared.message.BackMessage.TheVariants.{ErrorResponse};
+ghost use Rattle.pg_wire.specs.Direction.{IsLimit};
 ghost use Rattle.pg_wire.specs.First.{is_last};
 ghost use Rattle.pg_backend.specs.declared.stage.Ending.TheVariants.{Input as ByInput, Memory as ByMemory};
 ghost use Rattle.pg_backend.specs.Opening.{No, Says, Admitted, no_user};
@@ -84,7 +85,7 @@ impl Backend {
     /// A backend that plays this script, and takes messages with a length field of at most `limit`, from 64 to
     /// 1,073,741,823. The script's `check` has answered Ok. It takes no memory.
     pub fn new(alloc: Global, script: Script, limit: u32) -> Backend
-        requires limit { (64 ≤ limit) × (limit ≤ 1073741823) }
+        requires limit { IsLimit limit }
         requires checked { IsChecked script }
         ensures value { result ≡ record { script = script; limit = limit; left = script.answers; stage = Stage.First record { kept = []; ended = false; fault = None }; log = [] } }
         ensures handled { HasHandled result [] record { packets = []; messages = []; faulty = false } [] [] }

@@ -64,7 +64,8 @@ pub enum Applied {
 /// Why an event was dropped.
 #[derive(Clone, Copy, Debug, PartialEq, Eq, Error)]
 pub enum PairFault {
-    /// Memory for what the pair keeps was refused. Both ways are broken, and what was settled stays.
+    /// Memory for what the pair keeps of a call was refused. Both ways break as by the two break events, and what was settled
+    /// stays.
     #[error("P1 Memory")]
     Memory,
 }

@@ -9,6 +9,7 @@ mod stepping;
 
 ghost use Rattle.std.specs.Prelude.{◌≡◌, ◌≤◌, [], drop, false, length, option_copied};
 ghost use Rattle.pg_backend.specs.Check.{IsChecked};
+ghost use Rattle.pg_wire.specs.Direction.{IsLimit};
 ghost use Rattle.pg_pair.specs.Headline.{Headline};
 ghost use Rattle.pg_pair.specs.Standing.{Tied};
 ghost use Rattle.pg_pair.specs.declared.event.Event.TheVariants as event;
@@ -18,12 +19,9 @@ use crate::event::{Applied, Call, Event, PairFault};
 use crate::laws::headline;
 use pg_backend::{Backend, Script};
 use pg_client::{Client, Loss, Settings, Settled};
-use pg_wire::Seq;
+use pg_wire::{LONGEST, Seq};
 use std::alloc::Global;
 use std::marker::Model;
-
-// The greatest length field of a message.
-const LONGEST: u32 = 1_073_741_823;
 
 // One way: all that one end has put out, and what has reached the other.
 #[derive(Drop)]
@@ -92,7 +90,7 @@ impl<C: Carry> Pair<C> {
     /// A pair of a client with these settings, whose limit is from 64 to 1,073,741,823, and a backend that plays this script,
     /// whose `check` has answered Ok. Neither has begun. It takes no memory.
     pub fn new(alloc: Global, settings: Settings, script: Script, carrier: C) -> Pair<C>
-        requires limit { (64 ≤ settings.limit) × (settings.limit ≤ 1073741823) }
+        requires limit { IsLimit settings.limit }
         requires checked { IsChecked script }
         ensures { IsBegun settings script carrier result }
     {
@@ -114,8 +112,8 @@ impl<C: Carry> Pair<C> {
     /// and ends where the carrier gives fewer than its piece or where the end answers a fault. Steps, deliveries and breaks for a
     /// closed end or a broken way do nothing.
     ///
-    /// P1 Memory: memory for what the pair keeps of a call was refused. Both ways are broken, the event is dropped, and what was
-    /// settled stays.
+    /// P1 Memory: memory for what the pair keeps of a call was refused. Both ways break as by the two break events, the call is
+    /// dropped, and what was settled stays.
     pub fn apply(&mut self, event: Event) -> Result<Applied, PairFault>
         ensures applies { Applies C.carries event self.old result self.new }
         ensures headline { Headline self.new }

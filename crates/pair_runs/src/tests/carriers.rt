@@ -1,4 +1,11 @@
-use super::*;
+//! Carriers with a flaw.
+
+use super::answers::{Reply, pair};
+use super::claims::Claim;
+use super::{ASKED, Act, carried_out, done, judge};
+use pg_pair::{Applied, Carry, CarryFault, Way};
+use std::alloc::Global;
+use std::test::Fail;
 
 // What becomes of a carrier's call.
 #[derive(Clone, Copy, PartialEq, Eq)]
@@ -46,6 +53,7 @@ impl Carry for Flawed {
     }
 }
 
+// A carrier with a flaw in this call.
 fn with_flaw(flaw: Flaw, at: u64) -> Flawed {
     Flawed {
         flaw,
@@ -55,33 +63,67 @@ fn with_flaw(flaw: Flaw, at: u64) -> Flawed {
     }
 }
 
-// What the delivery of the startup packet is answered, with a flaw in it.
-fn first_delivery(alloc: Global, flaw: Flaw) -> Result<(Pair<Flawed>, Applied), Fail> {
-    let mut pair = row_pair(alloc, with_flaw(flaw, 1))?;
-    call(&mut pair, Call::Start)?;
-    let applied = pair.apply(Event::ToBackend(100))?;
-    Ok((pair, applied))
+// Whether this holds where the client asks, and all that waits goes to and fro.
+fn holds(alloc: Global, carrier: Flawed, claims: &[Claim<'_>]) -> Result<bool, Fail> {
+    let acts = [Act::Start, Act::Query(ASKED)];
+    judge(
+        alloc,
+        pair(alloc, &[Reply::Row], carrier)?,
+        carried_out(&acts, 4_096),
+        claims,
+    )
 }
 
-// The startup packet of 15 bytes, with a flaw in its delivery: so it is answered, and so many bytes reach the backend.
-fn assert_flaw(
-    rt: &impl Abort,
-    alloc: Global,
-    flaw: Flaw,
-    wanted: &Applied,
-    reached: usize,
-) -> Result<(), Fail> {
-    let (pair, applied) = first_delivery(alloc, flaw)?;
-    assert!(rt; applied == *wanted);
-    assert_eq!(rt; pair.reached(Way::ToBackend), reached);
-    assert_eq!(rt; pair.broken(Way::ToBackend), flaw != Flaw::Fewer);
+#[test]
+fn fewer_bytes_break_nothing(rt: HostRuntime) -> Result<(), Fail> {
+    let claims = [Claim::Broken(false, false), Claim::Settled(1)];
+    for at in 1..=4 {
+        assert!(rt; holds(rt.alloc(), with_flaw(Flaw::Fewer, at), &claims)?);
+    }
     Ok(())
+}
+
+// The way that breaks at this call of the four that carry the row: the calls go to the backend and to the client in turn.
+fn broken_at(at: u64) -> [Claim<'static>; 2] {
+    let to_backend = at % 2 == 1;
+    [Claim::Broken(to_backend, !to_backend), Claim::Settled(0)]
+}
+
+#[test]
+fn other_bytes_break_a_way(rt: HostRuntime) -> Result<(), Fail> {
+    for at in 1..=4 {
+        assert!(rt; holds(rt.alloc(), with_flaw(Flaw::Differs, at), &broken_at(at))?);
+    }
+    Ok(())
+}
+
+#[test]
+fn a_failure_breaks_a_way(rt: HostRuntime) -> Result<(), Fail> {
+    for at in 1..=4 {
+        assert!(rt; holds(rt.alloc(), with_flaw(Flaw::Fails, at), &broken_at(at))?);
+    }
+    Ok(())
+}
+
+// Whether the delivery of the startup packet of 16 bytes is answered so with that flaw, and so many bytes of it come.
+fn answers(alloc: Global, flaw: Flaw, wanted: &Applied, reached: usize) -> Result<bool, Fail> {
+    let claims = [
+        Claim::Answer(&[Act::Deliver(Way::ToBackend, 100)], wanted),
+        Claim::Reached(Way::ToBackend, reached),
+    ];
+    judge(
+        alloc,
+        pair(alloc, &[Reply::Row], with_flaw(flaw, 1))?,
+        done(&[Act::Start]),
+        &claims,
+    )
 }
 
 #[test]
 fn a_flaw_is_answered(rt: HostRuntime) -> Result<(), Fail> {
     let alloc = rt.alloc();
-    assert_flaw(&rt, alloc, Flaw::Differs, &Applied::Carrier, 15)?;
-    assert_flaw(&rt, alloc, Flaw::Fewer, &Applied::Done, 8)?;
-    assert_flaw(&rt, alloc, Flaw::Fails, &Applied::Carrier, 0)
+    assert!(rt; answers(alloc, Flaw::Differs, &Applied::Carrier, 15)?);
+    assert!(rt; answers(alloc, Flaw::Fewer, &Applied::Done, 8)?);
+    assert!(rt; answers(alloc, Flaw::Fails, &Applied::Carrier, 0)?);
+    Ok(())
 }

@@ -1,74 +1,68 @@
-use super::*;
-use pg_backend::Load;
+//! Copies from the client.
 
-// A copy from the client.
-fn copy_in(alloc: Global, load: Load) -> Result<Answer, AllocError> {
-    let head = CopyHead {
-        binary: false,
-        formats: Seq::new(vec![in alloc; 0]?),
-    };
-    Ok(answer(alloc, vec![in alloc; ScriptPart::CopyIn { head, load }]?))
+use super::answers::{Reply, pair};
+use super::claims::Claim;
+use super::{ASKED, Act, judge, started};
+use pg_backend::BackPhase;
+use pg_client::Phase;
+use pg_pair::{Direct, Way};
+use std::alloc::Global;
+use std::test::Fail;
+
+// Whether these claims hold where the client asks for a copy, hands two chunks over, and ends it so; and then all of that arrives.
+fn copies(alloc: Global, reply: Reply, end: Act<'_>, claims: &[Claim<'_>]) -> Result<bool, Fail> {
+    let acts = [
+        Act::Query(ASKED),
+        Act::Deliver(Way::ToBackend, 4_096),
+        Act::Step,
+        Act::Deliver(Way::ToClient, 4_096),
+        Act::Chunk(b"1\n"),
+        Act::Chunk(b"2\n"),
+        end,
+        Act::Deliver(Way::ToBackend, 4_096),
+        Act::Step,
+        Act::Step,
+        Act::Step,
+        Act::Deliver(Way::ToClient, 4_096),
+    ];
+    judge(
+        alloc,
+        pair(alloc, &[reply], Direct)?,
+        started(&acts),
+        claims,
+    )
 }
 
-fn chunk(alloc: Global, pair: &mut Pair<Direct>, bytes: &[u8]) -> Result<(), Fail> {
-    let chunk = text(alloc, bytes)?;
-    call(pair, Call::Chunk(chunk))?;
+// What is handed over.
+const CHUNKS: [&[u8]; 2] = [b"1\n", b"2\n"];
+
+// Both chunks are handed over and these are taken, and the copy settles with an error or without one.
+fn loaded(taken: &'static [&'static [u8]], fails: bool) -> [Claim<'static>; 4] {
+    [
+        Claim::Loaded(&CHUNKS, taken),
+        Claim::Failed(fails),
+        Claim::Settled(1),
+        Claim::Stand(Phase::Ready, BackPhase::Ready),
+    ]
+}
+
+#[test]
+fn an_accepted_copy_is_loaded_whole(rt: HostRuntime) -> Result<(), Fail> {
+    let claims = loaded(&CHUNKS, false);
+    assert!(rt; copies(rt.alloc(), Reply::Accepting, Act::Done, &claims)?);
     Ok(())
-}
-
-// A pair whose client has asked for a copy, and has handed two chunks over.
-fn copying(alloc: Global, load: Load) -> Result<Pair<Direct>, Fail> {
-    let answer = copy_in(alloc, load)?;
-    let mut pair = asked(alloc, vec![in alloc; answer]?)?;
-    chunk(alloc, &mut pair, b"1\n")?;
-    chunk(alloc, &mut pair, b"2\n")?;
-    Ok(pair)
-}
-
-fn accept(alloc: Global) -> Result<Load, AllocError> {
-    Ok(Load::Accept(text(alloc, b"COPY 2")?))
-}
-
-// A copy that is refused with its first chunk.
-fn refuse(alloc: Global) -> Result<Load, AllocError> {
-    let fields = Seq::new(vec![in alloc; field(alloc, b'M', b"no")?]?);
-    Ok(Load::Refuse { after: 1, fields })
-}
-
-// How many chunks were handed over for the first request, and how many of them were loaded.
-fn counts(pair: &Pair<Direct>) -> (usize, usize) {
-    let handed = pair.handed().first().map_or(0, |chunks| chunks.len());
-    let loaded = pair
-        .backend()
-        .log()
-        .first()
-        .map_or(0, |logged| logged.loaded.len());
-    (handed, loaded)
 }
 
 #[test]
 fn a_refused_copy_is_loaded_in_part(rt: HostRuntime) -> Result<(), Fail> {
-    let alloc = rt.alloc();
-    let mut pair = copying(alloc, refuse(alloc)?)?;
-    flow(&mut pair, 4_096)?;
-    assert_begins(&rt, &pair);
-    assert_eq!(rt; pair.client().phase(), Phase::Ready);
-    assert_eq!(rt; counts(&pair), (2, 1));
+    let claims = loaded(&[b"1\n"], true);
+    assert!(rt; copies(rt.alloc(), Reply::Refusing, Act::Done, &claims)?);
     Ok(())
 }
 
 #[test]
 fn a_copy_that_is_given_up_settles(rt: HostRuntime) -> Result<(), Fail> {
-    let alloc = rt.alloc();
-    let mut pair = copying(alloc, accept(alloc)?)?;
-    let reason = text(alloc, b"why")?;
-    assert!(rt; is_done(&mut pair, Event::Call(Call::Fail(reason)))?);
-    flow(&mut pair, 4_096)?;
-    assert_begins(&rt, &pair);
-    let failed = pair
-        .settled()
-        .first()
-        .is_some_and(|group| group.outcome.error.is_some());
-    assert!(rt; failed);
+    let claims = loaded(&CHUNKS, true);
+    assert!(rt; copies(rt.alloc(), Reply::Accepting, Act::Fail(b"why"), &claims)?);
     Ok(())
 }

@@ -1,0 +1,205 @@
+//! Backends, by what they answer.
+
+ghost use Rattle.std.specs.Prelude.{◌≡◌, IfOk};
+ghost use Rattle.pg_backend.specs.Check.{IsChecked};
+
+use pg_backend::{Answer, Auth, Load, Script, ScriptPart};
+use pg_client::Settings;
+use pg_pair::{Carry, Pair};
+use pg_wire::{Aside, Column, CopyHead, ErrorField, Fields, Request, Seq, Status, Values};
+use std::alloc::{AllocError, Global};
+use std::test::Fail;
+
+// What a backend answers to one query.
+#[derive(Clone, Copy)]
+pub enum Reply {
+    // A row of one value, under a column `n`.
+    Row,
+    // Two commands and an error.
+    Failing,
+    // A command with a notice before it.
+    Told,
+    // A command within a transaction.
+    InBlock,
+    // A command whose tag is longer than the client takes.
+    Long,
+    // A copy from the client that is taken.
+    Accepting,
+    // A copy from the client that is refused with its first chunk.
+    Refusing,
+}
+
+pub fn text(alloc: Global, bytes: &[u8]) -> Result<Seq<u8>, AllocError> {
+    Seq::from_slice(alloc, bytes)
+}
+
+pub fn query(alloc: Global, bytes: &[u8]) -> Result<Request, AllocError> {
+    Ok(Request::Query(text(alloc, bytes)?))
+}
+
+fn column(alloc: Global, name: &[u8]) -> Result<Column, AllocError> {
+    Ok(Column {
+        name: text(alloc, name)?,
+        table_oid: 0,
+        attribute: 0,
+        type_oid: 25,
+        size: -1,
+        modifier: -1,
+        format: 0,
+    })
+}
+
+pub fn columns(alloc: Global) -> Result<Seq<Column>, AllocError> {
+    Ok(Seq::new(vec![in alloc; column(alloc, b"n")?]?))
+}
+
+pub fn rows(alloc: Global) -> Result<Seq<Values>, AllocError> {
+    let row = Seq::new(vec![in alloc; Some(text(alloc, b"1")?)]?);
+    Ok(Seq::new(vec![in alloc; row]?))
+}
+
+fn row(alloc: Global) -> Result<ScriptPart, AllocError> {
+    Ok(ScriptPart::Rows {
+        columns: columns(alloc)?,
+        rows: rows(alloc)?,
+        tag: text(alloc, b"SELECT 1")?,
+    })
+}
+
+fn command(alloc: Global, tag: &[u8]) -> Result<ScriptPart, AllocError> {
+    Ok(ScriptPart::Command(text(alloc, tag)?))
+}
+
+fn long(alloc: Global) -> Result<ScriptPart, AllocError> {
+    Ok(ScriptPart::Command(Seq::new(vec![in alloc; b'A'; 70_000]?)))
+}
+
+fn head(alloc: Global) -> Result<CopyHead, AllocError> {
+    Ok(CopyHead {
+        binary: false,
+        formats: Seq::new(vec![in alloc; 0]?),
+    })
+}
+
+fn field(alloc: Global, code: u8, value: &[u8]) -> Result<ErrorField, AllocError> {
+    Ok(ErrorField {
+        code,
+        value: text(alloc, value)?,
+    })
+}
+
+// Fields of one message.
+pub fn fields(alloc: Global, message: &[u8]) -> Result<Fields, AllocError> {
+    Ok(Seq::new(vec![in alloc; field(alloc, b'M', message)?]?))
+}
+
+fn load(alloc: Global, reply: Reply) -> Result<Load, AllocError> {
+    match reply {
+        Reply::Refusing => Ok(Load::Refuse {
+            after: 1,
+            fields: fields(alloc, b"no")?,
+        }),
+        _ => Ok(Load::Accept(text(alloc, b"COPY 2")?)),
+    }
+}
+
+fn copy_in(alloc: Global, reply: Reply) -> Result<ScriptPart, AllocError> {
+    Ok(ScriptPart::CopyIn {
+        head: head(alloc)?,
+        load: load(alloc, reply)?,
+    })
+}
+
+fn first_part(alloc: Global, reply: Reply) -> Result<ScriptPart, AllocError> {
+    match reply {
+        Reply::Row => row(alloc),
+        Reply::Failing | Reply::Told => command(alloc, b"A"),
+        Reply::InBlock => command(alloc, b"B"),
+        Reply::Long => long(alloc),
+        Reply::Accepting | Reply::Refusing => copy_in(alloc, reply),
+    }
+}
+
+fn parts(alloc: Global, reply: Reply) -> Result<Vec<ScriptPart>, AllocError> {
+    let first = first_part(alloc, reply)?;
+    Ok(match reply {
+        Reply::Failing => vec![in alloc; first, command(alloc, b"B")?]?,
+        _ => vec![in alloc; first]?,
+    })
+}
+
+fn before(alloc: Global, reply: Reply) -> Result<Seq<Aside>, AllocError> {
+    match reply {
+        Reply::Told => Ok(Seq::new(vec![in alloc; Aside::Notice(fields(alloc, b"hi")?)]?)),
+        _ => Ok(Seq::new(Vec::new(alloc))),
+    }
+}
+
+fn error(alloc: Global, reply: Reply) -> Result<Option<Fields>, AllocError> {
+    match reply {
+        Reply::Failing => Ok(Some(fields(alloc, b"bad")?)),
+        _ => Ok(None),
+    }
+}
+
+fn status(reply: Reply) -> Status {
+    match reply {
+        Reply::Failing => Status::Failed,
+        Reply::InBlock => Status::InBlock,
+        _ => Status::Idle,
+    }
+}
+
+fn answer(alloc: Global, reply: Reply) -> Result<Answer, AllocError> {
+    Ok(Answer {
+        before: before(alloc, reply)?,
+        parts: Seq::new(parts(alloc, reply)?),
+        error: error(alloc, reply)?,
+        status: status(reply),
+    })
+}
+
+fn answers(alloc: Global, replies: &[Reply]) -> Result<Vec<Answer>, AllocError> {
+    let mut answers = Vec::new(alloc);
+    for reply in replies {
+        answers.push(answer(alloc, *reply)?)?;
+    }
+    Ok(answers)
+}
+
+// A script whose answers are these, in their order.
+fn script(alloc: Global, replies: &[Reply]) -> Result<Script, AllocError> {
+    Ok(Script {
+        auth: Auth::Trust,
+        pairs: Seq::new(Vec::new(alloc)),
+        key: None,
+        answers: Seq::new(answers(alloc, replies)?),
+    })
+}
+
+// Such a script, which can be played.
+fn checked(alloc: Global, replies: &[Reply]) -> Result<Script, Fail>
+    ensures { IfOk result IsChecked }
+{
+    let script = script(alloc, replies)?;
+    script.check(alloc)?;
+    Ok(script)
+}
+
+// A client of the user `u`.
+pub fn settings(alloc: Global) -> Result<Settings, AllocError>
+    ensures { IfOk result (λ s. s.limit ≡ 65536) }
+{
+    Ok(Settings {
+        user: text(alloc, b"u")?,
+        database: None,
+        pairs: Seq::new(Vec::new(alloc)),
+        limit: 65_536,
+    })
+}
+
+// A pair of that client and a backend with these answers.
+pub fn pair<C: Carry>(alloc: Global, replies: &[Reply], carrier: C) -> Result<Pair<C>, Fail> {
+    let script = checked(alloc, replies)?;
+    Ok(Pair::new(alloc, settings(alloc)?, script, carrier))
+}

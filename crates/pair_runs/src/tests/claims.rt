@@ -1,0 +1,164 @@
+//! What is so of a pair.
+
+use super::outside::settles_alike;
+use super::{Act, event, perform};
+use pg_backend::{BackPhase, Logged};
+use pg_client::{Loss, Phase, Settled};
+use pg_pair::{Applied, Carry, Event, Pair, Way};
+use pg_wire::Seq;
+use std::alloc::{AllocError, Global};
+use std::test::Fail;
+
+#[derive(Clone, Copy)]
+pub enum Claim<'a> {
+    // Both ends are in these phases.
+    Stand(Phase, BackPhase),
+    // So many bytes were sent along the way.
+    Sent(Way, usize),
+    // So many of them have reached the other end.
+    Reached(Way, usize),
+    // The ways to the backend and to the client are broken or not.
+    Broken(bool, bool),
+    // So many groups are settled, and they are, in order, the first of what the backend has answered.
+    Settled(usize),
+    // These groups are settled, which are all that the backend has answered.
+    Groups(&'a [Settled]),
+    // The one group is settled with an error, or without one.
+    Failed(bool),
+    // A client outside the pair settles the same of the same bytes.
+    Alike,
+    // These chunks were handed over for the one request, and the backend took these of them.
+    Loaded(&'a [&'a [u8]], &'a [&'a [u8]]),
+    // The client has said this of the break.
+    Lost(Option<&'a Loss>),
+    // Each of these acts is answered so.
+    Answer(&'a [Act<'a>], &'a Applied),
+    // Each of these acts does nothing.
+    Idle(&'a [Act<'a>]),
+    // The list of these events runs to its end.
+    Runs(&'a [Act<'a>]),
+}
+
+fn is_logged(group: &Settled, logged: &Logged) -> bool {
+    group.request == logged.request && group.outcome == logged.outcome
+}
+
+// Whether the groups are, in order, the first of what the backend has answered.
+fn begins(groups: &[Settled], log: &[Logged]) -> bool {
+    for (group, logged) in groups.iter().zip(log) {
+        if !is_logged(group, logged) {
+            return false;
+        }
+    }
+    groups.len() <= log.len()
+}
+
+fn stands<C: Carry>(pair: &Pair<C>, client: Phase, backend: BackPhase) -> bool {
+    pair.client().phase() == client && pair.backend().phase() == backend
+}
+
+fn is_broken<C: Carry>(pair: &Pair<C>, to_backend: bool, to_client: bool) -> bool {
+    pair.broken(Way::ToBackend) == to_backend && pair.broken(Way::ToClient) == to_client
+}
+
+fn is_settled<C: Carry>(pair: &Pair<C>, count: usize) -> bool {
+    pair.settled().len() == count && begins(pair.settled(), pair.backend().log())
+}
+
+fn gives<C: Carry>(pair: &Pair<C>, groups: &[Settled]) -> bool {
+    pair.settled() == groups
+        && groups.len() == pair.backend().log().len()
+        && begins(groups, pair.backend().log())
+}
+
+fn is_failed(groups: &[Settled], fails: bool) -> bool {
+    match groups.first() {
+        Some(group) => groups.len() == 1 && group.outcome.error.is_some() == fails,
+        None => false,
+    }
+}
+
+fn are(chunks: &[Seq<u8>], wanted: &[&[u8]]) -> bool {
+    for (chunk, bytes) in chunks.iter().zip(wanted) {
+        if chunk.as_slice() != *bytes {
+            return false;
+        }
+    }
+    chunks.len() == wanted.len()
+}
+
+fn took(log: &[Logged], wanted: &[&[u8]]) -> bool {
+    match log.first() {
+        Some(logged) => are(logged.loaded.as_slice(), wanted),
+        None => false,
+    }
+}
+
+fn handed(lists: &[Seq<Seq<u8>>], wanted: &[&[u8]]) -> bool {
+    match lists.first() {
+        Some(chunks) => lists.len() == 1 && are(chunks.as_slice(), wanted),
+        None => false,
+    }
+}
+
+// Whether each of the acts is answered so.
+fn answer<C: Carry>(
+    alloc: Global,
+    pair: &mut Pair<C>,
+    acts: &[Act<'_>],
+    wanted: &Applied,
+) -> Result<bool, Fail> {
+    for act in acts {
+        if perform(alloc, pair, *act)? != *wanted {
+            return Ok(false);
+        }
+    }
+    Ok(true)
+}
+
+fn events(alloc: Global, acts: &[Act<'_>]) -> Result<Vec<Event>, AllocError> {
+    let mut events = Vec::new(alloc);
+    for act in acts {
+        events.push(event(alloc, *act)?)?;
+    }
+    Ok(events)
+}
+
+fn runs<C: Carry>(alloc: Global, pair: &mut Pair<C>, acts: &[Act<'_>]) -> Result<bool, Fail> {
+    let events = events(alloc, acts)?;
+    Ok(pair.run(events) == Ok(()))
+}
+
+fn holds<C: Carry>(alloc: Global, pair: &mut Pair<C>, claim: Claim<'_>) -> Result<bool, Fail> {
+    match claim {
+        Claim::Stand(client, backend) => Ok(stands(pair, client, backend)),
+        Claim::Sent(way, count) => Ok(pair.sent(way).len() == count),
+        Claim::Reached(way, count) => Ok(pair.reached(way) == count),
+        Claim::Broken(to_backend, to_client) => Ok(is_broken(pair, to_backend, to_client)),
+        Claim::Settled(count) => Ok(is_settled(pair, count)),
+        Claim::Groups(groups) => Ok(gives(pair, groups)),
+        Claim::Failed(fails) => Ok(is_failed(pair.settled(), fails)),
+        Claim::Alike => settles_alike(alloc, pair),
+        Claim::Loaded(all, taken) => Ok(
+            handed(pair.handed(), all) && took(pair.backend().log(), taken),
+        ),
+        Claim::Lost(loss) => Ok(pair.loss() == loss),
+        Claim::Answer(acts, wanted) => answer(alloc, pair, acts, wanted),
+        Claim::Idle(acts) => answer(alloc, pair, acts, &Applied::Nothing),
+        Claim::Runs(acts) => runs(alloc, pair, acts),
+    }
+}
+
+// Whether each of the claims holds.
+pub fn hold<C: Carry>(
+    alloc: Global,
+    pair: &mut Pair<C>,
+    claims: &[Claim<'_>],
+) -> Result<bool, Fail> {
+    for claim in claims {
+        if !holds(alloc, pair, *claim)? {
+            return Ok(false);
+        }
+    }
+    Ok(true)
+}
