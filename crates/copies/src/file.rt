@@ -1,6 +1,10 @@
 //! Files of either format, read in pieces and written.
 
-ghost use Rattle.std.specs.Prelude.{◌≡◌, Some};
+ghost use Rattle.std.specs.Prelude.{◌≡◌, ◌++◌, ℕ, List, Some, IfOk, OnOk};
+ghost use Rattle.std.specs.List.{flat_map};
+ghost use Rattle.pg_copy.specs.Row.{Row};
+ghost use Rattle.pg_copy.specs.Text.{written_row};
+ghost use Rattle.pg_copy.specs.Binary.{written_head, binary_row, trailer};
 
 use anyhow::{Result, bail};
 use pg_copy::{
@@ -28,6 +32,9 @@ pub enum Cut {
 
 /// A reader of a format, beside which its writers stand.
 pub trait File: Drop {
+    // the file that is written of rows
+    ghost file_of: { List Row → List ℕ };
+
     /// Nothing was read yet.
     fn begin(alloc: Global) -> Self
     where
@@ -43,10 +50,33 @@ pub trait File: Drop {
     fn finish(&mut self) -> Result<Option<Row>>;
 
     /// Appends a whole file of these rows.
-    fn write(rows: &[Row], buf: &mut Vec<u8>) -> Result<()>;
+    fn write(rows: &[Row], buf: &mut Vec<u8>) -> Result<()>
+        ensures { OnOk result (buf.new.items ≡ buf.old.items ++ file_of rows.now) };
+}
+
+/// Appends the canonical lines of rows.
+fn write_lines(rows: &[Row], buf: &mut Vec<u8>) -> Result<()>
+    ensures { OnOk result (buf.new.items ≡ buf.old.items ++ flat_map written_row rows.now) }
+{
+    for row in rows {
+        write_text_row(row, buf)?;
+    }
+    Ok(())
+}
+
+/// Appends the rows of a binary file, which stand between its head and its trailer.
+fn write_binary_rows(rows: &[Row], buf: &mut Vec<u8>) -> Result<()>
+    ensures { OnOk result (buf.new.items ≡ buf.old.items ++ flat_map binary_row rows.now) }
+{
+    for row in rows {
+        write_binary_row(row, buf)?;
+    }
+    Ok(())
 }
 
 impl File for TextReader {
+    ghost file_of = { flat_map written_row };
+
     fn begin(alloc: Global) -> TextReader
         ensures { result.columns ≡ Some 3 }
     {
@@ -73,14 +103,13 @@ impl File for TextReader {
     }
 
     fn write(rows: &[Row], buf: &mut Vec<u8>) -> Result<()> {
-        for row in rows {
-            write_text_row(row, buf)?;
-        }
-        Ok(())
+        write_lines(rows, buf)
     }
 }
 
 impl File for BinaryReader {
+    ghost file_of = { λ rows. written_head ++ flat_map binary_row rows ++ trailer };
+
     fn begin(alloc: Global) -> BinaryReader
         ensures { (result.columns ≡ 3) × (result.limit ≡ 65536) }
     {
@@ -108,9 +137,7 @@ impl File for BinaryReader {
 
     fn write(rows: &[Row], buf: &mut Vec<u8>) -> Result<()> {
         write_binary_head(buf)?;
-        for row in rows {
-            write_binary_row(row, buf)?;
-        }
+        write_binary_rows(rows, buf)?;
         write_binary_trailer(buf)?;
         Ok(())
     }
@@ -161,7 +188,9 @@ pub fn read<F: File>(alloc: Global, bytes: &[u8], cut: Cut) -> Result<Vec<Row>> 
 }
 
 /// A whole file of these rows.
-pub fn write<F: File>(alloc: Global, rows: &[Row]) -> Result<Vec<u8>> {
+pub fn write<F: File>(alloc: Global, rows: &[Row]) -> Result<Vec<u8>>
+    ensures { IfOk result (λ file. file.items ≡ F.file_of rows.now) }
+{
     let mut buf = Vec::new(alloc);
     F::write(rows, &mut buf)?;
     Ok(buf)

@@ -8,13 +8,11 @@ use Rattle.std.proofs.lemmas.List.{take_at, take-append-drop, length-take, lengt
 use Rattle.std.proofs.lemmas.Nat.{be_bytes_2, be_bytes_4}
 use Rattle.pg_copy.specs.declared.fault.BinaryFault.{BinaryFault}
 use Rattle.pg_copy.specs.declared.fault.BinaryFault.TheVariants.{Signature, Flags, Extension, FieldCount, FieldLength, AfterTrailer}
-use Rattle.pg_copy.specs.declared.binary_part.NoPart.{NoPart}
-use Rattle.pg_copy.specs.declared.binary_part.NoPart.TheVariants.{Incomplete, Faulty}
 use Rattle.pg_copy.specs.Row.{Row}
 use Rattle.pg_copy.specs.Reading.{Reading, Ending, Open, Done, Ended, Bad, after_rows}
 use Rattle.pg_copy.proofs.TextEscapes.{same-bytes, other-bytes}
 use Rattle.pg_copy.specs.Binary.{IsBytes, signature, head, value, binary_row, trailer, IsHead, FitsValue, FitsBinary, IsFaultyRest, field_count, field_length, after_trailer, IsOpenRest, IsRest, IsFaultyHead, signature_differs, flag_set, extension_negative, IsOpenHead, open_head, IsHeadRest, IsBinaryFile, whole, headless}
-use Rattle.pg_copy.specs.BinaryReading.{◌>>=◌, number_at, bytes_at, signature_at, flags_at, extension_at, fixed_at, head_at, value_at, values_at, row_at, part_reading, rows_reading, body_reading, head_reading, binary_reading, trailer_reading}
+use Rattle.pg_copy.specs.BinaryReading.{NoPart, Incomplete, Faulty, ◌>>=◌, number_at, bytes_at, signature_at, flags_at, extension_at, fixed_at, head_at, value_at, values_at, row_at, part_reading, rows_reading, body_reading, head_reading, binary_reading, trailer_reading}
 use Rattle.pg_copy.proofs.TextReads.{after-none}
 use Rattle.pg_copy.proofs.BinaryReads.{body-step}
 use Rattle.pg_copy.proofs.BinaryRound.{wide16, wide32, number-again, bytes-again, value-again, row-again, head-again, rows-trip, body-trailer}

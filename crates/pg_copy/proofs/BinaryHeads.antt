@@ -1,17 +1,15 @@
 -- The head of a binary file but for its extension, and an extension that is dropped as it comes.
-use Rattle.std.proofs.Common.{◌≡◌, ℕ, ◌+◌, ◌-◌, ◌<◌, ◌≤◌, Bool, true, false, cond, ltb, List, [], ◌++◌, length, drop, take, Option, Some, None, Result, Ok, Err, refl, sym, ap, subst, ◌∙◌, arith, inl, inr}
+use Rattle.std.proofs.Common.{◌≡◌, ℕ, ◌+◌, ◌-◌, ◌<◌, ◌≤◌, Bool, true, false, cond, ltb, List, [], ◌++◌, length, drop, take, Result, Ok, Err, refl, sym, ap, subst, ◌∙◌, arith, inl, inr}
 use Rattle.std.specs.Int.{Width, w32, byte_len, cast_signed}
 use Rattle.std.specs.Str.{bytes_eq}
 use Rattle.std.proofs.lemmas.List.{drop_at, length-append, length-drop, drop-drop}
 use Rattle.std.proofs.lemmas.Bool.{cases_lt, lt-ltb, le-ltb, ltb-true, cond-true, cond-false}
 use Rattle.pg_copy.specs.declared.fault.BinaryFault.{BinaryFault}
 use Rattle.pg_copy.specs.declared.fault.BinaryFault.TheVariants.{Signature, Flags, Extension}
-use Rattle.pg_copy.specs.declared.binary_part.NoPart.{NoPart}
-use Rattle.pg_copy.specs.declared.binary_part.NoPart.TheVariants.{Incomplete, Faulty}
 use Rattle.pg_copy.specs.declared.binary_reader.BinaryStage.TheVariants as stages
 use Rattle.pg_copy.specs.Reading.{Reading}
 use Rattle.pg_copy.specs.Binary.{signature, open_head}
-use Rattle.pg_copy.specs.BinaryReading.{◌>>=◌, number_at, bytes_at, signature_at, flags_at, extension_at, fixed_at, head_at, head_reading, body_reading, binary_reading}
+use Rattle.pg_copy.specs.BinaryReading.{NoPart, Incomplete, Faulty, ◌>>=◌, number_at, bytes_at, signature_at, flags_at, extension_at, fixed_at, head_at, head_reading, body_reading, binary_reading}
 use Rattle.pg_copy.specs.BinaryReader.{stage_reading}
 use Rattle.pg_copy.specs.Private.BinaryPart.{rest_of}
 use Rattle.pg_copy.proofs.BinaryReads.{Grows, fixed_grows, bytes_grow}

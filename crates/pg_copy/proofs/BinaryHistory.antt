@@ -3,10 +3,9 @@ use Rattle.std.proofs.Common.{◌≡◌, ℕ, Bool, true, false, List, [], ◌�
 use Rattle.std.specs.Prelude.{◌⊎◌, ◌<◌, ◌≤◌, ◌-◌, length, drop, OnOk}
 use Rattle.std.proofs.lemmas.List.{append-nil, length-append, drop_all}
 use Rattle.std.proofs.lemmas.Bool.{false≢true, cases_lt, lt-ltb, le-ltb, cond-true, cond-false}
+use Rattle.pg_copy.specs.declared.binary_part.NoPart.TheVariants as stops
 use Rattle.pg_copy.specs.declared.fault.BinaryFault.{BinaryFault}
 use Rattle.pg_copy.specs.declared.fault.BinaryFault.TheVariants.{Truncated, AfterTrailer, Memory}
-use Rattle.pg_copy.specs.declared.binary_part.NoPart.{NoPart}
-use Rattle.pg_copy.specs.declared.binary_part.NoPart.TheVariants.{Incomplete, Faulty}
 use Rattle.pg_copy.specs.declared.binary_part.NoRow.{NoRow}
 use Rattle.pg_copy.specs.declared.binary_part.NoRow.TheVariants as no_row
 use Rattle.pg_copy.specs.declared.binary_reader.BinaryStage.{BinaryStage}
@@ -14,9 +13,9 @@ use Rattle.pg_copy.specs.declared.binary_reader.BinaryStage.TheVariants.{Head, E
 use Rattle.pg_copy.specs.Row.{Row}
 use Rattle.pg_copy.specs.Reading.{Reading, Ending, Open, Done, Bad, after_rows, RowWaits, given_by, IsGood, Gives}
 use Rattle.pg_copy.specs.Binary.{open_head}
-use Rattle.pg_copy.specs.BinaryReading.{◌>>=◌, bytes_at, fixed_at, head_at, row_at, part_reading, row_reading, body_reading, head_reading, binary_reading, trailer_reading, last_ending, at_end, file_reading}
+use Rattle.pg_copy.specs.BinaryReading.{NoPart, Incomplete, Faulty, ◌>>=◌, bytes_at, fixed_at, head_at, row_at, part_reading, row_reading, body_reading, head_reading, binary_reading, trailer_reading, last_ending, at_end, file_reading}
 use Rattle.pg_copy.specs.BinaryReader.{BinaryState, stage_reading, left, HasReadBinary, kept_of, stage_behind, pushed_after, PushesBinary, WaitsWith, binary_ending}
-use Rattle.pg_copy.specs.Private.BinaryPart.{closed_at, row_or_trailer, body_at, part_at, left_of, in_extension, behind_head, waiting_at, waiting, TakesPart}
+use Rattle.pg_copy.specs.Private.BinaryPart.{closed_at, row_or_trailer, body_at, part_at, left_of, in_extension, behind_head, waiting_at, TakesPart}
 use Rattle.pg_copy.proofs.TextReads.{after-after, after-none}
 use Rattle.pg_copy.proofs.BinaryReads.{Grows, row_grows, head_grows, bytes_grow, body-step, part-rows}
 use Rattle.pg_copy.proofs.BinaryHeads.{head-open, open-few, open-many, skip-reads, skip-some, skip-all}
@@ -27,21 +26,21 @@ use Rattle.pg_copy.proofs.BinaryHeads.{head-open, open-few, open-many, skip-read
 abbrev pub next_answer : Result (Option Row) NoRow → Result (Option Row) BinaryFault
 next_answer (Ok row) = Ok row
 next_answer (Err no_row.Memory) = Err Memory
-next_answer (Err (no_row.NoPart Incomplete)) = Ok None
-next_answer (Err (no_row.NoPart (Faulty fault))) = Err fault
+next_answer (Err (no_row.NoPart stops.Incomplete)) = Ok None
+next_answer (Err (no_row.NoPart (stops.Faulty fault))) = Err fault
 
 abbrev pub last_answer : Result (Option Row) NoRow → Result (Option Row) BinaryFault
 last_answer (Ok row) = Ok row
 last_answer (Err no_row.Memory) = Err Memory
-last_answer (Err (no_row.NoPart Incomplete)) = Err Truncated
-last_answer (Err (no_row.NoPart (Faulty fault))) = Err fault
+last_answer (Err (no_row.NoPart stops.Incomplete)) = Err Truncated
+last_answer (Err (no_row.NoPart (stops.Faulty fault))) = Err fault
 
 -- how finish leaves the reader
 abbrev pub finished : Result (Option Row) NoRow → BinaryState → BinaryState
 finished (Ok row) mid = record mid { ended = true }
 finished (Err no_row.Memory) mid = mid
-finished (Err (no_row.NoPart Incomplete)) mid = record mid { kept = []; stage = Failed Truncated; ended = true }
-finished (Err (no_row.NoPart (Faulty fault))) mid = record mid { ended = true }
+finished (Err (no_row.NoPart stops.Incomplete)) mid = record mid { kept = []; stage = Failed Truncated; ended = true }
+finished (Err (no_row.NoPart (stops.Faulty fault))) mid = record mid { ended = true }
 
 -- ---- the next part
 
@@ -223,8 +222,8 @@ Goes-part (Ok o) old new h =
     let r = due old (Ok ((o, new.stage), new.kept)) h.0 in
     rw h.1 (record { columns = refl; limit = refl; ended = refl; left = λ more. r.1 more })
 Goes-part (Err no_row.Memory) old new h = rw h.0 (Goes-same old)
-Goes-part (Err (no_row.NoPart Incomplete)) old new h = rw h.1 (waits old.columns old.limit old.kept old.stage old.ended h.0)
-Goes-part (Err (no_row.NoPart (Faulty fault))) old new h =
+Goes-part (Err (no_row.NoPart stops.Incomplete)) old new h = rw h.1 (waits old.columns old.limit old.kept old.stage old.ended h.0)
+Goes-part (Err (no_row.NoPart (stops.Faulty fault))) old new h =
     let r : (more : List ℕ) → left old more ≡ record { rows = []; ending = Bad fault } = due old (Err (Faulty fault)) h.1 in
     rw h.2 (record { columns = refl; limit = refl; ended = refl; left = r })
 
@@ -244,10 +243,10 @@ left-none old new h =
     let n = r.0 refl in
     (n.0, r.1 [] ∙ ap (λ (t : BinaryStage). stage_reading t old.columns old.limit (new.kept ++ [])) n.0 ∙ ap (λ (x : List ℕ). trailer_reading (x ++ [])) n.1)
 
-left-open : (old new : BinaryState) → TakesPart (Err (no_row.NoPart Incomplete)) old new → left old [] ≡ record { rows = []; ending = Open (open_bytes old.stage old.kept) }
+left-open : (old new : BinaryState) → TakesPart (Err (no_row.NoPart stops.Incomplete)) old new → left old [] ≡ record { rows = []; ending = Open (open_bytes old.stage old.kept) }
 left-open old new h = due old (Err Incomplete) h.0
 
-left-fault : (old new : BinaryState) (fault : BinaryFault) → TakesPart (Err (no_row.NoPart (Faulty fault))) old new → left old [] ≡ record { rows = []; ending = Bad fault }
+left-fault : (old new : BinaryState) (fault : BinaryFault) → TakesPart (Err (no_row.NoPart (stops.Faulty fault))) old new → left old [] ≡ record { rows = []; ending = Bad fault }
 left-fault old new fault h =
     let r : (more : List ℕ) → left old more ≡ record { rows = []; ending = Bad fault } = due old (Err (Faulty fault)) h.1 in
     r []
@@ -298,14 +297,14 @@ Gives-next (Ok None) old new pushed given going h k =
     let here : Done ≡ binary_ending new.stage new.kept = ap (λ (t : BinaryStage). binary_ending t new.kept) (sym n.0) in
     subst (λ (x : Ending BinaryFault). IsGood x × (binary_reading new.columns new.limit pushed ≡ record { rows = given; ending = x })) here (tt, file)
 Gives-next (Err no_row.Memory) old new pushed given going h k = inl refl
-Gives-next (Err (no_row.NoPart Incomplete)) old new pushed given going h k =
+Gives-next (Err (no_row.NoPart stops.Incomplete)) old new pushed given going h k =
     let o = open-ending old.columns old.limit old.kept old.stage old.ended h.0 in
-    let g = Goes-part (Err (no_row.NoPart Incomplete)) old new h in
+    let g = Goes-part (Err (no_row.NoPart stops.Incomplete)) old new h in
     let file = whole-from old new pushed given (Open (open_bytes old.stage old.kept)) going g.columns g.limit k (left-open old new h) in
     let o' = subst (λ (s : BinaryState). EndsOpen s (open_bytes old.stage old.kept)) (sym h.1) o in
     (o'.1, file ∙ ap (λ (x : Ending BinaryFault). record { rows = given; ending = x }) (sym o'.0))
-Gives-next (Err (no_row.NoPart (Faulty fault))) old new pushed given going h k =
-    let g = Goes-part (Err (no_row.NoPart (Faulty fault))) old new h in
+Gives-next (Err (no_row.NoPart (stops.Faulty fault))) old new pushed given going h k =
+    let g = Goes-part (Err (no_row.NoPart (stops.Faulty fault))) old new h in
     inr (ap (λ (s : BinaryState). binary_ending s.stage s.kept) h.2, whole-from old new pushed given (Bad fault) going g.columns g.limit k (left-fault old new fault h))
 
 -- what is kept where a row is waited for
@@ -352,13 +351,13 @@ next-waits (Ok None) old new skips h e =
     let n = (due old (Ok ((None, new.stage), new.kept)) h.0).0 refl in
     subst (λ (t : BinaryStage). WaitsWith t new.kept) (sym n.0) n.1
 next-waits (Err no_row.Memory) old new skips h e = absurd cc
-next-waits (Err (no_row.NoPart Incomplete)) old new skips h e =
+next-waits (Err (no_row.NoPart stops.Incomplete)) old new skips h e =
     let with = waits-with old.columns old.limit old.kept old.stage old.ended skips h.0 in
     subst (λ (s : BinaryState). WaitsWith s.stage s.kept) (sym h.1) with
-next-waits (Err (no_row.NoPart (Faulty fault))) old new skips h e = absurd cc
+next-waits (Err (no_row.NoPart (stops.Faulty fault))) old new skips h e = absurd cc
 
 -- a reader within an extension takes no part
-pub stays-within : (old : BinaryState) (n : ℕ) → old.stage ≡ Extension n → (0 < n) × (old.kept ≡ []) → TakesPart (Err (no_row.NoPart Incomplete)) old old
+pub stays-within : (old : BinaryState) (n : ℕ) → old.stage ≡ Extension n → (0 < n) × (old.kept ≡ []) → TakesPart (Err (no_row.NoPart stops.Incomplete)) old old
 unfolding part_at
 stays-within old n e skips =
     let none : bytes_at n old.kept ≡ Err Incomplete = ap (bytes_at n) skips.1 ∙ cond-true _ _ _ (lt-ltb 0 n skips.0) in (
@@ -370,8 +369,8 @@ given-next : (answer : Answer) → given_by (next_answer answer) ≡ answer_rows
 given-next (Ok (Some row)) = refl
 given-next (Ok None) = refl
 given-next (Err no_row.Memory) = refl
-given-next (Err (no_row.NoPart Incomplete)) = refl
-given-next (Err (no_row.NoPart (Faulty fault))) = refl
+given-next (Err (no_row.NoPart stops.Incomplete)) = refl
+given-next (Err (no_row.NoPart (stops.Faulty fault))) = refl
 
 pub HasRead-next : (answer : Answer) (old new : BinaryState) (pushed : List ℕ) (given : List Row) → TakesPart answer old new → HasReadBinary old pushed given → HasReadBinary new pushed (given ++ given_by (next_answer answer))
 HasRead-next answer old new pushed given h k = rw (given-next answer) (HasRead-goes old new (answer_rows answer) pushed given (Goes-part answer old new h) k)
@@ -380,8 +379,8 @@ pub next-memory : (answer : Answer) (old new : BinaryState) → TakesPart answer
 next-memory (Ok (Some row)) old new h e = absurd cc
 next-memory (Ok None) old new h e = absurd cc
 next-memory (Err no_row.Memory) old new h e = h
-next-memory (Err (no_row.NoPart Incomplete)) old new h e = absurd cc
-next-memory (Err (no_row.NoPart (Faulty fault))) old new h e = absurd (h.0 cc)
+next-memory (Err (no_row.NoPart stops.Incomplete)) old new h e = absurd cc
+next-memory (Err (no_row.NoPart (stops.Faulty fault))) old new h e = absurd (h.0 cc)
 
 -- ---- pushing
 
@@ -493,42 +492,42 @@ Gives-finish (Ok None) old mid new pushed given h e k =
     let here : Done ≡ binary_ending mid.stage mid.kept = ap (λ (t : BinaryStage). binary_ending t mid.kept) (sym n.0) in
     rw e (subst (λ (x : Ending BinaryFault). IsGood x × (file_reading mid.columns mid.limit pushed ≡ record { rows = given; ending = x })) here (tt, file))
 Gives-finish (Err no_row.Memory) old mid new pushed given h e k = inl refl
-Gives-finish (Err (no_row.NoPart Incomplete)) old mid new pushed given h e k =
-    let g = Goes-part (Err (no_row.NoPart Incomplete)) old mid h in
+Gives-finish (Err (no_row.NoPart stops.Incomplete)) old mid new pushed given h e k =
+    let g = Goes-part (Err (no_row.NoPart stops.Incomplete)) old mid h in
     rw e (inr (refl, all-from old mid pushed given (Open (open_bytes old.stage old.kept)) g.columns g.limit k (left-open old mid h)))
-Gives-finish (Err (no_row.NoPart (Faulty fault))) old mid new pushed given h e k =
-    let g = Goes-part (Err (no_row.NoPart (Faulty fault))) old mid h in
+Gives-finish (Err (no_row.NoPart (stops.Faulty fault))) old mid new pushed given h e k =
+    let g = Goes-part (Err (no_row.NoPart (stops.Faulty fault))) old mid h in
     rw e (inr (ap (λ (s : BinaryState). binary_ending s.stage s.kept) h.2, all-from old mid pushed given (Bad fault) g.columns g.limit k (left-fault old mid fault h)))
 
 pub HasRead-finish : (answer : Answer) (old mid new : BinaryState) (pushed : List ℕ) (given : List Row) → TakesPart answer old mid → new ≡ finished answer mid → HasReadBinary old pushed given → HasReadBinary new pushed (given ++ given_by (last_answer answer))
 HasRead-finish (Ok (Some row)) old mid new pushed given h e k = HasRead-ended mid new pushed (given ++ row ∷ []) e (HasRead-goes old mid (row ∷ []) pushed given (Goes-part (Ok (Some row)) old mid h) k)
 HasRead-finish (Ok None) old mid new pushed given h e k = HasRead-ended mid new pushed (given ++ []) e (HasRead-goes old mid [] pushed given (Goes-part (Ok None) old mid h) k)
 HasRead-finish (Err no_row.Memory) old mid new pushed given h e k = rw e (HasRead-goes old mid [] pushed given (Goes-part (Err no_row.Memory) old mid h) k)
-HasRead-finish (Err (no_row.NoPart Incomplete)) old mid new pushed given h e k =
-    let g = Goes-part (Err (no_row.NoPart Incomplete)) old mid h in
+HasRead-finish (Err (no_row.NoPart stops.Incomplete)) old mid new pushed given h e k =
+    let g = Goes-part (Err (no_row.NoPart stops.Incomplete)) old mid h in
     let all = all-from old mid pushed given (Open (open_bytes old.stage old.kept)) g.columns g.limit k (left-open old mid h) in
     rw e (record { so_far = λ f. absurd (false≢true (sym f)); in_all = all ∙ ap (λ (rows : List Row). record { rows = rows; ending = Bad Truncated }) (sym (append-nil given) ∙ sym (append-nil (given ++ []))) })
-HasRead-finish (Err (no_row.NoPart (Faulty fault))) old mid new pushed given h e k = HasRead-ended mid new pushed (given ++ []) e (HasRead-goes old mid [] pushed given (Goes-part (Err (no_row.NoPart (Faulty fault))) old mid h) k)
+HasRead-finish (Err (no_row.NoPart (stops.Faulty fault))) old mid new pushed given h e k = HasRead-ended mid new pushed (given ++ []) e (HasRead-goes old mid [] pushed given (Goes-part (Err (no_row.NoPart (stops.Faulty fault))) old mid h) k)
 
 pub finish-memory : (answer : Answer) (old mid new : BinaryState) → TakesPart answer old mid → new ≡ finished answer mid → last_answer answer ≡ Err Memory → (new ≡ old) × RowWaits (left old [])
 finish-memory (Ok (Some row)) old mid new h f e = absurd cc
 finish-memory (Ok None) old mid new h f e = absurd cc
 finish-memory (Err no_row.Memory) old mid new h f e = (f ∙ h.0, h.1)
-finish-memory (Err (no_row.NoPart Incomplete)) old mid new h f e = absurd cc
-finish-memory (Err (no_row.NoPart (Faulty fault))) old mid new h f e = absurd (h.0 cc)
+finish-memory (Err (no_row.NoPart stops.Incomplete)) old mid new h f e = absurd cc
+finish-memory (Err (no_row.NoPart (stops.Faulty fault))) old mid new h f e = absurd (h.0 cc)
 
 pub finish-ended : (answer : Answer) (mid new : BinaryState) → new ≡ finished answer mid → (last_answer answer ≡ Err Memory) ⊎ (new.ended ≡ true)
 finish-ended (Ok row) mid new e = inr (ap (λ (s : BinaryState). s.ended) e)
 finish-ended (Err no_row.Memory) mid new e = inl refl
-finish-ended (Err (no_row.NoPart Incomplete)) mid new e = inr (ap (λ (s : BinaryState). s.ended) e)
-finish-ended (Err (no_row.NoPart (Faulty fault))) mid new e = inr (ap (λ (s : BinaryState). s.ended) e)
+finish-ended (Err (no_row.NoPart stops.Incomplete)) mid new e = inr (ap (λ (s : BinaryState). s.ended) e)
+finish-ended (Err (no_row.NoPart (stops.Faulty fault))) mid new e = inr (ap (λ (s : BinaryState). s.ended) e)
 
 pub finish-closed : (answer : Answer) (old mid new : BinaryState) → TakesPart answer old mid → new ≡ finished answer mid → last_answer answer ≡ Ok None → new.stage ≡ Closed
 finish-closed (Ok (Some row)) old mid new h e f = absurd cc
 finish-closed (Ok None) old mid new h e f = ap (λ (s : BinaryState). s.stage) e ∙ (left-none old mid h).0
 finish-closed (Err no_row.Memory) old mid new h e f = absurd cc
-finish-closed (Err (no_row.NoPart Incomplete)) old mid new h e f = absurd cc
-finish-closed (Err (no_row.NoPart (Faulty fault))) old mid new h e f = absurd cc
+finish-closed (Err (no_row.NoPart stops.Incomplete)) old mid new h e f = absurd cc
+finish-closed (Err (no_row.NoPart (stops.Faulty fault))) old mid new h e f = absurd cc
 
 pub finish-same : (answer : Answer) (old mid new : BinaryState) → TakesPart answer old mid → new ≡ finished answer mid → (new.columns ≡ old.columns) × (new.limit ≡ old.limit)
 finish-same answer old mid new h e =
@@ -539,8 +538,8 @@ finish-same answer old mid new h e =
     same : (answer : Answer) → ((finished answer mid).columns ≡ mid.columns) × ((finished answer mid).limit ≡ mid.limit)
     same (Ok row) = (refl, refl)
     same (Err no_row.Memory) = (refl, refl)
-    same (Err (no_row.NoPart Incomplete)) = (refl, refl)
-    same (Err (no_row.NoPart (Faulty fault))) = (refl, refl)
+    same (Err (no_row.NoPart stops.Incomplete)) = (refl, refl)
+    same (Err (no_row.NoPart (stops.Faulty fault))) = (refl, refl)
 
 -- ---- a reader that failed
 
@@ -588,12 +587,12 @@ pub next-row : (answer : Answer) (old new : BinaryState) → TakesPart answer ol
 next-row (Ok (Some row)) old new h r e = part-rows old.stage old.columns old.limit old.kept row new.stage new.kept h.0
 next-row (Ok None) old new h r e = absurd cc
 next-row (Err no_row.Memory) old new h r e = absurd cc
-next-row (Err (no_row.NoPart Incomplete)) old new h r e = absurd cc
-next-row (Err (no_row.NoPart (Faulty fault))) old new h r e = absurd cc
+next-row (Err (no_row.NoPart stops.Incomplete)) old new h r e = absurd cc
+next-row (Err (no_row.NoPart (stops.Faulty fault))) old new h r e = absurd cc
 
 pub finish-row : (answer : Answer) (old mid new : BinaryState) → TakesPart answer old mid → new ≡ finished answer mid → (row : Row) → last_answer answer ≡ Ok (Some row) → new.stage ≡ Rows
 finish-row (Ok (Some row)) old mid new h f r e = ap (λ (s : BinaryState). s.stage) f ∙ part-rows old.stage old.columns old.limit old.kept row mid.stage mid.kept h.0
 finish-row (Ok None) old mid new h f r e = absurd cc
 finish-row (Err no_row.Memory) old mid new h f r e = absurd cc
-finish-row (Err (no_row.NoPart Incomplete)) old mid new h f r e = absurd cc
-finish-row (Err (no_row.NoPart (Faulty fault))) old mid new h f r e = absurd cc
+finish-row (Err (no_row.NoPart stops.Incomplete)) old mid new h f r e = absurd cc
+finish-row (Err (no_row.NoPart (stops.Faulty fault))) old mid new h f r e = absurd cc

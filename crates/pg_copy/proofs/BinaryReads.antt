@@ -6,15 +6,13 @@ use Rattle.std.proofs.lemmas.List.{take-append-le, drop-append-le, length-append
 use Rattle.std.proofs.lemmas.Bool.{cases_lt, lt-ltb, le-ltb}
 use Rattle.pg_copy.specs.declared.fault.BinaryFault.{BinaryFault}
 use Rattle.pg_copy.specs.declared.fault.BinaryFault.TheVariants.{Signature, Flags, Extension, FieldCount, FieldLength, Memory}
-use Rattle.pg_copy.specs.declared.binary_part.NoPart.{NoPart}
-use Rattle.pg_copy.specs.declared.binary_part.NoPart.TheVariants.{Incomplete, Faulty}
 use Rattle.pg_copy.specs.declared.binary_reader.BinaryStage.{BinaryStage}
 use Rattle.pg_copy.specs.declared.binary_reader.BinaryStage.TheVariants.{Head, Rows, Closed, Failed}
 use Rattle.pg_copy.specs.declared.binary_reader.BinaryStage.TheVariants as stages
 use Rattle.pg_copy.specs.Row.{Row}
 use Rattle.pg_copy.specs.Reading.{Reading, after_rows}
 use Rattle.pg_copy.specs.Binary.{signature}
-use Rattle.pg_copy.specs.BinaryReading.{◌>>=◌, number_at, bytes_at, signature_at, flags_at, extension_at, fixed_at, head_at, value_at, values_at, row_at, part_reading, row_reading, rows_reading, body_reading}
+use Rattle.pg_copy.specs.BinaryReading.{NoPart, Incomplete, Faulty, ◌>>=◌, number_at, bytes_at, signature_at, flags_at, extension_at, fixed_at, head_at, value_at, values_at, row_at, part_reading, row_reading, rows_reading, body_reading}
 use Rattle.pg_copy.specs.Private.BinaryPart.{closed_at, row_or_trailer, body_at, part_at}
 
 -- ---- what is read stays so when bytes are added

@@ -6,14 +6,12 @@ use Rattle.pg_copy.specs.declared.fault.BinaryFault.{BinaryFault}
 use Rattle.pg_copy.specs.declared.fault.BinaryFault.TheVariants.{FieldCount, AfterTrailer, Memory}
 use Rattle.std.proofs.lemmas.List.{drop-append-le, length-append, length-drop, drop-drop, drop_all}
 use Rattle.std.proofs.lemmas.Bool.{ne_eqb, eq-eqb, false≢true, cases_lt, lt-ltb, le-ltb, cond-true, cond-false}
-use Rattle.pg_copy.specs.declared.binary_part.NoPart.{NoPart}
-use Rattle.pg_copy.specs.declared.binary_part.NoPart.TheVariants.{Incomplete, Faulty}
 use Rattle.pg_copy.specs.declared.binary_part.Walk.{Walk}
 use Rattle.pg_copy.specs.declared.binary_part.Look.{Look}
 use Rattle.pg_copy.specs.declared.binary_reader.BinaryStage.{BinaryStage}
 use Rattle.pg_copy.specs.declared.binary_reader.BinaryStage.TheVariants.{Head, Extension, Rows, Closed, Failed}
 use Rattle.pg_copy.specs.Row.{Row}
-use Rattle.pg_copy.specs.BinaryReading.{◌>>=◌, number_at, fixed_at, head_at, value_at, values_at, row_at}
+use Rattle.pg_copy.specs.BinaryReading.{NoPart, Incomplete, Faulty, ◌>>=◌, number_at, fixed_at, head_at, value_at, values_at, row_at}
 use Rattle.pg_copy.specs.Private.BinaryPart.{rest_of, IsBegun, IsWalked, row_or_trailer, closed_at, body_at, part_at, IsBehindHead, StartsRow, IsLooked, stage_of, is_head, left_of, in_extension, behind_head, waiting_at, waiting, IsReader}
 use Rattle.pg_copy.specs.BinaryReader.{BinaryState, IsReading}
 use Rattle.pg_copy.proofs.BinaryReads.{Grows, number_grows, values_grow, head_grows, Takes, value_takes, head_takes}

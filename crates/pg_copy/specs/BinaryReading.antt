@@ -4,11 +4,14 @@ use Rattle.std.specs.Int.{Width, w16, w32, byte_len, from_be_bytes, cast_signed}
 use Rattle.std.specs.Str.{bytes_eq}
 use Rattle.pg_copy.specs.declared.fault.BinaryFault.{BinaryFault}
 use Rattle.pg_copy.specs.declared.fault.BinaryFault.TheVariants.{Signature, Flags, Extension, FieldCount, FieldLength, Truncated, AfterTrailer}
-use Rattle.pg_copy.specs.declared.binary_part.NoPart.{NoPart}
-use Rattle.pg_copy.specs.declared.binary_part.NoPart.TheVariants.{Incomplete, Faulty}
 use Rattle.pg_copy.specs.Row.{Row}
 use Rattle.pg_copy.specs.Reading.{Reading, Ending, Open, Done, Ended, Bad, after_rows}
 use Rattle.pg_copy.specs.Binary.{signature, open_head}
+
+-- why no part stands in front: more bytes are to come, or they have this fault
+pub data NoPart : Type 0 where
+  Incomplete : NoPart
+  Faulty : BinaryFault → NoPart
 
 -- ---- a part and the bytes behind it, or Incomplete where fewer bytes are there, or the first fault
 

@@ -3,10 +3,10 @@
 ghost use Rattle.std.specs.Prelude.{◌≡◌, ◌≤◌, ◌<◌, ◌⊎◌, ℕ, false, length, drop, Some, Err, IfOk};
 ghost use Rattle.std.specs.Int.{w16, w32, cast_signed};
 ghost use Rattle.pg_copy.specs.declared.fault.BinaryFault.TheVariants.{FieldCount};
-ghost use Rattle.pg_copy.specs.declared.binary_part.NoPart.TheVariants.{Faulty, Incomplete};
+ghost use Rattle.pg_copy.specs.declared.binary_part.NoPart.TheVariants.{Faulty};
 ghost use Rattle.std.specs.Option.{option_copied};
 ghost use Rattle.pg_copy.specs.declared.binary_part.NoRow.TheVariants.{Memory};
-ghost use Rattle.pg_copy.specs.BinaryReading.{number_at, bytes_at, signature_at, flags_at, extension_at, fixed_at, head_at, value_at, values_at};
+ghost use Rattle.pg_copy.specs.BinaryReading.{Incomplete, number_at, bytes_at, signature_at, flags_at, extension_at, fixed_at, head_at, value_at, values_at};
 ghost use Rattle.pg_copy.specs.Row.{Row};
 ghost use Rattle.pg_copy.specs.Private.BinaryPart.{Gives, IsWalked, Finds, IsBehindHead, StartsRow, IsLooked, FindsPart, left_of};
 

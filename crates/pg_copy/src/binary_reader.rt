@@ -4,10 +4,9 @@ ghost use Rattle.std.specs.Prelude.{◌≡◌, ◌++◌, ◌≤◌, ◌<◌, ◌
 ghost use Rattle.pg_copy.specs.declared.fault.BinaryFault.{BinaryFault};
 ghost use Rattle.pg_copy.specs.declared.fault.BinaryFault.TheVariants.{Memory};
 ghost use Rattle.pg_copy.specs.declared.binary_reader.BinaryStage.TheVariants.{Head, Extension, Rows, Closed, Failed};
-ghost use Rattle.pg_copy.specs.declared.binary_part.NoPart.TheVariants.{Incomplete};
 ghost use Rattle.pg_copy.specs.Row.{Row};
 ghost use Rattle.pg_copy.specs.Reading.{RowWaits, given_by, Gives};
-ghost use Rattle.pg_copy.specs.BinaryReading.{fixed_at, head_at, binary_reading, file_reading};
+ghost use Rattle.pg_copy.specs.BinaryReading.{Incomplete, fixed_at, head_at, binary_reading, file_reading};
 ghost use Rattle.pg_copy.specs.BinaryReader.{HasReadBinary, PushesBinary, IsReading, WaitsWith, left, binary_ending};
 ghost use Rattle.pg_copy.specs.Private.BinaryPart.{TakesPart, FindsNext, stage_of, left_of, in_extension};
 

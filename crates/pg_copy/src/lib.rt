@@ -27,6 +27,3 @@ pub use text_writer::{write_text_field, write_text_row};
 
 /// The values of a row, in the order of its columns. None is null (PostgreSQL documentation, page COPY, "File Formats").
 pub type Row = Seq<Option<Seq<u8>>>;
-
-#[cfg(test)]
-mod tests;

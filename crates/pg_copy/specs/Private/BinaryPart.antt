@@ -2,8 +2,8 @@
 use Rattle.std.specs.Prelude.{◌≡◌, ℕ, ◌<◌, ◌≤◌, ◌-◌, ◌⊎◌, Bool, true, false, List, [], ◌∷◌, length, drop, Option, Some, None, Result, Ok, Err}
 use Rattle.std.specs.Int.{w16}
 use Rattle.pg_copy.specs.declared.fault.BinaryFault.TheVariants.{AfterTrailer, Memory}
-use Rattle.pg_copy.specs.declared.binary_part.NoPart.{NoPart}
-use Rattle.pg_copy.specs.declared.binary_part.NoPart.TheVariants.{Incomplete, Faulty}
+use Rattle.pg_copy.specs.declared.binary_part.NoPart.{NoPart as Stop}
+use Rattle.pg_copy.specs.declared.binary_part.NoPart.TheVariants as stops
 use Rattle.pg_copy.specs.declared.binary_part.NoRow.{NoRow}
 use Rattle.pg_copy.specs.declared.binary_part.NoRow.TheVariants as no_row
 use Rattle.pg_copy.specs.declared.binary_part.Walk.{Walk}
@@ -14,13 +14,18 @@ use Rattle.pg_copy.specs.declared.binary_reader.BinaryStage.{BinaryStage}
 use Rattle.pg_copy.specs.declared.binary_reader.BinaryStage.TheVariants.{Head, Extension, Rows, Closed, Failed}
 use Rattle.pg_copy.specs.Row.{Row}
 use Rattle.pg_copy.specs.Reading.{RowWaits}
-use Rattle.pg_copy.specs.BinaryReading.{◌>>=◌, number_at, bytes_at, fixed_at, head_at, values_at, row_at}
+use Rattle.pg_copy.specs.BinaryReading.{NoPart, Incomplete, Faulty, ◌>>=◌, number_at, bytes_at, fixed_at, head_at, values_at, row_at}
 use Rattle.pg_copy.specs.BinaryReader.{BinaryState, left}
 
+-- a function's reason why it read no part, as reading has it
+abbrev pub no_part : Stop → NoPart
+no_part stops.Incomplete = Incomplete
+no_part (stops.Faulty fault) = Faulty fault
+
 -- what a function returned, seen by view, is what reading gives
-abbrev pub Gives : {X Y : Type 0} → (X → Y) → Result X NoPart → Result Y NoPart → Type 0
+abbrev pub Gives : {X Y : Type 0} → (X → Y) → Result X Stop → Result Y NoPart → Type 0
 Gives view (Ok x) read = read ≡ Ok (view x)
-Gives view (Err stop) read = read ≡ Err stop
+Gives view (Err stop) read = read ≡ Err (no_part stop)
 
 -- the bytes behind what was read
 abbrev pub rest_of : {A : Type 0} → Result (A × List ℕ) NoPart → Result (List ℕ) NoPart
@@ -39,10 +44,10 @@ pub record IsBegun (columns limit : ℕ) (bytes : List ℕ) (w : Walk) : Type 0 
 abbrev pub IsWalked : ℕ → ℕ → List ℕ → Walk → Type 0
 IsWalked columns limit bytes w = 0 < w.at → IsBegun columns limit bytes w
 
-abbrev pub Finds : ℕ → ℕ → List ℕ → Result Part NoPart → Walk → Type 0
+abbrev pub Finds : ℕ → ℕ → List ℕ → Result Part Stop → Walk → Type 0
 Finds columns limit bytes (Ok parts.Row) w = (0 < w.at) × (w.left ≡ 0)
 Finds columns limit bytes (Ok parts.Trailer) w = row_at columns limit bytes ≡ Ok (None, drop 2 bytes)
-Finds columns limit bytes (Err stop) w = row_at columns limit bytes ≡ Err stop
+Finds columns limit bytes (Err stop) w = row_at columns limit bytes ≡ Err (no_part stop)
 
 -- ---- the next part of a file, by what was read before
 
@@ -71,9 +76,9 @@ abbrev pub IsBehindHead : Bool → List ℕ → List ℕ → Type 0
 IsBehindHead true bytes rest = rest_of (head_at bytes) ≡ Ok rest
 IsBehindHead false bytes rest = bytes ≡ rest
 
-abbrev pub StartsRow : Bool → List ℕ → ℕ → Result ℕ NoPart → Type 0
+abbrev pub StartsRow : Bool → List ℕ → ℕ → Result ℕ Stop → Type 0
 StartsRow in_head bytes start (Ok n) = (n ≤ length bytes) × IsBehindHead in_head bytes (drop n bytes) × ((((in_head ≡ false) ⊎ (0 < start)) × (n ≡ start)) ⊎ ((in_head ≡ true) × (start ≡ 0) × (0 < n)))
-StartsRow in_head bytes start (Err stop) = (in_head ≡ true) × (start ≡ 0) × (head_at bytes ≡ Err stop)
+StartsRow in_head bytes start (Err stop) = (in_head ≡ true) × (start ≡ 0) × (head_at bytes ≡ Err (no_part stop))
 
 pub record IsLooked (in_head : Bool) (columns limit : ℕ) (bytes : List ℕ) (l : Look) : Type 0 where
   pub in_range : l.start ≤ length bytes
@@ -86,10 +91,10 @@ abbrev pub stage_of : Bool → BinaryStage
 stage_of true = Head
 stage_of false = Rows
 
-abbrev pub FindsPart : Bool → ℕ → ℕ → List ℕ → Result Part NoPart → Look → Type 0
+abbrev pub FindsPart : Bool → ℕ → ℕ → List ℕ → Result Part Stop → Look → Type 0
 FindsPart in_head columns limit bytes (Ok parts.Row) l = (0 < l.walk.at) × (l.walk.left ≡ 0) × IsBehindHead in_head bytes (drop l.start bytes)
 FindsPart in_head columns limit bytes (Ok parts.Trailer) l = part_at (stage_of in_head) columns limit bytes ≡ Ok ((None, Closed), [])
-FindsPart in_head columns limit bytes (Err stop) l = (part_at (stage_of in_head) columns limit bytes ≡ Err stop) × (in_head ≡ true → l.start ≡ 0 → head_at bytes ≡ Err stop)
+FindsPart in_head columns limit bytes (Err stop) l = (part_at (stage_of in_head) columns limit bytes ≡ Err (no_part stop)) × (in_head ≡ true → l.start ≡ 0 → head_at bytes ≡ Err (no_part stop))
 
 -- ---- a reader
 
@@ -137,12 +142,12 @@ waiting s = waiting_at s.stage s
 abbrev pub FindsNext : Result (Option Row) NoRow → BinaryState → BinaryState → Type 0
 FindsNext (Ok row) old new = (part_at old.stage old.columns old.limit old.kept ≡ Ok ((row, new.stage), new.kept)) × (new ≡ record old { kept = new.kept; stage = new.stage })
 FindsNext (Err no_row.Memory) old new = (new ≡ old) × RowWaits (left old [])
-FindsNext (Err (no_row.NoPart Incomplete)) old new = (part_at old.stage old.columns old.limit old.kept ≡ Err Incomplete) × (new ≡ waiting old)
-FindsNext (Err (no_row.NoPart (Faulty fault))) old new = (part_at old.stage old.columns old.limit old.kept ≡ Err (Faulty fault)) × (new ≡ old)
+FindsNext (Err (no_row.NoPart stops.Incomplete)) old new = (part_at old.stage old.columns old.limit old.kept ≡ Err Incomplete) × (new ≡ waiting old)
+FindsNext (Err (no_row.NoPart (stops.Faulty fault))) old new = (part_at old.stage old.columns old.limit old.kept ≡ Err (Faulty fault)) × (new ≡ old)
 
 -- the same, where the reader stops at a fault
 abbrev pub TakesPart : Result (Option Row) NoRow → BinaryState → BinaryState → Type 0
 TakesPart (Ok row) old new = FindsNext (Ok row) old new
 TakesPart (Err no_row.Memory) old new = FindsNext (Err no_row.Memory) old new
-TakesPart (Err (no_row.NoPart Incomplete)) old new = FindsNext (Err (no_row.NoPart Incomplete)) old new
-TakesPart (Err (no_row.NoPart (Faulty fault))) old new = (fault ≡ Memory → ⊥) × (part_at old.stage old.columns old.limit old.kept ≡ Err (Faulty fault)) × (new ≡ record old { kept = []; stage = Failed fault })
+TakesPart (Err (no_row.NoPart stops.Incomplete)) old new = FindsNext (Err (no_row.NoPart stops.Incomplete)) old new
+TakesPart (Err (no_row.NoPart (stops.Faulty fault))) old new = (fault ≡ Memory → ⊥) × (part_at old.stage old.columns old.limit old.kept ≡ Err (Faulty fault)) × (new ≡ record old { kept = []; stage = Failed fault })

@@ -1,5 +1,6 @@
 use Rattle.std.proofs.Common.{sym, ap, ◌∙◌, arith}
 use Rattle.pg_copy.specs.BinaryReading.{value_at}
+use Rattle.pg_copy.specs.Private.BinaryPart.{no_part}
 use Rattle.pg_copy.proofs.BinaryWalk.{begun-more, row-stuck}
 use Rattle.pg_copy.proofs.binary_part.find_values.Goals as goal
 
@@ -19,4 +20,4 @@ loop-left-preserved c =
 pub returns-in-Err-clause-found : goal.returns-in-Err-clause-found
 returns-in-Err-clause-found c =
     let l = c.loop-left in
-    row-stuck c.args.columns c.args.limit c.args.bytes.now l.at l.left c.in-Err.stop c.requires.columns c.loop-left-test.true l.invariant.begun (ap (value_at c.args.limit) (sym l.invariant.rest) ∙ c.in-Err.ensures)
+    row-stuck c.args.columns c.args.limit c.args.bytes.now l.at l.left (no_part c.in-Err.stop) c.requires.columns c.loop-left-test.true l.invariant.begun (ap (value_at c.args.limit) (sym l.invariant.rest) ∙ c.in-Err.ensures)

@@ -1,12 +1,13 @@
 use Rattle.std.proofs.Common.{refl}
 use Rattle.pg_copy.specs.BinaryReading.{values_at}
+use Rattle.pg_copy.specs.Private.BinaryPart.{no_part}
 use Rattle.pg_copy.proofs.BinaryLoop.{goes_on, ends, is_done}
 use Rattle.pg_copy.proofs.binary_part.values_of.Goals as goal
 
 pub returns-in_default : goal.returns-in_default
 returns-in_default c =
     let l = c.loop in
-    rw (ends c.args.limit c.in_default.field-0 l.values.items c.args.count l.counter l.rest.now (values_at c.args.limit c.args.count c.args.bytes.now) c.loop-test.true c.in_default.ensures l.invariant) tt
+    rw (ends c.args.limit (no_part c.in_default.field-0) l.values.items c.args.count l.counter l.rest.now (values_at c.args.limit c.args.count c.args.bytes.now) c.loop-test.true c.in_default.ensures l.invariant) tt
 
 pub loop-preserved : goal.loop-preserved
 loop-preserved c =

@@ -1,7 +1,6 @@
-use Rattle.std.proofs.Common.{◌≡◌, ℕ, List, [], Ok, Err, ap, sym, ◌∙◌}
+use Rattle.std.proofs.Common.{Ok, Err, ap, sym, ◌∙◌}
 use Rattle.pg_copy.specs.declared.binary_part.NoPart.TheVariants.{Incomplete, Faulty}
 use Rattle.pg_copy.specs.declared.binary_part.NoRow.TheVariants.{NoPart}
-use Rattle.pg_copy.specs.declared.binary_reader.BinaryStage.TheVariants.{Extension}
 use Rattle.pg_copy.specs.BinaryReader.{BinaryState}
 use Rattle.pg_copy.proofs.BinaryHistory.{HasRead-next, Gives-next, next-row, next-waits}
 use Rattle.pg_copy.proofs.binary_reader.BinaryReader.next.Goals as goal

@@ -1,5 +1,4 @@
-use Rattle.std.proofs.Common.{◌≡◌, ℕ, List, [], ap, sym, ◌∙◌}
-use Rattle.pg_copy.specs.declared.binary_reader.BinaryStage.{BinaryStage}
+use Rattle.std.proofs.Common.{◌≡◌, [], ap, sym, ◌∙◌}
 use Rattle.pg_copy.specs.declared.binary_reader.BinaryStage.TheVariants.{Extension}
 use Rattle.pg_copy.specs.BinaryReader.{BinaryState}
 use Rattle.pg_copy.proofs.BinaryHistory.{HasRead-skip}

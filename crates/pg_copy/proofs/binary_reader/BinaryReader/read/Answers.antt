@@ -1,4 +1,4 @@
-use Rattle.std.proofs.Common.{◌≡◌, ◌<◌, List, [], ap, subst, sym, ◌∙◌}
+use Rattle.std.proofs.Common.{◌≡◌, [], ap, sym, ◌∙◌}
 use Rattle.pg_copy.specs.declared.fault.BinaryFault.TheVariants.{Memory}
 use Rattle.pg_copy.specs.declared.binary_reader.BinaryStage.TheVariants.{Extension}
 use Rattle.pg_copy.specs.BinaryReader.{BinaryState}
