@@ -2,20 +2,20 @@
 use Rattle.std.specs.Prelude.{ℕ, ◌≡◌, ◌<◌, ◌≤◌, Result, Ok, Err}
 use Rattle.pgpipe.specs.declared.failure.Failure.{Failure}
 use Rattle.pgpipe.specs.declared.failure.Failure.TheVariants as failure
-use Rattle.pgpipe.specs.declared.convert.Converted.{Converted}
-use Rattle.pgpipe.specs.declared.convert.Converted.TheVariants as converted
+use Rattle.pgpipe_core.specs.declared.convert.Converted.{Converted}
+use Rattle.pgpipe_core.specs.declared.convert.Converted.TheVariants as converted
 use Rattle.pg_backend.specs.declared.fault.ScriptFault.{ScriptFault}
 use Rattle.pg_backend.specs.declared.fault.ScriptFault.TheVariants as check
-use Rattle.pgpipe.specs.declared.line_fault.LineFault.{LineFault}
-use Rattle.pgpipe.specs.declared.line_fault.LineFault.TheVariants as line
-use Rattle.pgpipe.specs.declared.run_loop.Ran.{Ran}
-use Rattle.pgpipe.specs.declared.run_loop.Ran.TheVariants as ran
+use Rattle.pgpipe_core.specs.declared.line_fault.LineFault.{LineFault}
+use Rattle.pgpipe_core.specs.declared.line_fault.LineFault.TheVariants as line
+use Rattle.pgpipe_core.specs.declared.run_loop.Ran.{Ran}
+use Rattle.pgpipe_core.specs.declared.run_loop.Ran.TheVariants as ran
 use Rattle.pgpipe.specs.declared.words.Task.{Task}
 use Rattle.pgpipe.specs.declared.words.Task.TheVariants as task
-use Rattle.pgpipe.specs.declared.show.Shown.{Shown}
-use Rattle.pgpipe.specs.declared.show.Shown.TheVariants as shown
-use Rattle.pgpipe.specs.declared.show.ToolFault.{ToolFault}
-use Rattle.pgpipe.specs.declared.show.ToolFault.TheVariants as fault
+use Rattle.pgpipe_core.specs.declared.show.Shown.{Shown}
+use Rattle.pgpipe_core.specs.declared.show.Shown.TheVariants as shown
+use Rattle.pgpipe_core.specs.declared.show.ToolFault.{ToolFault}
+use Rattle.pgpipe_core.specs.declared.show.ToolFault.TheVariants as fault
 
 -- the exit status
 abbrev pub status_of : Failure → ℕ

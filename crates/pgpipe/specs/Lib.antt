@@ -1,11 +1,4 @@
--- What a reader must believe: the line of a message, what is sent, what is shown of a stream, what is converted of a file, what
--- happens in a loop and the lines of it, and how the program fails.
-pub mod Lines
-pub mod Sending
-pub mod Show
-pub mod Convert
-pub mod LoopLines
-pub mod Looping
+-- What a reader must believe: how the program fails.
 pub mod Failing
 -- Words of private functions, which no public contract cites.
 pub mod Private

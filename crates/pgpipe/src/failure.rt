@@ -4,13 +4,13 @@ ghost use Rattle.std.specs.Prelude.{◌≡◌, ◌≢◌};
 ghost use Rattle.std.specs.IoError.{error_kind};
 ghost use Rattle.pgpipe.specs.Failing.{status_of, Results, ConversionResults, LoopResults, script_failure, calls_failure, check_failure};
 
-use crate::convert::Converted;
-use crate::line_fault::LineFault;
-use crate::run_loop::Ran;
-use crate::show::{Shown, ToolFault};
 use pg_backend::ScriptFault;
 use pg_copy::{BinaryFault, RowFault, TextFault};
 use pg_wire::WireFault;
+use pgpipe_core::LineFault;
+use pgpipe_core::convert::Converted;
+use pgpipe_core::run_loop::Ran;
+use pgpipe_core::show::{Shown, ToolFault};
 use std::io;
 use std::io::ErrorKind;
 use thiserror::Error;

@@ -2,44 +2,21 @@
 //! a scripted backend.
 #![tactic(auto)]
 
-mod arguments;
-mod bounds;
-mod calls_file;
-mod convert;
-mod copy_rows;
-mod each;
-mod event_lines;
 mod failure;
-mod file_lines;
-mod format;
-mod halt;
-mod line;
-mod line_buffer;
-mod line_fault;
-mod messages;
-mod outbox;
-mod packets;
-mod run_loop;
-mod script_file;
-mod settled_lines;
-mod short_lines;
-mod show;
-mod stage;
 mod words;
 
-use crate::calls_file::read_calls;
-use crate::convert::convert;
 use crate::failure::{
     Failure, calls_failure, check_failure, conversion_result_of, file_failure, loop_result_of,
     result_of, script_failure, words_failure,
 };
-use crate::run_loop::run_loop;
-use crate::script_file::read_script;
-use crate::show::show;
 use crate::words::{Task, task_of};
 use clap::error::ErrorKind;
 use pg_pair::Direct;
 use pg_wire::{Over, Sink};
+use pgpipe_core::convert::convert;
+use pgpipe_core::run_loop::run_loop;
+use pgpipe_core::show::show;
+use pgpipe_core::{read_calls, read_script};
 use std::process::ExitCode;
 use std::rt::{Env, Files};
 use std::{env, fs, io};
@@ -111,14 +88,3 @@ fn explain<R: Print + Eprint>(rt: &R, error: &clap::Error) -> Result<ExitCode, F
         ExitCode::SUCCESS
     })
 }
-
-#[cfg(test)]
-mod loop_file_tests;
-#[cfg(test)]
-mod loop_line_tests;
-#[cfg(test)]
-mod loop_run_tests;
-#[cfg(test)]
-mod loop_values;
-#[cfg(test)]
-mod tests;

@@ -3,10 +3,10 @@
 ghost use Rattle.std.specs.Prelude.{◌≡◌, ◌<◌, ◌≤◌, IfOk};
 ghost use Rattle.clap.specs.Matches.{found_of, first_value};
 ghost use Rattle.pgpipe.specs.Failing.{IsTask};
-ghost use Rattle.pgpipe.specs.Private.Words.{format_named, IsConversionOf};
+ghost use Rattle.pgpipe.specs.Private.Words.{format_named, IsConversionOf, IsLoopOf};
 
-use crate::format::Format;
 use clap::{Arg, ArgAction, ArgMatches, Command, Error, value_parser};
+use pgpipe_core::Format;
 use std::alloc::{AllocError, Global};
 
 /// What the program is asked to do.
@@ -107,7 +107,7 @@ fn format_of(matches: &ArgMatches<'_>, name: &str) -> Format
 // The conversion that the words ask for.
 fn conversion_of(matches: &ArgMatches<'_>) -> Task
     ensures task { IsTask result }
-    ensures formats { IsConversionOf (found_of matches.now) result }
+    ensures named { IsConversionOf (found_of matches.now) result }
 {
     let columns = matches.get_one::<u16>("columns").unwrap_or(1);
     Task::Convert {
@@ -120,7 +120,8 @@ fn conversion_of(matches: &ArgMatches<'_>) -> Task
 
 // The loop that the words ask for.
 fn loop_of(alloc: Global, matches: &ArgMatches<'_>) -> Result<Task, AllocError>
-    ensures { IfOk result IsTask }
+    ensures task { IfOk result IsTask }
+    ensures named { IfOk result (IsLoopOf (found_of matches.now)) }
 {
     let cut = matches.get_one::<u32>("cut").unwrap_or(4_096);
     Ok(Task::Loop {

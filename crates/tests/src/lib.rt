@@ -7,7 +7,11 @@
 mod backend;
 #[cfg(test)]
 mod client;
+#[cfg(test)]
+mod copy;
 mod data;
+#[cfg(test)]
+mod pipe;
 #[cfg(test)]
 mod seq;
 #[cfg(test)]
