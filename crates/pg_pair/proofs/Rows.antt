@@ -1,5 +1,5 @@
 -- Worked rows, by computation.
-use Rattle.std.proofs.Common.{◌≡◌, ℕ, true, false, List, [], ◌∷◌, None, Ok, map, take, refl}
+use Rattle.std.proofs.Common.{◌≡◌, ℕ, true, false, List, [], ◌∷◌, None, Some, Result, Ok, map, take, refl, inr}
 use Rattle.pg_wire.specs.declared.message.BackMessage.TheVariants as back
 use Rattle.pg_wire.specs.declared.message.FrontMessage.TheVariants as front
 use Rattle.pg_wire.specs.declared.message.Status.TheVariants.{Idle}
@@ -7,16 +7,26 @@ use Rattle.pg_wire.specs.declared.session.Outcome.{Outcome}
 use Rattle.pg_wire.specs.declared.session.Part.TheVariants as part
 use Rattle.pg_wire.specs.declared.session.Request.{Request}
 use Rattle.pg_wire.specs.declared.session.Request.TheVariants.{Query}
+use Rattle.pg_client.specs.declared.phase.Cause.TheVariants as cause
+use Rattle.pg_client.specs.declared.place.Stand.TheVariants as stands
 use Rattle.pg_client.specs.Session.{Run, Start, Ask, Chunk, CopyEnd, Terminate}
 use Rattle.pg_backend.specs.declared.script.Answer.{Answer}
+use Rattle.pg_backend.specs.declared.script.Auth.TheVariants.{Trust}
 use Rattle.pg_backend.specs.declared.script.Load.TheVariants as load
 use Rattle.pg_backend.specs.declared.script.ScriptPart.TheVariants as script
+use Rattle.pg_backend.specs.declared.stage.Ending.TheVariants as ending
+use Rattle.pg_backend.specs.declared.stage.Stage.TheVariants as stage
 use Rattle.pg_backend.specs.Session.{log_of, replies}
 use Rattle.pg_pair.specs.declared.event.Applied.TheVariants as applied
 use Rattle.pg_pair.specs.declared.event.Call.TheVariants as call
-use Rattle.pg_pair.specs.Applying.{delivered, delivery_applied, handed_after, is_bad}
+use Rattle.pg_pair.specs.declared.event.Event.TheVariants as event
+use Rattle.pg_pair.specs.declared.carry.CarryFault.{CarryFault}
+use Rattle.pg_pair.specs.declared.carry.Way.{Way}
+use Rattle.pg_pair.specs.declared.carry.Way.TheVariants.{ToBackend, ToClient}
+use Rattle.pg_pair.specs.Applying.{delivered, delivery_applied, handed_after, is_bad, is_shut, Happens, Ran}
 use Rattle.pg_pair.specs.Copies.{handed_for, TookEach, turns_made}
 use Rattle.pg_pair.specs.Headline.{answered_as, settled_as}
+use Rattle.pg_pair.specs.View.{PairView}
 
 -- ---- what arrives of a piece
 
@@ -117,3 +127,63 @@ one_taken = refl
 refused_took_the_first : TookEach (log_of (refused ∷ []) (front.Query (83 ∷ []) ∷ front.CopyData (49 ∷ []) ∷ front.CopyData (50 ∷ []) ∷ [])) (((49 ∷ []) ∷ (50 ∷ []) ∷ []) ∷ [])
 unfolding refused
 refused_took_the_first = (record { first = refl; all = λ e. absurd cc }, tt)
+
+-- ---- breaks
+
+-- a client and a backend as they are made, and a carrier that keeps nothing
+fresh : PairView (Unit {0})
+fresh = record
+  { client = record { settings = record { user = 117 ∷ []; database = None; pairs = []; limit = 64 }; kept = []; stand = stands.New; settled = []; status = None; parameters = []; key = None; closed = None }
+  ; backend = record { script = record { auth = Trust; pairs = []; key = None; answers = [] }; limit = 64; left = []; stage = stage.First (record { kept = []; ended = false; fault = None }); log = [] }
+  ; carrier = tt
+  ; to_backend = record { sent = []; reached = 0; broken = false }
+  ; to_client = record { sent = []; reached = 0; broken = false }
+  ; places = []
+  ; settled = []
+  ; handed = []
+  ; loss = None
+  }
+
+-- the same behind a break of the way to the backend, which was told
+cut_off : PairView (Unit {0})
+cut_off = record fresh { backend = record fresh.backend { stage = stage.Closed ending.Lost }; to_backend = record fresh.to_backend { broken = true } }
+
+-- a carrier that nothing is known of
+unknown : Unit {0} → Way → List ℕ → Result (List ℕ) CarryFault → Unit {0} → Type 0
+unknown _ _ _ _ _ = ⊥
+
+open_at_first : is_shut ToBackend fresh ≡ false
+unfolding fresh
+open_at_first = refl
+
+shut_by_a_break : is_shut ToBackend cut_off ≡ true
+unfolding fresh cut_off
+shut_by_a_break = refl
+
+-- the other way isn't
+other_way_open : is_shut ToClient cut_off ≡ false
+unfolding fresh cut_off
+other_way_open = refl
+
+-- a closed client takes nothing, though its way isn't broken
+shut_by_a_close : is_shut ToClient (record fresh { client = record fresh.client { closed = Some cause.Terminated } }) ≡ true
+unfolding fresh
+shut_by_a_close = refl
+
+break_is_done : Happens unknown event.BreakToBackend fresh applied.Done cut_off
+unfolding fresh cut_off
+break_is_done = (refl, refl)
+
+-- it can't be called nothing, nor leave the way open
+break_is_something : Happens unknown event.BreakToBackend fresh applied.Nothing fresh → ⊥
+unfolding fresh
+break_is_something h = let e : applied.Nothing ≡ applied.Done = h.0 in absurd cc
+
+second_break_is_nothing : Happens unknown event.BreakToBackend cut_off applied.Nothing cut_off
+unfolding fresh cut_off
+second_break_is_nothing = (refl, refl)
+
+-- behind it the backend makes no step, and nothing goes there
+runs_behind_a_break : Ran unknown (event.BreakToBackend ∷ event.Step ∷ event.ToBackend 13 ∷ []) fresh (Ok (record {})) cut_off
+unfolding fresh cut_off
+runs_behind_a_break = inr (applied.Done, cut_off, break_is_done, inr (applied.Nothing, cut_off, (refl, refl), inr (applied.Nothing, cut_off, (refl, refl), refl)))
