@@ -1,5 +1,5 @@
--- Worked examples of lines, computed from the definitions alone but for the decimal numbers, of streams that are shown, and of
--- files that are converted.
+-- Worked examples of lines, computed from the definitions alone but for the decimal numbers, of streams that are shown, of files
+-- that are converted, and of what is left of a loop to do.
 use Rattle.std.proofs.Common.{◌≡◌, ℕ, ◌<◌, ◌≤◌, ◌+◌, ◌/◌, ◌%◌, true, false, List, [], ◌∷◌, ◌++◌, Some, None, Ok, Err, refl, sym, ap, ◌∙◌, inl, inr, append-nil, arith}
 use Rattle.std.specs.Prelude.{pos, negsuc}
 use Rattle.std.specs.Fmt.{decimal}
@@ -25,6 +25,10 @@ use Rattle.pg_wire.specs.Frontend.{frontend}
 use Rattle.pg_wire.specs.Stream.{IsFaulty}
 use Rattle.pg_wire.proofs.BackMessages.{is_tag, no_tag}
 use Rattle.pg_wire.proofs.Rests.{short_open, partial_open}
+use Rattle.pg_pair.specs.declared.event.Applied.TheVariants as applied
+use Rattle.pg_pair.specs.declared.event.Event.TheVariants as event
+use Rattle.pg_pair.specs.View.{Stream, PairView}
+use Rattle.pgpipe_core.specs.declared.calls_file.CallLine.TheVariants as calls
 use Rattle.pgpipe_core.specs.declared.convert.Converted.TheVariants as converted
 use Rattle.pgpipe_core.specs.declared.format.Format.TheVariants as format
 use Rattle.pgpipe_core.specs.declared.packets.Next.TheVariants as next
@@ -32,6 +36,7 @@ use Rattle.pgpipe_core.specs.declared.show.Shown.TheVariants as shown
 use Rattle.pgpipe_core.specs.declared.show.ToolFault.TheVariants as fault
 use Rattle.pgpipe_core.specs.Convert.{IsOutput, file_of, none_left}
 use Rattle.pgpipe_core.specs.Lines.{body_text, line_of, line, packet_line}
+use Rattle.pgpipe_core.specs.Looping.{line_doings, came_to_nothing, left_of}
 use Rattle.pgpipe_core.specs.Show.{limit, AreMessages, IsClientSide, AreShownBefore, Answers}
 
 -- a line by the text of its length
@@ -240,3 +245,37 @@ no_trailer_read ended e = record {
   are_converted = record { rows = (Some (0x61 ∷ []) ∷ []) ∷ []; read = inr (e, refl); each_writable = (refl, tt); each_row = refl };
   with_trailer = refl;
 }
+
+-- ---- what is left of a loop to do
+
+-- so many bytes of ten have reached the other end
+stream : ℕ → Stream
+stream n = record { sent = 0 ∷ 1 ∷ 2 ∷ 3 ∷ 4 ∷ 5 ∷ 6 ∷ 7 ∷ 8 ∷ 9 ∷ []; reached = n; broken = false }
+
+one_event : line_doings 9 (calls.Event event.Step) ≡ record { event = event.Step; again = 0 } ∷ []
+one_event = refl
+
+-- a delivery comes to nothing where no more bytes have reached the other end, and a step where it is answered so
+delivery_moves_none : {C : Type 0} (p : PairView C) → came_to_nothing (event.ToBackend 9) (record p { to_backend = stream 3 }) applied.Carrier (record p { to_backend = stream 3 }) ≡ true
+unfolding stream
+delivery_moves_none p = refl
+
+delivery_moves_one : {C : Type 0} (p : PairView C) → came_to_nothing (event.ToBackend 9) (record p { to_backend = stream 3 }) applied.Done (record p { to_backend = stream 4 }) ≡ false
+unfolding stream
+delivery_moves_one p = refl
+
+step_taken : {C : Type 0} (p q : PairView C) → came_to_nothing event.Step p applied.Done q ≡ false
+step_taken p q = refl
+
+no_step_taken : {C : Type 0} (p q : PairView C) → came_to_nothing event.Step p applied.Nothing q ≡ true
+no_step_taken p q = refl
+
+-- what came to something is done again, as often as is left
+done_again : left_of false (record { event = event.Step; again = 2 }) ≡ record { event = event.Step; again = 1 } ∷ []
+done_again = refl
+
+never_again : left_of true (record { event = event.Step; again = 2 }) ≡ []
+never_again = refl
+
+last_time : left_of false (record { event = event.Step; again = 0 }) ≡ []
+last_time = refl
