@@ -2,6 +2,7 @@
 
 ghost use Rattle.std.specs.Prelude.{◌≡◌, ◌≤◌, ℕ, List, drop, length, IfOk, cond};
 ghost use Rattle.std.specs.List.{FoldsTo, concat};
+ghost use Rattle.pg_wire.specs.Direction.{IsLimit};
 ghost use Rattle.pg_wire.specs.Link.{HasRisen};
 ghost use Rattle.pg_backend.specs.Check.{IsChecked};
 ghost use Rattle.pg_pair.specs.Beginning.{IsBegun};
@@ -249,7 +250,7 @@ pub fn run_loop<C: Carry, K: Sink>(
     carrier: C,
     sink: &mut K,
 ) -> Result<Ran, ToolFault>
-    requires limit { (64 ≤ calls.settings.limit) × (calls.settings.limit ≤ 1073741823) }
+    requires limit { IsLimit calls.settings.limit }
     requires checked { IsChecked script }
     // the pair as it begins, what was sent, and the answer for what has happened
     ensures ran { (begun : PairView C) × (sent : List (List ℕ)) × IsBegun calls.settings script carrier begun × FoldsTo K.takes sink.old sent sink.new
