@@ -4,10 +4,11 @@ mod calls;
 mod carriers;
 mod claims;
 mod copies;
+mod groups;
 mod outside;
 mod rows;
 
-use answers::{query, text};
+use answers::{group, query, text};
 use claims::{Claim, hold};
 use pg_pair::{Applied, Call, Carry, Event, Pair, Way};
 use std::alloc::{AllocError, Global};
@@ -24,6 +25,8 @@ const ASKED: &[u8] = b"SELECT 1";
 enum Act<'a> {
     Start,
     Query(&'a [u8]),
+    // The one group of steps that is asked for here.
+    Group,
     Chunk(&'a [u8]),
     Done,
     Fail(&'a [u8]),
@@ -38,6 +41,7 @@ fn event(alloc: Global, act: Act<'_>) -> Result<Event, AllocError> {
     Ok(match act {
         Act::Start => Event::Call(Call::Start),
         Act::Query(asked) => Event::Call(Call::Request(query(alloc, asked)?)),
+        Act::Group => Event::Call(Call::Request(group(alloc)?)),
         Act::Chunk(bytes) => Event::Call(Call::Chunk(text(alloc, bytes)?)),
         Act::Done => Event::Call(Call::Done),
         Act::Fail(reason) => Event::Call(Call::Fail(text(alloc, reason)?)),

@@ -6,11 +6,14 @@ ghost use Rattle.pg_backend.specs.Check.{IsChecked};
 use pg_backend::{Answer, Auth, Load, Script, ScriptPart};
 use pg_client::Settings;
 use pg_pair::{Carry, Pair};
-use pg_wire::{Aside, Column, CopyHead, ErrorField, Fields, Request, Seq, Status, Values};
+use pg_wire::{
+    Aside, Column, CopyHead, ErrorField, ExecEnd, Fields, Request, Seq, Status, Step, Target,
+    Values,
+};
 use std::alloc::{AllocError, Global};
 use std::test::Fail;
 
-// What a backend answers to one query.
+// What a backend answers to one request.
 #[derive(Clone, Copy)]
 pub enum Reply {
     // A row of one value, under a column `n`.
@@ -27,6 +30,10 @@ pub enum Reply {
     Accepting,
     // A copy from the client that is refused with its first chunk.
     Refusing,
+    // An answer to each step of a group.
+    Steps,
+    // An answer to the first step of a group, and an error.
+    FailingStep,
 }
 
 pub fn text(alloc: Global, bytes: &[u8]) -> Result<Seq<u8>, AllocError> {
@@ -35,6 +42,47 @@ pub fn text(alloc: Global, bytes: &[u8]) -> Result<Seq<u8>, AllocError> {
 
 pub fn query(alloc: Global, bytes: &[u8]) -> Result<Request, AllocError> {
     Ok(Request::Query(text(alloc, bytes)?))
+}
+
+fn parse(alloc: Global) -> Result<Step, AllocError> {
+    Ok(Step::Parse {
+        name: text(alloc, b"s")?,
+        text: text(alloc, b"SELECT $1")?,
+        types: Seq::new(vec![in alloc; 25]?),
+    })
+}
+
+fn bind(alloc: Global) -> Result<Step, AllocError> {
+    Ok(Step::Bind {
+        portal: text(alloc, b"p")?,
+        statement: text(alloc, b"s")?,
+        formats: Seq::new(Vec::new(alloc)),
+        values: row_values(alloc)?,
+        result_formats: Seq::new(Vec::new(alloc)),
+    })
+}
+
+fn describe(alloc: Global) -> Result<Step, AllocError> {
+    Ok(Step::Describe {
+        target: Target::Portal,
+        name: text(alloc, b"p")?,
+    })
+}
+
+fn execute(alloc: Global) -> Result<Step, AllocError> {
+    Ok(Step::Execute {
+        portal: text(alloc, b"p")?,
+        max_rows: 0,
+    })
+}
+
+// A query with one parameter is prepared, bound, described and run.
+pub fn group(alloc: Global) -> Result<Request, AllocError> {
+    let mut steps = vec![in alloc; parse(alloc)?]?;
+    steps.push(bind(alloc)?)?;
+    steps.push(describe(alloc)?)?;
+    steps.push(execute(alloc)?)?;
+    Ok(Request::Group(Seq::new(steps)))
 }
 
 fn column(alloc: Global, name: &[u8]) -> Result<Column, AllocError> {
@@ -53,9 +101,12 @@ pub fn columns(alloc: Global) -> Result<Seq<Column>, AllocError> {
     Ok(Seq::new(vec![in alloc; column(alloc, b"n")?]?))
 }
 
+fn row_values(alloc: Global) -> Result<Values, AllocError> {
+    Ok(Seq::new(vec![in alloc; Some(text(alloc, b"1")?)]?))
+}
+
 pub fn rows(alloc: Global) -> Result<Seq<Values>, AllocError> {
-    let row = Seq::new(vec![in alloc; Some(text(alloc, b"1")?)]?);
-    Ok(Seq::new(vec![in alloc; row]?))
+    Ok(Seq::new(vec![in alloc; row_values(alloc)?]?))
 }
 
 fn row(alloc: Global) -> Result<ScriptPart, AllocError> {
@@ -117,13 +168,37 @@ fn first_part(alloc: Global, reply: Reply) -> Result<ScriptPart, AllocError> {
         Reply::InBlock => command(alloc, b"B"),
         Reply::Long => long(alloc),
         Reply::Accepting | Reply::Refusing => copy_in(alloc, reply),
+        Reply::Steps | Reply::FailingStep => Ok(ScriptPart::Parsed),
     }
+}
+
+fn described(alloc: Global) -> Result<ScriptPart, AllocError> {
+    Ok(ScriptPart::Described {
+        parameters: None,
+        columns: Some(columns(alloc)?),
+    })
+}
+
+fn executed(alloc: Global) -> Result<ScriptPart, AllocError> {
+    Ok(ScriptPart::Executed {
+        rows: rows(alloc)?,
+        end: ExecEnd::Complete(text(alloc, b"SELECT 1")?),
+    })
+}
+
+// The answers to all steps of a group.
+fn step_parts(alloc: Global, first: ScriptPart) -> Result<Vec<ScriptPart>, AllocError> {
+    let mut parts = vec![in alloc; first, ScriptPart::Bound]?;
+    parts.push(described(alloc)?)?;
+    parts.push(executed(alloc)?)?;
+    Ok(parts)
 }
 
 fn parts(alloc: Global, reply: Reply) -> Result<Vec<ScriptPart>, AllocError> {
     let first = first_part(alloc, reply)?;
     Ok(match reply {
         Reply::Failing => vec![in alloc; first, command(alloc, b"B")?]?,
+        Reply::Steps => step_parts(alloc, first)?,
         _ => vec![in alloc; first]?,
     })
 }
@@ -137,14 +212,14 @@ fn before(alloc: Global, reply: Reply) -> Result<Seq<Aside>, AllocError> {
 
 fn error(alloc: Global, reply: Reply) -> Result<Option<Fields>, AllocError> {
     match reply {
-        Reply::Failing => Ok(Some(fields(alloc, b"bad")?)),
+        Reply::Failing | Reply::FailingStep => Ok(Some(fields(alloc, b"bad")?)),
         _ => Ok(None),
     }
 }
 
 fn status(reply: Reply) -> Status {
     match reply {
-        Reply::Failing => Status::Failed,
+        Reply::Failing | Reply::FailingStep => Status::Failed,
         Reply::InBlock => Status::InBlock,
         _ => Status::Idle,
     }
