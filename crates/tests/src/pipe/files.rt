@@ -112,7 +112,7 @@ fn refused_scripts(rt: HostRuntime) {
 }
 
 // What is refused, and in which line.
-const REFUSED_SCRIPTS: [(&[u8], usize); 49] = [
+const REFUSED_SCRIPTS: [(&[u8], usize); 52] = [
     (b"nonsense\n", 1),
     (b"\\N\ttrust\n", 1),
     (b"\n\n\tx\n", 3),
@@ -158,6 +158,9 @@ const REFUSED_SCRIPTS: [(&[u8], usize); 49] = [
     (b"answer\tI\ncopyin\ttext\t1\taccept\tT\n", 2),
     (b"answer\tI\nchunk\ta\n", 2),
     (b"answer\tI\nparsed\n", 2),
+    (b"answer\tI\nbound\n", 2),
+    (b"answer\tI\nshut\n", 2),
+    (b"answer\tI\nparamtypes\t25\n", 2),
     (b"answer\tI\ndescribed\n", 2),
     (b"answer\tI\nexecuted\tempty\n", 2),
     // faults of the text format, in their place
@@ -242,7 +245,7 @@ fn refused_calls(rt: HostRuntime) {
 }
 
 // What is refused, and in which line.
-const REFUSED_CALLS: [(&[u8], usize); 33] = [
+const REFUSED_CALLS: [(&[u8], usize); 39] = [
     (b"user\tu\nstart\nflow\nnonsense\n", 4),
     (b"\\N\n", 1),
     (b"user\n", 1),
@@ -276,6 +279,12 @@ const REFUSED_CALLS: [(&[u8], usize); 33] = [
     (b"fail\tno\n", 1),
     (b"file\tp\n", 1),
     (b"group\nsync\n", 1),
+    (b"sync\n", 1),
+    (b"parse\ts\tSELECT 1\n", 1),
+    (b"bind\tp\ts\n", 1),
+    (b"describe\tS\ts\n", 1),
+    (b"execute\tp\t0\n", 1),
+    (b"close\tS\ts\n", 1),
     (b"start\n\xFF\n", 2),
 ];
 
