@@ -2,7 +2,7 @@
 use Rattle.std.specs.Prelude.{◌≡◌, ℕ, ◌<◌, ◌≤◌, ◌%◌, ◌⊎◌, List, [], ◌∷◌, ◌++◌, length, Option, Some, None}
 use Rattle.std.specs.List.{AllByRecursion}
 use Rattle.std.specs.Char.{digit_value}
-use Rattle.pg_copy.specs.Text.{null_mark, letter_value, digits_value}
+use Rattle.pg_copy.specs.Text.{backslash, null_mark, letter_value, digits_value}
 
 -- no digit of the base stands first
 abbrev pub NoDigit : ℕ → List ℕ → Type 0
@@ -26,8 +26,8 @@ pub data IsEscape : List ℕ → List ℕ → ℕ → Type 0 where
 -- The bytes spell the text: each is itself, or an escape stands there.
 pub data IsText : List ℕ → List ℕ → Type 0 where
   nothing : IsText [] []
-  plain : (b : ℕ) (bs text : List ℕ) → (b ≡ 92 → ⊥) → IsText bs text → IsText (b ∷ bs) (b ∷ text)
-  escaped : (escape bs : List ℕ) (b : ℕ) (text : List ℕ) → IsEscape escape bs b → IsText bs text → IsText (92 ∷ (escape ++ bs)) (b ∷ text)
+  plain : (b : ℕ) (bs text : List ℕ) → (b ≡ backslash → ⊥) → IsText bs text → IsText (b ∷ bs) (b ∷ text)
+  escaped : (escape bs : List ℕ) (b : ℕ) (text : List ℕ) → IsEscape escape bs b → IsText bs text → IsText (backslash ∷ (escape ++ bs)) (b ∷ text)
 
 -- The bytes spell the field. Null is looked at before any escape.
 abbrev pub IsField : List ℕ → Option (List ℕ) → Type 0

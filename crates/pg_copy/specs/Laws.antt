@@ -4,7 +4,7 @@ use Rattle.std.specs.List.{flat_map, AllByRecursion}
 use Rattle.pg_copy.specs.Row.{Row}
 use Rattle.pg_copy.specs.declared.fault.BinaryFault.{BinaryFault}
 use Rattle.pg_copy.specs.Reading.{Ending, Done, Ended, after_rows}
-use Rattle.pg_copy.specs.Text.{delimiter, ends_escaped, parts, field_value, line_row, FitsReader, reading, file_reading, written_row}
+use Rattle.pg_copy.specs.Text.{backslash, delimiter, ends_escaped, parts, field_value, line_row, FitsReader, reading, file_reading, written_row}
 use Rattle.pg_copy.specs.Escape.{IsField}
 use Rattle.pg_copy.specs.Lines.{AreParts, AreFields}
 use Rattle.pg_copy.specs.Binary.{IsHead, FitsBinary, binary_row, trailer, IsBytes, IsBinaryFile}
@@ -16,8 +16,8 @@ use Rattle.pg_copy.specs.BinaryReading as binary
 -- The lines of a file that are read, and the fields of a line, are what the bytes are by their units, and the bytes are no
 -- other parts.
 pub record OneSplit : Type 0 where
-  pub there : (mark : ℕ) (bytes : List ℕ) → (mark ≡ 92 → ⊥) → AreParts mark bytes (parts mark bytes)
-  pub one : (mark : ℕ) (bytes : List ℕ) (ps qs : List (List ℕ)) → (mark ≡ 92 → ⊥) → AreParts mark bytes ps → AreParts mark bytes qs
+  pub there : (mark : ℕ) (bytes : List ℕ) → (mark ≡ backslash → ⊥) → AreParts mark bytes (parts mark bytes)
+  pub one : (mark : ℕ) (bytes : List ℕ) (ps qs : List (List ℕ)) → (mark ≡ backslash → ⊥) → AreParts mark bytes ps → AreParts mark bytes qs
       → ps ≡ qs
 
 -- The value that a reader gives to a field is what the field spells, and a field spells one value at most. A field of a line is

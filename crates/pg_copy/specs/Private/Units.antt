@@ -9,7 +9,7 @@ use Rattle.pg_copy.specs.Text.{carriage_return, ends_escaped, digits_at, newline
 abbrev pub units_from : Bool → ℕ → List ℕ → ℕ
 units_from escaped mark [] = 0
 units_from true mark (b ∷ bs) = units_from false mark bs
-units_from false mark (b ∷ bs) = (if b == mark then 1 else 0) + units_from (b == 92) mark bs
+units_from false mark (b ∷ bs) = (if b == mark then 1 else 0) + units_from (b == backslash) mark bs
 
 abbrev pub units : ℕ → List ℕ → ℕ
 units mark bytes = units_from false mark bytes
@@ -53,7 +53,7 @@ pub record LeadsWith (base : ℕ) (bytes : List ℕ) (d : ℕ) : Type 0 where
 -- no byte is a backslash
 abbrev pub NoBackslash : List ℕ → Type 0
 NoBackslash [] = Unit {0}
-NoBackslash (b ∷ bs) = ((b == 92) ≡ false) × NoBackslash bs
+NoBackslash (b ∷ bs) = ((b == backslash) ≡ false) × NoBackslash bs
 
 -- the bytes up to i have no delimiter, and no backslash where they are plain
 pub record IsWalked (bytes : List ℕ) (i : ℕ) (e p : Bool) : Type 0 where
