@@ -132,17 +132,17 @@ refused_took_the_first = (record { first = refl; all = λ e. absurd cc }, tt)
 
 -- a client and a backend as they are made, and a carrier that keeps nothing
 fresh : PairView (Unit {0})
-fresh = record
-  { client = record { settings = record { user = 117 ∷ []; database = None; pairs = []; limit = 64 }; kept = []; stand = stands.New; settled = []; status = None; parameters = []; key = None; closed = None }
-  ; backend = record { script = record { auth = Trust; pairs = []; key = None; answers = [] }; limit = 64; left = []; stage = stage.First (record { kept = []; ended = false; fault = None }); log = [] }
-  ; carrier = tt
-  ; to_backend = record { sent = []; reached = 0; broken = false }
-  ; to_client = record { sent = []; reached = 0; broken = false }
-  ; places = []
-  ; settled = []
-  ; handed = []
-  ; loss = None
-  }
+fresh = record {
+  client = record { settings = record { user = 117 ∷ []; database = None; pairs = []; limit = 64 }; kept = []; stand = stands.New; settled = []; status = None; parameters = []; key = None; closed = None };
+  backend = record { script = record { auth = Trust; pairs = []; key = None; answers = [] }; limit = 64; left = []; stage = stage.First (record { kept = []; ended = false; fault = None }); log = [] };
+  carrier = tt;
+  to_backend = record { sent = []; reached = 0; broken = false };
+  to_client = record { sent = []; reached = 0; broken = false };
+  places = [];
+  settled = [];
+  handed = [];
+  loss = None;
+}
 
 -- the same behind a break of the way to the backend, which was told
 cut_off : PairView (Unit {0})
