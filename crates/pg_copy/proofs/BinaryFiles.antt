@@ -327,10 +327,6 @@ head-view bytes fits = go (bytes_at 11 bytes) (bytes-view 11 bytes fits)
     go _ (bytes_there first rest len parts are) = signed first rest len parts are (bytes_eq first signature) refl
     go _ bytes_short = head_short
 
-signature-read : (rest : List ℕ) → signature_at (signature ++ rest) ≡ Ok (signature, rest)
-unfolding signature_at
-signature-read rest = rw (bytes-again signature rest 11 refl) refl
-
 head-fault-again : (bytes : List ℕ) (f : BinaryFault) → IsFaultyHead bytes f → head_at bytes ≡ Err (Faulty f)
 unfolding head_at fixed_at signature_at flags_at extension_at
 head-fault-again _ _ (signature_differs bytes long ne) = rw (le-ltb (length bytes) 11 long, other-bytes (take 11 bytes) signature ne) refl

@@ -1,11 +1,11 @@
 -- What a reader of binary files has read.
-use Rattle.std.proofs.Common.{◌≡◌, ℕ, Bool, true, false, List, [], ◌∷◌, ◌++◌, Option, Some, None, Result, Ok, Err, refl, sym, ap, subst, ◌∙◌, append_assoc, arith, inl, inr}
-use Rattle.std.specs.Prelude.{◌⊎◌, ◌<◌, ◌≤◌, ◌-◌, length, drop, OnOk}
-use Rattle.std.proofs.lemmas.List.{append-nil, length-append, drop_all}
-use Rattle.std.proofs.lemmas.Bool.{false≢true, cases_lt, lt-ltb, le-ltb, cond-true, cond-false}
+use Rattle.std.proofs.Common.{◌≡◌, ℕ, Bool, true, false, List, [], ◌∷◌, ◌++◌, Option, Some, None, Result, Ok, Err, refl, sym, ap, subst, ◌∙◌, arith, inl, inr}
+use Rattle.std.specs.Prelude.{◌<◌}
+use Rattle.std.proofs.lemmas.List.{append-nil, length-append}
+use Rattle.std.proofs.lemmas.Bool.{false≢true, lt-ltb, cond-true}
 use Rattle.pg_copy.specs.declared.binary_part.NoPart.TheVariants as stops
 use Rattle.pg_copy.specs.declared.fault.BinaryFault.{BinaryFault}
-use Rattle.pg_copy.specs.declared.fault.BinaryFault.TheVariants.{Truncated, AfterTrailer, Memory}
+use Rattle.pg_copy.specs.declared.fault.BinaryFault.TheVariants.{Truncated, Memory}
 use Rattle.pg_copy.specs.declared.binary_part.NoRow.{NoRow}
 use Rattle.pg_copy.specs.declared.binary_part.NoRow.TheVariants as no_row
 use Rattle.pg_copy.specs.declared.binary_reader.BinaryStage.{BinaryStage}
@@ -14,11 +14,11 @@ use Rattle.pg_copy.specs.Row.{Row}
 use Rattle.pg_copy.specs.Reading.{Reading, Ending, Open, Done, Bad, after_rows, RowWaits, given_by, IsGood, Gives}
 use Rattle.pg_copy.specs.Binary.{open_head}
 use Rattle.pg_copy.specs.BinaryReading.{NoPart, Incomplete, Faulty, ◌>>=◌, bytes_at, fixed_at, head_at, row_at, part_reading, row_reading, body_reading, head_reading, binary_reading, trailer_reading, last_ending, at_end, file_reading}
-use Rattle.pg_copy.specs.BinaryReader.{BinaryState, stage_reading, left, HasReadBinary, kept_of, stage_behind, pushed_after, PushesBinary, WaitsWith, binary_ending}
+use Rattle.pg_copy.specs.BinaryReader.{BinaryState, stage_reading, left, HasReadBinary, WaitsWith, binary_ending}
 use Rattle.pg_copy.specs.Private.BinaryPart.{closed_at, row_or_trailer, body_at, part_at, left_of, in_extension, behind_head, waiting_at, TakesPart}
 use Rattle.pg_copy.proofs.TextReads.{after-after, after-none}
 use Rattle.pg_copy.proofs.BinaryReads.{Grows, row_grows, head_grows, bytes_grow, body-step, part-rows}
-use Rattle.pg_copy.proofs.BinaryHeads.{head-open, open-few, open-many, skip-reads, skip-some, skip-all}
+use Rattle.pg_copy.proofs.BinaryHeads.{head-open, open-few, open-many, skip-reads}
 
 -- ---- what a call does by the next part
 
@@ -138,7 +138,7 @@ pub record Goes (old new : BinaryState) (rows : List Row) : Type 0 where
   pub ended : new.ended ≡ old.ended
   pub left : (more : List ℕ) → left old more ≡ after_rows rows (left new more)
 
-whole-same : (old new : BinaryState) (bytes : List ℕ) → new.columns ≡ old.columns → new.limit ≡ old.limit → binary_reading new.columns new.limit bytes ≡ binary_reading old.columns old.limit bytes
+pub whole-same : (old new : BinaryState) (bytes : List ℕ) → new.columns ≡ old.columns → new.limit ≡ old.limit → binary_reading new.columns new.limit bytes ≡ binary_reading old.columns old.limit bytes
 whole-same old new bytes e f = ap (λ (c : ℕ). binary_reading c new.limit bytes) e ∙ ap (λ (l : ℕ). binary_reading old.columns l bytes) f
 
 pub HasRead-goes : (old new : BinaryState) (rows : List Row) (pushed : List ℕ) (given : List Row) → Goes old new rows → HasReadBinary old pushed given → HasReadBinary new pushed (given ++ rows)
@@ -375,103 +375,6 @@ given-next (Err (no_row.NoPart (stops.Faulty fault))) = refl
 pub HasRead-next : (answer : Answer) (old new : BinaryState) (pushed : List ℕ) (given : List Row) → TakesPart answer old new → HasReadBinary old pushed given → HasReadBinary new pushed (given ++ given_by (next_answer answer))
 HasRead-next answer old new pushed given h k = rw (given-next answer) (HasRead-goes old new (answer_rows answer) pushed given (Goes-part answer old new h) k)
 
-pub next-memory : (answer : Answer) (old new : BinaryState) → TakesPart answer old new → next_answer answer ≡ Err Memory → (new ≡ old) × RowWaits (left old [])
-next-memory (Ok (Some row)) old new h e = absurd cc
-next-memory (Ok None) old new h e = absurd cc
-next-memory (Err no_row.Memory) old new h e = h
-next-memory (Err (no_row.NoPart stops.Incomplete)) old new h e = absurd cc
-next-memory (Err (no_row.NoPart (stops.Faulty fault))) old new h e = absurd (h.0 cc)
-
--- ---- pushing
-
--- what is left of a longer file
-pub HasRead-pushed : (old new : BinaryState) (piece pushed : List ℕ) (given : List Row) → old.ended ≡ false → new.columns ≡ old.columns → new.limit ≡ old.limit
-    → ((more : List ℕ) → left old (piece ++ more) ≡ left new more) → HasReadBinary old pushed given → HasReadBinary new (pushed ++ piece) given
-HasRead-pushed old new piece pushed given going e f l h =
-    let so_far : (more : List ℕ) → binary_reading new.columns new.limit ((pushed ++ piece) ++ more) ≡ after_rows given (left new more) =
-    λ more. whole-same old new ((pushed ++ piece) ++ more) e f ∙ ap (binary_reading old.columns old.limit) (append_assoc pushed piece more) ∙ h.so_far going (piece ++ more) ∙ ap (after_rows given) (l more) in
-    record {
-      so_far = λ g more. so_far more;
-      in_all = ap (λ (x : List ℕ). at_end (binary_reading new.columns new.limit x)) (sym (append-nil (pushed ++ piece))) ∙ ap at_end (so_far []);
-    }
-
-pub HasRead-push : (old new : BinaryState) (piece pushed : List ℕ) (given : List Row) → old.ended ≡ false → new ≡ record old { kept = old.kept ++ piece } → HasReadBinary old pushed given → HasReadBinary new (pushed ++ piece) given
-HasRead-push old new piece pushed given going e h =
-    let longer : HasReadBinary (record old { kept = old.kept ++ piece }) (pushed ++ piece) given =
-    HasRead-pushed old (record old { kept = old.kept ++ piece }) piece pushed given going refl refl (λ more. ap (λ (x : List ℕ). stage_reading old.stage old.columns old.limit x) (sym (append_assoc old.kept piece more))) h in
-    rw e longer
-
--- bytes behind the trailer
-pub HasRead-behind : (old : BinaryState) (piece pushed : List ℕ) (given : List Row) → old.ended ≡ false → old.stage ≡ Closed → (piece ≡ [] → ⊥) → HasReadBinary old pushed given → HasReadBinary (record old { stage = Failed AfterTrailer }) (pushed ++ piece) given
-HasRead-behind old [] pushed given going e some h = absurd (some refl)
-HasRead-behind old (b ∷ bs) pushed given going e some h =
-    HasRead-pushed old (record old { stage = Failed AfterTrailer }) (b ∷ bs) pushed given going refl refl (λ more. ap (λ (t : BinaryStage). stage_reading t old.columns old.limit (old.kept ++ b ∷ (bs ++ more))) e ∙ wrong old.kept b (bs ++ more)) h
-  where
-    wrong : (kept : List ℕ) (b : ℕ) (more : List ℕ) → trailer_reading (kept ++ b ∷ more) ≡ record { rows = []; ending = Bad AfterTrailer }
-    wrong [] b more = refl
-    wrong (c ∷ kept) b more = refl
-
--- how a push leaves a reader at this stage
-abbrev pushed_at : BinaryStage → BinaryState → List ℕ → BinaryState
-pushed_at stage old piece = record old { kept = old.kept ++ kept_of stage piece; stage = stage_behind stage piece }
-
-at_stage : (stage : BinaryStage) (old : BinaryState) (piece : List ℕ) → old.stage ≡ stage → pushed_at stage old piece ≡ pushed_after old piece
-at_stage stage old piece e = ap (λ (t : BinaryStage). pushed_at t old piece) (sym e)
-
-same-kept : (old : BinaryState) (stage : BinaryStage) (rest : List ℕ) → rest ≡ [] → record old { stage = stage } ≡ record old { kept = old.kept ++ rest; stage = stage }
-same-kept old stage rest e = ap (λ (x : List ℕ). record old { kept = x; stage = stage }) (sym (append-nil old.kept) ∙ ap (λ (x : List ℕ). old.kept ++ x) (sym e))
-
-pub pushed-among : (old : BinaryState) (piece : List ℕ) → (old.stage ≡ Head) ⊎ (old.stage ≡ Rows) → record old { kept = old.kept ++ piece } ≡ pushed_after old piece
-pushed-among old piece (inl e) = ap (λ (t : BinaryStage). record old { kept = old.kept ++ piece; stage = t }) e ∙ at_stage Head old piece e
-pushed-among old piece (inr e) = ap (λ (t : BinaryStage). record old { kept = old.kept ++ piece; stage = t }) e ∙ at_stage Rows old piece e
-
-pub pushed-behind : (old : BinaryState) (piece : List ℕ) → old.stage ≡ Closed → (piece ≡ [] → ⊥) → record old { stage = Failed AfterTrailer } ≡ pushed_after old piece
-pushed-behind old [] e some = absurd (some refl)
-pushed-behind old (b ∷ bs) e some = same-kept old (Failed AfterTrailer) [] refl ∙ at_stage Closed old (b ∷ bs) e
-
-pub pushed-nothing : (old : BinaryState) (piece : List ℕ) → old.stage ≡ Closed → piece ≡ [] → old ≡ pushed_after old piece
-pushed-nothing old [] e none = ap (λ (t : BinaryStage). record old { stage = t }) e ∙ same-kept old Closed [] refl ∙ at_stage Closed old [] e
-pushed-nothing old (b ∷ bs) e none = absurd cc
-
-pub pushed-within : (old : BinaryState) (piece : List ℕ) (n : ℕ) → old.stage ≡ Extension n → length piece < n → record old { stage = Extension (n - length piece) } ≡ pushed_after old piece
-pushed-within old piece n e lt =
-    same-kept old (Extension (n - length piece)) (drop n piece) (drop_all n piece (omega arith))
-    ∙ ap (λ (t : BinaryStage). record old { kept = old.kept ++ drop n piece; stage = t }) (sym (cond-true _ _ _ (lt-ltb (length piece) n lt)))
-    ∙ at_stage (Extension n) old piece e
-
-pub pushed-past : (old : BinaryState) (piece : List ℕ) (n : ℕ) → old.stage ≡ Extension n → n ≤ length piece → record old { kept = old.kept ++ drop n piece; stage = Rows } ≡ pushed_after old piece
-pushed-past old piece n e le =
-    ap (λ (t : BinaryStage). record old { kept = old.kept ++ drop n piece; stage = t }) (sym (cond-false _ _ _ (le-ltb (length piece) n le)))
-    ∙ at_stage (Extension n) old piece e
-
--- a piece that is pushed within an extension
-HasRead-within : (old new : BinaryState) (piece pushed : List ℕ) (given : List Row) (n : ℕ) → old.ended ≡ false → old.stage ≡ Extension n → old.kept ≡ [] → new ≡ pushed_after old piece → HasReadBinary old pushed given → HasReadBinary new (pushed ++ piece) given
-HasRead-within old new piece pushed given n going e empty is h = elim (cases_lt (length piece) n) [
-  | inl lt ↦
-      let fewer : BinaryState = record old { stage = Extension (n - length piece) } in
-      let here : fewer ≡ new = pushed-within old piece n e lt ∙ sym is in
-      let some : HasReadBinary fewer (pushed ++ piece) given =
-      HasRead-pushed old fewer piece pushed given going refl refl (λ more. left_is (piece ++ more) ∙ skip-some old.columns old.limit n piece more lt ∙ ap (λ (x : List ℕ). stage_reading (Extension (n - length piece)) old.columns old.limit (x ++ more)) (sym empty)) h in
-      subst (λ (s : BinaryState). HasReadBinary s (pushed ++ piece) given) here some
-  | inr le ↦
-      let behind : BinaryState = record old { kept = old.kept ++ drop n piece; stage = Rows } in
-      let here : behind ≡ new = pushed-past old piece n e le ∙ sym is in
-      let all : HasReadBinary behind (pushed ++ piece) given =
-      HasRead-pushed old behind piece pushed given going refl refl (λ more. left_is (piece ++ more) ∙ skip-all old.columns old.limit n piece more le ∙ ap (λ (x : List ℕ). stage_reading Rows old.columns old.limit ((x ++ drop n piece) ++ more)) (sym empty)) h in
-      subst (λ (s : BinaryState). HasReadBinary s (pushed ++ piece) given) here all
-]
-  where
-    left_is : (more : List ℕ) → left old more ≡ stage_reading (Extension n) old.columns old.limit more
-    left_is more = ap (λ (t : BinaryStage). stage_reading t old.columns old.limit (old.kept ++ more)) e ∙ ap (λ (x : List ℕ). stage_reading (Extension n) old.columns old.limit (x ++ more)) empty
-
-pub HasRead-skip : (old new : BinaryState) (piece : List ℕ) (result : Result Unit BinaryFault) (n : ℕ) → old.ended ≡ false → old.stage ≡ Extension n → old.kept ≡ [] → PushesBinary old piece result new
-    → OnOk result ((pushed : List ℕ) (given : List Row) → HasReadBinary old pushed given → HasReadBinary new (pushed ++ piece) given)
-HasRead-skip old new piece (Ok x) n going e empty h = λ pushed given k. HasRead-within old new piece pushed given n going e empty h.1 k
-HasRead-skip old new piece (Err f) n going e empty h = tt
-
-pub HasRead-nothing : (old : BinaryState) (pushed : List ℕ) (given : List Row) → HasReadBinary old pushed given → HasReadBinary old (pushed ++ []) given
-HasRead-nothing old pushed given h = rw (append-nil pushed) h
-
 -- ---- the end of the input
 
 pub HasRead-ended : (mid new : BinaryState) (pushed : List ℕ) (given : List Row) → new ≡ record mid { ended = true } → HasReadBinary mid pushed given → HasReadBinary new pushed given
@@ -509,37 +412,12 @@ HasRead-finish (Err (no_row.NoPart stops.Incomplete)) old mid new pushed given h
     rw e (record { so_far = λ f. absurd (false≢true (sym f)); in_all = all ∙ ap (λ (rows : List Row). record { rows = rows; ending = Bad Truncated }) (sym (append-nil given) ∙ sym (append-nil (given ++ []))) })
 HasRead-finish (Err (no_row.NoPart (stops.Faulty fault))) old mid new pushed given h e k = HasRead-ended mid new pushed (given ++ []) e (HasRead-goes old mid [] pushed given (Goes-part (Err (no_row.NoPart (stops.Faulty fault))) old mid h) k)
 
-pub finish-memory : (answer : Answer) (old mid new : BinaryState) → TakesPart answer old mid → new ≡ finished answer mid → last_answer answer ≡ Err Memory → (new ≡ old) × RowWaits (left old [])
-finish-memory (Ok (Some row)) old mid new h f e = absurd cc
-finish-memory (Ok None) old mid new h f e = absurd cc
-finish-memory (Err no_row.Memory) old mid new h f e = (f ∙ h.0, h.1)
-finish-memory (Err (no_row.NoPart stops.Incomplete)) old mid new h f e = absurd cc
-finish-memory (Err (no_row.NoPart (stops.Faulty fault))) old mid new h f e = absurd (h.0 cc)
-
-pub finish-ended : (answer : Answer) (mid new : BinaryState) → new ≡ finished answer mid → (last_answer answer ≡ Err Memory) ⊎ (new.ended ≡ true)
-finish-ended (Ok row) mid new e = inr (ap (λ (s : BinaryState). s.ended) e)
-finish-ended (Err no_row.Memory) mid new e = inl refl
-finish-ended (Err (no_row.NoPart stops.Incomplete)) mid new e = inr (ap (λ (s : BinaryState). s.ended) e)
-finish-ended (Err (no_row.NoPart (stops.Faulty fault))) mid new e = inr (ap (λ (s : BinaryState). s.ended) e)
-
 pub finish-closed : (answer : Answer) (old mid new : BinaryState) → TakesPart answer old mid → new ≡ finished answer mid → last_answer answer ≡ Ok None → new.stage ≡ Closed
 finish-closed (Ok (Some row)) old mid new h e f = absurd cc
 finish-closed (Ok None) old mid new h e f = ap (λ (s : BinaryState). s.stage) e ∙ (left-none old mid h).0
 finish-closed (Err no_row.Memory) old mid new h e f = absurd cc
 finish-closed (Err (no_row.NoPart stops.Incomplete)) old mid new h e f = absurd cc
 finish-closed (Err (no_row.NoPart (stops.Faulty fault))) old mid new h e f = absurd cc
-
-pub finish-same : (answer : Answer) (old mid new : BinaryState) → TakesPart answer old mid → new ≡ finished answer mid → (new.columns ≡ old.columns) × (new.limit ≡ old.limit)
-finish-same answer old mid new h e =
-    let g = Goes-part answer old mid h in
-    let s = same answer in
-    (ap (λ (t : BinaryState). t.columns) e ∙ s.0 ∙ g.columns, ap (λ (t : BinaryState). t.limit) e ∙ s.1 ∙ g.limit)
-  where
-    same : (answer : Answer) → ((finished answer mid).columns ≡ mid.columns) × ((finished answer mid).limit ≡ mid.limit)
-    same (Ok row) = (refl, refl)
-    same (Err no_row.Memory) = (refl, refl)
-    same (Err (no_row.NoPart stops.Incomplete)) = (refl, refl)
-    same (Err (no_row.NoPart (stops.Faulty fault))) = (refl, refl)
 
 -- ---- a reader that failed
 
@@ -554,9 +432,6 @@ pub Gives-failed : (old : BinaryState) (pushed : List ℕ) (given : List Row) (f
 Gives-failed old pushed given fault e h =
     inr (ap (λ (t : BinaryStage). binary_ending t old.kept) e, all-from old old pushed given (Bad fault) refl refl h (left-failed old fault e))
 
-pub HasRead-failed : (old : BinaryState) (pushed : List ℕ) (given : List Row) → HasReadBinary old pushed given → HasReadBinary (record old { ended = true }) pushed (given ++ [])
-HasRead-failed old pushed given h = HasRead-ended old (record old { ended = true }) pushed (given ++ []) refl (HasRead-goes old old [] pushed given (Goes-same old) h)
-
 -- a row that is found waits
 pub waits-part : (old : BinaryState) (row : Row) (rest : List ℕ) → part_at old.stage old.columns old.limit old.kept ≡ Ok ((Some row, Rows), rest) → RowWaits (left old [])
 waits-part old row rest e =
@@ -564,22 +439,6 @@ waits-part old row rest e =
     let after = stage_reading Rows old.columns old.limit (rest ++ []) in
     let is : left old [] ≡ after_rows (row ∷ []) after = r.1 [] in
     rw is (omega (arith, length-append (row ∷ []) after.rows))
-
--- ---- behind the trailer
-
-left-closed : (old : BinaryState) → old.stage ≡ Closed → old.kept ≡ [] → left old [] ≡ record { rows = []; ending = Done }
-left-closed old e empty = ap (λ (t : BinaryStage). stage_reading t old.columns old.limit (old.kept ++ [])) e ∙ ap (λ (x : List ℕ). trailer_reading (x ++ [])) empty
-
-done-at : (old : BinaryState) → old.stage ≡ Closed → Done ≡ binary_ending old.stage old.kept
-done-at old e = ap (λ (t : BinaryStage). binary_ending t old.kept) (sym e)
-
-pub Gives-closed-next : (old : BinaryState) (pushed : List ℕ) (given : List Row) → old.ended ≡ false → old.stage ≡ Closed → old.kept ≡ [] → HasReadBinary old pushed given → Gives Memory (binary_reading old.columns old.limit pushed) given (binary_ending old.stage old.kept) (Ok None)
-Gives-closed-next old pushed given going e empty h =
-    subst (λ (x : Ending BinaryFault). IsGood x × (binary_reading old.columns old.limit pushed ≡ record { rows = given; ending = x })) (done-at old e) (tt, whole-from old old pushed given Done going refl refl h (left-closed old e empty))
-
-pub Gives-closed : (old : BinaryState) (pushed : List ℕ) (given : List Row) → old.stage ≡ Closed → old.kept ≡ [] → HasReadBinary old pushed given → Gives Memory (file_reading old.columns old.limit pushed) given (binary_ending old.stage old.kept) (Ok None)
-Gives-closed old pushed given e empty h =
-    subst (λ (x : Ending BinaryFault). IsGood x × (file_reading old.columns old.limit pushed ≡ record { rows = given; ending = x })) (done-at old e) (tt, all-from old old pushed given Done refl refl h (left-closed old e empty))
 
 -- ---- a row is given among the rows
 

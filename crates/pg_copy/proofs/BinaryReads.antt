@@ -13,7 +13,7 @@ use Rattle.pg_copy.specs.Row.{Row}
 use Rattle.pg_copy.specs.Reading.{Reading, after_rows}
 use Rattle.pg_copy.specs.Binary.{signature}
 use Rattle.pg_copy.specs.BinaryReading.{NoPart, Incomplete, Faulty, ◌>>=◌, number_at, bytes_at, signature_at, flags_at, extension_at, fixed_at, head_at, value_at, values_at, row_at, part_reading, row_reading, rows_reading, body_reading}
-use Rattle.pg_copy.specs.Private.BinaryPart.{closed_at, row_or_trailer, body_at, part_at}
+use Rattle.pg_copy.specs.Private.BinaryPart.{row_or_trailer, body_at, part_at}
 
 -- ---- what is read stays so when bytes are added
 
@@ -288,74 +288,12 @@ pub head_takes : (bytes : List ℕ) → Takes 11 (head_at bytes) bytes
 unfolding head_at
 head_takes bytes = takes_bind 11 (fixed_at bytes) bytes _ (fixed_takes bytes) (λ n. bytes_take n.0 n.1)
 
-closed_takes : (bytes : List ℕ) → Takes 0 (closed_at bytes) bytes
-closed_takes [] = (0, omega arith, omega arith, refl)
-closed_takes (b ∷ bs) = tt
-
-body_takes : (columns limit : ℕ) (bytes : List ℕ) → Takes 0 (body_at columns limit bytes) bytes
-unfolding body_at
-body_takes columns limit bytes = takes_bind 0 (row_at columns limit bytes) bytes _ (less 0 2 (row_at columns limit bytes) bytes (omega arith) (row_takes columns limit bytes)) (λ r. go r.0 r.1)
-  where
-    go : (o : Option (Row)) (rest : List ℕ) → Takes 0 (row_or_trailer o rest) rest
-    go None rest = closed_takes rest
-    go (Some row) rest = (0, omega arith, omega arith, refl)
-
-part_takes : (stage : BinaryStage) (columns limit : ℕ) (bytes : List ℕ) → Takes 0 (part_at stage columns limit bytes) bytes
-unfolding part_at
-part_takes Head columns limit bytes = takes_bind 0 (head_at bytes) bytes _ (less 0 11 (head_at bytes) bytes (omega arith) (head_takes bytes)) (λ h. body_takes columns limit h.1)
-part_takes (stages.Extension n) columns limit bytes = takes_bind 0 (bytes_at n bytes) bytes _ (bytes_take n bytes) (λ h. body_takes columns limit h.1)
-part_takes Rows columns limit bytes = body_takes columns limit bytes
-part_takes Closed columns limit bytes = closed_takes bytes
-part_takes (Failed fault) columns limit bytes = tt
-
 -- what is left is the end of what was there
 pub record IsEnd (rest bytes : List ℕ) : Type 0 where
   pub len : length rest ≤ length bytes
   pub is : drop (length bytes - length rest) bytes ≡ rest
 
-pub part-end : (stage : BinaryStage) (columns limit : ℕ) (bytes : List ℕ) (x : (Option (Row) × BinaryStage) × List ℕ) → part_at stage columns limit bytes ≡ Ok x → IsEnd x.1 bytes
-part-end stage columns limit bytes x e =
-    let h = subst (λ p. Takes 0 p bytes) e (part_takes stage columns limit bytes) in
-    let len : length x.1 ≡ length bytes - h.0 = ap length h.3 ∙ length-drop h.0 bytes in
-    let n : length bytes - length x.1 ≡ h.0 = omega (arith, h.2) in
-    record { len = omega (arith, h.2); is = ap (λ (k : ℕ). drop k bytes) n ∙ sym h.3 }
-
--- the same within a buffer of which the first were read
-pub end-within : (bytes rest : List ℕ) (start : ℕ) → start ≤ length bytes → IsEnd rest (drop start bytes) → drop (length bytes - length rest) bytes ≡ rest
-end-within bytes rest start within h =
-    let n : start + (length (drop start bytes) - length rest) ≡ length bytes - length rest = omega (arith, length-drop start bytes, h.len) in
-    ap (λ (k : ℕ). drop k bytes) (sym n) ∙ sym (drop-drop (length (drop start bytes) - length rest) start bytes) ∙ h.is
-
 -- ---- no part leaves a reader that failed
-
-abbrev StageHolds : Result ((Option (Row) × BinaryStage) × List ℕ) NoPart → Type 0
-StageHolds (Ok x) = x.0.1 ≡ Failed Memory → ⊥
-StageHolds (Err stop) = Unit {0}
-
-stage_bind : {A : Type 0} (r : Result A NoPart) (f : A → Result ((Option (Row) × BinaryStage) × List ℕ) NoPart) → ((x : A) → StageHolds (f x)) → StageHolds (r >>= f)
-stage_bind (Ok x) f h = h x
-stage_bind (Err stop) f h = tt
-
-body_stage : (columns limit : ℕ) (bytes : List ℕ) → StageHolds (body_at columns limit bytes)
-unfolding body_at
-body_stage columns limit bytes = stage_bind (row_at columns limit bytes) _ (λ r. go r.0 r.1)
-  where
-    go : (o : Option (Row)) (rest : List ℕ) → StageHolds (row_or_trailer o rest)
-    go None [] = λ e. cc
-    go None (b ∷ bs) = tt
-    go (Some row) rest = λ e. cc
-
-part_stage : (stage : BinaryStage) (columns limit : ℕ) (bytes : List ℕ) → StageHolds (part_at stage columns limit bytes)
-unfolding part_at
-part_stage Head columns limit bytes = stage_bind (head_at bytes) _ (λ h. body_stage columns limit h.1)
-part_stage (stages.Extension n) columns limit bytes = stage_bind (bytes_at n bytes) _ (λ h. body_stage columns limit h.1)
-part_stage Rows columns limit bytes = body_stage columns limit bytes
-part_stage Closed columns limit [] = λ e. cc
-part_stage Closed columns limit (b ∷ bs) = tt
-part_stage (Failed fault) columns limit bytes = tt
-
-pub part-stage : (stage : BinaryStage) (columns limit : ℕ) (bytes : List ℕ) (x : (Option (Row) × BinaryStage) × List ℕ) → part_at stage columns limit bytes ≡ Ok x → x.0.1 ≡ Failed Memory → ⊥
-part-stage stage columns limit bytes x e = subst (λ p. StageHolds p) e (part_stage stage columns limit bytes)
 
 -- a row leaves a reader among the rows
 abbrev RowStands : Result ((Option (Row) × BinaryStage) × List ℕ) NoPart → Type 0

@@ -3,7 +3,7 @@ use Rattle.std.proofs.Common.{◌≡◌, ℕ, zero, suc, ◌+◌, ◌-◌, ◌<�
 use Rattle.std.specs.Prelude.{◌⊎◌, IfOk}
 use Rattle.std.specs.Int.{w16, cast_signed, from_be_bytes}
 use Rattle.pg_copy.specs.declared.fault.BinaryFault.{BinaryFault}
-use Rattle.pg_copy.specs.declared.fault.BinaryFault.TheVariants.{FieldCount, AfterTrailer, Memory}
+use Rattle.pg_copy.specs.declared.fault.BinaryFault.TheVariants.{FieldCount, AfterTrailer}
 use Rattle.std.proofs.lemmas.List.{drop-append-le, length-append, length-drop, drop-drop, drop_all}
 use Rattle.std.proofs.lemmas.Bool.{ne_eqb, eq-eqb, false≢true, cases_lt, lt-ltb, le-ltb, cond-true, cond-false}
 use Rattle.pg_copy.specs.declared.binary_part.Walk.{Walk}
@@ -11,9 +11,9 @@ use Rattle.pg_copy.specs.declared.binary_part.Look.{Look}
 use Rattle.pg_copy.specs.declared.binary_reader.BinaryStage.{BinaryStage}
 use Rattle.pg_copy.specs.declared.binary_reader.BinaryStage.TheVariants.{Head, Extension, Rows, Closed, Failed}
 use Rattle.pg_copy.specs.Row.{Row}
-use Rattle.pg_copy.specs.BinaryReading.{NoPart, Incomplete, Faulty, ◌>>=◌, number_at, fixed_at, head_at, value_at, values_at, row_at}
-use Rattle.pg_copy.specs.Private.BinaryPart.{rest_of, IsBegun, IsWalked, row_or_trailer, closed_at, body_at, part_at, IsBehindHead, StartsRow, IsLooked, stage_of, is_head, left_of, in_extension, behind_head, waiting_at, waiting, IsReader}
-use Rattle.pg_copy.specs.BinaryReader.{BinaryState, IsReading}
+use Rattle.pg_copy.specs.BinaryReading.{NoPart, Incomplete, Faulty, ◌>>=◌, number_at, head_at, value_at, values_at, row_at}
+use Rattle.pg_copy.specs.Private.BinaryPart.{rest_of, IsBegun, IsWalked, row_or_trailer, closed_at, body_at, part_at, IsBehindHead, StartsRow, IsLooked, stage_of, is_head, IsReader}
+use Rattle.pg_copy.specs.BinaryReader.{IsReading}
 use Rattle.pg_copy.proofs.BinaryReads.{Grows, number_grows, values_grow, head_grows, Takes, value_takes, head_takes}
 
 -- ---- the bytes behind what was read
@@ -216,49 +216,7 @@ reader-append columns limit kept more l stage h keeps = record {
   skips = λ n e. absurd (not-within stage n keeps e);
 }
 
--- bytes behind an extension
-pub reader-behind : (columns limit n : ℕ) (kept more : List ℕ) (l : Look) (stage : BinaryStage) → stage ≡ Extension n → IsReader columns limit kept l stage → IsReader columns limit (kept ++ more) l Rows
-reader-behind columns limit n kept more l stage e h =
-    let looked : IsLooked false columns limit kept l = subst (λ (t : BinaryStage). IsLooked (is_head t) columns limit kept l) e h.looked in
-    record { columns_few = h.columns_few; looked = looked-append false columns limit kept more l looked; not_memory = λ f. cc; closed = λ f. absurd cc; skips = λ k f. absurd cc }
-
--- fewer bytes of an extension are to come
-pub reader-within : (columns limit n m : ℕ) (kept : List ℕ) (l : Look) (stage : BinaryStage) → stage ≡ Extension n → 0 < m → IsReader columns limit kept l stage → IsReader columns limit kept l (Extension m)
-reader-within columns limit n m kept l stage e some h =
-    let looked : IsLooked false columns limit kept l = subst (λ (t : BinaryStage). IsLooked (is_head t) columns limit kept l) e h.looked in
-    record { columns_few = h.columns_few; looked = looked; not_memory = λ f. cc; closed = λ f. absurd cc; skips = λ k f. (subst (λ (t : BinaryStage). Within t) f some, (h.skips n e).1) }
-  where
-    Within : BinaryStage → Type 0
-    Within Head = Unit {0}
-    Within (Extension k) = 0 < k
-    Within Rows = Unit {0}
-    Within Closed = Unit {0}
-    Within (Failed fault) = Unit {0}
-
 -- ---- looks
-
-pub looked-start : (in_head : Bool) (columns limit : ℕ) (bytes : List ℕ) (l : Look) (n : ℕ) → IsLooked in_head columns limit bytes l → StartsRow in_head bytes l.start (Ok n) → IsWalked columns limit (drop n bytes) l.walk
-looked-start in_head columns limit bytes l n h (le, behind, inl s) = subst (λ (k : ℕ). IsWalked columns limit (drop k bytes) l.walk) (sym s.1) h.walk
-looked-start in_head columns limit bytes l n h (le, behind, inr s) = λ lt. absurd (omega (arith, h.fresh s.0 s.1))
-
--- the look behind a step, where the row begins at n
-pub looked-again : (in_head : Bool) (columns limit : ℕ) (bytes : List ℕ) (l : Look) (n : ℕ) (w : Walk) → IsLooked in_head columns limit bytes l → StartsRow in_head bytes l.start (Ok n) → IsWalked columns limit (drop n bytes) w → IsLooked in_head columns limit bytes (record { start = n; walk = w })
-looked-again in_head columns limit bytes l n w h s walked = record {
-  in_range = s.0;
-  head = λ e. s.1;
-  fresh = fresh in_head l.start n h.none s;
-  none = none in_head l.start n h.none s;
-  walk = walked;
-}
-  where
-    none : (in_head : Bool) (start n : ℕ) → (in_head ≡ false → start ≡ 0) → StartsRow in_head bytes start (Ok n) → in_head ≡ false → n ≡ 0
-    none in_head start n h (le, behind, inl s) e = s.1 ∙ h e
-    none in_head start n h (le, behind, inr s) e = absurd (false≢true (sym e ∙ s.0))
-
-    fresh : (in_head : Bool) (start n : ℕ) → (in_head ≡ false → start ≡ 0) → StartsRow in_head bytes start (Ok n) → in_head ≡ true → n ≡ 0 → w.at ≡ 0
-    fresh in_head start n h (le, behind, inl (inl f, same)) e z = absurd (false≢true (sym f ∙ e))
-    fresh in_head start n h (le, behind, inl (inr lt, same)) e z = absurd (omega arith)
-    fresh in_head start n h (le, behind, inr s) e z = absurd (omega (arith, s.2))
 
 pub part-stuck : (in_head : Bool) (columns limit : ℕ) (bytes rest : List ℕ) (s : NoPart) → IsBehindHead in_head bytes rest → row_at columns limit rest ≡ Err s → part_at (stage_of in_head) columns limit bytes ≡ Err s
 part-stuck in_head columns limit bytes rest s behind e = part-of in_head columns limit bytes rest behind ∙ body-of columns limit rest (Err s) e
@@ -307,21 +265,6 @@ part-row in_head columns limit bytes l few h behind some none =
       omega (arith, b.in_range, length-drop l.start bytes, h.in_range),
     )
 
--- a reader that starts anew
-pub looked-fresh : (in_head : Bool) (columns limit : ℕ) (bytes : List ℕ) → IsLooked in_head columns limit bytes (record { start = 0; walk = record { at = 0; left = 0 } })
-looked-fresh in_head columns limit bytes = record {
-  in_range = omega arith;
-  head = λ e. head in_head e;
-  fresh = λ e f. refl;
-  none = λ e. refl;
-  walk = λ lt. absurd (omega arith);
-}
-  where
-    head : (in_head : Bool) → (in_head ≡ false) ⊎ (0 < 0) → IsBehindHead in_head bytes bytes
-    head true (inl e) = absurd (false≢true (sym e))
-    head true (inr lt) = absurd (omega arith)
-    head false e = refl
-
 pub part-head : (in_head : Bool) (columns limit : ℕ) (bytes : List ℕ) (s : NoPart) → in_head ≡ true → head_at bytes ≡ Err s → part_at (stage_of in_head) columns limit bytes ≡ Err s
 part-head true columns limit bytes s e h = head-stuck columns limit bytes s h
 part-head false columns limit bytes s e h = absurd (false≢true e)
@@ -334,46 +277,15 @@ start-behind false bytes start h rest e le read = absurd (false≢true e)
 
 -- ---- a reader
 
-pub reader-fresh : (columns limit : ℕ) (kept : List ℕ) (stage : BinaryStage) → columns ≤ 32767 → (stage ≡ Failed Memory → ⊥) → (stage ≡ Closed → kept ≡ []) → ((n : ℕ) → stage ≡ Extension n → (0 < n) × (kept ≡ [])) → IsReader columns limit kept (record { start = 0; walk = record { at = 0; left = 0 } }) stage
-reader-fresh columns limit kept stage few h closed skips = record { columns_few = few; looked = looked-fresh (is_head stage) columns limit kept; not_memory = h; closed = closed; skips = skips }
-
 -- a reader that still reads has not failed
 pub not-failed : (stage : BinaryStage) (fault : BinaryFault) → IsReading stage → stage ≡ Failed fault → ⊥
 not-failed stage fault h e = subst IsReading e h
-
--- a head that was read is taken off, and the walk behind it stays
-pub looked-behind : (in_head : Bool) (columns limit : ℕ) (bytes : List ℕ) (l : Look) → IsLooked in_head columns limit bytes l → IsLooked false columns limit (drop l.start bytes) (record { start = 0; walk = l.walk })
-looked-behind in_head columns limit bytes l h = record {
-  in_range = omega arith;
-  head = λ e. refl;
-  fresh = λ e f. absurd (false≢true e);
-  none = λ e. refl;
-  walk = h.walk;
-}
 
 -- where the row begins behind the head, the head was read
 pub started : (in_head : Bool) (bytes : List ℕ) (start n : ℕ) → StartsRow in_head bytes start (Ok n) → in_head ≡ true → n ≡ 0 → ⊥
 started in_head bytes start n (le, behind, inl (inl f, same)) e z = false≢true (sym f ∙ e)
 started in_head bytes start n (le, behind, inl (inr lt, same)) e z = absurd (omega (arith, lt, same, z))
 started in_head bytes start n (le, behind, inr s) e z = absurd (omega (arith, s.2, z))
-
--- a reader that waits behind the head, and one that waits at it
-pub waits-behind : (in_head : Bool) (columns limit : ℕ) (old : BinaryState) (l : Look) → old.stage ≡ stage_of in_head → IsLooked in_head columns limit old.kept l → 0 < l.start → record old { kept = drop l.start old.kept; stage = Rows } ≡ waiting old
-waits-behind true columns limit old l e h some =
-    let x = rest-is (head_at old.kept) (drop l.start old.kept) (h.head (inr some)) in
-    ap (λ (r : Result (List ℕ × List ℕ) NoPart). behind_head r (in_extension (left_of (fixed_at old.kept)) old) old) (sym x.1) ∙ ap (λ (t : BinaryStage). waiting_at t old) (sym e)
-waits-behind false columns limit old l e h some = absurd (omega (arith, h.none refl, some))
-
-pub waits-head : (old : BinaryState) (s : NoPart) → old.stage ≡ Head → head_at old.kept ≡ Err s → in_extension (left_of (fixed_at old.kept)) old ≡ waiting old
-waits-head old s e h =
-    ap (λ (r : Result (List ℕ × List ℕ) NoPart). behind_head r (in_extension (left_of (fixed_at old.kept)) old) old) (sym h) ∙ ap (λ (t : BinaryStage). waiting_at t old) (sym e)
-
-pub waits-here : (old : BinaryState) → old.stage ≡ Rows → old ≡ waiting old
-waits-here old e = ap (λ (t : BinaryStage). waiting_at t old) (sym e)
-
-pub head-of : (stage : BinaryStage) (in_head : Bool) → stage ≡ stage_of in_head → is_head stage ≡ in_head
-head-of stage true e = ap is_head e
-head-of stage false e = ap is_head e
 
 -- the row that was copied is the row that was found
 pub found-row : (in_head : Bool) (columns limit : ℕ) (bytes : List ℕ) (l : Look) (items : Row) (values : List ℕ) → columns ≤ 32767 → IsLooked in_head columns limit bytes l → (0 < l.walk.at) × (l.walk.left ≡ 0) × IsBehindHead in_head bytes (drop l.start bytes)

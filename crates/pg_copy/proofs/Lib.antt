@@ -13,4 +13,5 @@ pub mod BinaryReads
 pub mod BinaryHeads
 pub mod BinaryLoop
 pub mod BinaryHistory
+pub mod BinaryPushes
 pub mod BinaryWalk

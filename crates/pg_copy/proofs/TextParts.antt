@@ -2,7 +2,7 @@
 use Rattle.std.proofs.Common.{◌≡◌, ℕ, zero, suc, ◌+◌, ◌<◌, ◌≤◌, Bool, true, false, cond, eqb, ltb, List, [], ◌∷◌, ◌++◌, length, take, drop, get_or, refl, sym, ap, subst, ◌∙◌, append_assoc, arith, inl, inr}
 use Rattle.std.specs.Prelude.{◌||◌}
 use Rattle.std.specs.List.{onto_first}
-use Rattle.std.proofs.lemmas.List.{append-nil, take_more, take-append-le, length-append, drop_more, take-append-drop, take-take, length-take-le}
+use Rattle.std.proofs.lemmas.List.{append-nil, take_more, drop_more, take-append-drop, length-take-le}
 use Rattle.std.proofs.lemmas.Bool.{cases_eq, eq-eqb, ne_eqb, lt-ltb}
 use Rattle.pg_copy.specs.declared.scan.Scan.{Scan}
 use Rattle.pg_copy.specs.Text.{delimiter, newline, carriage_return, backslash, parts_from, parts, has_unit, ends_escaped}
@@ -22,10 +22,6 @@ before_first_part xs (p ∷ ps) = (xs ++ p) ∷ ps
 onto-before : (b : ℕ) (xs : List ℕ) (ps : List (List ℕ)) → onto_first b (before_first_part xs ps) ≡ before_first_part (b ∷ xs) ps
 onto-before b xs [] = refl
 onto-before b xs (p ∷ ps) = refl
-
-pub before-before : (xs ys : List ℕ) (ps : List (List ℕ)) → before_first_part xs (before_first_part ys ps) ≡ before_first_part (xs ++ ys) ps
-before-before xs ys [] = refl
-before-before xs ys (p ∷ ps) = ap (λ (x : List ℕ). x ∷ ps) (sym (append_assoc xs ys p))
 
 pub ends_escaped-append : (e : Bool) (a b : List ℕ) → ends_escaped e (a ++ b) ≡ ends_escaped (ends_escaped e a) b
 ends_escaped-append e [] b = refl
@@ -123,9 +119,6 @@ units-few false mark (b ∷ bs) = few (eqb b mark) (units_from (eqb b 92) mark b
 pub scanned-few : (bytes : List ℕ) (s : Scan) → IsScanned bytes s → s.delimiters ≤ s.at
 scanned-few bytes s h = omega (arith, units-few false delimiter (take s.at bytes), length-take-le s.at bytes h.in_range, h.delimiters)
 
-pub scanned-none : (bytes : List ℕ) → IsScanned bytes (record { at = 0; escaped = false; delimiters = 0; returned = false })
-scanned-none bytes = record { in_range = omega arith; escaped = refl; newlines = refl; delimiters = refl; returned = refl }
-
 -- one byte more
 pub scanned-more : (bytes : List ℕ) (s t : Scan) (i b : ℕ) → i < length bytes → get_or bytes i 0 ≡ b → IsScanned bytes (record s { at = i })
     → ends_escaped s.escaped (b ∷ []) ≡ t.escaped → units_from s.escaped newline (b ∷ []) ≡ 0 → s.delimiters + units_from s.escaped delimiter (b ∷ []) ≡ t.delimiters
@@ -170,18 +163,6 @@ scanned-behind bytes s b lt is other h = go s.escaped refl
     go : (t : Bool) → s.escaped ≡ t → IsScanned bytes (cond t (record { at = s.at + 1; escaped = false; delimiters = s.delimiters; returned = s.returned }) (record { at = s.at + 1; escaped = eqb b backslash; delimiters = s.delimiters + cond (eqb b delimiter) 1 0; returned = s.returned || eqb b carriage_return }))
     go true e = scanned-more bytes s (record { at = s.at; escaped = false; delimiters = s.delimiters; returned = s.returned }) s.at b lt is h (rw e refl) (rw e refl) (rw e (omega arith)) (λ n k. rw e (same_after n s.returned k))
     go false e = scanned-more bytes s (record { at = s.at; escaped = eqb b backslash; delimiters = s.delimiters + cond (eqb b delimiter) 1 0; returned = s.returned || eqb b carriage_return }) s.at b lt is h (rw e refl) (rw (e, other e) refl) (rw e (omega arith)) (λ n k. rw e (noted n s.returned (eqb b carriage_return) k))
-
--- what is scanned stays so when bytes are added
-pub scanned-append : (bytes more : List ℕ) (s : Scan) → IsScanned bytes s → IsScanned (bytes ++ more) s
-scanned-append bytes more s h =
-    let e : take s.at (bytes ++ more) ≡ take s.at bytes = take-append-le s.at bytes more h.in_range in
-    record { in_range = omega (arith, h.in_range, length-append bytes more); escaped = rw e h.escaped; newlines = rw e h.newlines; delimiters = rw e h.delimiters; returned = rw e h.returned }
-
--- what is scanned stays so where the bytes are cut off behind it
-pub scanned-cut : (bytes : List ℕ) (s : Scan) → IsScanned bytes s → IsScanned (take s.at bytes) s
-scanned-cut bytes s h =
-    let e : take s.at (take s.at bytes) ≡ take s.at bytes = take-take s.at s.at bytes (omega arith) in
-    record { in_range = omega (arith, length-take-le s.at bytes h.in_range); escaped = rw e h.escaped; newlines = rw e h.newlines; delimiters = rw e h.delimiters; returned = rw e h.returned }
 
 -- ---- the first part
 

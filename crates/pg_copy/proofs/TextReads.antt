@@ -1,6 +1,5 @@
 -- What a reader of text files has read.
 use Rattle.std.proofs.Common.{◌≡◌, ℕ, ◌+◌, ◌<◌, true, false, List, [], ◌∷◌, ◌++◌, length, take, drop, Option, Some, None, Result, Ok, Err, refl, sym, ap, subst, ◌∙◌, append_assoc, arith, inl, inr}
-use Rattle.std.specs.Prelude.{◌⊎◌}
 use Rattle.std.proofs.lemmas.List.{append-nil, length-append, drop_all, take_all, nil_from_length}
 use Rattle.std.proofs.lemmas.Bool.{false≢true}
 use Rattle.pg_copy.specs.declared.fault.TextFault.{TextFault}
@@ -192,9 +191,6 @@ takes-open old new answer lines none some t = go answer t
 
 -- ---- what finish answers
 
-pub last-same : (mid new : TextState) → new ≡ record mid { ended = true } → last new ≡ last mid
-last-same mid new e = ap last e
-
 finish-all : (old new : TextState) (pushed : List ℕ) (given : List Row) (ending : Ending TextFault) → new.columns ≡ old.columns → HasRead old pushed given → last old ≡ record { rows = []; ending = ending }
     → file_reading new.columns pushed ≡ record { rows = given; ending = ending }
 finish-all old new pushed given ending columns h e = ap (λ (c : Option ℕ). file_reading c pushed) columns ∙ h.in_all ∙ ap (after_rows given) e ∙ after-none given ending
@@ -241,39 +237,10 @@ left-at s stage e = ap (λ (t : TextStage). stage_reading t s.columns (s.kept ++
 pub HasRead-ended : (old : TextState) (pushed : List ℕ) (given : List Row) → HasRead old pushed given → HasRead (record old { ended = true }) pushed (given ++ [])
 HasRead-ended old pushed given h = ended-read old old (record old { ended = true }) [] pushed given refl refl refl h
 
-pub Gives-marked : (old : TextState) (pushed : List ℕ) (given : List Row) → old.stage ≡ Marked → HasRead old pushed given → Gives Memory (file_reading old.columns pushed) given (last_ending_at old.stage) (Ok None)
-Gives-marked old pushed given e h =
-    (good_ending old.stage Marked e tt, finish-all old old pushed given (last_ending_at old.stage) refl h (ap (at_end old.columns) (left-at old Marked e) ∙ ending_is old.stage Marked e))
-
 pub Gives-failed : (old : TextState) (pushed : List ℕ) (given : List Row) (fault : TextFault) → old.stage ≡ Failed fault → HasRead old pushed given → Gives Memory (file_reading old.columns pushed) given (last_ending_at old.stage) (Err fault)
 Gives-failed old pushed given fault e h =
     inr (ap last_ending_at e, finish-all old old pushed given (Bad fault) refl h (ap (at_end old.columns) (left-at old (Failed fault) e)))
 
-pub Gives-marked-next : (old : TextState) (pushed : List ℕ) (given : List Row) → old.ended ≡ false → old.stage ≡ Marked → HasRead old pushed given → Gives Memory (reading old.columns pushed) given (ending_at old.stage old.kept) (Ok None)
-Gives-marked-next old pushed given going e h =
-    let here : Done ≡ ending_at old.stage old.kept = ap (λ (t : TextStage). ending_at t old.kept) (sym e) in
-    subst (λ (x : Ending TextFault). IsGood x × (reading old.columns pushed ≡ record { rows = given; ending = x })) here (tt, now old old pushed given Done going refl h (left-at old Marked e))
-
 pub Gives-failed-next : (old : TextState) (pushed : List ℕ) (given : List Row) (fault : TextFault) → old.ended ≡ false → old.stage ≡ Failed fault → HasRead old pushed given → Gives Memory (reading old.columns pushed) given (ending_at old.stage old.kept) (Err fault)
 Gives-failed-next old pushed given fault going e h =
     inr (ap (λ (t : TextStage). ending_at t old.kept) e, now old old pushed given (Bad fault) going refl h (left-at old (Failed fault) e))
-
--- what is known of the end of a call
-pub ends-memory : (answer : Answer) (old mid new : TextState) → TakesLast old answer mid → Ends answer mid new → answer ≡ Err Memory → (new ≡ old) × RowWaits (last old)
-ends-memory (Ok row) old mid new t e m = absurd cc
-ends-memory (Err fault) old mid new (inl t) (inl e) m = (e.1 ∙ t.1, t.2)
-ends-memory (Err fault) old mid new (inl t) (inr e) m = absurd (e.0 t.0)
-ends-memory (Err fault) old mid new (inr t) e m = absurd (t.0 cc)
-
-pub ends-ended : (answer : Answer) (mid new : TextState) → Ends answer mid new → (answer ≡ Err Memory) ⊎ (new.ended ≡ true)
-ends-ended (Ok row) mid new e = inr (ap (λ (s : TextState). s.ended) e)
-ends-ended (Err fault) mid new (inl e) = inl (ap Err e.0)
-ends-ended (Err fault) mid new (inr e) = inr (ap (λ (s : TextState). s.ended) e.1)
-
-pub ends-columns : (answer : Answer) (old mid new : TextState) → TakesLast old answer mid → Ends answer mid new → new.columns ≡ old.columns
-ends-columns (Ok (Some row)) old mid new t e = ap (λ (s : TextState). s.columns) e ∙ ap (λ (s : TextState). s.columns) t.1
-ends-columns (Ok None) old mid new t e = ap (λ (s : TextState). s.columns) e ∙ ap (λ (s : TextState). s.columns) t.2
-ends-columns (Err fault) old mid new (inl t) (inl e) = ap (λ (s : TextState). s.columns) (e.1 ∙ t.1)
-ends-columns (Err fault) old mid new (inl t) (inr e) = ap (λ (s : TextState). s.columns) e.1 ∙ ap (λ (s : TextState). s.columns) t.1
-ends-columns (Err fault) old mid new (inr t) (inl e) = ap (λ (s : TextState). s.columns) e.1 ∙ ap (λ (s : TextState). s.columns) t.2
-ends-columns (Err fault) old mid new (inr t) (inr e) = ap (λ (s : TextState). s.columns) e.1 ∙ ap (λ (s : TextState). s.columns) t.2

@@ -19,9 +19,6 @@ pub record IsReadTo (bytes : List ℕ) (start at : ℕ) (text : List ℕ) : Type
 
 -- ---- digits
 
-is_digit : ℕ → ℕ → Bool
-is_digit base c = ltb (digit_value c) base
-
 pub digits-none : (base n c : ℕ) (bs : List ℕ) → base ≤ digit_value c → digits_at base n (c ∷ bs) ≡ []
 digits-none base zero c bs le = refl
 digits-none base (suc n) c bs le = take_while-cons (λ x. ltb (digit_value x) base) c (take n bs) ∙ cond-false _ _ _ (le-ltb (digit_value c) base le)
@@ -112,9 +109,6 @@ run_more bytes start i le lt =
     let place : start + (i - start) ≡ i = omega arith in
     let more = take_more (drop start bytes) (i - start) 0 (omega (arith, length-drop start bytes)) in
     ap (λ (n : ℕ). take n (drop start bytes)) one ∙ more ∙ ap (λ (x : ℕ). take (i - start) (drop start bytes) ++ x ∷ []) (get_or-drop start bytes (i - start) 0 ∙ ap (λ (n : ℕ). get_or bytes n 0) place)
-
-pub IsReadTo-none : (bytes : List ℕ) → IsReadTo bytes 0 0 []
-IsReadTo-none bytes = record { in_order = omega arith; in_range = omega arith; rest = refl }
 
 pub IsReadTo-plain : (bytes : List ℕ) (start at : ℕ) (text : List ℕ) → at < length bytes → (get_or bytes at 0 ≡ 92 → ⊥) → IsReadTo bytes start at text → IsReadTo bytes start (at + 1) text
 IsReadTo-plain bytes start at text lt plain h =

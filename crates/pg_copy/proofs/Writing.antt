@@ -72,11 +72,6 @@ IsRunning-letter old text start i new b letter lt is found h =
       goes_on = GoesOn-append old (new ++ take (i - start) (drop start text)) (92 ∷ letter ∷ []) (GoesOn-append old new (take (i - start) (drop start text)) h.goes_on);
     }
 
-pub IsRunning-all : (old text : List ℕ) (start : ℕ) (new : List ℕ) → IsRunning old text start (length text) new → new ++ drop start text ≡ old ++ flat_map written_byte text
-IsRunning-all old text start new h =
-    let e : take (length text) text ≡ text = take_all (length text) text (omega arith) in
-    rw e at h.written
-
 -- some fields of a row are written
 pub record IsBegun (old : List ℕ) (fields : List (Option (List ℕ))) (new : List ℕ) : Type 0 where
   pub written : new ≡ old ++ written_fields fields

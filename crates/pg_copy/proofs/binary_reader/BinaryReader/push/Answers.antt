@@ -1,7 +1,7 @@
 use Rattle.std.proofs.Common.{◌≡◌, [], ap, sym, ◌∙◌}
 use Rattle.pg_copy.specs.declared.binary_reader.BinaryStage.TheVariants.{Extension}
 use Rattle.pg_copy.specs.BinaryReader.{BinaryState}
-use Rattle.pg_copy.proofs.BinaryHistory.{HasRead-skip}
+use Rattle.pg_copy.proofs.BinaryPushes.{HasRead-skip}
 use Rattle.pg_copy.proofs.BinaryWalk.{reader-append}
 use Rattle.pg_copy.proofs.binary_reader.BinaryReader.push.Goals as goal
 use Rattle.pg_copy.proofs.binary_reader.BinaryReader.push.Goals.{in-Ok, in-Err}
