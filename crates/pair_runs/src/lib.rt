@@ -2,7 +2,7 @@
 //! in another crate draws from the contracts of a pair.
 #![tactic(auto)]
 
-ghost use Rattle.std.specs.Prelude.{◌≡◌, ◌≤◌, IfSome, false, length, map, take, true};
+ghost use Rattle.std.specs.Prelude.{◌≡◌, ◌≤◌, IfNone, IfSome, false, length, map, take, true};
 ghost use Rattle.pg_backend.specs.Backend.{is_spared};
 ghost use Rattle.pg_client.specs.Client.{phase_of};
 ghost use Rattle.pg_client.specs.declared.phase.Phase.TheVariants.{Ready};
@@ -23,9 +23,11 @@ pub fn answers_settled<C: Carry>(pair: &Pair<C>) -> usize
     pair.settled().len()
 }
 
-/// What a pair has settled, where its client stands ready for a request. Unless the way to the backend is broken, or a step of it was
+/// What a pair has settled, where its client stands ready for a request, and None where it doesn't. Unless the way to the backend is broken, or a step of it was
 /// refused memory, the backend then stands ready too, with only copy messages left to drop.
 pub fn settled_when_ready<C: Carry>(pair: &Pair<C>) -> Option<&[Settled]>
+    ensures groups { IfSome result (λ groups. groups.now ≡ pair.now.settled) }
+    ensures none { IfNone result (phase_of pair.now.client ≡ Ready → ⊥) }
     ensures client { IfSome result (λ groups. phase_of pair.now.client ≡ Ready) }
     ensures backend { IfSome result (λ groups. pair.now.to_backend.broken ≡ false → is_spared pair.now.backend.stage ≡ true → StandsReady pair.now) }
 {
