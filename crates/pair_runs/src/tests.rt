@@ -4,11 +4,14 @@ mod calls;
 mod carriers;
 mod claims;
 mod copies;
+mod drawn;
 mod groups;
 mod outside;
+mod passwords;
 mod rows;
+mod worked;
 
-use answers::{group, query, text};
+use answers::{group, query, text, unnamed_group};
 use claims::{Claim, hold};
 use pg_pair::{Applied, Call, Carry, Event, Pair, Way};
 use std::alloc::{AllocError, Global};
@@ -25,8 +28,9 @@ const ASKED: &[u8] = b"SELECT 1";
 enum Act<'a> {
     Start,
     Query(&'a [u8]),
-    // The one group of steps that is asked for here.
+    // A group of four steps, and one of three that have no names.
     Group,
+    UnnamedGroup,
     Chunk(&'a [u8]),
     Done,
     Fail(&'a [u8]),
@@ -42,6 +46,7 @@ fn event(alloc: Global, act: Act<'_>) -> Result<Event, AllocError> {
         Act::Start => Event::Call(Call::Start),
         Act::Query(asked) => Event::Call(Call::Request(query(alloc, asked)?)),
         Act::Group => Event::Call(Call::Request(group(alloc)?)),
+        Act::UnnamedGroup => Event::Call(Call::Request(unnamed_group(alloc)?)),
         Act::Chunk(bytes) => Event::Call(Call::Chunk(text(alloc, bytes)?)),
         Act::Done => Event::Call(Call::Done),
         Act::Fail(reason) => Event::Call(Call::Fail(text(alloc, reason)?)),
@@ -108,12 +113,14 @@ fn carry_out_all<C: Carry>(
     Ok(())
 }
 
-// What is done with a pair: first acts that are carried out, in deliveries of at most so many bytes, and then single ones.
+// What is done with a pair: first acts that are carried out, in deliveries of at most so many bytes, then single ones, and at last
+// acts that are carried out again.
 #[derive(Clone, Copy)]
 struct Plan<'a> {
     whole: &'a [Act<'a>],
     cut: u32,
     single: &'a [Act<'a>],
+    last: &'a [Act<'a>],
 }
 
 fn conduct<C: Carry>(
@@ -124,6 +131,7 @@ fn conduct<C: Carry>(
 ) -> Result<bool, Fail> {
     carry_out_all(alloc, pair, plan.whole, plan.cut)?;
     perform_all(alloc, pair, plan.single)?;
+    carry_out_all(alloc, pair, plan.last, plan.cut)?;
     hold(alloc, pair, claims)
 }
 
@@ -144,6 +152,7 @@ fn carried_out<'a>(acts: &'a [Act<'a>], cut: u32) -> Plan<'a> {
         whole: acts,
         cut,
         single: &[],
+        last: &[],
     }
 }
 
@@ -153,6 +162,7 @@ fn started<'a>(acts: &'a [Act<'a>]) -> Plan<'a> {
         whole: &[Act::Start],
         cut: 4_096,
         single: acts,
+        last: &[],
     }
 }
 
@@ -162,5 +172,6 @@ fn done<'a>(acts: &'a [Act<'a>]) -> Plan<'a> {
         whole: &[],
         cut: 4_096,
         single: acts,
+        last: &[],
     }
 }

@@ -110,17 +110,17 @@ changed : (b w : BackendState) (d d' : DecoderState) (a : Awaits) (n : Next) (s 
 changed b w d d' a n s is grown = rw (is, grown) refl
 
 pub took_message : (b : BackendState) (d d' : DecoderState) (a : Awaits) (m : FrontMessage) (w : BackendState) (n : Next) (r : Result Next BackendFault) (before after : List ℕ)
-    → decoder.Takes frontend d (Ok (Some m)) d' → Taken d d' m → r ≡ Ok n → Hands (move b.left a m) b before r w after
+    → decoder.Takes frontend d (Ok (Some m)) d' → Taken d d' m → r ≡ Ok n → Hands (move b.script b.left a m) b before r w after
     → Advances (record b { stage = stage.Open d a }) before (answer_of n) (record w { stage = stage_of d' n }) after
 took_message b d d' a m w n r before after takes taken ok hands =
     let h = rw ok at hands in
-    let s = move b.left a m in
+    let s = move b.script b.left a m in
     answered b d a n before _ after (message_effect d' s, (m, d', takes, taken, ap stray_tag h.0, refl), changed b w d d' a n s h.0 h.1, says s.sent before after h.2)
 
 -- a message that closes the session, where the backend stands closed
 pub closing_message : (b : BackendState) (d d' : DecoderState) (a : Awaits) (m : FrontMessage) (w : BackendState) (n : Next) (r : Result Next BackendFault) (before after : List ℕ)
     → b.stage ≡ stage.Closed ending.Input → stage_of d' n ≡ stage.Closed ending.Input
-    → decoder.Takes frontend d (Ok (Some m)) d' → Taken d d' m → r ≡ Ok n → Hands (move b.left a m) b before r w after
+    → decoder.Takes frontend d (Ok (Some m)) d' → Taken d d' m → r ≡ Ok n → Hands (move b.script b.left a m) b before r w after
     → Advances (record b { stage = stage.Open d a }) before (answer_of n) w after
 closing_message b d d' a m w n r before after closed ends takes taken ok hands =
     let h = rw ok at hands in

@@ -7,10 +7,8 @@ use Rattle.pg_wire.specs.declared.message.First.{First}
 use Rattle.pg_wire.specs.declared.message.First.TheVariants as first
 use Rattle.pg_wire.specs.declared.message.FrontMessage.{FrontMessage}
 use Rattle.pg_wire.specs.First.{EndsIn, is_last}
-use Rattle.pg_backend.specs.declared.script.Auth.{Auth}
-use Rattle.pg_backend.specs.declared.script.Auth.TheVariants.{Trust}
 use Rattle.pg_backend.specs.declared.script.Script.{Script}
-use Rattle.pg_backend.specs.Opening.{Sent, No, Admitted, admission, sent_for}
+use Rattle.pg_backend.specs.Opening.{Sent, No, sent_for}
 use Rattle.pg_backend.specs.Input.{Input, is_started, sent_bytes, packets_log, packets_end, transcript, output, IsSpelled}
 
 -- ---- packets behind which more may come
@@ -91,12 +89,3 @@ pub packet_sent : (s : Script) (ps : List First) (p : First) (es : List Sent) �
 packet_sent s ps p es go is = record {
   more = append-nil _ ∙ sent_more s ps (p ∷ []) [] go ∙ ap (λ l. sent_for s ps [] ++ l) (sym is) ∙ ap (λ l. l ++ es) (sym (append-nil (sent_for s ps [])));
 }
-
--- ---- a Startup
-
-pub admitted_all : (auth : Auth) (user : List ℕ) (ms : List FrontMessage) → admission auth user [] ≡ Admitted ms → (ms ≡ []) × ((more : List FrontMessage) → admission auth user more ≡ Admitted more)
-admitted_all auth [] ms is = cc
-admitted_all Trust (c ∷ cs) ms is = (admitted_same ms [] (sym is), λ more. refl)
-  where
-    admitted_same : (ms ns : List FrontMessage) → Admitted ms ≡ Admitted ns → ms ≡ ns
-    admitted_same ms ns e = cc

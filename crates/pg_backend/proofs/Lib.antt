@@ -7,6 +7,7 @@ pub mod Leaving
 pub mod Comes
 pub mod CopyComes
 pub mod Moved
+pub mod Led
 pub mod Tellings
 pub mod InStep
 pub mod Splits
@@ -15,6 +16,7 @@ pub mod NextAnswer
 pub mod Sendings
 pub mod Advancings
 pub mod Handled
+pub mod Greeted
 pub mod PacketHandled
 pub mod MessageHandled
 pub mod StepHandled
@@ -26,3 +28,5 @@ pub mod TurnLaws
 pub mod PartOfTurns
 pub mod Loads
 pub mod Rows
+pub mod CopyRows
+pub mod TurnRows

@@ -1,8 +1,8 @@
 -- What was handled, with one message more.
-use Rattle.std.proofs.Common.{◌≡◌, ℕ, Bool, true, false, List, [], ◌∷◌, ◌++◌, Some, map, refl, ap, sym, ◌∙◌, append_assoc}
+use Rattle.std.proofs.Common.{◌≡◌, ℕ, Bool, true, false, List, [], ◌∷◌, ◌++◌, Some, map, refl, ap, sym, ◌∙◌}
 use Rattle.std.specs.Prelude.{Ok}
 use Rattle.std.specs.List.{flat_map, AllByRecursion}
-use Rattle.std.proofs.lemmas.List.{append-nil, map-append}
+use Rattle.std.proofs.lemmas.List.{append-nil}
 use Rattle.pg_wire.specs.declared.message.First.{First}
 use Rattle.pg_wire.specs.declared.message.FrontMessage.{FrontMessage}
 use Rattle.pg_wire.specs.Decoder.{DecoderState}
@@ -18,14 +18,13 @@ use Rattle.pg_backend.specs.declared.stage.Awaits.{Awaits}
 use Rattle.pg_backend.specs.declared.stage.Next.{Next}
 use Rattle.pg_backend.specs.declared.stage.Next.TheVariants as next
 use Rattle.pg_backend.specs.declared.stage.Stage.TheVariants as stage
-use Rattle.pg_backend.specs.Session.{session, replies}
 use Rattle.pg_backend.specs.Opening.{Says}
-use Rattle.pg_backend.specs.Input.{Input, is_started, Takes, message_taken, IsSpelled, sent_bytes, At, packets_end, place_phase, end_phase}
-use Rattle.pg_backend.specs.Backend.{BackendState, phase_of, phase_by, LetIn, StandsAt, HasHandled}
+use Rattle.pg_backend.specs.Input.{Input, is_started, Takes, message_taken, IsSpelled, sent_bytes, packets_end, end_phase}
+use Rattle.pg_backend.specs.Backend.{BackendState, phase_of, phase_by, StandsAt, HasHandled}
 use Rattle.pg_backend.specs.Private.Moves.{Move, move}
 use Rattle.pg_backend.specs.Private.Advancing.{Effect, applied, message_effect, stage_of, Taken}
 use Rattle.pg_backend.proofs.Handled.{SentMore, output_more, spelled_more}
-use Rattle.pg_backend.proofs.Moved.{moved, NextStands, stands_at}
+use Rattle.pg_backend.proofs.Led.{NextAt, Led, led, awaits_end}
 
 abbrev pub open_input : List First → List FrontMessage → Input
 open_input ps ms = record { packets = ps; messages = ms; faulty = false }
@@ -33,59 +32,52 @@ open_input ps ms = record { packets = ps; messages = ms; faulty = false }
 -- What is told of the next message.
 pub record MessageHandled (b : BackendState) (e : Effect) (pushed : List ℕ) (ps : List First) (ms : List FrontMessage) (m : FrontMessage) (n : Next) (rest left sent : List ℕ) : Type 0 where
   pub takes : Takes b.limit (open_input ps ms) rest (open_input ps (ms ++ m ∷ [])) left
-  pub ends : packets_end b.script ps (ms ++ m ∷ []) ≡ At (session b.script.answers (ms ++ m ∷ [])).place
-  pub place : NextStands b.script.answers (ms ++ m ∷ []) (frontend.tag m) e.left n
+  pub leads : NextAt b.script ps (ms ++ m ∷ []) (frontend.tag m) e.left n
   pub handled : HasHandled (applied b e) pushed (open_input ps (ms ++ m ∷ [])) left (sent ++ flat_map sent_bytes e.sent)
 
-message_sent : (s : Script) (ps : List First) (ms : List FrontMessage) (m : FrontMessage) (v : Move) → LetIn s ps → replies s.answers (ms ++ m ∷ []) ≡ replies s.answers ms ++ v.sent
-    → SentMore s (open_input ps ms) (open_input ps (ms ++ m ∷ [])) (map Says v.sent)
-message_sent s ps ms m v l is = record {
-  more = append-nil _ ∙ l.sends (ms ++ m ∷ []) ∙ ap (λ x. l.before ++ map Says x) is ∙ ap (λ x. l.before ++ x) (map-append Says (replies s.answers ms) v.sent)
-      ∙ sym (append_assoc l.before (map Says (replies s.answers ms)) (map Says v.sent)) ∙ ap (λ x. x ++ map Says v.sent) (sym (l.sends ms) ∙ sym (append-nil _));
-}
+message_sent : (s : Script) (ps : List First) (ms : List FrontMessage) (m : FrontMessage) (v : Move) → Led s ps ms m v → SentMore s (open_input ps ms) (open_input ps (ms ++ m ∷ [])) (map Says v.sent)
+message_sent s ps ms m v l = record { more = append-nil _ ∙ l.sends ∙ ap (λ x. x ++ map Says v.sent) (sym (append-nil _)) }
 
 takes_message : (limit : ℕ) (ps : List First) (ms : List FrontMessage) (m : FrontMessage) (rest left : List ℕ) → is_started ps ≡ true → IsWithin frontend limit m → rest ≡ spelling frontend m ++ left
     → Takes limit (open_input ps ms) rest (open_input ps (ms ++ m ∷ [])) left
 takes_message limit ps ms m rest left started within is = rw is (message_taken ps ms m left started within)
 
 -- the phase behind the message
-next_phase : (answers left : List Answer) (ms : List FrontMessage) (tag : ℕ) (d' : DecoderState) (n : Next) → NextStands answers ms tag left n
-    → phase_of (stage_of d' n) ≡ phase_by (stage_of d' n) (place_phase (session answers ms).place)
-next_phase answers left ms tag d' (next.Goes a) h = ap place_phase (sym (stands_at answers ms left a h))
-next_phase answers left ms tag d' next.Ends h = ap place_phase (sym h)
-next_phase answers left ms tag d' (next.Strays t) h = ap place_phase (sym h.0)
+next_phase : (s : Script) (left : List Answer) (ps : List First) (ms : List FrontMessage) (tag : ℕ) (d' : DecoderState) (n : Next) → NextAt s ps ms tag left n
+    → phase_of (stage_of d' n) ≡ phase_by (stage_of d' n) (end_phase (packets_end s ps ms))
+next_phase s left ps ms tag d' (next.Goes a) h = ap end_phase (sym (awaits_end s left ps ms a h))
+next_phase s left ps ms tag d' next.Ends h = sym h.0
+next_phase s left ps ms tag d' (next.Strays t) h = ap end_phase (sym h.0)
 
 -- the place behind the message
 next_stage : (s : Script) (left : List Answer) (pushed : List ℕ) (ps : List First) (ms : List FrontMessage) (tag : ℕ) (d' : DecoderState) (behind : List ℕ) (n : Next)
-    → IsBeginning pushed ps true behind → decoder.HasTaken frontend d' behind ms → is_started ps ≡ true → LetIn s ps → NextStands s.answers ms tag left n
+    → IsBeginning pushed ps true behind → decoder.HasTaken frontend d' behind ms → is_started ps ≡ true → NextAt s ps ms tag left n
     → StandsAt s left pushed (open_input ps ms) d'.kept (stage_of d' n)
-next_stage s left pushed ps ms tag d' behind (next.Goes a) beginning taken started l h = (behind, beginning, taken, refl, refl, started, l, h)
-next_stage s left pushed ps ms tag d' behind next.Ends beginning taken started l h = tt
-next_stage s left pushed ps ms tag d' behind (next.Strays t) beginning taken started l h = tt
+next_stage s left pushed ps ms tag d' behind (next.Goes a) beginning taken started h = (behind, beginning, taken, refl, refl, started, h)
+next_stage s left pushed ps ms tag d' behind next.Ends beginning taken started h = tt
+next_stage s left pushed ps ms tag d' behind (next.Strays t) beginning taken started h = tt
 
 pub message_handled : (s : Script) (limit : ℕ) (left : List Answer) (log : List Logged) (d d' : DecoderState) (a : Awaits) (m : FrontMessage) (ps : List First) (ms : List FrontMessage) (pushed rest sent : List ℕ)
     → d.limit ≡ limit → decoder.Takes frontend d (Ok (Some m)) d' → Taken d d' m
-    → let b : BackendState = record { script = s; limit = limit; left = left; stage = stage.Open d a; log = log } in let v = move left a m in let e = message_effect d' v in
+    → let b : BackendState = record { script = s; limit = limit; left = left; stage = stage.Open d a; log = log } in let v = move s left a m in let e = message_effect d' v in
     HasHandled b pushed (open_input ps ms) rest sent → AllByRecursion IsSpelled e.sent → MessageHandled b e pushed ps ms m v.next rest d'.kept sent
 message_handled s limit left log d d' a m ps ms pushed rest sent limited takes taken h spelled =
-    let v = move left a m in
+    let v = move s left a m in
     let st = h.stands in
-    let l = st.6 in
-    let mv = moved s.answers ms m left a st.7 in
-    let more = message_sent s ps ms m v l mv.grows.replies_are in
+    let l = led s left ps ms m a st.6 in
+    let more = message_sent s ps ms m v l in
     let taken' = taken st.0 ms st.2 in
     let same : d'.limit ≡ limit = ap (λ (x : DecoderState). x.limit) takes.3 ∙ limited in
     record {
       takes = takes_message limit ps ms m rest d'.kept st.5 (rw (← limited) takes.1) (sym st.3 ∙ takes.2);
-      ends = l.ends (ms ++ m ∷ []);
-      place = mv.stands;
+      leads = l.leads;
       handled = record {
         input = record { behind = st.0; ended = true; packets = st.1; messages = rw (← same) taken'.stream; started = λ no_start. absurd (starts_not (is_started ps) st.5 no_start) };
         sent_is = output_more s (open_input ps ms) (open_input ps (ms ++ m ∷ [])) (map Says v.sent) sent more h.sent_is;
         spelled = spelled_more s (open_input ps ms) (open_input ps (ms ++ m ∷ [])) (map Says v.sent) more h.spelled spelled;
-        log_is = ap (λ x. x ++ v.logged) (h.log_is ∙ l.logs ms) ∙ sym mv.grows.log_is ∙ sym (l.logs (ms ++ m ∷ []));
-        phase_is = next_phase s.answers v.left (ms ++ m ∷ []) (frontend.tag m) d' v.next mv.stands ∙ ap (λ x. phase_by (stage_of d' v.next) (end_phase x)) (sym (l.ends (ms ++ m ∷ [])));
-        stands = next_stage s v.left pushed ps (ms ++ m ∷ []) (frontend.tag m) d' st.0 v.next st.1 taken' st.5 l mv.stands;
+        log_is = ap (λ x. x ++ v.logged) h.log_is ∙ sym l.logs;
+        phase_is = next_phase s v.left ps (ms ++ m ∷ []) (frontend.tag m) d' v.next l.leads;
+        stands = next_stage s v.left pushed ps (ms ++ m ∷ []) (frontend.tag m) d' st.0 v.next st.1 taken' st.5 l.leads;
       };
     }
   where

@@ -15,6 +15,7 @@ use Rattle.pg_backend.specs.declared.meaning.Meaning.TheVariants.{Asks, Adds, Cl
 use Rattle.pg_backend.specs.declared.script.Answer.{Answer}
 use Rattle.pg_backend.specs.declared.script.Load.{Load}
 use Rattle.pg_backend.specs.declared.script.Load.TheVariants.{Accept, Refuse}
+use Rattle.pg_backend.specs.declared.script.Script.{Script}
 use Rattle.pg_backend.specs.declared.stage.Awaits.{Awaits}
 use Rattle.pg_backend.specs.declared.stage.Awaits.TheVariants as awaits
 use Rattle.pg_backend.specs.declared.stage.Next.{Next}
@@ -23,7 +24,9 @@ use Rattle.pg_backend.specs.Answers.{answer_for, others}
 use Rattle.pg_backend.specs.Copies.{in_copy}
 use Rattle.pg_backend.specs.Replies.{Shape, Whole, Copies, shape, Verdict, verdict, verdict_of, at_copy_end}
 use Rattle.pg_backend.specs.Session.{meaning, Exchange, exchange, Place, Copying, Terminated, Stray, Session, copy_place, begun, begin, read, cut, session}
-use Rattle.pg_backend.specs.Standing.{Reading, Behind, AllWait, Undecided, Stands, awaited_place}
+use Rattle.pg_backend.specs.Standing.{Reading, Behind, AllWait, Undecided, Stands}
+use Rattle.pg_backend.specs.Input.{At}
+use Rattle.pg_backend.specs.Backend.{awaited_end}
 use Rattle.pg_backend.specs.Private.Moves.{Move, move, between, opened, load_of, Effect, Decides, Keeps, Abandons, effect, has_effect}
 use Rattle.pg_backend.proofs.Comes.{Grown, now, reading_grows}
 use Rattle.pg_backend.proofs.CopyComes.{IsEffect, copy_effect, copy_end_of, copying_grows, verdict_at, still_none}
@@ -121,27 +124,29 @@ pub record Moved (answers : List Answer) (ms : List FrontMessage) (m : FrontMess
   pub grows : Grown answers ms (ms ++ m ∷ []) v.sent v.logged
   pub stands : NextStands answers (ms ++ m ∷ []) (frontend.tag m) v.left v.next
 
-pub moved : (answers : List Answer) (ms : List FrontMessage) (m : FrontMessage) (left : List Answer) (a : Awaits) → Stands answers ms left a → Moved answers ms m (move left a m)
-moved answers ms m left (awaits.Request steps) h = record {
+pub moved : (s : Script) (answers : List Answer) (ms : List FrontMessage) (m : FrontMessage) (left : List Answer) (a : Awaits) → Stands answers ms left a → Moved answers ms m (move s left a m)
+moved s answers ms m left (awaits.Password expected) h = absurd h
+moved s answers ms m left (awaits.Request steps) h = record {
   grows = reading_grows answers ms m h.0 left steps h.1;
   stands = between_stands answers ms m h.0 left steps (meaning m) refl h.1;
 }
-moved answers ms m left (awaits.Data c) h = record {
+moved s answers ms m left (awaits.Data c) h = record {
   grows = copying_grows answers ms m h.0 left c.request c.load c.loaded h.1 h.2 h.3;
   stands = effect_stands answers ms m h.0 left c.request c.load c.loaded h.1 (effect c.load c.loaded (in_copy m)) h.2 h.3 (copy_effect c.load c.loaded h.1 m (answer_for left c.request) h.3);
 }
 
 -- where the messages end
-pub stands_at : (answers : List Answer) (ms : List FrontMessage) (left : List Answer) (a : Awaits) → Stands answers ms left a → (session answers ms).place ≡ awaited_place a
-stands_at answers ms left (awaits.Request steps) h = ap (λ (s : Session). s.place) (now answers ms _ (h.1.goes_on []))
+pub stands_at : (answers : List Answer) (ms : List FrontMessage) (left : List Answer) (a : Awaits) → Stands answers ms left a → At (session answers ms).place ≡ awaited_end a
+stands_at answers ms left (awaits.Password expected) h = absurd h
+stands_at answers ms left (awaits.Request steps) h = ap (λ (s : Session). At s.place) (now answers ms _ (h.1.goes_on []))
 stands_at answers ms left (awaits.Data c) h =
     let a = answer_for left c.request in
     let since = h.1 in
     let u = h.3 in
-    ap (λ (s : Session). s.place) (now answers ms _ (h.2.goes_on []))
+    ap At (ap (λ (s : Session). s.place) (now answers ms _ (h.2.goes_on []))
     ∙ ap (λ l. (begin left c.request l (λ n. cut n (others left) [] l)).place) (append-nil since)
     ∙ undecided_place left c.request since (λ n. cut n (others left) [] since) (verdict_at a since u.before u.head c.load u.behind None u.copies (still_none c.load c.loaded since a u))
-    ∙ waiting_place (map in_copy since) u.waits
+    ∙ waiting_place (map in_copy since) u.waits)
   where
     waiting_place : (ms : List InCopy) → AllWait ms → copy_place ms ≡ Copying
     waiting_place [] w = refl

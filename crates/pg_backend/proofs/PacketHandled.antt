@@ -1,28 +1,28 @@
 -- What was handled, with one packet more.
-use Rattle.std.proofs.Common.{◌≡◌, ℕ, true, false, List, [], ◌∷◌, ◌++◌, Some, None, map, refl, ap, sym, ◌∙◌, append_assoc}
+use Rattle.std.proofs.Common.{◌≡◌, ℕ, true, false, List, [], ◌∷◌, ◌++◌, Some, None, map, refl, ap, sym, ◌∙◌}
 use Rattle.std.specs.Prelude.{Ok}
 use Rattle.std.specs.List.{flat_map, AllByRecursion}
-use Rattle.std.proofs.lemmas.List.{append-nil, map-append}
+use Rattle.std.proofs.lemmas.List.{append-nil}
 use Rattle.pg_wire.specs.declared.message.BackMessage.TheVariants as back
 use Rattle.pg_wire.specs.declared.message.First.{First}
 use Rattle.pg_wire.specs.declared.message.First.TheVariants as first
-use Rattle.pg_wire.specs.declared.message.FrontMessage.{FrontMessage}
 use Rattle.pg_wire.specs.First.{packet, is_last, IsPacket}
 use Rattle.pg_wire.specs.FirstDecoder.{FirstState, HasBegun, FirstTakes}
 use Rattle.pg_backend.specs.declared.script.Answer.{Answer}
 use Rattle.pg_backend.specs.declared.script.Logged.{Logged}
 use Rattle.pg_backend.specs.declared.script.Script.{Script}
-use Rattle.pg_backend.specs.declared.stage.Awaits.TheVariants as awaits
 use Rattle.pg_backend.specs.declared.stage.Ending.TheVariants as ending
 use Rattle.pg_backend.specs.declared.stage.Stage.{Stage}
 use Rattle.pg_backend.specs.declared.stage.Stage.TheVariants as stage
-use Rattle.pg_backend.specs.Session.{Between, Stray, replies}
-use Rattle.pg_backend.specs.Opening.{Sent, No, Says, welcome, user_from, Admission, Refused, Admitted, admission, admission_messages, sent_for}
+use Rattle.pg_backend.specs.Session.{Stray}
+use Rattle.pg_backend.specs.Opening.{Sent, No, Says, user_from, no_user, asked, admission, admission_messages, sent_for}
 use Rattle.pg_backend.specs.Input.{Input, is_started, Takes, packet_taken, IsSpelled, sent_bytes, packets_log, admission_log, admission_end, At, Opening, Refusal, End, packets_end, end_phase, IsStray}
-use Rattle.pg_backend.specs.Backend.{BackendState, phase_of, phase_by, LetIn, StandsAt, HasHandled}
-use Rattle.pg_backend.specs.Private.Advancing.{Effect, applied, packet_effect, admission_effect, Begun}
-use Rattle.pg_backend.proofs.Goes.{starts}
-use Rattle.pg_backend.proofs.Handled.{GoOn, go_on, not_started, started_more, sent_more, log_more, end_more, log_none, output_more, spelled_more, packet_sent, admitted_all}
+use Rattle.pg_backend.specs.Backend.{BackendState, awaited_end, phase_of, phase_by, StandsAt, HasHandled}
+use Rattle.pg_backend.specs.Private.Advancing.{Effect, applied, packet_effect, startup_effect, Begun}
+use Rattle.pg_backend.specs.Private.Greeting.{awaits_first, greeting}
+use Rattle.pg_backend.proofs.Greeted.{greeted}
+use Rattle.pg_backend.proofs.Handled.{GoOn, go_on, not_started, started_more, log_more, end_more, log_none, output_more, spelled_more, packet_sent}
+use Rattle.pg_backend.proofs.Led.{awaits_end, awaits_no_stray}
 
 abbrev pub first_input : List First → Input
 first_input ps = record { packets = ps; messages = []; faulty = false }
@@ -44,17 +44,6 @@ packet_done s limit left log d d' p ps pushed rest sent st es go begun h is spel
   stands = stands;
 }
 
--- behind a Startup that is let in, all that follows is the session's
-let_in : (s : Script) (ps : List First) (pairs : List (List ℕ × List ℕ)) → GoOn ps → ((more : List FrontMessage) → admission s.auth (user_from [] pairs) more ≡ Admitted more)
-    → LetIn s (ps ++ first.Startup pairs ∷ [])
-let_in s ps pairs go is = record {
-  before = sent_for s ps [] ++ map Says (welcome s);
-  sends = λ ms. sent_more s ps (first.Startup pairs ∷ []) ms go ∙ ap (λ a. sent_for s ps [] ++ map Says (admission_messages s a)) (is ms)
-      ∙ ap (λ l. sent_for s ps [] ++ l) (map-append Says (welcome s) (replies s.answers ms)) ∙ sym (append_assoc (sent_for s ps []) (map Says (welcome s)) (map Says (replies s.answers ms)));
-  logs = λ ms. log_more s ps (first.Startup pairs ∷ []) ms go ∙ ap (λ a. admission_log s a) (is ms);
-  ends = λ ms. end_more s ps (first.Startup pairs ∷ []) ms go ∙ ap (λ a. admission_end s a) (is ms);
-}
-
 -- What is told of the next packet.
 pub record PacketHandled (b : BackendState) (e : Effect) (pushed : List ℕ) (ps : List First) (p : First) (rest left sent : List ℕ) : Type 0 where
   pub takes : Takes b.limit (first_input ps) rest (first_input (ps ++ p ∷ [])) left
@@ -67,25 +56,32 @@ takes_packet limit ps p rest left not_yet spelled is = rw is (packet_taken ps p 
 not_stray : (s : Script) (ps : List First) (p : First) (e : End) → GoOn ps → packets_end s (p ∷ []) [] ≡ e → (e ≡ At Stray → ⊥) → IsStray s (first_input (ps ++ p ∷ [])) → ⊥
 not_stray s ps p e go is none stray = none (sym is ∙ sym (end_more s ps (p ∷ []) [] go) ∙ stray)
 
-by_admission : (s : Script) (limit : ℕ) (left : List Answer) (log : List Logged) (d d' : FirstState) (pairs : List (List ℕ × List ℕ)) (ps : List First) (pushed rest sent : List ℕ) (a : Admission)
-    → let p = first.Startup pairs in let b : BackendState = record { script = s; limit = limit; left = left; stage = stage.First d; log = log } in let e = admission_effect b d' a in
-    GoOn ps → HasBegun d' pushed (ps ++ p ∷ []) → d'.ended ≡ true → d'.fault ≡ None → Takes limit (first_input ps) rest (first_input (ps ++ p ∷ [])) d'.kept
-    → HasHandled b pushed (first_input ps) rest sent → AllByRecursion IsSpelled e.sent → admission s.auth (user_from [] pairs) [] ≡ a → PacketHandled b e pushed ps p rest d'.kept sent
-by_admission s limit left log d d' pairs ps pushed rest sent (Refused fields) go begun ended none takes h spelled is = record {
-  takes = takes;
-  place = not_stray s ps (first.Startup pairs) Refusal go (ap (admission_end s) is) (λ e. cc);
-  handled = packet_done s limit left log d d' (first.Startup pairs) ps pushed rest sent (stage.Closed ending.Input) (Says (back.ErrorResponse fields) ∷ []) go begun h
-      (sym (ap (λ x. map Says (admission_messages s x)) is)) spelled (ap (admission_log s) is) (sym (ap (λ x. end_phase (admission_end s x)) is)) tt;
-}
-by_admission s limit left log d d' pairs ps pushed rest sent (Admitted ms) go begun ended none takes h spelled is =
+by_startup : (s : Script) (limit : ℕ) (left : List Answer) (log : List Logged) (d d' : FirstState) (pairs : List (List ℕ × List ℕ)) (user : List ℕ) (ps : List First) (pushed rest sent : List ℕ)
+    → let p = first.Startup pairs in let b : BackendState = record { script = s; limit = limit; left = left; stage = stage.First d; log = log } in let e = startup_effect b d' user in
+    user_from [] pairs ≡ user
+    → GoOn ps → HasBegun d' pushed (ps ++ p ∷ []) → d'.ended ≡ true → d'.fault ≡ None → Takes limit (first_input ps) rest (first_input (ps ++ p ∷ [])) d'.kept
+    → HasHandled b pushed (first_input ps) rest sent → AllByRecursion IsSpelled e.sent → PacketHandled b e pushed ps p rest d'.kept sent
+by_startup s limit left log d d' pairs [] ps pushed rest sent is go begun ended none takes h spelled =
     let p = first.Startup pairs in
-    let all = (admitted_all s.auth (user_from [] pairs) ms is).1 in
+    let end : packets_end s (p ∷ []) [] ≡ Refusal = ap (λ u. admission_end s (admission s.auth u [])) is in
     record {
       takes = takes;
-      place = not_stray s ps p (At Between) go (ap (admission_end s) (all [])) (λ e. cc);
-      handled = packet_done s limit left log d d' p ps pushed rest sent (stage.Open (record { kept = d'.kept; limit = limit; fault = d'.fault }) (awaits.Request [])) (map Says (welcome s)) go begun h
-          (ap (map Says) (sym (append-nil (welcome s))) ∙ sym (ap (λ x. map Says (admission_messages s x)) (all []))) spelled (ap (admission_log s) (all [])) (sym (ap (λ x. end_phase (admission_end s x)) (all [])))
-          (d'.kept, rw ended at begun.beginning, record { stream = record { whole = refl; each = tt }; fault = rw none tt }, refl, refl, started_more ps (p ∷ []) go, let_in s ps pairs go all, ([], rw h.stands.4 (starts s.answers)));
+      place = not_stray s ps p Refusal go end (λ e. cc);
+      handled = packet_done s limit left log d d' p ps pushed rest sent (stage.Closed ending.Input) (Says (back.ErrorResponse no_user) ∷ []) go begun h
+          (sym (ap (λ u. map Says (asked s.auth u ++ admission_messages s (admission s.auth u []))) is)) spelled (ap (λ u. admission_log s (admission s.auth u [])) is) (sym (ap end_phase end)) tt;
+    }
+by_startup s limit left log d d' pairs (c ∷ cs) ps pushed rest sent is go begun ended none takes h spelled =
+    let p = first.Startup pairs in
+    let user = c ∷ cs in
+    let a = awaits_first s.auth user in
+    let g = greeted s ps pairs c cs s.auth go refl is in
+    let end : packets_end s (p ∷ []) [] ≡ awaited_end a = sym (end_more s ps (p ∷ []) [] go) ∙ awaits_end s s.answers (ps ++ p ∷ []) [] a g.awaits in
+    record {
+      takes = takes;
+      place = not_stray s ps p (awaited_end a) go end (awaits_no_stray a);
+      handled = packet_done s limit left log d d' p ps pushed rest sent (stage.Open (record { kept = d'.kept; limit = limit; fault = d'.fault }) a) (map Says (greeting s s.auth)) go begun h
+          (sym g.sends) spelled g.logs (sym (ap end_phase end))
+          (d'.kept, rw ended at begun.beginning, record { stream = record { whole = refl; each = tt }; fault = rw none tt }, refl, refl, started_more ps (p ∷ []) go, rw h.stands.4 g.awaits);
     }
 
 by_packet : (s : Script) (limit : ℕ) (left : List Answer) (log : List Logged) (d d' : FirstState) (p : First) (ps : List First) (pushed rest sent : List ℕ)
@@ -108,7 +104,7 @@ by_packet s limit left log d d' (first.Cancel process secret) ps pushed rest sen
   handled = packet_done s limit left log d d' (first.Cancel process secret) ps pushed rest sent (stage.Closed ending.Input) [] go begun h refl spelled refl refl tt;
 }
 by_packet s limit left log d d' (first.Startup pairs) ps pushed rest sent go begun ended none takes h spelled =
-    by_admission s limit left log d d' pairs ps pushed rest sent (admission s.auth (user_from [] pairs) []) go begun ended none takes h spelled refl
+    by_startup s limit left log d d' pairs (user_from [] pairs) ps pushed rest sent refl go begun ended none takes h spelled
 
 pub packet_handled : (s : Script) (limit : ℕ) (left : List Answer) (log : List Logged) (d d' : FirstState) (p : First) (ps : List First) (pushed rest sent : List ℕ)
     → d.ended ≡ false → FirstTakes d (Ok (Some p)) d' → Begun d d' p

@@ -21,7 +21,10 @@ use Rattle.pg_wire.specs.declared.session.Step.{Step}
 use Rattle.pg_wire.specs.Segment.{Fits, messages_of, parameters_sent, columns_sent, Segments, status_of, put_before, segments}
 use Rattle.pg_wire.specs.Segment as segment
 use Rattle.pg_backend.specs.declared.script.Answer.{Answer}
+use Rattle.pg_backend.specs.declared.script.Auth.{Auth}
+use Rattle.pg_backend.specs.declared.script.Auth.TheVariants.{Trust, Cleartext, Md5}
 use Rattle.pg_backend.specs.declared.script.Key.{Key}
+use Rattle.pg_backend.specs.declared.script.Script.{Script}
 use Rattle.pg_backend.specs.declared.script.ScriptPart.{ScriptPart}
 use Rattle.pg_backend.specs.declared.meaning.Meaning.{Meaning}
 use Rattle.pg_backend.specs.declared.meaning.Meaning.TheVariants.{Asks, Adds, Closes, Drops, Leaves, Strays}
@@ -29,7 +32,7 @@ use Rattle.pg_backend.specs.Answers.{parts_of, answer_for, others}
 use Rattle.pg_backend.specs.Copies.{in_copy, CopyEnd, copy_end}
 use Rattle.pg_backend.specs.Replies.{Shape, Whole, Copies, shape, Verdict, verdict, verdict_of, at_copy_end, aside_message, parts_sent, error_sent, end_sent, after_end, reply, reply_of}
 use Rattle.pg_backend.specs.Session.{meaning, Exchange, exchange, Place, Between, Grouping, Copying, Terminated, Stray, Session, only, place_after, copy_place, begun, begin, read, cut, farewell, said, decided}
-use Rattle.pg_backend.specs.Opening.{welcome, pair_message, key_messages}
+use Rattle.pg_backend.specs.Opening.{welcome, pair_message, key_messages, asked}
 use Rattle.pg_backend.specs.Laws.{FitEach, SegmentsFitLog, WelcomeIsSegment}
 use Rattle.pg_backend.proofs.More.{map_some}
 use Rattle.pg_backend.proofs.Grows.{no_farewell_copy, said_cons, said_open}
@@ -193,11 +196,21 @@ key_inner : (key : Option Key) → AreInner (key_messages key)
 key_inner None = tt
 key_inner (Some key) = (refl, tt)
 
+asked_inner : (auth : Auth) (user : List ℕ) → AreInner (asked auth user)
+asked_inner auth [] = tt
+asked_inner Trust (c ∷ cs) = tt
+asked_inner (Cleartext password) (c ∷ cs) = (refl, tt)
+asked_inner (Md5 password salt) (c ∷ cs) = (refl, tt)
+
+welcome_segment : (s : Script) → IsSegment (welcome s)
+welcome_segment s = (
+  back.AuthOk ∷ (map pair_message s.pairs ++ key_messages s.key),
+  Idle,
+  (refl, inner_append (map pair_message s.pairs) (key_messages s.key) (inner_map pair_message (λ p. refl) s.pairs) (key_inner s.key)),
+  refl,
+)
+
 pub welcome_is_segment : WelcomeIsSegment
-welcome_is_segment s ms =
-    segment_first (welcome s) ms (
-      back.AuthOk ∷ (map pair_message s.pairs ++ key_messages s.key),
-      Idle,
-      (refl, inner_append (map pair_message s.pairs) (key_messages s.key) (inner_map pair_message (λ p. refl) s.pairs) (key_inner s.key)),
-      refl,
-    )
+welcome_is_segment s user ms =
+    let first = asked s.auth user in
+    rw (← append_assoc first (welcome s) ms) (segment_first (first ++ welcome s) ms (segment_behind first (welcome s) (asked_inner s.auth user) (welcome_segment s)))

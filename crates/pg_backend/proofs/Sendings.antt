@@ -10,19 +10,19 @@ use Rattle.pg_wire.specs.Backend.{backend}
 use Rattle.pg_wire.specs.Decoder.{DecoderState}
 use Rattle.pg_wire.specs.Direction.{HasSpelling}
 use Rattle.pg_wire.specs.FirstDecoder.{FirstState}
-use Rattle.pg_wire.specs.declared.session.Step.{Step}
 use Rattle.pg_backend.specs.declared.fault.BackendFault.{BackendFault}
 use Rattle.pg_backend.specs.declared.fault.BackendFault.TheVariants as faults
 use Rattle.pg_backend.specs.declared.script.Script.{Script}
-use Rattle.pg_backend.specs.declared.stage.Awaits.TheVariants as awaits
+use Rattle.pg_backend.specs.declared.stage.Awaits.{Awaits}
 use Rattle.pg_backend.specs.declared.stage.Stage.{Stage}
 use Rattle.pg_backend.specs.declared.stage.Stage.TheVariants as stage
-use Rattle.pg_backend.specs.Opening.{Says, welcome, Admitted}
+use Rattle.pg_backend.specs.Opening.{Says}
 use Rattle.pg_backend.specs.Input.{sent_bytes, IsSpelled}
 use Rattle.pg_backend.specs.Backend.{BackendState}
+use Rattle.pg_backend.specs.Private.Greeting.{awaits_first, greeting, Greets}
 use Rattle.pg_backend.specs.Private.Sessions.{SessionState}
 use Rattle.pg_backend.specs.Private.Telling.{Tells, Puts}
-use Rattle.pg_backend.specs.Private.Advancing.{applied, admission_effect, Sends}
+use Rattle.pg_backend.specs.Private.Advancing.{applied, named_effect, Sends}
 
 all_says : (ms : List BackMessage) → AllByRecursion (HasSpelling backend) ms → AllByRecursion IsSpelled (map Says ms)
 all_says [] h = tt
@@ -42,12 +42,12 @@ pub put_ok : (r : Result Unit EncodeFault) (s : Result Unit BackendFault) (x : U
 put_ok (Ok u) s x h is = refl
 put_ok (Err f) s x h is = cc
 
--- a client was let in
-pub welcomed : (b : BackendState) (v : SessionState) (limit : ℕ) (old : Stage) (fs : FirstState) (d : DecoderState) (steps : List Step) (told : Script) (r : Result Unit EncodeFault) (before after : List ℕ)
+-- a client was let in, or asked for its password
+pub admitted : (b : BackendState) (v : SessionState) (limit : ℕ) (old : Stage) (fs : FirstState) (d : DecoderState) (a : Awaits) (user : List ℕ) (told : Script) (r : Result Awaits BackendFault) (before after : List ℕ)
     → ◌≡◌ {A = BackendState} (record { script = v.script; limit = limit; left = v.left; stage = old; log = v.log }) b
-    → d ≡ record { kept = fs.kept; limit = limit; fault = fs.fault } → steps ≡ [] → told ≡ v.script → r ≡ Ok tt → Tells (welcome told) before r after
-    → let e = admission_effect b fs (Admitted []) in
-    (◌≡◌ {A = BackendState} (record { script = v.script; limit = limit; left = v.left; stage = stage.Open d (awaits.Request steps); log = v.log }) (applied b e)) × Sends e.sent before after
-welcomed b v limit old fs d steps told r before after is made none same ok tells =
-    let h = rw (ok, same) at tells in
-    rw (← is, made, none) (ap (λ l. record { script = v.script; limit = limit; left = v.left; stage = stage.Open (record { kept = fs.kept; limit = limit; fault = fs.fault }) (awaits.Request []); log = l }) (sym (append-nil v.log)), says_all (welcome v.script) before after h)
+    → d ≡ record { kept = fs.kept; limit = limit; fault = fs.fault } → told ≡ v.script → r ≡ Ok a → Greets told user before r after
+    → let e = named_effect b fs user in
+    (◌≡◌ {A = BackendState} (record { script = v.script; limit = limit; left = v.left; stage = stage.Open d a; log = v.log }) (applied b e)) × Sends e.sent before after
+admitted b v limit old fs d a user told r before after is made same ok greets =
+    let h = rw (ok, same) at greets in
+    rw (← is, made, h.0) (ap (λ l. record { script = v.script; limit = limit; left = v.left; stage = stage.Open (record { kept = fs.kept; limit = limit; fault = fs.fault }) (awaits_first v.script.auth user); log = l }) (sym (append-nil v.log)), says (greeting v.script v.script.auth) before after h.1)

@@ -15,24 +15,22 @@ use Rattle.pg_backend.specs.declared.script.Answer.{Answer}
 use Rattle.pg_backend.specs.declared.script.Logged.{Logged}
 use Rattle.pg_backend.specs.declared.script.Script.{Script}
 use Rattle.pg_backend.specs.declared.stage.Awaits.{Awaits}
-use Rattle.pg_backend.specs.declared.stage.Awaits.TheVariants as awaits
 use Rattle.pg_backend.specs.declared.stage.Ending.TheVariants as ending
 use Rattle.pg_backend.specs.declared.stage.Next.{Next}
 use Rattle.pg_backend.specs.declared.stage.Next.TheVariants as next
 use Rattle.pg_backend.specs.declared.stage.Stage.{Stage}
 use Rattle.pg_backend.specs.declared.stage.Stage.TheVariants as stage
 use Rattle.std.proofs.lemmas.Option.{same_Some}
-use Rattle.pg_backend.specs.Session.{Place, Terminated, Stray, session}
+use Rattle.pg_backend.specs.Session.{Stray}
 use Rattle.pg_backend.specs.Opening.{sent_for}
-use Rattle.pg_backend.specs.Input.{Input, Takes, IsSpelled, sent_bytes, last_word, At}
-use Rattle.pg_backend.specs.Standing.{awaited_place}
+use Rattle.pg_backend.specs.Input.{Input, Takes, IsSpelled, sent_bytes, last_word, At, packets_end}
 use Rattle.pg_backend.specs.Backend.{BackendState, IsSound, HasHandled, Handles}
 use Rattle.pg_backend.specs.Private.Moves.{move}
 use Rattle.pg_backend.specs.Private.Advancing.{packet_effect, message_effect, stray_tag, Advances, AdvancesUnlessClosed, is_refused}
 use Rattle.pg_backend.proofs.Handled.{go_on, not_started, SentMore, output_more, spelled_more}
 use Rattle.pg_backend.proofs.PacketHandled.{packet_handled}
 use Rattle.pg_backend.proofs.MessageHandled.{open_input, message_handled}
-use Rattle.pg_backend.proofs.Moved.{NextStands, stands_at}
+use Rattle.pg_backend.proofs.Led.{NextAt, awaits_end, awaits_no_stray}
 
 abbrev pub at : Script → ℕ → List Answer → List Logged → Stage → BackendState
 at s limit left log st = record { script = s; limit = limit; left = left; stage = st; log = log }
@@ -109,26 +107,15 @@ takes_first s limit left log d new before after pushed i rest sent going a h =
 
 -- ---- a message
 
-awaits_no_stray : (w : Awaits) → awaited_place w ≡ Stray → ⊥
-awaits_no_stray (awaits.Request []) e = cc
-awaits_no_stray (awaits.Request (x ∷ xs)) e = cc
-awaits_no_stray (awaits.Data c) e = cc
+not_strayed : (s : Script) (left : List Answer) (ps : List First) (ms : List FrontMessage) (tag : ℕ) (n : Next) → None ≡ stray_tag n → NextAt s ps ms tag left n → packets_end s ps ms ≡ At Stray → ⊥
+not_strayed s left ps ms tag (next.Goes w) is h stray = awaits_no_stray w (sym (awaits_end s left ps ms w h) ∙ stray)
+not_strayed s left ps ms tag next.Ends is h stray = h.1 stray
+not_strayed s left ps ms tag (next.Strays t) is h stray = cc
 
-not_strayed : (answers left : List Answer) (ms : List FrontMessage) (tag : ℕ) (n : Next) → None ≡ stray_tag n → NextStands answers ms tag left n → (session answers ms).place ≡ Stray → ⊥
-not_strayed answers left ms tag (next.Goes w) is h stray = awaits_no_stray w (sym (stands_at answers ms left w h) ∙ stray)
-not_strayed answers left ms tag next.Ends is h stray = ends_no_stray (sym h ∙ stray)
-  where
-    ends_no_stray : Terminated ≡ Stray → ⊥
-    ends_no_stray e = cc
-not_strayed answers left ms tag (next.Strays t) is h stray = cc
-
-strayed : (answers left : List Answer) (ms : List FrontMessage) (tag t : ℕ) (n : Next) → Some t ≡ stray_tag n → NextStands answers ms tag left n → ((session answers ms).place ≡ Stray) × (tag ≡ t)
-strayed answers left ms tag t (next.Goes w) is h = cc
-strayed answers left ms tag t next.Ends is h = cc
-strayed answers left ms tag t (next.Strays u) is h = (h.0, (let e : t ≡ u = same_Some t u is in sym h.1 ∙ sym e))
-
-at_stray : (p : Place) → At p ≡ At Stray → p ≡ Stray
-at_stray p e = cc
+strayed : (s : Script) (left : List Answer) (ps : List First) (ms : List FrontMessage) (tag t : ℕ) (n : Next) → Some t ≡ stray_tag n → NextAt s ps ms tag left n → (packets_end s ps ms ≡ At Stray) × (tag ≡ t)
+strayed s left ps ms tag t (next.Goes w) is h = cc
+strayed s left ps ms tag t next.Ends is h = cc
+strayed s left ps ms tag t (next.Strays u) is h = (h.0, (let e : t ≡ u = same_Some t u is in sym h.1 ∙ sym e))
 
 takes_open : (s : Script) (limit : ℕ) (left : List Answer) (log : List Logged) (d : DecoderState) (w : Awaits) (new : BackendState) (before after pushed : List ℕ) (i : Input) (rest sent : List ℕ)
     → d.limit ≡ limit → Advances (at s limit left log (stage.Open d w)) before (Ok true) new after → HasHandled (at s limit left log (stage.Open d w)) pushed i rest sent
@@ -137,7 +124,7 @@ takes_open s limit left log d w new before after pushed i rest sent limited a h 
     let same = same_input i i.messages refl h.stands.4 in
     let m = a.1.0 in
     let d' = a.1.1 in
-    let v = move left w m in
+    let v = move s left w m in
     let e = message_effect d' v in
     let is : a.0 ≡ e = a.1.5 in
     let sends = rw is at a.3 in
@@ -149,7 +136,7 @@ takes_open s limit left log d w new before after pushed i rest sent limited a h 
         j,
         d'.kept,
         subst (λ x. Takes limit x rest j d'.kept) (sym same) mh.takes,
-        (λ stray. not_strayed s.answers v.left (i.messages ++ m ∷ []) (frontend.tag m) v.next a.1.4 mh.place (at_stray _ (sym mh.ends ∙ stray))),
+        (λ stray. not_strayed s v.left i.packets (i.messages ++ m ∷ []) (frontend.tag m) v.next a.1.4 mh.leads stray),
         rw (a.2, is) mh.handled,
       ),
     )
@@ -161,12 +148,12 @@ strays_open s limit left log d w t new before after pushed i rest sent limited a
     let same = same_input i i.messages refl h.stands.4 in
     let m = a.1.0 in
     let d' = a.1.1 in
-    let v = move left w m in
+    let v = move s left w m in
     let e = message_effect d' v in
     let is : a.0 ≡ e = a.1.5 in
     let sends = rw is at a.3 in
     let mh = message_handled s limit left log d d' w m i.packets i.messages pushed rest sent limited a.1.2 a.1.3 (subst (λ x. HasHandled (at s limit left log (stage.Open d w)) pushed x rest sent) same h) sends.spelled in
-    let st = strayed s.answers v.left (i.messages ++ m ∷ []) (frontend.tag m) t v.next a.1.4 mh.place in
+    let st = strayed s v.left i.packets (i.messages ++ m ∷ []) (frontend.tag m) t v.next a.1.4 mh.leads in
     let j = record i { messages = i.messages ++ m ∷ [] } in
     let same_j : j ≡ open_input i.packets (i.messages ++ m ∷ []) = same_input j (i.messages ++ m ∷ []) refl h.stands.4 in (
       flat_map sent_bytes e.sent,
@@ -176,7 +163,7 @@ strays_open s limit left log d w t new before after pushed i rest sent limited a
         d'.kept,
         st.1,
         subst (λ x. Takes limit x rest j d'.kept) (sym same) (subst (λ x. Takes limit (open_input i.packets i.messages) rest x d'.kept) (sym same_j) mh.takes),
-        mh.ends ∙ ap At st.0,
+        st.0,
         subst (λ x. HasHandled new pushed x d'.kept (sent ++ flat_map sent_bytes e.sent)) (sym same_j) (rw (a.2, is) mh.handled),
       ),
     )

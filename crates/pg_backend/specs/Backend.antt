@@ -17,14 +17,16 @@ use Rattle.pg_backend.specs.declared.fault.BackendFault.TheVariants as faults
 use Rattle.pg_backend.specs.declared.script.Answer.{Answer}
 use Rattle.pg_backend.specs.declared.script.Logged.{Logged}
 use Rattle.pg_backend.specs.declared.script.Script.{Script}
+use Rattle.pg_backend.specs.declared.stage.Awaits.{Awaits}
+use Rattle.pg_backend.specs.declared.stage.Awaits.TheVariants as awaits
 use Rattle.pg_backend.specs.declared.stage.Ending.TheVariants as ending
 use Rattle.pg_backend.specs.declared.stage.Stage.{Stage}
 use Rattle.pg_backend.specs.declared.stage.Stage.TheVariants as stage
 use Rattle.pg_backend.specs.Lists.{Begins}
-use Rattle.pg_backend.specs.Session.{session, replies, log_of}
-use Rattle.pg_backend.specs.Opening.{Sent, Says, sent_for}
-use Rattle.pg_backend.specs.Input.{Input, is_started, IsInput, IsFaultyRest, IsOpenRest, Takes, transcript, output, IsSpelled, packets_log, input_log, At, packets_end, place_phase, input_phase, IsStray}
-use Rattle.pg_backend.specs.Standing.{Stands, awaited_place}
+use Rattle.pg_backend.specs.Session.{Copying, place_after, session, replies, log_of}
+use Rattle.pg_backend.specs.Opening.{Sent, Says, by_password, admission_messages, sent_for}
+use Rattle.pg_backend.specs.Input.{Input, is_started, IsInput, IsFaultyRest, IsOpenRest, Takes, transcript, output, IsSpelled, admission_log, packets_log, input_log, End, Asking, At, admission_end, packets_end, end_phase, input_phase, IsStray}
+use Rattle.pg_backend.specs.Standing.{Stands}
 
 -- the script, the limit, the answers that are left, where the backend stands with the bytes that it has not handled, and the log
 pub record BackendState : Type 0 where
@@ -34,9 +36,15 @@ pub record BackendState : Type 0 where
   pub stage : Stage
   pub log : List Logged
 
+-- where the input ends, by what is awaited
+abbrev pub awaited_end : Awaits → End
+awaited_end (awaits.Password expected) = Asking
+awaited_end (awaits.Request steps) = At (place_after steps)
+awaited_end (awaits.Data c) = At Copying
+
 abbrev pub phase_of : Stage → BackPhase
 phase_of (stage.First d) = phase.First
-phase_of (stage.Open d a) = place_phase (awaited_place a)
+phase_of (stage.Open d a) = end_phase (awaited_end a)
 phase_of (stage.Closed e) = phase.Closed
 
 -- no step was refused memory
@@ -115,17 +123,29 @@ Steps old before (Err faults.Closed) new after = (phase_of old.stage ≡ phase.C
 
 -- ---- what was handled
 
--- The client of these first packets was let in: this was sent before it, and all that follows is the session's.
-pub record LetIn (s : Script) (packets : List First) : Type 0 where
+-- The client of these first packets was asked for its password, which is this: this was sent before it.
+pub record IsAsked (s : Script) (packets : List First) (expected : List ℕ) : Type 0 where
   pub before : List Sent
-  pub sends : (ms : List FrontMessage) → sent_for s packets ms ≡ before ++ map Says (replies s.answers ms)
-  pub logs : (ms : List FrontMessage) → packets_log s packets ms ≡ log_of s.answers ms
-  pub ends : (ms : List FrontMessage) → packets_end s packets ms ≡ At (session s.answers ms).place
+  pub sends : (ms : List FrontMessage) → sent_for s packets ms ≡ before ++ map Says (admission_messages s (by_password expected ms))
+  pub logs : (ms : List FrontMessage) → packets_log s packets ms ≡ admission_log s (by_password expected ms)
+  pub ends : (ms : List FrontMessage) → packets_end s packets ms ≡ admission_end s (by_password expected ms)
+
+-- The client of these first packets was let in by these messages: this was sent before it, and all that follows is the session's.
+pub record LetIn (s : Script) (packets : List First) (by : List FrontMessage) : Type 0 where
+  pub before : List Sent
+  pub sends : (ms : List FrontMessage) → sent_for s packets (by ++ ms) ≡ before ++ map Says (replies s.answers ms)
+  pub logs : (ms : List FrontMessage) → packets_log s packets (by ++ ms) ≡ log_of s.answers ms
+  pub ends : (ms : List FrontMessage) → packets_end s packets (by ++ ms) ≡ At (session s.answers ms).place
+
+-- What is awaited is what these packets and the messages behind them have led to.
+abbrev pub AwaitsAt : Script → List Answer → List First → List FrontMessage → Awaits → Type 0
+AwaitsAt s left packets ms (awaits.Password expected) = IsAsked s packets expected × (ms ≡ []) × (left ≡ s.answers)
+AwaitsAt s left packets ms a = (by since : List FrontMessage) × (ms ≡ by ++ since) × LetIn s packets by × Stands s.answers since left a
 
 -- Where the backend stands is the place that the input has led to, and what it keeps is the rest.
 abbrev pub StandsAt : Script → List Answer → List ℕ → Input → List ℕ → Stage → Type 0
 StandsAt s left pushed i rest (stage.First d) = HasBegun d pushed i.packets × (d.kept ≡ rest) × (i.messages ≡ []) × (i.faulty ≡ false) × (left ≡ s.answers)
-StandsAt s left pushed i rest (stage.Open d a) = (behind : List ℕ) × IsBeginning pushed i.packets true behind × HasTaken frontend d behind i.messages × (d.kept ≡ rest) × (i.faulty ≡ false) × (is_started i.packets ≡ true) × LetIn s i.packets × Stands s.answers i.messages left a
+StandsAt s left pushed i rest (stage.Open d a) = (behind : List ℕ) × IsBeginning pushed i.packets true behind × HasTaken frontend d behind i.messages × (d.kept ≡ rest) × (i.faulty ≡ false) × (is_started i.packets ≡ true) × AwaitsAt s left i.packets i.messages a
 StandsAt s left pushed i rest (stage.Closed e) = Unit {0}
 
 -- The backend was given these bytes, and has handled this input of them, which leaves this rest; what its steps have sent is

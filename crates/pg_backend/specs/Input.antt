@@ -18,7 +18,7 @@ use Rattle.pg_backend.specs.declared.script.Logged.{Logged}
 use Rattle.pg_backend.specs.declared.script.Script.{Script}
 use Rattle.pg_backend.specs.Answers.{own_error}
 use Rattle.pg_backend.specs.Session.{Place, Between, Grouping, Copying, Terminated, Stray, session, log_of}
-use Rattle.pg_backend.specs.Opening.{Sent, No, Says, sent_for, user_from, Admission, Refused, Admitted, admission}
+use Rattle.pg_backend.specs.Opening.{Sent, No, Says, sent_for, user_from, Admission, Refused, Awaited, Stopped, Admitted, admission}
 
 -- ---- the input
 
@@ -91,6 +91,8 @@ IsSpelled (Says m) = HasSpelling backend m
 
 abbrev pub admission_log : Script → Admission → List Logged
 admission_log s (Refused fields) = []
+admission_log s Awaited = []
+admission_log s (Stopped place) = []
 admission_log s (Admitted ms) = log_of s.answers ms
 
 abbrev pub packets_log : Script → List First → List FrontMessage → List Logged
@@ -102,14 +104,17 @@ packets_log s (p ∷ packets) ms = packets_log s packets ms
 abbrev pub input_log : Script → Input → List Logged
 input_log s i = packets_log s i.packets i.messages
 
--- where the input ends: before a Startup, at a Cancel or a Startup that is refused, or in the messages behind a Startup
+-- where the input ends: before a Startup, before a password, at a Cancel or a client that is refused, or at a place of the messages
 pub data End : Type 0 where
   Opening : End
+  Asking : End
   Refusal : End
   At : (place : Place) → End
 
 abbrev pub admission_end : Script → Admission → End
 admission_end s (Refused fields) = Refusal
+admission_end s Awaited = Asking
+admission_end s (Stopped place) = At place
 admission_end s (Admitted ms) = At (session s.answers ms).place
 
 abbrev pub packets_end : Script → List First → List FrontMessage → End
@@ -130,6 +135,7 @@ place_phase Stray = phase.Closed
 
 abbrev pub end_phase : End → BackPhase
 end_phase Opening = phase.First
+end_phase Asking = phase.Password
 end_phase Refusal = phase.Closed
 end_phase (At place) = place_phase place
 

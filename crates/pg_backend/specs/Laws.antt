@@ -15,7 +15,7 @@ use Rattle.pg_backend.specs.Answers.{fits, answer_for, has_one_copy}
 use Rattle.pg_backend.specs.Lists.{Begins}
 use Rattle.pg_backend.specs.Replies.{Verdict, verdict, reply}
 use Rattle.pg_backend.specs.Session.{Between, Terminated, session, replies, log_of}
-use Rattle.pg_backend.specs.Opening.{welcome}
+use Rattle.pg_backend.specs.Opening.{welcome, asked}
 use Rattle.pg_backend.specs.Input.{Input, transcript, input_log}
 use Rattle.pg_backend.specs.Turns.{Turn, turn_messages, AreCopies, InTurn, turn_exchanges, turn_place, AreCopied, chunks_of, TookEach}
 
@@ -79,9 +79,10 @@ HaveOneCopy s = AllByRecursion (λ ms. copies_in ms ≤ 1) s.whole × copies_in 
 abbrev pub OneCopyEach : Type 0
 OneCopyEach = (answers : List Answer) (ms : List FrontMessage) → list_all has_one_copy answers ≡ true → HaveOneCopy (segments (replies answers ms))
 
--- What is sent first to a client that is let in is one segment.
+-- What a client that is let in was asked for, and what is sent first to it, is one segment.
 abbrev pub WelcomeIsSegment : Type 0
-WelcomeIsSegment = (s : Script) (ms : List BackMessage) → segments (welcome s ++ ms) ≡ record { whole = welcome s ∷ (segments ms).whole; rest = (segments ms).rest }
+WelcomeIsSegment = (s : Script) (user : List ℕ) (ms : List BackMessage)
+    → segments (asked s.auth user ++ (welcome s ++ ms)) ≡ record { whole = (asked s.auth user ++ welcome s) ∷ (segments ms).whole; rest = (segments ms).rest }
 
 -- ---- a client that takes turns
 

@@ -15,7 +15,7 @@ use Rattle.pg_backend.specs.declared.stage.Awaits.TheVariants as awaits
 use Rattle.pg_backend.specs.Answers.{answer_for, others}
 use Rattle.pg_backend.specs.Copies.{in_copy}
 use Rattle.pg_backend.specs.Replies.{Copies, shape}
-use Rattle.pg_backend.specs.Session.{Exchange, Place, Copying, place_after, Session, begin, cut, session}
+use Rattle.pg_backend.specs.Session.{Exchange, Session, begin, cut, session}
 
 abbrev pub prepend : List Exchange → Session → Session
 prepend done s = record { exchanges = done ++ s.exchanges; place = s.place }
@@ -58,10 +58,6 @@ pub record Undecided (a : Answer) (load : Load) (loaded : List (List ℕ)) (sinc
 
 -- Behind these messages the session stands so.
 abbrev pub Stands : List Answer → List FrontMessage → List Answer → Awaits → Type 0
+Stands answers ms left (awaits.Password expected) = ⊥
 Stands answers ms left (awaits.Request steps) = (done : List Exchange) × Reading answers ms done left steps
 Stands answers ms left (awaits.Data c) = (done : List Exchange) × (since : List FrontMessage) × Behind answers ms done left c.request since × Undecided (answer_for left c.request) c.load c.loaded since
-
--- where the messages end, by what is awaited
-abbrev pub awaited_place : Awaits → Place
-awaited_place (awaits.Request steps) = place_after steps
-awaited_place (awaits.Data c) = Copying

@@ -6,22 +6,22 @@ ghost use Rattle.pg_backend.specs.Check.{IsChecked};
 ghost use Rattle.pg_backend.specs.Input.{Input};
 ghost use Rattle.pg_backend.specs.Backend.{phase_of, lost_stage, IsSound, Stores, Steps, HasHandled, Handles};
 ghost use Rattle.pg_backend.specs.Private.Moves.{move};
-ghost use Rattle.pg_backend.specs.Private.Advancing.{BreaksOff, Advances, AdvancesUnlessClosed, is_refused, TakesEffect, Hands, only_sends, admission_effect, packet_effect};
+ghost use Rattle.pg_backend.specs.Private.Advancing.{BreaksOff, Advances, AdvancesUnlessClosed, is_refused, TakesEffect, Hands, only_sends, named_effect, packet_effect};
 ghost use Rattle.pg_wire.specs.declared.message.BackMessage.TheVariants.{ErrorResponse};
 ghost use Rattle.pg_wire.specs.Direction.{IsLimit};
 ghost use Rattle.pg_wire.specs.First.{is_last};
 ghost use Rattle.pg_backend.specs.declared.stage.Ending.TheVariants.{Input as ByInput, Memory as ByMemory};
-ghost use Rattle.pg_backend.specs.Opening.{No, Says, Admitted, no_user};
+ghost use Rattle.pg_backend.specs.Opening.{No, Says, no_user};
 
 use crate::answering::put;
 use crate::fault::BackendFault;
-use crate::opening::{tell_welcome, user};
+use crate::opening::{admit, user};
 use crate::own_error::{fatal_bad, no_user};
 use crate::script::{Logged, Script};
 use crate::session::Session;
 use crate::stage::{Awaits, Ending, Next, Stage};
 use pg_wire::backend::error_response;
-use pg_wire::{First, FirstDecoder, FrontDecoder, FrontMessage, Seq, WireFault};
+use pg_wire::{First, FirstDecoder, FrontDecoder, FrontMessage, WireFault};
 use std::alloc::Global;
 use std::marker::Model;
 use std::mem;
@@ -31,6 +31,8 @@ use std::mem;
 pub enum BackPhase {
     /// It awaits first packets.
     First,
+    /// It awaits a password.
+    Password,
     /// It awaits a request.
     Ready,
     /// It awaits the next step of a group, or the Sync that makes the group a request.
@@ -154,15 +156,19 @@ impl Backend {
         Ok(())
     }
 
-    /// Lets a client in.
-    fn welcome(&mut self, decoder: FirstDecoder, out: &mut Vec<u8>) -> Result<(), BackendFault>
+    /// Lets a client in, or asks for the password of this user.
+    fn admit(
+        &mut self,
+        decoder: FirstDecoder,
+        user: &[u8],
+        out: &mut Vec<u8>,
+    ) -> Result<(), BackendFault>
         requires { decoder.fault ≡ None }
-        ensures { TakesEffect (admission_effect self.old decoder (Admitted [])) self.old out.old.items result self.new out.new.items }
+        ensures { TakesEffect (named_effect self.old decoder user.now) self.old out.old.items result self.new out.new.items }
     {
-        put(tell_welcome(self.session.script(), out))?;
+        let awaits = admit(self.alloc, self.session.script(), user, out)?;
         let decoder = decoder.into_front(self.limit);
-        let steps = Seq::new(Vec::new(self.alloc));
-        self.stage = Stage::Open(decoder, Awaits::Request(steps));
+        self.stage = Stage::Open(decoder, awaits);
         Ok(())
     }
 
@@ -184,10 +190,11 @@ impl Backend {
                 Ok(())
             }
             First::Startup(pairs) => {
-                if user(pairs.as_slice()).is_empty() {
+                let user = user(pairs.as_slice());
+                if user.is_empty() {
                     self.refuse(out)
                 } else {
-                    self.welcome(decoder, out)
+                    self.admit(decoder, user, out)
                 }
             }
         }
@@ -223,7 +230,7 @@ impl Backend {
         message: FrontMessage,
         out: &mut Vec<u8>,
     ) -> Result<Next, BackendFault>
-        ensures { Hands (move self.old.left awaits message) self.old out.old.items result self.new out.new.items }
+        ensures { Hands (move self.old.script self.old.left awaits message) self.old out.old.items result self.new out.new.items }
     {
         self.session.take(awaits, message, out)
     }
@@ -284,7 +291,7 @@ impl Backend {
     /// After Wire and Unexpected the client was told, by an error with severity FATAL, and the backend is closed. After Memory it
     /// is closed with `out` and the log as they were; memory is wanted only where something whole waits, or what waits can be
     /// none. Closed is answered where the backend was closed before, and changes nothing. A close by the protocol, as by a
-    /// Terminate, is Ok(true).
+    /// Terminate or a wrong password, is Ok(true).
     pub fn step(&mut self, out: &mut Vec<u8>) -> Result<bool, BackendFault>
         ensures call { Steps self.old out.old.items result self.new out.new.items }
         ensures handled { (pushed : List ℕ) (i : Input) (rest sent : List ℕ) → HasHandled self.old pushed i rest sent → (added : List ℕ) × (out.new.items ≡ out.old.items ++ added) × Handles self.old pushed i rest sent added result self.new }
@@ -304,6 +311,7 @@ impl Backend {
     {
         match &self.stage {
             Stage::First(_) => BackPhase::First,
+            Stage::Open(_, Awaits::Password(_)) => BackPhase::Password,
             Stage::Open(_, Awaits::Request(steps)) => {
                 if steps.is_empty() {
                     BackPhase::Ready

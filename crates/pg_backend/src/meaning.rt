@@ -1,6 +1,7 @@
 //! What a message of the client means.
 
 ghost use Rattle.std.specs.Prelude.{◌≡◌};
+ghost use Rattle.pg_wire.specs.Frontend.{tag};
 ghost use Rattle.pg_backend.specs.Session.{meaning};
 ghost use Rattle.pg_backend.specs.Copies.{in_copy};
 
@@ -36,6 +37,27 @@ pub enum InCopy {
     Leaves,
     /// It can't stand there, and ends the copy.
     Strays,
+}
+
+/// A message's tag.
+pub fn tag(message: &FrontMessage) -> u8
+    ensures { result ≡ tag message.now }
+{
+    match message {
+        FrontMessage::Query(_) => b'Q',
+        FrontMessage::Parse { .. } => b'P',
+        FrontMessage::Bind { .. } => b'B',
+        FrontMessage::Describe { .. } => b'D',
+        FrontMessage::Close { .. } => b'C',
+        FrontMessage::Execute { .. } => b'E',
+        FrontMessage::Sync => b'S',
+        FrontMessage::Flush => b'H',
+        FrontMessage::Terminate => b'X',
+        FrontMessage::CopyData(_) => b'd',
+        FrontMessage::CopyDone => b'c',
+        FrontMessage::CopyFail(_) => b'f',
+        FrontMessage::Password(_) => b'p',
+    }
 }
 
 impl Meaning {

@@ -2,12 +2,17 @@
 
 ghost use Rattle.std.specs.Prelude.{◌≡◌, ◌==◌, ◌<◌, [], length, IsTrue, ◌↔◌};
 ghost use Rattle.pg_backend.specs.Opening.{welcome, user_from};
+ghost use Rattle.pg_backend.specs.Private.Greeting.{Greets};
 ghost use Rattle.pg_backend.specs.Private.Telling.{Tells};
 
-use crate::script::Script;
+use crate::answering::put;
+use crate::fault::BackendFault;
+use crate::script::{Auth, Script};
+use crate::stage::Awaits;
 use crate::telling::{tell_all, tell_key, worse};
 use pg_wire::backend::encode;
-use pg_wire::{BackMessage, EncodeFault, Seq, Status};
+use pg_wire::{BackMessage, EncodeFault, Seq, Status, md5_answer};
+use std::alloc::Global;
 
 /// The last value of the parameter `user`, and empty where there is none ("StartupMessage").
 pub fn user(pairs: &[(Seq<u8>, Seq<u8>)]) -> &[u8]
@@ -30,4 +35,31 @@ pub fn tell_welcome(script: &Script, out: &mut Vec<u8>) -> Result<(), EncodeFaul
     let told = worse(told, tell_all(script.pairs.as_slice(), out));
     let told = worse(told, tell_key(&script.key, out));
     worse(told, encode(&BackMessage::Ready(Status::Idle), out))
+}
+
+/// Lets a client in, or asks for the password of this user: what is awaited then.
+pub fn admit(
+    alloc: Global,
+    script: &Script,
+    user: &[u8],
+    out: &mut Vec<u8>,
+) -> Result<Awaits, BackendFault>
+    ensures { Greets script.now user.now out.old.items result out.new.items }
+{
+    match &script.auth {
+        Auth::Trust => {
+            put(tell_welcome(script, out))?;
+            Ok(Awaits::Request(Seq::new(Vec::new(alloc))))
+        }
+        Auth::Cleartext(password) => {
+            put(encode(&BackMessage::AuthCleartext, out))?;
+            let password = Seq::from_slice(alloc, password.as_slice())?;
+            Ok(Awaits::Password(password))
+        }
+        Auth::Md5 { password, salt } => {
+            put(encode(&BackMessage::AuthMd5(*salt), out))?;
+            let answer = md5_answer(user, password.as_slice(), *salt);
+            Ok(Awaits::Password(Seq::from_slice(alloc, &answer)?))
+        }
+    }
 }

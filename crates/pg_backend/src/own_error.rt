@@ -4,7 +4,7 @@ ghost use Rattle.std.specs.Prelude.{◌≡◌, IfOk, take};
 ghost use Rattle.pg_backend.specs.Answers.{own_error, no_answer};
 ghost use Rattle.pg_backend.specs.Copies.{canceled, out_of_copy};
 ghost use Rattle.pg_backend.specs.Session.{fatal_unexpected};
-ghost use Rattle.pg_backend.specs.Opening.{no_user};
+ghost use Rattle.pg_backend.specs.Opening.{no_user, wrong_password};
 ghost use Rattle.pg_backend.specs.Input.{fatal_bad};
 
 use crate::script::Answer;
@@ -98,4 +98,11 @@ pub fn no_user(alloc: Global) -> Result<Fields, AllocError>
     ensures { IfOk result (λ fields. fields ≡ no_user) }
 {
     error_of(alloc, b"FATAL", b"28000", b"no user in startup")
+}
+
+/// An invalid_password: a password that isn't the one that is awaited.
+pub fn wrong_password(alloc: Global) -> Result<Fields, AllocError>
+    ensures { IfOk result (λ fields. fields ≡ wrong_password) }
+{
+    error_of(alloc, b"FATAL", b"28P01", b"password authentication failed")
 }

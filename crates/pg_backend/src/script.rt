@@ -16,6 +16,15 @@ pub struct Key {
 pub enum Auth {
     /// Each user is let in.
     Trust,
+    /// It sends this password ("AuthenticationCleartextPassword").
+    Cleartext(Seq<u8>),
+    /// It sends the answer to a question with this salt ("AuthenticationMD5Password").
+    Md5 {
+        /// The password.
+        password: Seq<u8>,
+        /// The salt.
+        salt: [u8; 4],
+    },
 }
 
 /// What becomes of a copy that the client sends ("COPY Operations").

@@ -1,19 +1,20 @@
 //! A session behind a Startup: what each message does.
 
-ghost use Rattle.std.specs.Prelude.{◌≡◌, ◌≤◌, ◌∷◌, ◌++◌, [], drop, MatchOption, Ok, Err};
+ghost use Rattle.std.specs.Prelude.{◌≡◌, ◌≤◌, ◌∷◌, ◌++◌, [], true, false, drop, MatchOption, Ok, Err};
 ghost use Rattle.pg_backend.specs.declared.meaning.InCopy.TheVariants.{Chunk};
 ghost use Rattle.pg_backend.specs.Answers.{answer_for, no_answer};
 ghost use Rattle.pg_backend.specs.Session.{meaning};
 ghost use Rattle.pg_backend.specs.Copies.{in_copy};
-ghost use Rattle.pg_backend.specs.Private.Moves.{load_result, refuses_at, asked, between, effect, has_effect, move, decided, strays};
+ghost use Rattle.pg_backend.specs.Private.Moves.{load_result, refuses_at, asked, between, effect, entered, entering, has_effect, move, decided, strays};
 ghost use Rattle.pg_backend.specs.Private.Answering.{Opens};
 ghost use Rattle.pg_backend.specs.Private.Sessions.{Notes, Moves};
 
-use crate::answering::{Opened, decide, open};
+use crate::answering::{Opened, decide, open, put};
 use crate::fault::BackendFault;
 use crate::fitting::fits;
-use crate::meaning::{InCopy, Meaning};
-use crate::own_error::{canceled, fatal_unexpected, no_answer, out_of_copy};
+use crate::meaning::{InCopy, Meaning, tag};
+use crate::opening::tell_welcome;
+use crate::own_error::{canceled, fatal_unexpected, no_answer, out_of_copy, wrong_password};
 use crate::script::{Answer, Load, Logged, Script};
 use crate::stage::{Awaits, Loading, Next};
 use pg_wire::backend::error_response;
@@ -279,6 +280,45 @@ impl Session {
         }
     }
 
+    /// Lets a client in whose password is right.
+    fn welcome(&self, out: &mut Vec<u8>) -> Result<Next, BackendFault>
+        ensures { Moves (entered self.now.script self.now.left true) self.now out.old.items result self.now out.new.items }
+    {
+        put(tell_welcome(&self.script, out))?;
+        Ok(Next::Goes(Awaits::Request(self.no_steps())))
+    }
+
+    /// Refuses a client whose password is wrong.
+    fn refuse(&self, out: &mut Vec<u8>) -> Result<Next, BackendFault>
+        ensures { Moves (entered self.now.script self.now.left false) self.now out.old.items result self.now out.new.items }
+    {
+        let fields = wrong_password(self.alloc)?;
+        put(error_response(fields.as_slice(), out))?;
+        Ok(Next::Ends)
+    }
+
+    /// Takes a message where this password is awaited.
+    fn take_password(
+        &self,
+        expected: &[u8],
+        message: FrontMessage,
+        out: &mut Vec<u8>,
+    ) -> Result<Next, BackendFault>
+        ensures { Moves (entering self.now.script self.now.left expected.now message) self.now out.old.items result self.now out.new.items }
+    {
+        match &message {
+            FrontMessage::Password(password) => {
+                if password.as_slice() == expected {
+                    self.welcome(out)
+                } else {
+                    self.refuse(out)
+                }
+            }
+            FrontMessage::Terminate => Ok(Next::Ends),
+            _ => self.stray(tag(&message), out),
+        }
+    }
+
     /// Takes a message.
     pub fn take(
         &mut self,
@@ -286,9 +326,10 @@ impl Session {
         message: FrontMessage,
         out: &mut Vec<u8>,
     ) -> Result<Next, BackendFault>
-        ensures { Moves (move self.old.left awaits message) self.old out.old.items result self.new out.new.items }
+        ensures { Moves (move self.old.script self.old.left awaits message) self.old out.old.items result self.new out.new.items }
     {
         match awaits {
+            Awaits::Password(expected) => self.take_password(expected.as_slice(), message, out),
             Awaits::Request(steps) => self.take_request(steps, message, out),
             Awaits::Data(loading) => self.take_in_copy(loading, message, out),
         }

@@ -14,9 +14,11 @@ pub struct Loading {
     pub loaded: Seq<Seq<u8>>,
 }
 
-/// What is awaited of a client that was let in.
+/// What is awaited of a client behind its Startup.
 #[derive(Drop)]
 pub enum Awaits {
+    /// A password, which has to be this one.
+    Password(Seq<u8>),
     /// A request, or the next step of a group that has these.
     Request(Seq<Step>),
     /// The data of a copy.
@@ -28,7 +30,7 @@ pub enum Awaits {
 pub enum Next {
     /// The session goes on.
     Goes(Awaits),
-    /// The client has left.
+    /// The client has left, or was refused.
     Ends,
     /// The message, which has this tag, can't stand in its place.
     Strays(u8),
@@ -50,7 +52,7 @@ pub enum Ending {
 pub enum Stage {
     /// First packets are awaited.
     First(FirstDecoder),
-    /// The client was let in.
+    /// A Startup was there, and messages are awaited.
     Open(FrontDecoder, Awaits),
     /// It is closed.
     Closed(Ending),

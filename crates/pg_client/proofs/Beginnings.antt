@@ -1,6 +1,7 @@
 -- What is expected is so at each time before.
-use Rattle.std.proofs.Common.{◌≡◌, suc, ◌≤◌, ◌<◌, List, [], ◌∷◌, ◌++◌, length, Option, Some, None, refl, sym, ap, subst, ◌∙◌, append_assoc, inl, inr, arith, length-append}
+use Rattle.std.proofs.Common.{◌≡◌, ℕ, suc, ◌≤◌, ◌<◌, true, List, [], ◌∷◌, ◌++◌, length, Option, Some, None, refl, sym, ap, subst, ◌∙◌, append_assoc, inl, inr, arith, length-append}
 use Rattle.std.specs.Prelude.{IsSome, ◌⊎◌}
+use Rattle.std.specs.List.{AllByRecursion}
 use Rattle.std.proofs.Math.Nat.{eq-or-lt_of_le}
 use Rattle.std.proofs.lemmas.List.{append-nil}
 use Rattle.pg_wire.specs.declared.message.BackMessage.{BackMessage}
@@ -9,8 +10,8 @@ use Rattle.pg_wire.specs.declared.message.Status.{Status}
 use Rattle.pg_wire.specs.declared.session.Aside.{Aside}
 use Rattle.pg_wire.specs.declared.session.Request.{Request}
 use Rattle.pg_wire.specs.Segment.{aside_of, without_asides, Fits, Begins, Segments, segments, status_of}
-use Rattle.pg_client.specs.Session.{Call, Start, Ask, Chunk, CopyEnd, CopyFail, Terminate, Happening, Did, Came, messages_in, requests_in, whole_in, rest_in, IsStartup, BeginsStartup, FitAll, IsSession, IsAside, IsAfterItsCall, Expected, AreAllowed}
-use Rattle.pg_client.proofs.History.{requests_in-more}
+use Rattle.pg_client.specs.Session.{Call, Start, Ask, Chunk, CopyEnd, CopyFail, Terminate, Happening, Did, Came, messages_in, requests_in, whole_in, rest_in, IsStartup, BeginsStartup, FitAll, IsSession, IsAside, IsAfterItsCall, can_answer, Expected, AreAllowed}
+use Rattle.pg_client.proofs.History.{all_front, requests_in-more}
 use Rattle.pg_client.proofs.OneMessage.{put_after, segments-more}
 use Rattle.pg_client.proofs.Outcomes.{kept_with, without_asides-append}
 use Rattle.pg_client.proofs.Stories.{messages_in-append}
@@ -181,13 +182,19 @@ session_before hs (Came m) all s =
     (subst (λ (x : Segments). IsSession (requests_in hs) x.whole x.rest) (segments_came hs m)
     (subst (λ (rs : List Request). IsSession rs (whole_in (hs ++ Came m ∷ [])) (rest_in (hs ++ Came m ∷ []))) (requests_came hs m) s))
 
-one_before : (hs : List Happening) (h : Happening) → Expected (hs ++ h ∷ []) → Expected hs
-one_before hs h e = let all = after_begins hs (h ∷ []) e.after in record { session = session_before hs h all e.session; after = all }
+one_before : (password : Option (List ℕ)) (hs : List Happening) (h : Happening) → Expected password (hs ++ h ∷ []) → Expected password hs
+one_before password hs h e =
+    let all = after_begins hs (h ∷ []) e.after in
+    record {
+      session = session_before hs h all e.session;
+      after = all;
+      answerable = all_front (λ m. can_answer password m ≡ true) (messages_in hs) (messages_in (h ∷ [])) (subst (AllByRecursion (λ m. can_answer password m ≡ true)) (messages_in-append hs (h ∷ [])) e.answerable);
+    }
 
-pub expected_begins : (hs more : List Happening) → Expected (hs ++ more) → Expected hs
-expected_begins hs [] e = subst Expected (append-nil hs) e
-expected_begins hs (h ∷ more) e = one_before hs h (expected_begins (hs ++ h ∷ []) more (subst Expected (sym (append_assoc hs (h ∷ []) more)) e))
+pub expected_begins : (password : Option (List ℕ)) (hs more : List Happening) → Expected password (hs ++ more) → Expected password hs
+expected_begins password hs [] e = subst (Expected password) (append-nil hs) e
+expected_begins password hs (h ∷ more) e = one_before password hs h (expected_begins password (hs ++ h ∷ []) more (subst (Expected password) (sym (append_assoc hs (h ∷ []) more)) e))
 
 -- nothing is expected with what isn't before it
-pub expected_no_longer : (hs : List Happening) (m : BackMessage) (later : List Happening) → (Expected (hs ++ Came m ∷ []) → ⊥) → Expected (hs ++ Came m ∷ later) → ⊥
-expected_no_longer hs m later never e = never (expected_begins (hs ++ Came m ∷ []) later (subst Expected (sym (append_assoc hs (Came m ∷ []) later)) e))
+pub expected_no_longer : (password : Option (List ℕ)) (hs : List Happening) (m : BackMessage) (later : List Happening) → (Expected password (hs ++ Came m ∷ []) → ⊥) → Expected password (hs ++ Came m ∷ later) → ⊥
+expected_no_longer password hs m later never e = never (expected_begins password (hs ++ Came m ∷ []) later (subst (Expected password) (sym (append_assoc hs (Came m ∷ []) later)) e))

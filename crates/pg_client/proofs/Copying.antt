@@ -46,7 +46,7 @@ terminated_within (Did _ ∷ hs) later = terminated_within hs later
 terminated_within (Came x ∷ hs) later = terminated_within hs later
 
 -- nothing is heard before start
-heard_after_start : (hs : List Happening) → AllAfter hs → (messages_in hs ≡ []) ⊎ IsStarted hs
+pub heard_after_start : (hs : List Happening) → AllAfter hs → (messages_in hs ≡ []) ⊎ IsStarted hs
 heard_after_start hs all = along (λ x. (messages_in x ≡ []) ⊎ IsStarted x) hs (inl refl) step
   where
     step : (before : List Happening) (h : Happening) (later : List Happening) → hs ≡ before ++ h ∷ later → (messages_in before ≡ []) ⊎ IsStarted before → (messages_in (before ++ h ∷ []) ≡ []) ⊎ IsStarted (before ++ h ∷ [])

@@ -67,7 +67,7 @@ phase_by hs was now None false settled same f shows p =
 
 pub run_facts : (run : Run) (fed : List ℕ) (heard : List BackMessage) (rest : List ℕ) (given : List Settled) (sent : List ℕ) (handed_back : Bool) (client : ClientView) → IsRunOf run fed heard rest given sent handed_back client → Facts (story run heard) (given ++ client.settled) client
 run_facts run fed heard rest given sent handed_back client r =
-    let f = stand_facts (story run heard) r.was (given ++ client.settled) r.expected r.stands in
+    let f = stand_facts (story run heard) r.was (given ++ client.settled) r.stands in
     record {
       expected = r.expected;
       in_order = f.in_order;

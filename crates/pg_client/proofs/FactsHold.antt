@@ -18,14 +18,14 @@ use Rattle.pg_client.specs.declared.place.Stage.TheVariants.{Within, Failed}
 use Rattle.pg_client.specs.declared.place.CopyAnswer.{CopyAnswer}
 use Rattle.pg_client.specs.declared.place.CopyAnswer.TheVariants.{Awaited, Done, Refused}
 use Rattle.pg_client.specs.declared.place.Welcome.{Welcome}
-use Rattle.pg_client.specs.declared.place.Welcome.TheVariants.{Fresh, Admitted}
+use Rattle.pg_client.specs.declared.place.Welcome.TheVariants.{Fresh, Asked, Admitted}
 use Rattle.pg_client.specs.declared.place.Stand.{Stand}
 use Rattle.pg_client.specs.declared.place.Stand.TheVariants.{New, Starting, Idle, Busy}
 use Rattle.pg_client.specs.declared.settled.Settled.{Settled}
 use Rattle.pg_client.specs.declared.phase.Phase.{Phase}
 use Rattle.pg_client.specs.declared.phase.Phase.TheVariants as phase
 use Rattle.pg_client.specs.Place.{left, Place, read, read_by, read_from, after_progress, progress}
-use Rattle.pg_client.specs.Session.{Happening, requests_in, rest_in, IsStarted, IsStarting, IsReady, EndInCopyIn, Expected}
+use Rattle.pg_client.specs.Session.{Happening, requests_in, rest_in, IsStarted, IsStarting, IsReady, EndInCopyIn}
 use Rattle.pg_client.specs.Machine.{greet, greet_from, greet_all, copy_answer}
 use Rattle.pg_client.specs.Judged.{SettledAs, Stands}
 use Rattle.pg_client.specs.Client.{stand_phase, busy_phase_of, unsettled_of, has_failed, stage_failed, groups_in, has_error}
@@ -77,7 +77,12 @@ errors_kept (m ∷ ms) = kept_error m (aside_of m) (without_asides ms) (has_erro
 greets_one : (w : Welcome) (m : BackMessage) → IfSome (greet w m) (λ v. is_some (error_of m) ≡ false)
 greets_one Fresh (back.ErrorResponse fields) = tt
 greets_one Fresh back.AuthOk = refl
+greets_one Fresh back.AuthCleartext = refl
+greets_one Fresh (back.AuthMd5 salt) = refl
 greets_one Fresh m = tt
+greets_one Asked (back.ErrorResponse fields) = tt
+greets_one Asked back.AuthOk = refl
+greets_one Asked m = tt
 greets_one Admitted (back.ErrorResponse fields) = tt
 greets_one Admitted (back.KeyData process secret) = refl
 greets_one Admitted m = tt
@@ -119,6 +124,7 @@ greets_no_copy core before head w e g = go (greet_all before) (sym (ap greet_all
     go : (v : Option Welcome) → greet_from v (back.CopyIn head ∷ []) ≡ Some w → ⊥
     go None k = cc
     go (Some Fresh) k = cc
+    go (Some Asked) k = cc
     go (Some Admitted) k = cc
 
 -- ---- by where the client stands
@@ -205,8 +211,8 @@ new_facts settled none = record {
   seen_error = refl;
 }
 
-pub stand_facts : (hs : List Happening) (stand : Stand) (settled : List Settled) → Expected hs → Stands hs stand settled → StandFacts hs stand settled
-stand_facts hs New settled e h = subst (λ (x : List Happening). StandFacts x New settled) (sym h.0) (new_facts settled h.1)
-stand_facts hs (Starting w) settled e h = starting_facts hs settled w h
-stand_facts hs (Idle asides) settled e h = idle_facts hs settled asides h
-stand_facts hs (Busy request parts stage asides answer) settled e h = busy_facts hs settled request parts stage asides answer h
+pub stand_facts : (hs : List Happening) (stand : Stand) (settled : List Settled) → Stands hs stand settled → StandFacts hs stand settled
+stand_facts hs New settled h = subst (λ (x : List Happening). StandFacts x New settled) (sym h.0) (new_facts settled h.1)
+stand_facts hs (Starting w) settled h = starting_facts hs settled w h
+stand_facts hs (Idle asides) settled h = idle_facts hs settled asides h
+stand_facts hs (Busy request parts stage asides answer) settled h = busy_facts hs settled request parts stage asides answer h

@@ -1,5 +1,5 @@
 -- Each message that is heard goes to the end of what was heard, and a fault ends it.
-use Rattle.std.proofs.Common.{◌≡◌, ℕ, ◌+◌, ◌≤◌, ◌<◌, List, [], ◌∷◌, ◌++◌, length, Bool, true, false, is_some, is_err, Option, Some, None, Result, Ok, Err, refl, sym, ap, subst, ◌∙◌, append_assoc, arith, inl, inr, length-append}
+use Rattle.std.proofs.Common.{◌≡◌, ℕ, ◌+◌, ◌≤◌, ◌<◌, List, [], ◌∷◌, ◌++◌, length, true, false, is_some, is_err, Option, Some, None, Result, Ok, Err, refl, sym, ap, subst, ◌∙◌, append_assoc, arith, inl, inr, length-append}
 use Rattle.std.specs.Prelude.{◌⊎◌}
 use Rattle.std.specs.List.{flat_map, AllByRecursion}
 use Rattle.std.proofs.lemmas.Bool.{cases_lt}
@@ -7,35 +7,31 @@ use Rattle.std.proofs.lemmas.Grind.{flat_map-append}
 use Rattle.std.proofs.lemmas.List.{append-nil}
 use Rattle.pg_wire.specs.declared.fault.WireFault.{WireFault}
 use Rattle.pg_wire.specs.declared.message.BackMessage.{BackMessage}
-use Rattle.pg_wire.specs.declared.message.BackMessage.TheVariants as back
 use Rattle.pg_wire.specs.Backend.{backend}
 use Rattle.pg_wire.specs.declared.fault.WireFault.TheVariants as wire
 use Rattle.pg_wire.specs.Decoder.{DecoderState, Pushes}
-use Rattle.pg_wire.specs.Direction.{spelling}
-use Rattle.pg_wire.specs.Segment.{error_of, status_of, without_asides}
+use Rattle.pg_wire.specs.Direction.{spelling, HasSpelling}
+use Rattle.pg_wire.specs.Frontend.{frontend}
+use Rattle.pg_wire.specs.Segment.{status_of}
 use Rattle.pg_wire.specs.Stream.{IsStream, IsWithin, IsOpen, IsFaulty}
 use Rattle.pg_client.specs.declared.fault.FeedFault.{FeedFault}
 use Rattle.pg_client.specs.declared.fault.FeedFault.TheVariants as feeding
 use Rattle.pg_client.specs.declared.phase.Cause.{Cause}
 use Rattle.pg_client.specs.declared.phase.Cause.TheVariants as cause
 use Rattle.pg_client.specs.declared.place.Stand.{Stand}
-use Rattle.pg_client.specs.declared.place.Stand.TheVariants.{New, Starting, Idle, Busy}
-use Rattle.pg_client.specs.declared.place.Welcome.TheVariants.{Fresh, Admitted}
+use Rattle.pg_client.specs.declared.place.Stand.TheVariants.{Idle}
 use Rattle.pg_client.specs.declared.settings.Settings.{Settings}
 use Rattle.pg_client.specs.declared.settled.Settled.{Settled}
-use Rattle.pg_client.specs.Session.{Run, Happening, Came, timeline, rest_in, IsStarted, IsStarting, IsReady, IsTerminated, AreAllowed, IsAfterItsCall, Expected}
-use Rattle.pg_client.specs.Machine.{Effect, Stays, Settles, Rejected, hear}
+use Rattle.pg_client.specs.Session.{Run, Happening, Came, timeline, IsTerminated, AreAllowed, IsAfterItsCall, can_answer, Expected}
+use Rattle.pg_client.specs.Machine.{Effect, Stays, Settles, Rejected, hear_with}
 use Rattle.pg_client.specs.Judged.{Stands}
-use Rattle.pg_client.specs.Client.{ClientView, with_ends, story, or_else, last_from, value_of, value_said, key_said, sent_in, IsSpelledAt, IsFresh, IsError, AsksPassword, AsksOther, HasNoName, IsFaultFor, IsRefusedAt, cause_of, IsKept, Ends, Shows, IsRunOf, Answers, Hears, FeedsWith, Feeds, unsettled_of, has_failed}
-use Rattle.pg_client.specs.Private.Hearing.{fault_at, fresh_fault, admitted_fault, idle_fault}
-use Rattle.pg_client.specs.Private.Feeding.{Knows, HearsNothing, MovesBy, HearsOne, HearsNext, IsHearing, leaving}
+use Rattle.pg_client.specs.Client.{ClientView, with_ends, story, or_else, last_from, value_of, value_said, key_said, answer_to, sent_in, IsSpelledAt, IsFaultFor, IsRefusedAt, cause_of, IsKept, Ends, Shows, IsRunOf, Answers, Hears, FeedsOpen, FeedsWith, Feeds, unsettled_of, has_failed}
+use Rattle.pg_client.specs.Private.Feeding.{Knows, HearsNothing, MovesBy, HearsOne, HearsNext, HearsAll, IsHearing, leaving}
 use Rattle.pg_client.proofs.Agreeing.{answer_is_said}
-use Rattle.pg_client.proofs.FactsHold.{stand_facts}
+use Rattle.pg_client.proofs.Faults.{fault_for}
 use Rattle.pg_client.proofs.History.{Hears as Judges, hears, expected_came, rejected_unexpected}
 use Rattle.pg_client.proofs.Messages.{IsNamed, fault_named}
-use Rattle.pg_client.proofs.OneMessage.{SettledAs-length}
 use Rattle.pg_client.proofs.Runs.{sent_more, spelled_more, not_terminated_more, allowed_more}
-use Rattle.pg_client.proofs.Startup.{Greeted, greet_sound}
 use Rattle.pg_client.proofs.Timeline.{MadeBefore, timeline-came, with_ends-more}
 
 -- ---- one more message
@@ -63,8 +59,13 @@ module _ (before : ℕ) (run : Run) (fed : List ℕ) (heard : List BackMessage) 
     heard_bytes : flat_map (spelling backend) (heard ++ m ∷ []) ≡ flat_map (spelling backend) heard ++ spelling backend m
     heard_bytes = flat_map-append (spelling backend) heard (m ∷ []) ∙ ap (λ (bs : List ℕ). flat_map (spelling backend) heard ++ bs) (append-nil (spelling backend m))
 
-    heard_one : (new : ClientView) → new.settings ≡ client.settings → new.kept ≡ more → new.closed ≡ None → Stands (story run heard ++ Came m ∷ []) new.stand (given ++ new.settled) → IsAfterItsCall (story run heard) m → Knows m client new → IsHearing before run fed (heard ++ m ∷ []) given sent new
-    heard_one new settings kept is_open h k knows =
+    answer : List ℕ
+    answer = flat_map (spelling frontend) (answer_to client.settings m)
+
+    heard_one : (new : ClientView) → new.settings ≡ client.settings → new.kept ≡ more → new.closed ≡ None → Stands (story run heard ++ Came m ∷ []) new.stand (given ++ new.settled)
+        → IsAfterItsCall (story run heard) m → can_answer client.settings.password m ≡ true → AllByRecursion (HasSpelling frontend) (answer_to client.settings m) → Knows m client new → IsHearing before run fed (heard ++ m ∷ []) given (sent ++ answer) new
+    unfolding answer
+    heard_one new settings kept is_open h k answerable spelled knows =
         let at : (l : ℕ) → l ≡ client.settings.limit → IsStream backend l fed (heard ++ m ∷ []) more = (λ l e. record {
           whole = r.stream.whole ∙ ap (λ (bs : List ℕ). flat_map (spelling backend) heard ++ bs) begins ∙ sym (append_assoc (flat_map (spelling backend) heard) (spelling backend m) more) ∙ ap (λ (bs : List ℕ). bs ++ more) (sym heard_bytes);
           each = each_more l heard m (subst (λ (x : ℕ). AllByRecursion (IsWithin backend x) heard) (sym e) r.stream.each) (subst (λ (x : ℕ). IsWithin backend x m) (sym e) within);
@@ -78,37 +79,42 @@ module _ (before : ℕ) (run : Run) (fed : List ℕ) (heard : List BackMessage) 
           is_open = is_open;
           not_terminated = subst (λ (hs : List Happening). IsTerminated hs → ⊥) (sym came) (not_terminated_more (story run heard) (Came m) r.not_terminated (λ t. t));
           allowed = subst AreAllowed (sym came) (allowed_more (story run heard) (Came m) r.allowed tt);
-          expected = subst Expected (sym came) (expected_came (story run heard) m new.stand (given ++ new.settled) r.expected h k);
+          expected = subst (λ (x : Settings). Expected x.password (story run (heard ++ m ∷ []))) (sym settings)
+              (subst (Expected client.settings.password) (sym came) (expected_came client.settings.password (story run heard) m new.stand (given ++ new.settled) r.expected h k answerable));
           stands = subst (λ (hs : List Happening). Stands hs new.stand (given ++ new.settled)) (sym came) h;
           status = knows.status ∙ ap (or_else (status_of m)) r.status ∙ sym (last_from-more status_of None heard m);
           parameters = λ name. knows.parameters name ∙ ap (or_else (value_said name m)) (r.parameters name) ∙ sym (last_from-more (value_said name) None heard m);
           key = knows.key ∙ ap (or_else (key_said m)) r.key ∙ sym (last_from-more key_said None heard m);
-          sent_is = r.sent_is ∙ ap (λ (x : Settings). sent_in x (story run heard)) (sym settings) ∙ sym (append-nil (sent_in new.settings (story run heard))) ∙ sym (sent_more new.settings (story run heard) (Came m)) ∙ ap (sent_in new.settings) (sym came);
-          spelled = subst (AllByRecursion (IsSpelledAt new.settings)) (sym came) (spelled_more new.settings (story run heard) (Came m) (subst (λ (x : Settings). AllByRecursion (IsSpelledAt x) (story run heard)) (sym settings) r.spelled) tt);
+          sent_is = ap (λ (bs : List ℕ). bs ++ flat_map (spelling frontend) (answer_to client.settings m)) r.sent_is ∙ sym (sent_more client.settings (story run heard) (Came m)) ∙ ap (sent_in client.settings) (sym came) ∙ ap (λ (x : Settings). sent_in x (story run (heard ++ m ∷ []))) (sym settings);
+          spelled = subst (λ (x : Settings). AllByRecursion (IsSpelledAt x) (story run (heard ++ m ∷ []))) (sym settings)
+              (subst (AllByRecursion (IsSpelledAt client.settings)) (sym came) (spelled_more client.settings (story run heard) (Came m) r.spelled spelled));
         }
 
-    by_effect : (new : ClientView) (e : Effect) → new.settings ≡ client.settings → new.kept ≡ more → new.closed ≡ None → Knows m client new → MovesBy e client new → Judges (story run heard) (given ++ client.settled) m e → IsHearing before run fed (heard ++ m ∷ []) given sent new
-    by_effect new (Stays s) settings kept is_open knows moves h =
-        heard_one new settings kept is_open (subst (λ (x : Stand). Stands (story run heard ++ Came m ∷ []) x (given ++ new.settled)) (sym moves.0) (subst (λ (ts : List Settled). Stands (story run heard ++ Came m ∷ []) s (given ++ ts)) (sym moves.1) h.0)) h.1 knows
-    by_effect new (Settles t) settings kept is_open knows moves h =
+    by_effect : (new : ClientView) (e : Effect) → new.settings ≡ client.settings → new.kept ≡ more → new.closed ≡ None → AllByRecursion (HasSpelling frontend) (answer_to client.settings m) → Knows m client new → MovesBy e client new
+        → Judges client.settings.password (story run heard) (given ++ client.settled) m e → IsHearing before run fed (heard ++ m ∷ []) given (sent ++ answer) new
+    by_effect new (Stays s) settings kept is_open spelled knows moves h =
+        heard_one new settings kept is_open (subst (λ (x : Stand). Stands (story run heard ++ Came m ∷ []) x (given ++ new.settled)) (sym moves.0) (subst (λ (ts : List Settled). Stands (story run heard ++ Came m ∷ []) s (given ++ ts)) (sym moves.1) h.0)) h.1 h.2 spelled knows
+    by_effect new (Settles t) settings kept is_open spelled knows moves h =
         heard_one new settings kept is_open
         (subst (λ (x : Stand). Stands (story run heard ++ Came m ∷ []) x (given ++ new.settled)) (sym moves.0)
         (subst (λ (ts : List Settled). Stands (story run heard ++ Came m ∷ []) (Idle []) (given ++ ts)) (sym moves.1)
-        (subst (Stands (story run heard ++ Came m ∷ []) (Idle [])) (append_assoc given client.settled (t ∷ [])) h.0))) h.1 knows
-    by_effect new Rejected settings kept is_open knows moves h = absurd moves
+        (subst (Stands (story run heard ++ Came m ∷ []) (Idle [])) (append_assoc given client.settled (t ∷ [])) h.0))) h.1 h.2 spelled knows
+    by_effect new Rejected settings kept is_open spelled knows moves h = absurd moves
 
-  pub next_heard : (new : ClientView) → HearsNext client (Ok true) new → (m : BackMessage) × IsHearing before run fed (heard ++ m ∷ []) given sent new
-  next_heard new h =
+  pub next_heard : (new : ClientView) (out end : List ℕ) (h : HearsNext client (Ok true) new out end) → IsHearing before run fed (heard ++ h.0 ∷ []) given (sent ++ flat_map (spelling frontend) (answer_to client.settings h.0)) new
+  unfolding answer
+  next_heard new out end h =
       let one : HearsOne h.0 (leaving client new.kept) new = h.3 in
-      (h.0, by_effect h.0 new.kept h.1 h.2 new (hear client.stand h.0) one.settings refl (one.closed ∙ r.is_open) (record { status = one.knows.status; parameters = one.knows.parameters; key = one.knows.key }) (moved one.moves) (hears (story run heard) client.stand (given ++ client.settled) h.0 (answer_is_said (story run heard) r.expected.after r.allowed) r.stands))
+      by_effect h.0 new.kept h.1 h.2 new (hear_with client.settings.password client.stand h.0) one.settings refl (one.closed ∙ r.is_open) h.4.0 (record { status = one.knows.status; parameters = one.knows.parameters; key = one.knows.key }) (moved one.moves)
+      (hears client.settings.password (story run heard) client.stand (given ++ client.settled) h.0 (answer_is_said (story run heard) r.expected.after r.allowed) r.stands)
     where
       moved_by : (e : Effect) → MovesBy e (leaving client new.kept) new → MovesBy e client new
       moved_by (Stays s) k = k
       moved_by (Settles t) k = k
       moved_by Rejected k = k
 
-      moved : MovesBy (hear client.stand h.0) (leaving client new.kept) new → MovesBy (hear client.stand h.0) client new
-      moved = moved_by (hear client.stand h.0)
+      moved : MovesBy (hear_with client.settings.password client.stand h.0) (leaving client new.kept) new → MovesBy (hear_with client.settings.password client.stand h.0) client new
+      moved = moved_by (hear_with client.settings.password client.stand h.0)
 
 -- ---- the end of a piece
 
@@ -131,7 +137,7 @@ module _ (before : ℕ) (run : Run) (fed : List ℕ) (heard : List BackMessage) 
     was = client.stand;
     stands = r.stands;
     shows = shows_none client.stand client.stand client.closed r.is_open refl;
-    ends = subst (Ends client.settings.limit (story run heard) client.kept client.kept) (sym r.is_open) (record { kept_is = refl; is_open = open_rest });
+    ends = subst (Ends client.settings (story run heard) client.kept client.kept) (sym r.is_open) (record { kept_is = refl; is_open = open_rest });
     status = r.status;
     parameters = r.parameters;
     key = r.key;
@@ -140,10 +146,10 @@ module _ (before : ℕ) (run : Run) (fed : List ℕ) (heard : List BackMessage) 
   }
 
   -- a client that is closed for a cause of its own knows what it knew
-  pub closed_run : (new : ClientView) (c : Cause) → HearsNothing client new → new.closed ≡ Some c → (c ≡ cause.Terminated → ⊥) → Ends client.settings.limit (story run heard) client.kept new.kept (Some c) → IsRunOf run fed heard client.kept given sent false new
+  pub closed_run : (new : ClientView) (c : Cause) → HearsNothing client new → new.closed ≡ Some c → (c ≡ cause.Terminated → ⊥) → Ends client.settings (story run heard) client.kept new.kept (Some c) → IsRunOf run fed heard client.kept given sent false new
   closed_run new c nothing is other ends =
-      let at : (x : Settings) → x ≡ client.settings → IsStream backend x.limit fed heard client.kept × (sent ≡ sent_in x (story run heard)) × AllByRecursion (IsSpelledAt x) (story run heard) × Ends x.limit (story run heard) client.kept new.kept (Some c) =
-      (λ x e. subst (λ (y : Settings). IsStream backend y.limit fed heard client.kept × (sent ≡ sent_in y (story run heard)) × AllByRecursion (IsSpelledAt y) (story run heard) × Ends y.limit (story run heard) client.kept new.kept (Some c)) (sym e) (r.stream, r.sent_is, r.spelled, ends)) in
+      let at : (x : Settings) → x ≡ client.settings → IsStream backend x.limit fed heard client.kept × (sent ≡ sent_in x (story run heard)) × AllByRecursion (IsSpelledAt x) (story run heard) × Ends x (story run heard) client.kept new.kept (Some c) × Expected x.password (story run heard) =
+      (λ x e. subst (λ (y : Settings). IsStream backend y.limit fed heard client.kept × (sent ≡ sent_in y (story run heard)) × AllByRecursion (IsSpelledAt y) (story run heard) × Ends y (story run heard) client.kept new.kept (Some c) × Expected y.password (story run heard)) (sym e) (r.stream, r.sent_is, r.spelled, ends, r.expected)) in
       let same = at new.settings nothing.settings in
       record {
         stream = same.0;
@@ -151,11 +157,11 @@ module _ (before : ℕ) (run : Run) (fed : List ℕ) (heard : List BackMessage) 
         ordered = r.ordered;
         allowed = r.allowed;
         terminated = (λ t. absurd (r.not_terminated t), λ e. absurd (other (let k : Some c ≡ Some cause.Terminated = sym is ∙ e in cc)));
-        expected = r.expected;
+        expected = same.4;
         was = client.stand;
         stands = subst (λ (ts : List Settled). Stands (story run heard) client.stand (given ++ ts)) (sym nothing.settled) r.stands;
         shows = subst (λ (o : Option Cause). Shows client.stand new.stand o false) (sym is) nothing.alike;
-        ends = subst (Ends new.settings.limit (story run heard) client.kept new.kept) (sym is) same.3;
+        ends = subst (Ends new.settings (story run heard) client.kept new.kept) (sym is) same.3;
         status = nothing.knows.status ∙ r.status;
         parameters = λ name. ap (value_of name) nothing.knows.parameters ∙ r.parameters name;
         key = nothing.knows.key ∙ r.key;
@@ -163,185 +169,133 @@ module _ (before : ℕ) (run : Run) (fed : List ℕ) (heard : List BackMessage) 
         spelled = same.2;
       }
 
--- ---- the fault that a message is
-
-abbrev asks : BackMessage → Bool
-asks back.AuthCleartext = true
-asks (back.AuthMd5 salt) = true
-asks (back.AuthOther code bytes) = true
-asks _ = false
-
-no_error_by : (m : BackMessage) → error_of m ≡ None → IsError m → ⊥
-no_error_by m none (fields, is) = (let k : error_of (back.ErrorResponse fields) ≡ None = subst (λ (x : BackMessage). error_of x ≡ None) is none in cc)
-
-no_question_by : (m : BackMessage) → asks m ≡ false → (AsksPassword m ⊎ AsksOther m) → ⊥
-no_question_by m none (inl (inl is)) = (let k : asks back.AuthCleartext ≡ false = subst (λ (x : BackMessage). asks x ≡ false) is none in cc)
-no_question_by m none (inl (inr (salt, is))) = (let k : asks (back.AuthMd5 salt) ≡ false = subst (λ (x : BackMessage). asks x ≡ false) is none in cc)
-no_question_by m none (inr (code, bytes, is)) = (let k : asks (back.AuthOther code bytes) ≡ false = subst (λ (x : BackMessage). asks x ≡ false) is none in cc)
-
-plain_fresh : (hs : List Happening) (m : BackMessage) → error_of m ≡ None → asks m ≡ false → HasNoName hs m
-plain_fresh hs m error question = record { no_error = λ e w. no_error_by m error e; no_question = λ q f. no_question_by m question q }
-
-plain_later : (hs : List Happening) (m : BackMessage) → error_of m ≡ None → (IsFresh hs → ⊥) → HasNoName hs m
-plain_later hs m error later = record { no_error = λ e w. no_error_by m error e; no_question = λ q f. later f }
-
-fresh_for : (hs : List Happening) (m : BackMessage) → IsFresh hs → IsFaultFor hs m (fresh_fault m)
-fresh_for hs (back.ErrorResponse fields) f = (f.0, refl)
-fresh_for hs (back.AuthOther code bytes) f = (f, bytes, refl)
-fresh_for hs back.AuthCleartext f = (f, inl refl)
-fresh_for hs (back.AuthMd5 salt) f = (f, inr (salt, refl))
-fresh_for hs m f = (plain_fresh hs m refl refl, refl)
-
-admitted_for : (hs : List Happening) (m : BackMessage) → IsStarting hs → (IsFresh hs → ⊥) → IsFaultFor hs m (admitted_fault m)
-admitted_for hs (back.ErrorResponse fields) s later = (s, refl)
-admitted_for hs m s later = (plain_later hs m refl later, refl)
-
-idle_for : (hs : List Happening) (m : BackMessage) → IsReady hs → (IsFresh hs → ⊥) → IsFaultFor hs m (idle_fault m)
-idle_for hs (back.ErrorResponse fields) s later = (s, refl)
-idle_for hs m s later = (plain_later hs m refl later, refl)
-
-pub fault_for : (hs : List Happening) (stand : Stand) (settled : List Settled) (m : BackMessage) → Expected hs → Stands hs stand settled → IsFaultFor hs m (fault_at stand m)
-fault_for hs New settled m e h = (
-  record {
-    no_error = λ x w. neither w;
-    no_question = λ q f. subst IsStarted h.0 f.0.0;
-  },
-  refl,
-)
-  where
-    neither : IsStarting hs ⊎ IsReady hs → ⊥
-    neither (inl s) = subst IsStarted h.0 s.0
-    neither (inr s) = (let k : IsReady [] = subst IsReady h.0 s in omega (arith, k))
-fault_for hs (Starting Fresh) settled m e h = fresh_for hs m ((h.0, h.1.no_segment), subst (Greeted (without_asides (rest_in hs))) h.1.greeted (greet_sound (without_asides (rest_in hs))))
-fault_for hs (Starting Admitted) settled m e h = admitted_for hs m (h.0, h.1.no_segment) (λ f.
-    let g : Greeted (without_asides (rest_in hs)) (Some Admitted) = subst (Greeted (without_asides (rest_in hs))) h.1.greeted (greet_sound (without_asides (rest_in hs))) in
-    let k : [] ≡ back.AuthOk ∷ _ = sym f.1 ∙ g.1 in cc)
-fault_for hs (Idle asides) settled m e h = idle_for hs m ((stand_facts hs (Idle asides) settled e h).ready.0 refl) (λ f. let k : [] ≡ h.1.groups.startup ∷ h.1.groups.groups = sym f.0.1 ∙ h.1.groups.cut in cc)
-fault_for hs (Busy request parts stage asides answer) settled m e h = (
-  record {
-    no_error = λ x w. neither w;
-    no_question = λ q f. started_not f.0;
-  },
-  refl,
-)
-  where
-    started_not : IsStarting hs → ⊥
-    started_not s = (let k : [] ≡ h.1.groups.startup ∷ h.1.groups.groups = sym s.1 ∙ h.1.groups.cut in cc)
-
-    neither : IsStarting hs ⊎ IsReady hs → ⊥
-    neither (inl s) = started_not s
-    neither (inr s) = omega (arith, s, SettledAs-length h.1.earlier h.1.groups.groups settled h.1.groups.settled_as, ap length h.1.groups.cut, ap length h.1.last, length-append h.1.earlier (request ∷ []))
-
 -- ---- a fault
 
-abbrev pub NamedEnds : ℕ → List Happening → List ℕ → List ℕ → Option Cause → Type 0
-NamedEnds limit hs rest kept None = ⊥
-NamedEnds limit hs rest kept (Some c) = (c ≡ cause.Terminated → ⊥) × Ends limit hs rest kept (Some c)
+abbrev pub NamedEnds : Settings → List Happening → List ℕ → List ℕ → Option Cause → Type 0
+NamedEnds settings hs rest kept None = ⊥
+NamedEnds settings hs rest kept (Some c) = (c ≡ cause.Terminated → ⊥) × Ends settings hs rest kept (Some c)
 
-named_ends : (limit : ℕ) (hs : List Happening) (rest kept : List ℕ) (f : FeedFault) → IsNamed f → IsRefusedAt limit hs rest f → NamedEnds limit hs rest kept (cause_of f)
-named_ends limit hs rest kept (feeding.Unexpected t) n h = (λ e. cc, (feeding.Unexpected t, refl, h))
-named_ends limit hs rest kept (feeding.UnsupportedAuth c) n h = (λ e. cc, (feeding.UnsupportedAuth c, refl, h))
-named_ends limit hs rest kept feeding.PasswordWanted n h = (λ e. cc, (feeding.PasswordWanted, refl, h))
-named_ends limit hs rest kept (feeding.StartupError fields) n h = (λ e. cc, (feeding.StartupError fields, refl, h))
-named_ends limit hs rest kept (feeding.ServerEnd fields) n h = (λ e. cc, (feeding.ServerEnd fields, refl, h))
-named_ends limit hs rest kept _ n h = absurd n
+named_ends : (settings : Settings) (hs : List Happening) (rest kept : List ℕ) (f : FeedFault) → IsNamed f → IsRefusedAt settings hs rest f → NamedEnds settings hs rest kept (cause_of f)
+named_ends settings hs rest kept (feeding.Unexpected t) n h = (λ e. cc, (feeding.Unexpected t, refl, h))
+named_ends settings hs rest kept (feeding.UnsupportedAuth c) n h = (λ e. cc, (feeding.UnsupportedAuth c, refl, h))
+named_ends settings hs rest kept feeding.PasswordWanted n h = (λ e. cc, (feeding.PasswordWanted, refl, h))
+named_ends settings hs rest kept (feeding.StartupError fields) n h = (λ e. cc, (feeding.StartupError fields, refl, h))
+named_ends settings hs rest kept (feeding.ServerEnd fields) n h = (λ e. cc, (feeding.ServerEnd fields, refl, h))
+named_ends settings hs rest kept _ n h = absurd n
 
-named_answers : (limit : ℕ) (hs : List Happening) (rest piece : List ℕ) (f : FeedFault) (closed : Option Cause) → IsNamed f → IsRefusedAt limit hs rest f → closed ≡ cause_of f → Answers limit hs rest piece (Err f) closed
-named_answers limit hs rest piece (feeding.Unexpected t) closed n h e = (h, e)
-named_answers limit hs rest piece (feeding.UnsupportedAuth c) closed n h e = (h, e)
-named_answers limit hs rest piece feeding.PasswordWanted closed n h e = (h, e)
-named_answers limit hs rest piece (feeding.StartupError fields) closed n h e = (h, e)
-named_answers limit hs rest piece (feeding.ServerEnd fields) closed n h e = (h, e)
-named_answers limit hs rest piece _ closed n h e = absurd n
+named_answers : (settings : Settings) (hs : List Happening) (rest piece : List ℕ) (f : FeedFault) (closed : Option Cause) → IsNamed f → IsRefusedAt settings hs rest f → closed ≡ cause_of f → Answers settings hs rest piece (Err f) closed
+named_answers settings hs rest piece (feeding.Unexpected t) closed n h e = (h, e)
+named_answers settings hs rest piece (feeding.UnsupportedAuth c) closed n h e = (h, e)
+named_answers settings hs rest piece feeding.PasswordWanted closed n h e = (h, e)
+named_answers settings hs rest piece (feeding.StartupError fields) closed n h e = (h, e)
+named_answers settings hs rest piece (feeding.ServerEnd fields) closed n h e = (h, e)
+named_answers settings hs rest piece _ closed n h e = absurd n
 
 abbrev Closes : Run → List ℕ → List BackMessage → List ℕ → List Settled → List ℕ → List ℕ → FeedFault → ClientView → Type 0
-Closes run fed heard rest given sent piece f new = IsRunOf run fed heard rest given sent false new × Answers new.settings.limit (story run heard) rest piece (Err f) new.closed
+Closes run fed heard rest given sent piece f new = IsRunOf run fed heard rest given sent false new × Answers new.settings (story run heard) rest piece (Err f) new.closed
 
 module _ (before : ℕ) (run : Run) (fed : List ℕ) (heard : List BackMessage) (given : List Settled) (sent : List ℕ) (client : ClientView) (r : IsHearing before run fed heard given sent client) (piece : List ℕ) (some : 0 < length piece) where
-  named_closes : (f : FeedFault) (new : ClientView) → IsNamed f → IsRefusedAt client.settings.limit (story run heard) client.kept f → HearsNothing client new → new.closed ≡ cause_of f → Closes run fed heard client.kept given sent piece f new
+  named_closes : (f : FeedFault) (new : ClientView) → IsNamed f → IsRefusedAt client.settings (story run heard) client.kept f → HearsNothing client new → new.closed ≡ cause_of f → Closes run fed heard client.kept given sent piece f new
   named_closes f new n refused nothing e = (
-    by (cause_of f) refl (named_ends client.settings.limit (story run heard) client.kept new.kept f n refused),
-    named_answers new.settings.limit (story run heard) client.kept piece f new.closed n (subst (λ (x : Settings). IsRefusedAt x.limit (story run heard) client.kept f) (sym nothing.settings) refused) e,
+    by (cause_of f) refl (named_ends client.settings (story run heard) client.kept new.kept f n refused),
+    named_answers new.settings (story run heard) client.kept piece f new.closed n (subst (λ (x : Settings). IsRefusedAt x (story run heard) client.kept f) (sym nothing.settings) refused) e,
   )
     where
-      by : (o : Option Cause) → cause_of f ≡ o → NamedEnds client.settings.limit (story run heard) client.kept new.kept o → IsRunOf run fed heard client.kept given sent false new
+      by : (o : Option Cause) → cause_of f ≡ o → NamedEnds client.settings (story run heard) client.kept new.kept o → IsRunOf run fed heard client.kept given sent false new
       by None is h = absurd h
       by (Some c) is h = closed_run before run fed heard given sent client r new c nothing (e ∙ is) h.0 h.1
 
-  pub fault_closes : (f : FeedFault) (new : ClientView) → HearsNext client (Err f) new → Closes run fed heard client.kept given sent piece f new
-  fault_closes (feeding.Wire w) new h = (
+  pub fault_closes : (f : FeedFault) (new : ClientView) (out end : List ℕ) → HearsNext client (Err f) new out end → Closes run fed heard client.kept given sent piece f new
+  fault_closes (feeding.Wire w) new out end h = (
     closed_run before run fed heard given sent client r new cause.Wire h.1 h.2 (λ e. cc) (w, h.0),
     (subst (λ (x : Settings). IsFaulty backend x.limit client.kept w) (sym h.1.settings) h.0, h.2),
   )
-  fault_closes feeding.Memory new h =
+  fault_closes feeding.Memory new out end h =
       (closed_run before run fed heard given sent client r new cause.Memory h.0 h.1 (λ e. cc) tt, (some, h.1))
-  fault_closes f new h =
+  fault_closes f new out end h =
       let m = h.0 in
       let named : IsNamed f = subst IsNamed (sym h.5) (fault_named client.stand m) in
-      let refused : IsRefusedAt client.settings.limit (story run heard) client.kept f = record {
+      let refused : IsRefusedAt client.settings (story run heard) client.kept f = record {
         message = m;
         more = h.1;
         begins = h.3;
         within = h.2;
-        unexpected = rejected_unexpected (story run heard) client.stand (given ++ client.settled) m (answer_is_said (story run heard) r.expected.after r.allowed) r.stands h.4;
-        fault = subst (IsFaultFor (story run heard) m) (sym h.5) (fault_for (story run heard) client.stand (given ++ client.settled) m r.expected r.stands);
+        unexpected = rejected_unexpected client.settings.password (story run heard) client.stand (given ++ client.settled) m (answer_is_said (story run heard) r.expected.after r.allowed) r.stands h.4;
+        fault = subst (IsFaultFor client.settings.password (story run heard) m) (sym h.5) (fault_for client.settings.password (story run heard) client.stand (given ++ client.settled) m r.stands h.4);
       } in
       named_closes f new named refused h.6 h.7
 
 -- ---- from message to message
 
--- what a call does from between two messages on
-abbrev pub HearsAll : ClientView → Result Unit FeedFault → ClientView → Type 0
-HearsAll old result new = (before : ℕ) (run : Run) (fed : List ℕ) (heard : List BackMessage) (given : List Settled) (sent piece : List ℕ) → 0 < length piece → IsHearing before run fed heard given sent old → Hears run fed heard given sent piece result new
-
-pub record GoesOn (old now : ClientView) : Type 0 where
+-- The client has gone on, and what was added is what it has put out.
+pub record GoesOn (old now : ClientView) (start out : List ℕ) : Type 0 where
   pub is_open : now.closed ≡ None
   pub settings : now.settings ≡ old.settings
-  pub history : (before : ℕ) (run : Run) (fed : List ℕ) (heard : List BackMessage) (given : List Settled) (sent : List ℕ) → IsHearing before run fed heard given sent old → (more : List BackMessage) × IsHearing before run fed (heard ++ more) given sent now
+  pub added : List ℕ
+  pub put : out ≡ start ++ added
+  pub history : (before : ℕ) (run : Run) (fed : List ℕ) (heard : List BackMessage) (given : List Settled) (sent : List ℕ) → IsHearing before run fed heard given sent old → (more : List BackMessage) × IsHearing before run fed (heard ++ more) given (sent ++ added) now
 
-pub goes_from : (old : ClientView) → old.closed ≡ None → GoesOn old old
-goes_from old none = record {
+pub goes_from : (old : ClientView) (start : List ℕ) → old.closed ≡ None → GoesOn old old start start
+goes_from old start none = record {
   is_open = none;
   settings = refl;
-  history = λ before run fed heard given sent r. ([], subst (λ (ms : List BackMessage). IsHearing before run fed ms given sent old) (sym (append-nil heard)) r);
+  added = [];
+  put = sym (append-nil start);
+  history = λ before run fed heard given sent r.
+      ([], subst (λ (bs : List ℕ). IsHearing before run fed (heard ++ []) given bs old) (sym (append-nil sent)) (subst (λ (ms : List BackMessage). IsHearing before run fed ms given sent old) (sym (append-nil heard)) r));
 }
 
-pub goes_next : (old now new : ClientView) → GoesOn old now → HearsNext now (Ok true) new → GoesOn old new
-goes_next old now new g h =
+pub goes_next : (old now new : ClientView) (start out end : List ℕ) → GoesOn old now start out → HearsNext now (Ok true) new out end → GoesOn old new start end
+goes_next old now new start out end g h =
     let one : HearsOne h.0 (leaving now new.kept) new = h.3 in
+    let answer : List ℕ = flat_map (spelling frontend) (answer_to now.settings h.0) in
     record {
       is_open = one.closed ∙ g.is_open;
       settings = one.settings ∙ g.settings;
+      added = g.added ++ answer;
+      put = h.4.1 ∙ ap (λ (bs : List ℕ). bs ++ answer) g.put ∙ append_assoc start g.added answer;
       history = λ before run fed heard given sent r.
           let k = g.history before run fed heard given sent r in
-          let n = next_heard before run fed (heard ++ k.0) given sent now k.1 new h in
-          (k.0 ++ n.0 ∷ [], subst (λ (ms : List BackMessage). IsHearing before run fed ms given sent new) (append_assoc heard k.0 (n.0 ∷ [])) n.1);
+          let n = next_heard before run fed (heard ++ k.0) given (sent ++ g.added) now k.1 new out end h in (
+            k.0 ++ h.0 ∷ [],
+            subst (λ (ms : List BackMessage). IsHearing before run fed ms given (sent ++ (g.added ++ answer)) new) (append_assoc heard k.0 (h.0 ∷ []))
+                (subst (λ (bs : List ℕ). IsHearing before run fed ((heard ++ k.0) ++ h.0 ∷ []) given bs new) (append_assoc sent g.added answer) n),
+          );
     }
 
-pub goes_end : (old now new : ClientView) → GoesOn old now → HearsNext now (Ok false) new → (new.settings ≡ old.settings) × HearsAll old (Ok tt) new
-goes_end old now new g h = (
+pub goes_end : (old now new : ClientView) (start out end : List ℕ) → GoesOn old now start out → HearsNext now (Ok false) new out end → (new.settings ≡ old.settings) × HearsAll old (Ok tt) new start end
+goes_end old now new start out end g h = (
   ap (λ (x : ClientView). x.settings) h.1 ∙ g.settings,
-  λ before run fed heard given sent piece some r.
-      let k = g.history before run fed heard given sent r in
-      subst (Hears run fed heard given sent piece (Ok tt)) (sym h.1) (record { more = k.0; rest = now.kept; run_is = all_heard before run fed (heard ++ k.0) given sent now k.1 h.0; answers = g.is_open }),
+  record {
+    added = g.added;
+    put = h.2 ∙ g.put;
+    hears = λ before run fed heard given sent piece some r.
+        let k = g.history before run fed heard given sent r in
+        subst (Hears run fed heard given (sent ++ g.added) piece (Ok tt)) (sym h.1) (record { more = k.0; rest = now.kept; run_is = all_heard before run fed (heard ++ k.0) given (sent ++ g.added) now k.1 h.0; answers = g.is_open });
+  },
 )
 
-nothing_settings : (now new : ClientView) (f : FeedFault) → HearsNext now (Err f) new → new.settings ≡ now.settings
-nothing_settings now new (feeding.Wire w) h = h.1.settings
-nothing_settings now new feeding.Memory h = h.0.settings
-nothing_settings now new f h = h.6.settings
+nothing_settings : (now new : ClientView) (f : FeedFault) (out end : List ℕ) → HearsNext now (Err f) new out end → (new.settings ≡ now.settings) × (end ≡ out)
+nothing_settings now new (feeding.Wire w) out end h = (h.1.settings, h.3)
+nothing_settings now new feeding.Memory out end h = (h.0.settings, h.2)
+nothing_settings now new f out end h = (h.6.settings, h.8)
 
-pub goes_fault : (old now new : ClientView) (f : FeedFault) → GoesOn old now → HearsNext now (Err f) new → (new.settings ≡ old.settings) × HearsAll old (Err f) new
-goes_fault old now new f g h = (
-  nothing_settings now new f h ∙ g.settings,
-  λ before run fed heard given sent piece some r.
-      let k = g.history before run fed heard given sent r in
-      let c = fault_closes before run fed (heard ++ k.0) given sent now k.1 piece some f new h in
-      record { more = k.0; rest = now.kept; run_is = c.0; answers = c.1 },
-)
+pub goes_fault : (old now new : ClientView) (f : FeedFault) (start out end : List ℕ) → GoesOn old now start out → HearsNext now (Err f) new out end → (new.settings ≡ old.settings) × HearsAll old (Err f) new start end
+goes_fault old now new f start out end g h =
+    let same = nothing_settings now new f out end h in (
+      same.0 ∙ g.settings,
+      record {
+        added = g.added;
+        put = same.1 ∙ g.put;
+        hears = λ before run fed heard given sent piece some r.
+            let k = g.history before run fed heard given sent r in
+            let c = fault_closes before run fed (heard ++ k.0) given (sent ++ g.added) now k.1 piece some f new out end h in
+            record { more = k.0; rest = now.kept; run_is = c.0; answers = c.1 };
+      },
+    )
 
-pub shorter : (now new : ClientView) → HearsNext now (Ok true) new → length new.kept < length now.kept
-shorter now new h = omega (arith, ap length h.2, length-append (spelling backend h.0) new.kept, some_bytes h.0)
+pub shorter : (now new : ClientView) (out end : List ℕ) → HearsNext now (Ok true) new out end → length new.kept < length now.kept
+shorter now new out end h = omega (arith, ap length h.2, length-append (spelling backend h.0) new.kept, some_bytes h.0)
   where
     some_bytes : (m : BackMessage) → 0 < length (spelling backend m)
     some_bytes m = omega arith
@@ -364,9 +318,9 @@ not_before limit rest piece m more open_rest within e = by (cases_lt (length res
     by (inl lt) = lt
     by (inr le) = (let u = prefix_of rest piece (spelling backend m) more e le in absurd (open_rest.no_message m u.0 within u.1))
 
-ended_kept : (limit : ℕ) (hs : List Happening) (rest kept : List ℕ) (closed : Option Cause) → closed ≡ None → Ends limit hs rest kept closed → IsKept limit rest kept
-ended_kept limit hs rest kept None none h = h
-ended_kept limit hs rest kept (Some c) none h = absurd cc
+ended_kept : (settings : Settings) (hs : List Happening) (rest kept : List ℕ) (closed : Option Cause) → closed ≡ None → Ends settings hs rest kept closed → IsKept settings.limit rest kept
+ended_kept settings hs rest kept None none h = h
+ended_kept settings hs rest kept (Some c) none h = absurd cc
 
 open_stand : (was now : Stand) (closed : Option Cause) → closed ≡ None → Shows was now closed false → now ≡ was
 open_stand was now None none h = h
@@ -374,7 +328,7 @@ open_stand was now (Some c) none h = absurd cc
 
 module _ (run : Run) (fed : List ℕ) (heard : List BackMessage) (rest : List ℕ) (given : List Settled) (sent : List ℕ) (old : ClientView) (none : old.closed ≡ None) (r : IsRunOf run fed heard rest given sent false old) (piece : List ℕ) where
   kept_open : IsKept old.settings.limit rest old.kept
-  kept_open = ended_kept old.settings.limit (story run heard) rest old.kept old.closed none r.ends
+  kept_open = ended_kept old.settings (story run heard) rest old.kept old.closed none r.ends
 
   stream_more : IsStream backend old.settings.limit (fed ++ piece) heard (rest ++ piece)
   stream_more = record { whole = ap (λ (bs : List ℕ). bs ++ piece) r.stream.whole ∙ append_assoc (flat_map (spelling backend) heard) rest piece; each = r.stream.each }
@@ -434,31 +388,45 @@ module _ (run : Run) (fed : List ℕ) (heard : List BackMessage) (rest : List �
 
 -- ---- feed, by the fields of a value that was opened
 
-feeds_open : (old : ClientView) (piece : List ℕ) (result : Result Unit FeedFault) (new : ClientView) → ((none : old.closed ≡ None) (run : Run) (fed : List ℕ) (heard : List BackMessage) (rest : List ℕ) (given : List Settled) (sent : List ℕ) → IsRunOf run fed heard rest given sent false old → Hears run (fed ++ piece) heard given sent piece result new) → old.closed ≡ None → Feeds old piece result new
-feeds_open old piece result new h none = subst (λ (o : Option Cause). FeedsWith o old piece result new) (sym none) (h none)
+feeds_open : (old : ClientView) (piece : List ℕ) (result : Result Unit FeedFault) (new : ClientView) (out end : List ℕ) → FeedsOpen old piece result new out end → old.closed ≡ None → Feeds old piece result new out end
+feeds_open old piece result new out end h none = subst (λ (o : Option Cause). FeedsWith o old piece result new out end) (sym none) h
 
-pub feeds_closed : (old : ClientView) (piece : List ℕ) → is_some old.closed ≡ true → Feeds old piece (Err feeding.Closed) old
-feeds_closed old piece e = by old.closed e
+-- nothing was put out
+feeds_quietly : (old : ClientView) (piece : List ℕ) (result : Result Unit FeedFault) (new : ClientView) (out : List ℕ) → ((run : Run) (fed : List ℕ) (heard : List BackMessage) (rest : List ℕ) (given : List Settled) (sent : List ℕ) → IsRunOf run fed heard rest given sent false old → Hears run (fed ++ piece) heard given sent piece result new) → FeedsOpen old piece result new out out
+feeds_quietly old piece result new out h = record {
+  added = [];
+  put = sym (append-nil out);
+  hears = λ run fed heard rest given sent r. subst (λ (bs : List ℕ). Hears run (fed ++ piece) heard given bs piece result new) (sym (append-nil sent)) (h run fed heard rest given sent r);
+}
+
+pub feeds_closed : (old : ClientView) (piece out : List ℕ) → is_some old.closed ≡ true → Feeds old piece (Err feeding.Closed) old out out
+feeds_closed old piece out e = by old.closed e
   where
-    by : (o : Option Cause) → is_some o ≡ true → FeedsWith o old piece (Err feeding.Closed) old
+    by : (o : Option Cause) → is_some o ≡ true → FeedsWith o old piece (Err feeding.Closed) old out out
     by None k = absurd cc
-    by (Some c) k = (refl, refl)
+    by (Some c) k = (refl, refl, refl)
 
 pub none_by_test : (o : Option Cause) → is_some o ≡ false → o ≡ None
 none_by_test None e = refl
 none_by_test (Some c) e = absurd cc
 
-module _ (v old : ClientView) (same : v ≡ old) (piece : List ℕ) (none : v.closed ≡ None) where
-  pub feeds_nothing : piece ≡ [] → Feeds old piece (Ok tt) old
-  feeds_nothing empty = feeds_open old piece (Ok tt) old (λ n run fed heard rest given sent r. unfed run fed heard rest given sent old n r piece empty) (ap (λ (x : ClientView). x.closed) (sym same) ∙ none)
+module _ (v old : ClientView) (same : v ≡ old) (piece out : List ℕ) (none : v.closed ≡ None) where
+  pub feeds_nothing : piece ≡ [] → Feeds old piece (Ok tt) old out out
+  feeds_nothing empty =
+      let is_open : old.closed ≡ None = ap (λ (x : ClientView). x.closed) (sym same) ∙ none in
+      feeds_open old piece (Ok tt) old out out (feeds_quietly old piece (Ok tt) old out (λ run fed heard rest given sent r. unfed run fed heard rest given sent old is_open r piece empty)) is_open
 
-  pub feeds_starved : 0 < length piece → Feeds old piece (Err feeding.Memory) (record v { closed = Some cause.Memory })
-  feeds_starved some = subst (λ (x : ClientView). Feeds x piece (Err feeding.Memory) (record v { closed = Some cause.Memory })) same
-      (feeds_open v piece (Err feeding.Memory) (record v { closed = Some cause.Memory }) (λ n run fed heard rest given sent r. starved run fed heard rest given sent v n r piece some) none)
+  pub feeds_starved : 0 < length piece → Feeds old piece (Err feeding.Memory) (record v { closed = Some cause.Memory }) out out
+  feeds_starved some = subst (λ (x : ClientView). Feeds x piece (Err feeding.Memory) (record v { closed = Some cause.Memory }) out out) same
+      (feeds_open v piece (Err feeding.Memory) (record v { closed = Some cause.Memory }) out out (feeds_quietly v piece (Err feeding.Memory) (record v { closed = Some cause.Memory }) out (λ run fed heard rest given sent r. starved run fed heard rest given sent v none r piece some)) none)
 
-  pub feeds_all : (result : Result Unit FeedFault) (new : ClientView) → 0 < length piece → HearsAll (record v { kept = v.kept ++ piece }) result new → Feeds old piece result new
-  feeds_all result new some h = subst (λ (x : ClientView). Feeds x piece result new) same
-      (feeds_open v piece result new (λ n run fed heard rest given sent r. h (length fed) run (fed ++ piece) heard given sent piece some (hearing run fed heard rest given sent v n r piece)) none)
+  pub feeds_all : (result : Result Unit FeedFault) (new : ClientView) (end : List ℕ) → 0 < length piece → HearsAll (record v { kept = v.kept ++ piece }) result new out end → Feeds old piece result new out end
+  feeds_all result new end some h = subst (λ (x : ClientView). Feeds x piece result new out end) same
+      (feeds_open v piece result new out end (record {
+        added = h.added;
+        put = h.put;
+        hears = λ run fed heard rest given sent r. h.hears (length fed) run (fed ++ piece) heard given sent piece some (hearing run fed heard rest given sent v none r piece);
+      }) none)
 
 -- ---- what pushing the piece did
 

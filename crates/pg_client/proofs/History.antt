@@ -1,5 +1,6 @@
 -- One more happening: where the client stands, and what is expected.
-use Rattle.std.proofs.Common.{◌≡◌, ℕ, List, [], ◌∷◌, ◌++◌, refl, sym, ap, subst, ◌∙◌, append_assoc}
+use Rattle.std.proofs.Common.{◌≡◌, ℕ, Bool, true, false, cond, List, [], ◌∷◌, ◌++◌, Option, refl, sym, ap, subst, ◌∙◌, append_assoc}
+use Rattle.std.specs.List.{AllByRecursion}
 use Rattle.std.proofs.lemmas.List.{append-nil, append_cancel_left}
 use Rattle.pg_wire.specs.declared.message.BackMessage.{BackMessage}
 use Rattle.pg_wire.specs.declared.session.Aside.{Aside}
@@ -16,13 +17,27 @@ use Rattle.pg_client.specs.declared.place.Stand.TheVariants.{New, Starting, Idle
 use Rattle.pg_client.specs.declared.settled.Settled.{Settled}
 use Rattle.pg_wire.specs.Segment.{asked, Segments, segments, status_of}
 use Rattle.pg_client.specs.Place.{read_all}
-use Rattle.pg_client.specs.Session.{Call, Start, Ask, Chunk, CopyEnd, CopyFail, Terminate, Happening, Did, Came, requests_in, messages_in, whole_in, rest_in, IsStarted, FitAll, IsSession, IsAfterItsCall, Expected}
-use Rattle.pg_client.specs.Machine.{Effect, Stays, Settles, Rejected, copy_answer_after, copy_answer_from, copy_answer, hear}
+use Rattle.pg_client.specs.Session.{Call, Start, Ask, Chunk, CopyEnd, CopyFail, Terminate, Happening, Did, Came, requests_in, messages_in, whole_in, rest_in, IsStarted, FitAll, IsSession, IsAfterItsCall, can_answer, Expected}
+use Rattle.pg_client.specs.Machine.{Effect, Stays, Settles, Rejected, copy_answer_after, copy_answer_from, copy_answer, hear, hear_with}
 use Rattle.pg_client.specs.Judged.{StandsBy, Stands}
 use Rattle.pg_client.proofs.Outcomes.{front_splits, read_begins}
 use Rattle.pg_client.proofs.Startup.{greeted_begins}
 use Rattle.pg_client.proofs.Said.{AnswerIsSaid, after_its_call, may_stand}
 use Rattle.pg_client.proofs.OneMessage.{put_after, segments-more, all_fit, fit_and_begin, StandsThen, Verdict, hear_verdict}
+
+-- ---- all of a list, and one more
+
+pub all_more : {A : Type 0} (P : A → Type 0) (xs : List A) (x : A) → AllByRecursion P xs → P x → AllByRecursion P (xs ++ x ∷ [])
+all_more P [] x all one = (one, tt)
+all_more P (y ∷ ys) x all one = (all.0, all_more P ys x all.1 one)
+
+all_last : {A : Type 0} (P : A → Type 0) (xs : List A) (x : A) → AllByRecursion P (xs ++ x ∷ []) → P x
+all_last P [] x all = all.0
+all_last P (y ∷ ys) x all = all_last P ys x all.1
+
+pub all_front : {A : Type 0} (P : A → Type 0) (xs ys : List A) → AllByRecursion P (xs ++ ys) → AllByRecursion P xs
+all_front P [] ys all = tt
+all_front P (x ∷ xs) ys all = (all.0, all_front P xs ys all.1)
 
 -- ---- one more happening at the end
 
@@ -69,25 +84,39 @@ stands_came hs m stand before now s h =
     (subst (λ (x : Segments). StandsBy (requests_in hs) x.whole x.rest (copy_answer (hs ++ Came m ∷ [])) stand now) (sym (segments-came hs m))
     (subst (λ (said : CopyAnswer). StandsBy (requests_in hs) (put_after (status_of m) m (whole_in hs) (rest_in hs)).whole (put_after (status_of m) m (whole_in hs) (rest_in hs)).rest said stand now) (sym (copy_answer_from-more Awaited hs (Came m))) h)))
 
--- what the client makes of a message, after all that happened
-abbrev pub Hears : List Happening → List Settled → BackMessage → Effect → Type 0
-Hears hs settled m (Stays stand) = Stands (hs ++ Came m ∷ []) stand settled × IsAfterItsCall hs m
-Hears hs settled m (Settles t) = Stands (hs ++ Came m ∷ []) (Idle []) (settled ++ t ∷ []) × IsAfterItsCall hs m
-Hears hs settled m Rejected = Expected (hs ++ Came m ∷ []) → ⊥
+module _ (password : Option (List ℕ)) where
+  -- what the client makes of a message, after all that happened
+  abbrev pub Hears : List Happening → List Settled → BackMessage → Effect → Type 0
+  Hears hs settled m (Stays stand) = Stands (hs ++ Came m ∷ []) stand settled × IsAfterItsCall hs m × (can_answer password m ≡ true)
+  Hears hs settled m (Settles t) = Stands (hs ++ Came m ∷ []) (Idle []) (settled ++ t ∷ []) × IsAfterItsCall hs m × (can_answer password m ≡ true)
+  Hears hs settled m Rejected = Expected password (hs ++ Came m ∷ []) → ⊥
 
-hears_by : (hs : List Happening) (settled : List Settled) (m : BackMessage) (effect : Effect) → AnswerIsSaid hs → IsStarted hs → Verdict (requests_in hs) (whole_in hs) (rest_in hs) (copy_answer hs) settled m (status_of m) effect → Hears hs settled m effect
-hears_by hs settled m (Stays stand) same s v = (stands_came hs m stand settled settled s v.0, after_its_call hs same m s v.1)
-hears_by hs settled m (Settles t) same s v = (stands_came hs m (Idle []) settled (settled ++ t ∷ []) s v.0, after_its_call hs same m s v.1)
-hears_by hs settled m Rejected same s v = λ expected.
-    v (subst (λ (x : Segments). IsSession (requests_in hs) x.whole x.rest) (segments-came hs m)
-    (subst (λ (rs : List Request). IsSession rs (segments (messages_in (hs ++ Came m ∷ []))).whole (segments (messages_in (hs ++ Came m ∷ []))).rest) (requests_in-more hs (Came m) ∙ append-nil (requests_in hs)) expected.session))
-    (may_stand hs same m (expected.after hs m [] refl))
+  hears_by : (hs : List Happening) (settled : List Settled) (m : BackMessage) (effect : Effect) → AnswerIsSaid hs → IsStarted hs → can_answer password m ≡ true → Verdict (requests_in hs) (whole_in hs) (rest_in hs) (copy_answer hs) settled m (status_of m) effect → Hears hs settled m effect
+  hears_by hs settled m (Stays stand) same s e v = (stands_came hs m stand settled settled s v.0, after_its_call hs same m s v.1, e)
+  hears_by hs settled m (Settles t) same s e v = (stands_came hs m (Idle []) settled (settled ++ t ∷ []) s v.0, after_its_call hs same m s v.1, e)
+  hears_by hs settled m Rejected same s e v = λ expected.
+      v (subst (λ (x : Segments). IsSession (requests_in hs) x.whole x.rest) (segments-came hs m)
+      (subst (λ (rs : List Request). IsSession rs (segments (messages_in (hs ++ Came m ∷ []))).whole (segments (messages_in (hs ++ Came m ∷ []))).rest) (requests_in-more hs (Came m) ∙ append-nil (requests_in hs)) expected.session))
+      (may_stand hs same m (expected.after hs m [] refl))
 
-pub hears : (hs : List Happening) (stand : Stand) (settled : List Settled) (m : BackMessage) → AnswerIsSaid hs → Stands hs stand settled → Hears hs settled m (hear stand m)
-hears hs New settled m same h = λ expected. subst IsStarted h.0 ((expected.after hs m [] refl).started)
-hears hs (Starting w) settled m same h = hears_by hs settled m (hear (Starting w) m) same h.0 (hear_verdict (requests_in hs) (whole_in hs) (rest_in hs) (copy_answer hs) settled m (Starting w) h.1)
-hears hs (Idle asides) settled m same h = hears_by hs settled m (hear (Idle asides) m) same h.0 (hear_verdict (requests_in hs) (whole_in hs) (rest_in hs) (copy_answer hs) settled m (Idle asides) h.1)
-hears hs (Busy request parts stage asides answer) settled m same h = hears_by hs settled m (hear (Busy request parts stage asides answer) m) same h.0 (hear_verdict (requests_in hs) (whole_in hs) (rest_in hs) (copy_answer hs) settled m (Busy request parts stage asides answer) h.1)
+  hears_answerable : (hs : List Happening) (stand : Stand) (settled : List Settled) (m : BackMessage) → AnswerIsSaid hs → can_answer password m ≡ true → Stands hs stand settled → Hears hs settled m (hear stand m)
+  hears_answerable hs New settled m same e h = λ expected. subst IsStarted h.0 ((expected.after hs m [] refl).started)
+  hears_answerable hs (Starting w) settled m same e h = hears_by hs settled m (hear (Starting w) m) same h.0 e (hear_verdict (requests_in hs) (whole_in hs) (rest_in hs) (copy_answer hs) settled m (Starting w) h.1)
+  hears_answerable hs (Idle asides) settled m same e h = hears_by hs settled m (hear (Idle asides) m) same h.0 e (hear_verdict (requests_in hs) (whole_in hs) (rest_in hs) (copy_answer hs) settled m (Idle asides) h.1)
+  hears_answerable hs (Busy request parts stage asides answer) settled m same e h = hears_by hs settled m (hear (Busy request parts stage asides answer) m) same h.0 e (hear_verdict (requests_in hs) (whole_in hs) (rest_in hs) (copy_answer hs) settled m (Busy request parts stage asides answer) h.1)
+
+  -- what a client without a password is asked isn't expected
+  unanswerable : (hs : List Happening) (m : BackMessage) → can_answer password m ≡ false → Expected password (hs ++ Came m ∷ []) → ⊥
+  unanswerable hs m none expected =
+      let yes : can_answer password m ≡ true = all_last (λ n. can_answer password n ≡ true) (messages_in hs) m (subst (AllByRecursion (λ n. can_answer password n ≡ true)) (messages_in-came hs m) expected.answerable) in
+      let e : false ≡ true = sym none ∙ yes in cc
+
+  pub hears : (hs : List Happening) (stand : Stand) (settled : List Settled) (m : BackMessage) → AnswerIsSaid hs → Stands hs stand settled → Hears hs settled m (hear_with password stand m)
+  hears hs stand settled m same h = by (can_answer password m) refl
+    where
+      by : (b : Bool) → can_answer password m ≡ b → Hears hs settled m (cond b (hear stand m) Rejected)
+      by true e = hears_answerable hs stand settled m same e h
+      by false e = unanswerable hs m e
 
 -- ---- where the client stands, the session is one
 
@@ -125,17 +154,25 @@ after_more hs h all new before m later e =
     at_split [] is k = this_one h new (let y : h ∷ [] ≡ Came m ∷ later = k in cc) (is ∙ append-nil before)
     at_split (z ∷ zs) is k = all before m zs (is ∙ ap (λ (x : Happening). before ++ x ∷ zs) (let y : z ∷ (zs ++ h ∷ []) ≡ Came m ∷ later = k in cc))
 
--- what is expected stays so with a message that comes after its call, where the client stands anywhere then
-pub expected_came : (hs : List Happening) (m : BackMessage) (stand : Stand) (settled : List Settled) → Expected hs → Stands (hs ++ Came m ∷ []) stand settled → IsAfterItsCall hs m → Expected (hs ++ Came m ∷ [])
+-- what is expected stays so with a message that comes after its call and can be answered, where the client stands anywhere then
+pub expected_came : (password : Option (List ℕ)) (hs : List Happening) (m : BackMessage) (stand : Stand) (settled : List Settled) → Expected password hs → Stands (hs ++ Came m ∷ []) stand settled → IsAfterItsCall hs m → can_answer password m ≡ true → Expected password (hs ++ Came m ∷ [])
 unfolding After
-expected_came hs m stand settled e h k = record { session = stands_session (hs ++ Came m ∷ []) stand settled h; after = after_more hs (Came m) e.after k }
+expected_came password hs m stand settled e h k answerable = record {
+  session = stands_session (hs ++ Came m ∷ []) stand settled h;
+  after = after_more hs (Came m) e.after k;
+  answerable = subst (AllByRecursion (λ n. can_answer password n ≡ true)) (sym (messages_in-came hs m)) (all_more (λ n. can_answer password n ≡ true) (messages_in hs) m e.answerable answerable);
+}
 
-pub expected_did : (hs : List Happening) (c : Call) (stand : Stand) (settled : List Settled) → Expected hs → Stands (hs ++ Did c ∷ []) stand settled → Expected (hs ++ Did c ∷ [])
+pub expected_did : (password : Option (List ℕ)) (hs : List Happening) (c : Call) (stand : Stand) (settled : List Settled) → Expected password hs → Stands (hs ++ Did c ∷ []) stand settled → Expected password (hs ++ Did c ∷ [])
 unfolding After
-expected_did hs c stand settled e h = record { session = stands_session (hs ++ Did c ∷ []) stand settled h; after = after_more hs (Did c) e.after tt }
+expected_did password hs c stand settled e h = record {
+  session = stands_session (hs ++ Did c ∷ []) stand settled h;
+  after = after_more hs (Did c) e.after tt;
+  answerable = subst (AllByRecursion (λ n. can_answer password n ≡ true)) (sym (messages_in-did hs c)) e.answerable;
+}
 
-pub expected_nothing : Expected []
-expected_nothing = record { session = greeted_begins [] Fresh refl; after = λ before m later e. absurd (nothing m later before e) }
+pub expected_nothing : (password : Option (List ℕ)) → Expected password []
+expected_nothing password = record { session = greeted_begins [] Fresh refl; after = λ before m later e. absurd (nothing m later before e); answerable = tt }
   where
     nothing : (m : BackMessage) (later : List Happening) (before : List Happening) → [] ≡ before ++ Came m ∷ later → ⊥
     nothing m later [] e = cc
@@ -182,5 +219,5 @@ did_terminate hs (Idle asides) settled s h = stands_did hs Terminate (Idle aside
 did_terminate hs (Busy request parts stage asides answer) settled s h = stands_did hs Terminate (Busy request parts stage asides answer) settled s (same_by hs (Busy request parts stage asides answer) settled h.1)
 
 -- what the client refuses isn't expected
-pub rejected_unexpected : (hs : List Happening) (stand : Stand) (settled : List Settled) (m : BackMessage) → AnswerIsSaid hs → Stands hs stand settled → hear stand m ≡ Rejected → Expected (hs ++ Came m ∷ []) → ⊥
-rejected_unexpected hs stand settled m same h e = subst (Hears hs settled m) e (hears hs stand settled m same h)
+pub rejected_unexpected : (password : Option (List ℕ)) (hs : List Happening) (stand : Stand) (settled : List Settled) (m : BackMessage) → AnswerIsSaid hs → Stands hs stand settled → hear_with password stand m ≡ Rejected → Expected password (hs ++ Came m ∷ []) → ⊥
+rejected_unexpected password hs stand settled m same h e = subst (Hears password hs settled m) e (hears password hs stand settled m same h)

@@ -12,9 +12,11 @@ pub mod Encoded
 pub mod Runs
 pub mod Lifetime
 pub mod Messages
+pub mod Faults
 pub mod Feeding
 pub mod Facts
 pub mod TurnLaws
+pub mod Passwords
 pub mod Stories
 pub mod Beginnings
 pub mod Agreeing

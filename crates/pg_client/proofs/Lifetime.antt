@@ -10,6 +10,7 @@ use Rattle.pg_client.specs.declared.phase.Cause.{Cause}
 use Rattle.pg_client.specs.declared.phase.Cause.TheVariants as cause
 use Rattle.pg_client.specs.declared.place.Stand.{Stand}
 use Rattle.pg_client.specs.declared.place.Stand.TheVariants.{New}
+use Rattle.pg_client.specs.declared.settings.Settings.{Settings}
 use Rattle.pg_client.specs.declared.settled.Loss.{Loss}
 use Rattle.pg_client.specs.declared.settled.Settled.{Settled}
 use Rattle.pg_client.specs.Session.{Run, Happening, IsTerminated, AreAllowed}
@@ -43,11 +44,11 @@ begun_run v kept stand settled status parameters key closed = record {
   ordered = tt;
   allowed = none_allowed;
   terminated = (λ t. absurd t, λ e. absurd (let k : None ≡ Some cause.Terminated = sym closed ∙ e in cc));
-  expected = expected_nothing;
+  expected = expected_nothing v.settings.password;
   was = New;
   stands = (refl, settled);
   shows = subst (λ (o : Option Cause). Shows New v.stand o false) (sym closed) stand;
-  ends = subst (Ends v.settings.limit [] [] v.kept) (sym closed) (record { kept_is = kept; is_open = nothing_is_open v.settings.limit });
+  ends = subst (Ends v.settings [] [] v.kept) (sym closed) (record { kept_is = kept; is_open = nothing_is_open v.settings.limit });
   status = status;
   parameters = λ name. rw parameters refl;
   key = key;
@@ -94,7 +95,7 @@ pub loses : (v old : ClientView) (loss : Loss) → v ≡ old → loss.unsettled 
     → (run : Run) (fed : List ℕ) (heard : List BackMessage) (rest : List ℕ) (given : List Settled) (sent : List ℕ) (handed_back : Bool) → IsRunOf run fed heard rest given sent handed_back old → Loses handed_back (story run heard) loss
 loses v old loss same request error run fed heard rest given sent false r0 =
     let r : IsRunOf run fed heard rest given sent false v = subst (IsRunOf run fed heard rest given sent false) (sym same) r0 in
-    let f = stand_facts (story run heard) r.was (given ++ v.settled) r.expected r.stands in
+    let f = stand_facts (story run heard) r.was (given ++ v.settled) r.stands in
     let a = alike r.was v.stand v.closed r.shows in
     (request ∙ a.request ∙ f.unsettled, error ∙ a.error ∙ f.seen_error)
 loses v old loss same request error run fed heard rest given sent true r0 =
@@ -106,9 +107,9 @@ terminated_by : (hs : List Happening) (closed : Option Cause) → IsTerminated h
 terminated_by hs None h = (λ t. absurd (let e : None ≡ Some cause.Terminated = h.0 t in cc), λ e. absurd cc)
 terminated_by hs (Some c) h = h
 
-ends_by : (limit : ℕ) (hs : List Happening) (rest kept : List ℕ) (closed : Option Cause) → Ends limit hs rest kept closed → Ends limit hs rest kept (Some (first_cause closed cause.Lost))
-ends_by limit hs rest kept None h = h
-ends_by limit hs rest kept (Some c) h = h
+ends_by : (settings : Settings) (hs : List Happening) (rest kept : List ℕ) (closed : Option Cause) → Ends settings hs rest kept closed → Ends settings hs rest kept (Some (first_cause closed cause.Lost))
+ends_by settings hs rest kept None h = h
+ends_by settings hs rest kept (Some c) h = h
 
 pub lost_run : (v old : ClientView) (closed : Option Cause) → v ≡ old → closed ≡ Some (first_cause v.closed cause.Lost)
     → (run : Run) (fed : List ℕ) (heard : List BackMessage) (rest : List ℕ) (given : List Settled) (sent : List ℕ) (handed_back : Bool) → IsRunOf run fed heard rest given sent handed_back old → IsRunOf run fed heard rest given sent true (record v { stand = New; closed = closed })
@@ -124,7 +125,7 @@ lost_run v old closed same now run fed heard rest given sent handed_back r0 =
       was = r.was;
       stands = r.stands;
       shows = subst (λ (o : Option Cause). Shows r.was New o true) (sym now) refl;
-      ends = subst (Ends v.settings.limit (story run heard) rest v.kept) (sym now) (ends_by v.settings.limit (story run heard) rest v.kept v.closed r.ends);
+      ends = subst (Ends v.settings (story run heard) rest v.kept) (sym now) (ends_by v.settings (story run heard) rest v.kept v.closed r.ends);
       status = r.status;
       parameters = r.parameters;
       key = r.key;

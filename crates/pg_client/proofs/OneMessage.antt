@@ -22,7 +22,7 @@ use Rattle.pg_client.specs.declared.place.Stage.TheVariants.{Within, Failed}
 use Rattle.pg_client.specs.declared.place.CopyAnswer.{CopyAnswer}
 use Rattle.pg_client.specs.declared.place.CopyAnswer.TheVariants.{Awaited, Done, Refused}
 use Rattle.pg_client.specs.declared.place.Welcome.{Welcome}
-use Rattle.pg_client.specs.declared.place.Welcome.TheVariants.{Fresh, Admitted}
+use Rattle.pg_client.specs.declared.place.Welcome.TheVariants.{Fresh, Asked, Admitted}
 use Rattle.pg_client.specs.declared.place.Stand.{Stand}
 use Rattle.pg_client.specs.declared.place.Stand.TheVariants.{New, Starting, Idle, Busy}
 use Rattle.pg_client.specs.declared.settled.Settled.{Settled}
@@ -79,7 +79,7 @@ is_ready : (m : BackMessage) (status : Status) → status_of m ≡ Some status �
 is_ready (Ready s) status e = ap Ready (let k : Some s ≡ Some status = e in cc)
 is_ready _ status e = absurd cc
 
-not_ready : (m : BackMessage) → status_of m ≡ None → (rest body : List BackMessage) (status : Status) → rest ++ m ∷ [] ≡ body ++ Ready status ∷ [] → ⊥
+pub not_ready : (m : BackMessage) → status_of m ≡ None → (rest body : List BackMessage) (status : Status) → rest ++ m ∷ [] ≡ body ++ Ready status ∷ [] → ⊥
 not_ready m none rest body status e =
     let s = snoc_front rest body m (Ready status) e in
     let f : status_of (Ready status) ≡ None = subst (λ (x : BackMessage). status_of x ≡ None) s.1 none in
@@ -216,6 +216,7 @@ module _ (requests : List Request) (whole : List (List BackMessage)) (rest : Lis
 
   no_copy_in_startup : (w : Welcome) (tag : List ℕ) → greet w (CommandComplete tag) ≡ None
   no_copy_in_startup Fresh tag = refl
+  no_copy_in_startup Asked tag = refl
   no_copy_in_startup Admitted tag = refl
 
   starting_may : (w : Welcome) → StandsStarting requests whole rest settled w → ((tag : List ℕ) → m ≡ CommandComplete tag → ⊥) → MayStand requests whole rest said m
@@ -223,6 +224,11 @@ module _ (requests : List Request) (whole : List (List BackMessage)) (rest : Lis
     asked_for = inr (rw (h.no_segment, h.no_request) (omega arith));
     copy_ended = λ tag k ends. absurd (never tag k);
   }
+
+  ready_admitted : (w : Welcome) (status : Status) → StandsStarting requests whole rest settled w → status_of m ≡ Some status → IsSession requests (whole ++ (rest ++ m ∷ []) ∷ []) [] → greet_all (without_asides rest) ≡ Some Admitted
+  ready_admitted w status h k session =
+      let s : IsSession requests ((rest ++ m ∷ []) ∷ []) [] = subst (λ (x : List (List BackMessage)). IsSession requests x []) (first_whole (rest ++ m ∷ []) h.no_segment) session in
+      startup_admitted rest status (subst (λ (x : BackMessage). IsStartup (rest ++ x ∷ [])) (is_ready m status k) s.0)
 
   starting_ready : (w : Welcome) (status : Status) → StandsStarting requests whole rest settled w → status_of m ≡ Some status → Verdict (Some status) (welcome_ends w)
   starting_ready Admitted status h k = (
@@ -239,11 +245,8 @@ module _ (requests : List Request) (whole : List (List BackMessage)) (rest : Lis
     },
     starting_may Admitted h (λ tag e. let f : status_of (CommandComplete tag) ≡ Some status = subst (λ (x : BackMessage). status_of x ≡ Some status) e k in absurd cc),
   )
-  starting_ready Fresh status h k = λ session may.
-      let s : IsSession requests ((rest ++ m ∷ []) ∷ []) [] = subst (λ (x : List (List BackMessage)). IsSession requests x []) (first_whole (rest ++ m ∷ []) h.no_segment) session in
-      let admitted = startup_admitted rest status (subst (λ (x : BackMessage). IsStartup (rest ++ x ∷ [])) (is_ready m status k) s.0) in
-      let e = h.greeted in
-      absurd cc
+  starting_ready Fresh status h k = λ session may. let admitted = ready_admitted Fresh status h k session in let e = h.greeted in absurd cc
+  starting_ready Asked status h k = λ session may. let admitted = ready_admitted Asked status h k session in let e = h.greeted in absurd cc
 
   greeted_more : (w : Welcome) → greet_all (without_asides rest) ≡ Some w → aside_of m ≡ None → greet_all (without_asides (rest ++ m ∷ [])) ≡ greet w m
   greeted_more w g e = ap (greet_all) (kept rest m e) ∙ greet_from-append (Some Fresh) (without_asides rest) (m ∷ []) ∙ ap (λ (x : Option Welcome). greet_from x (m ∷ [])) g

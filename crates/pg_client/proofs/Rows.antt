@@ -1,12 +1,15 @@
 -- Worked rows, by computation.
 use Rattle.std.proofs.Common.{◌≡◌, ℕ, List, [], ◌∷◌, ◌++◌, true, false, Some, None, refl, subst, inl, Err, length, map, ap, inr, arith, length-append}
-use Rattle.std.specs.Prelude.{pos, ℤ, ◌⊎◌}
-use Rattle.std.specs.List.{AllByRecursion}
+use Rattle.std.specs.Prelude.{pos, ℤ, codes, ◌⊎◌}
+use Rattle.std.specs.List.{flat_map, AllByRecursion}
+use Rattle.pg_wire.proofs.Rows.{salted}
 use Rattle.pg_wire.specs.declared.message.BackMessage.{BackMessage}
-use Rattle.pg_wire.specs.declared.message.BackMessage.TheVariants.{AuthOk, AuthCleartext, AuthOther, Ready, RowDescription, DataRow, CommandComplete, EmptyQuery, ErrorResponse, NoticeResponse, ParameterStatus, KeyData, ParseComplete, PortalSuspended}
+use Rattle.pg_wire.specs.declared.message.BackMessage.TheVariants.{AuthOk, AuthCleartext, AuthMd5, AuthOther, Ready, RowDescription, DataRow, CommandComplete, EmptyQuery, ErrorResponse, NoticeResponse, ParameterStatus, KeyData, ParseComplete, PortalSuspended}
 use Rattle.pg_wire.specs.declared.message.BackMessage.TheVariants as back
 use Rattle.pg_wire.specs.declared.message.CopyHead.{CopyHead}
+use Rattle.pg_wire.specs.declared.fault.EncodeFault.TheVariants as encoding
 use Rattle.pg_wire.specs.declared.message.First.TheVariants.{Cancel}
+use Rattle.pg_wire.specs.declared.message.FrontMessage.TheVariants as front
 use Rattle.pg_wire.specs.declared.message.Status.TheVariants as status
 use Rattle.pg_wire.specs.declared.session.Aside.TheVariants as aside
 use Rattle.pg_wire.specs.declared.session.ExecEnd.TheVariants as ends
@@ -14,7 +17,10 @@ use Rattle.pg_wire.specs.declared.session.Part.TheVariants as part
 use Rattle.pg_wire.specs.declared.session.Request.{Request}
 use Rattle.pg_wire.specs.declared.session.Request.TheVariants.{Query, Group}
 use Rattle.pg_wire.specs.declared.session.Step.TheVariants as step
+use Rattle.pg_wire.specs.Direction.{spelling}
 use Rattle.pg_wire.specs.First.{packet}
+use Rattle.pg_wire.specs.Frontend.{frontend}
+use Rattle.pg_wire.specs.Password.{md5_text}
 use Rattle.pg_wire.specs.Segment.{Fits, segments, status_of, without_asides}
 use Rattle.pg_client.specs.declared.fault.FeedFault.TheVariants as feeding
 use Rattle.pg_client.specs.declared.fault.CallFault.TheVariants as fault
@@ -26,20 +32,24 @@ use Rattle.pg_client.specs.declared.place.CopyAnswer.TheVariants.{Awaited, Done}
 use Rattle.pg_client.specs.declared.place.Open.TheVariants as begun
 use Rattle.pg_client.specs.declared.place.Stage.TheVariants.{Within}
 use Rattle.pg_client.specs.declared.place.Stand.TheVariants.{Starting, Idle, Busy}
-use Rattle.pg_client.specs.declared.place.Welcome.TheVariants.{Fresh, Admitted}
+use Rattle.pg_client.specs.declared.place.Welcome.TheVariants.{Fresh, Asked, Admitted}
 use Rattle.pg_client.specs.declared.settings.Settings.{Settings}
-use Rattle.pg_client.specs.Session.{Call, Start, Ask, CopyEnd, CopyFail, Terminate, Happening, Did, Came, timeline, IsReady, IsCopyingIn, IsNoCopyIn, IsSaid, IsAfterItsCall, Run, Chunk, Expected, IsStartup, key_data}
-use Rattle.pg_client.specs.Client.{Loses, last_said, value_said, key_said, sent_by, stand_phase, AsksPassword, AsksOther, ClientView, Cancels, cause_of, groups_in, IsFaultFor, IsFresh, RefusesCopy, RefusesUnless, story, with_ends}
-use Rattle.pg_client.specs.Machine.{Stays, Rejected, hear}
+use Rattle.pg_client.specs.Session.{Call, Start, Ask, CopyEnd, CopyFail, Terminate, Happening, Did, Came, timeline, IsReady, IsCopyingIn, IsNoCopyIn, IsSaid, IsAfterItsCall, Run, Chunk, AsksPassword, Expected, IsStartup, key_data}
+use Rattle.pg_client.specs.Client.{Loses, last_said, value_said, key_said, sent_by, stand_phase, AsksOther, answer_to, call_fault, sent_in, ClientView, Cancels, cause_of, groups_in, IsFaultFor, IsFresh, RefusesCopy, RefusesUnless, story, with_ends}
+use Rattle.pg_client.specs.Machine.{Stays, Rejected, hear, hear_with}
 use Rattle.pg_client.specs.Private.Calling.{with_request}
 use Rattle.pg_client.specs.Private.Hearing.{fault_at}
+use Rattle.pg_client.specs.Judged.{Stands}
+use Rattle.pg_client.proofs.Agreeing.{no_copy_in}
+use Rattle.pg_client.proofs.History.{hears, did_start, expected_came, expected_did, expected_nothing}
 use Rattle.pg_client.proofs.Outcomes.{read_outcome}
+use Rattle.pg_client.proofs.Passwords.{comes_first}
 
 ok : List ℕ
 ok = 79 ∷ 75 ∷ []
 
 settings : Settings
-settings = record { user = 117 ∷ []; database = None; pairs = []; limit = 65536 }
+settings = record { user = 117 ∷ []; database = None; pairs = []; password = None; limit = 65536 }
 
 select : Request
 select = Query (83 ∷ 69 ∷ 76 ∷ 69 ∷ 67 ∷ 84 ∷ 32 ∷ 49 ∷ [])
@@ -115,7 +125,7 @@ suspended_read : read_outcome (Group (step.Execute [] (pos 0) ∷ [])) (DataRow 
 suspended_read = refl
 
 -- ready: OK isn't expected, and is F2 Unexpected with its tag; an error is F6 ServerEnd
-ok_not_expected : Expected (ready ++ Came (CommandComplete ok) ∷ []) → ⊥
+ok_not_expected : Expected None (ready ++ Came (CommandComplete ok) ∷ []) → ⊥
 unfolding ready
 ok_not_expected e = let k : CommandComplete ok ∷ [] ≡ [] = e.session.1 in cc
 
@@ -123,13 +133,13 @@ not_fresh : IsFresh ready → ⊥
 unfolding ready
 not_fresh f = let k : (AuthOk ∷ Ready status.Idle ∷ []) ∷ [] ≡ [] = f.0.1 in cc
 
-ok_is_unexpected : IsFaultFor ready (CommandComplete ok) (feeding.Unexpected 67)
+ok_is_unexpected : IsFaultFor None ready (CommandComplete ok) (feeding.Unexpected 67)
 ok_is_unexpected = (record { no_error = λ e s. (let k : CommandComplete ok ≡ ErrorResponse e.0 = e.1 in cc); no_question = λ q f. not_fresh f }, refl)
 
 unexpected_closes : cause_of (feeding.Unexpected 67) ≡ Some cause.Unexpected
 unexpected_closes = refl
 
-error_ends : IsFaultFor ready (ErrorResponse []) (feeding.ServerEnd [])
+error_ends : IsFaultFor None ready (ErrorResponse []) (feeding.ServerEnd [])
 unfolding ready
 error_ends = (refl, refl)
 
@@ -159,29 +169,29 @@ started = Did Start ∷ []
 fresh : IsFresh started
 fresh = ((tt, refl), refl)
 
-error_refuses : IsFaultFor started (ErrorResponse []) (feeding.StartupError [])
+error_refuses : IsFaultFor None started (ErrorResponse []) (feeding.StartupError [])
 error_refuses = ((tt, refl), refl)
 
-other_unsupported : IsFaultFor started (AuthOther (pos 10) []) (feeding.UnsupportedAuth (pos 10))
+other_unsupported : IsFaultFor None started (AuthOther (pos 10) []) (feeding.UnsupportedAuth (pos 10))
 other_unsupported = (fresh, [], refl)
 
-password_wanted : IsFaultFor started AuthCleartext feeding.PasswordWanted
-password_wanted = (fresh, inl refl)
+password_wanted : IsFaultFor None started AuthCleartext feeding.PasswordWanted
+password_wanted = (fresh, refl, refl)
 
 asks_nothing : AsksPassword (Ready status.Idle) ⊎ AsksOther (Ready status.Idle) → ⊥
-asks_nothing (inl (inl e)) = cc
-asks_nothing (inl (inr (salt, e))) = cc
+asks_nothing (inl e) = cc
 asks_nothing (inr (code, bytes, e)) = cc
 
-early_unexpected : IsFaultFor started (Ready status.Idle) (feeding.Unexpected 90)
+early_unexpected : IsFaultFor None started (Ready status.Idle) (feeding.Unexpected 90)
 early_unexpected = (record { no_error = λ e s. (let k : Ready status.Idle ≡ ErrorResponse e.0 = e.1 in cc); no_question = λ q f. asks_nothing q }, refl)
 
-no_startup : (body : List BackMessage) (st : Status) (keys : List (ℤ × ℤ)) → Ready status.Idle ∷ [] ≡ body ++ Ready st ∷ [] → without_asides body ≡ AuthOk ∷ map key_data keys → ⊥
-no_startup [] st keys e r = cc
-no_startup (b ∷ bs) st keys e r = omega (arith, ap length e, length-append bs (Ready st ∷ []))
+no_startup : (body questions : List BackMessage) (st : Status) (keys : List (ℤ × ℤ)) → Ready status.Idle ∷ [] ≡ body ++ Ready st ∷ [] → without_asides body ≡ questions ++ AuthOk ∷ map key_data keys → ⊥
+no_startup [] [] st keys e r = cc
+no_startup [] (q ∷ qs) st keys e r = cc
+no_startup (b ∷ bs) questions st keys e r = omega (arith, ap length e, length-append bs (Ready st ∷ []))
 
-early_not_expected : Expected (started ++ Came (Ready status.Idle) ∷ []) → ⊥
-early_not_expected e = let s : IsStartup (Ready status.Idle ∷ []) = e.session.0 in no_startup s.body s.status s.keys s.closed s.reads
+early_not_expected : Expected None (started ++ Came (Ready status.Idle) ∷ []) → ⊥
+early_not_expected e = let s : IsStartup (Ready status.Idle ∷ []) = e.session.0 in no_startup s.body s.questions s.status s.keys s.closed s.reads
 
 startup_error : fault_at (Starting Fresh) (ErrorResponse []) ≡ feeding.StartupError []
 startup_error = refl
@@ -200,6 +210,77 @@ startup_unexpected = refl
 
 startup_whole : hear (Starting Admitted) (Ready status.Idle) ≡ Stays (Idle [])
 startup_whole = refl
+
+-- ---- passwords
+
+-- the user c with the password ab
+given : Settings
+given = record { user = 99 ∷ []; database = Some (100 ∷ []); pairs = []; password = Some (97 ∷ 98 ∷ []); limit = 65536 }
+
+salt : List ℕ
+salt = 1 ∷ 2 ∷ 3 ∷ 4 ∷ []
+
+-- a question may be the startup's first message, and only with a password
+asked_startup : IsStartup (NoticeResponse [] ∷ AuthCleartext ∷ AuthOk ∷ KeyData (pos 1) (pos 2) ∷ Ready status.Idle ∷ [])
+asked_startup = record { body = NoticeResponse [] ∷ AuthCleartext ∷ AuthOk ∷ KeyData (pos 1) (pos 2) ∷ []; status = status.Idle; closed = refl; questions = AuthCleartext ∷ []; one_question = refl; keys = (pos 1, pos 2) ∷ []; reads = refl }
+
+asked_expected : Expected (Some (97 ∷ [])) (started ++ Came AuthCleartext ∷ [])
+asked_expected =
+    let start : Stands started (Starting Fresh) [] = did_start [] [] (refl, refl) in
+    let heard = hears (Some (97 ∷ [])) started (Starting Fresh) [] AuthCleartext (λ ends. absurd (no_copy_in [] refl ends)) start in
+    expected_came (Some (97 ∷ [])) started AuthCleartext (Starting Asked) [] (expected_did (Some (97 ∷ [])) [] Start (Starting Fresh) [] (expected_nothing (Some (97 ∷ []))) start) heard.0 heard.1 heard.2
+
+none_not_expected : Expected None (started ++ Came AuthCleartext ∷ []) → ⊥
+none_not_expected e = let k : false ≡ true = e.answerable.0 in cc
+
+second_not_expected : Expected (Some (97 ∷ [])) (started ++ Came AuthCleartext ∷ Came (AuthMd5 []) ∷ []) → ⊥
+second_not_expected e = let k : AuthCleartext ∷ [] ≡ [] = (comes_first (AuthMd5 []) refl (Some (97 ∷ [])) (started ++ Came AuthCleartext ∷ []) e).1 in cc
+
+-- the second question is F2 Unexpected, and so is another way of authentication behind the first
+asked_once : hear_with (Some (97 ∷ [])) (Starting Fresh) (AuthMd5 []) ≡ Stays (Starting Asked)
+asked_once = refl
+
+asked_twice : hear_with (Some (97 ∷ [])) (Starting Asked) AuthCleartext ≡ Rejected
+asked_twice = refl
+
+twice_unexpected : fault_at (Starting Asked) AuthCleartext ≡ feeding.Unexpected 82
+twice_unexpected = refl
+
+other_unexpected : fault_at (Starting Asked) (AuthOther (pos 10) []) ≡ feeding.Unexpected 82
+other_unexpected = refl
+
+not_asked : hear_with None (Starting Fresh) AuthCleartext ≡ Rejected
+not_asked = refl
+
+admitted_then : hear_with (Some (97 ∷ [])) (Starting Asked) AuthOk ≡ Stays (Starting Admitted)
+admitted_then = refl
+
+-- what is answered, behind the startup packet
+cleartext_sent : sent_in given (Did Start ∷ Came AuthCleartext ∷ []) ≡ sent_by given Start ++ 112 ∷ 0 ∷ 0 ∷ 0 ∷ 7 ∷ 97 ∷ 98 ∷ 0 ∷ []
+unfolding given
+cleartext_sent = refl
+
+md5_answered : answer_to given (AuthMd5 salt) ≡ front.Password (md5_text (99 ∷ []) (97 ∷ 98 ∷ []) salt) ∷ []
+unfolding given
+md5_answered = refl
+
+-- the digits are those of the user c, not of the database d
+md5_sent : flat_map (spelling frontend) (answer_to given (AuthMd5 salt)) ≡ 112 ∷ 0 ∷ 0 ∷ 0 ∷ 40 ∷ codes "md596838e208aad1ff8fc396693d03e488d" ++ 0 ∷ []
+unfolding given salt
+md5_sent = rw salted refl
+
+not_answered : answer_to settings AuthCleartext ≡ []
+unfolding settings
+not_answered = refl
+
+-- a password with a zero byte is refused by start, behind the faults of the packet
+zero_refused : call_fault (record given { password = Some (97 ∷ 0 ∷ []) }) Start ≡ Some encoding.HasZero
+unfolding given
+zero_refused = refl
+
+name_before : call_fault (record given { pairs = ([], []) ∷ []; password = Some (0 ∷ []) }) Start ≡ Some encoding.EmptyName
+unfolding given
+name_before = refl
 
 -- what calls send
 start_sends : sent_by settings Start ≡ 0 ∷ 0 ∷ 0 ∷ 16 ∷ 0 ∷ 3 ∷ 0 ∷ 0 ∷ 117 ∷ 115 ∷ 101 ∷ 114 ∷ 0 ∷ 117 ∷ 0 ∷ 0 ∷ []

@@ -42,7 +42,7 @@ closing _ = None
 -- the call may be made wherever the client stands so, and it stands there then
 pub record Follows (old : Stand) (c : Call) (new : Stand) : Type 0 where
   pub stands : (hs : List Happening) (settled : List Settled) → Stands hs old settled → Stands (hs ++ Did c ∷ []) new settled
-  pub in_place : (hs : List Happening) (settled : List Settled) → AnswerIsSaid hs → Expected hs → Stands hs old settled → HasPlace hs c
+  pub in_place : (hs : List Happening) (settled : List Settled) → AnswerIsSaid hs → Stands hs old settled → HasPlace hs c
 
 pub sent_more : (settings : Settings) (hs : List Happening) (h : Happening) → sent_in settings (hs ++ h ∷ []) ≡ sent_in settings hs ++ sent_at settings h
 sent_more settings [] h = append-nil (sent_at settings h)
@@ -94,9 +94,9 @@ allowed_more hs h all new before c later e =
     at_split [] is k = this_one h new (let y : h ∷ [] ≡ Did c ∷ later = k in cc) (is ∙ append-nil before)
     at_split (z ∷ zs) is k = all before c zs (is ∙ ap (λ (x : Happening). before ++ x ∷ zs) (let y : z ∷ (zs ++ h ∷ []) ≡ Did c ∷ later = k in cc))
 
-ends_open : (limit : ℕ) (hs : List Happening) (rest kept : List ℕ) (c : Call) → Ends limit hs rest kept None → Ends limit (hs ++ Did c ∷ []) rest kept (closing c)
-ends_open limit hs rest kept Terminate h = (h, (hs, refl))
-ends_open limit hs rest kept _ h = h
+ends_open : (settings : Settings) (hs : List Happening) (rest kept : List ℕ) (c : Call) → Ends settings hs rest kept None → Ends settings (hs ++ Did c ∷ []) rest kept (closing c)
+ends_open settings hs rest kept Terminate h = (h, (hs, refl))
+ends_open settings hs rest kept _ h = h
 
 shows_same : (stand : Stand) (closed : Option Cause) → Shows stand stand closed false
 shows_same stand None = refl
@@ -121,13 +121,13 @@ run_did old stand c none follows spelled run fed heard rest given sent r =
       stream = r.stream;
       places = places_more run c (length fed) r.places;
       ordered = ordered_more run c (length fed) r.ordered r.places;
-      allowed = subst AreAllowed (sym line) (allowed_more hs (Did c) r.allowed (record { in_place = follows.in_place hs (given ++ old.settled) (answer_is_said hs r.expected.after r.allowed) r.expected there; not_terminated = not_yet }));
+      allowed = subst AreAllowed (sym line) (allowed_more hs (Did c) r.allowed (record { in_place = follows.in_place hs (given ++ old.settled) (answer_is_said hs r.expected.after r.allowed) there; not_terminated = not_yet }));
       terminated = subst (λ (x : List Happening). IsTerminated x ↔ (closing c ≡ Some cause.Terminated)) (sym line) (terminated_by hs c not_yet);
-      expected = subst Expected (sym line) (expected_did hs c stand (given ++ old.settled) r.expected now);
+      expected = subst (Expected old.settings.password) (sym line) (expected_did old.settings.password hs c stand (given ++ old.settled) r.expected now);
       was = stand;
       stands = subst (λ (x : List Happening). Stands x stand (given ++ old.settled)) (sym line) now;
       shows = shows_same stand (closing c);
-      ends = subst (λ (x : List Happening). Ends old.settings.limit x rest old.kept (closing c)) (sym line) (ends_open old.settings.limit hs rest old.kept c (subst (Ends old.settings.limit hs rest old.kept) none r.ends));
+      ends = subst (λ (x : List Happening). Ends old.settings x rest old.kept (closing c)) (sym line) (ends_open old.settings hs rest old.kept c (subst (Ends old.settings hs rest old.kept) none r.ends));
       status = r.status;
       parameters = r.parameters;
       key = r.key;
@@ -151,7 +151,7 @@ last_asked requests earlier request e none = by earlier (sym none ∙ e)
     by (r ∷ rs) k = cc
 
 start_follows : (stand : Stand) → stand_phase stand ≡ phase.New → Follows stand Start (Starting Fresh)
-start_follows New e = record { stands = λ hs settled h. did_start hs settled h; in_place = λ hs settled same expected h started. subst IsStarted h.0 started }
+start_follows New e = record { stands = λ hs settled h. did_start hs settled h; in_place = λ hs settled same h started. subst IsStarted h.0 started }
 start_follows (Starting w) e = absurd cc
 start_follows (Idle asides) e = absurd cc
 start_follows (Busy request parts stage asides answer) e = absurd (never stage answer e)
@@ -165,7 +165,7 @@ start_follows (Busy request parts stage asides answer) e = absurd (never stage a
 ask_follows : (stand : Stand) (request : Request) → stand_phase stand ≡ phase.Ready → Follows stand (Ask request) (with_request stand request)
 ask_follows New request e = absurd cc
 ask_follows (Starting w) request e = absurd cc
-ask_follows (Idle asides) request e = record { stands = λ hs settled h. did_ask hs request asides settled h; in_place = λ hs settled same expected h. (h.0, (stand_facts hs (Idle asides) settled expected h).ready.0 refl) }
+ask_follows (Idle asides) request e = record { stands = λ hs settled h. did_ask hs request asides settled h; in_place = λ hs settled same h. (h.0, (stand_facts hs (Idle asides) settled h).ready.0 refl) }
 ask_follows (Busy q parts stage asides answer) request e = absurd (never stage answer e)
   where
     never : (s : Stage) (a : CopyAnswer) → busy_phase_of s a ≡ phase.Ready → ⊥
@@ -180,7 +180,7 @@ chunk_follows (Starting w) bytes e = absurd cc
 chunk_follows (Idle asides) bytes e = absurd cc
 chunk_follows (Busy request parts stage asides answer) bytes e = record {
   stands = λ hs settled h. did_chunk hs request parts stage asides answer settled h bytes;
-  in_place = λ hs settled same expected h. (last_asked (requests_in hs) h.1.earlier request h.1.last, copying_in hs same ((stand_facts hs (Busy request parts stage asides answer) settled expected h).copying.0 e));
+  in_place = λ hs settled same h. (last_asked (requests_in hs) h.1.earlier request h.1.last, copying_in hs same ((stand_facts hs (Busy request parts stage asides answer) settled h).copying.0 e));
 }
 
 copy_end_follows : (stand : Stand) → stand_phase stand ≡ phase.CopyingIn → Follows stand CopyEnd (with_answer stand Done)
@@ -189,7 +189,7 @@ copy_end_follows (Starting w) e = absurd cc
 copy_end_follows (Idle asides) e = absurd cc
 copy_end_follows (Busy request parts stage asides answer) e = record {
   stands = λ hs settled h. did_copy_end hs request parts stage asides answer settled h;
-  in_place = λ hs settled same expected h. (last_asked (requests_in hs) h.1.earlier request h.1.last, copying_in hs same ((stand_facts hs (Busy request parts stage asides answer) settled expected h).copying.0 e));
+  in_place = λ hs settled same h. (last_asked (requests_in hs) h.1.earlier request h.1.last, copying_in hs same ((stand_facts hs (Busy request parts stage asides answer) settled h).copying.0 e));
 }
 
 copy_fail_follows : (stand : Stand) (reason : List ℕ) → stand_phase stand ≡ phase.CopyingIn → Follows stand (CopyFail reason) (with_answer stand Refused)
@@ -198,14 +198,14 @@ copy_fail_follows (Starting w) reason e = absurd cc
 copy_fail_follows (Idle asides) reason e = absurd cc
 copy_fail_follows (Busy request parts stage asides answer) reason e = record {
   stands = λ hs settled h. did_copy_fail hs request parts stage asides answer settled h reason;
-  in_place = λ hs settled same expected h. (last_asked (requests_in hs) h.1.earlier request h.1.last, copying_in hs same ((stand_facts hs (Busy request parts stage asides answer) settled expected h).copying.0 e));
+  in_place = λ hs settled same h. (last_asked (requests_in hs) h.1.earlier request h.1.last, copying_in hs same ((stand_facts hs (Busy request parts stage asides answer) settled h).copying.0 e));
 }
 
 terminate_follows : (stand : Stand) → IsOpenPhase (stand_phase stand) → Follows stand Terminate stand
 terminate_follows New o = absurd o
-terminate_follows (Starting w) o = record { stands = λ hs settled h. did_terminate hs (Starting w) settled h.0 h; in_place = λ hs settled same expected h. h.0 }
-terminate_follows (Idle asides) o = record { stands = λ hs settled h. did_terminate hs (Idle asides) settled h.0 h; in_place = λ hs settled same expected h. h.0 }
-terminate_follows (Busy request parts stage asides answer) o = record { stands = λ hs settled h. did_terminate hs (Busy request parts stage asides answer) settled h.0 h; in_place = λ hs settled same expected h. h.0 }
+terminate_follows (Starting w) o = record { stands = λ hs settled h. did_terminate hs (Starting w) settled h.0 h; in_place = λ hs settled same h. h.0 }
+terminate_follows (Idle asides) o = record { stands = λ hs settled h. did_terminate hs (Idle asides) settled h.0 h; in_place = λ hs settled same h. h.0 }
+terminate_follows (Busy request parts stage asides answer) o = record { stands = λ hs settled h. did_terminate hs (Busy request parts stage asides answer) settled h.0 h; in_place = λ hs settled same h. h.0 }
 
 -- ---- the calls, by the fields of a value that was opened
 

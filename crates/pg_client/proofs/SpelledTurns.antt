@@ -7,9 +7,9 @@ use Rattle.pg_wire.specs.First.{IsPacket}
 use Rattle.pg_wire.specs.Frontend.{frontend}
 use Rattle.pg_wire.specs.Segment.{request_messages}
 use Rattle.pg_client.specs.declared.settings.Settings.{Settings}
-use Rattle.pg_client.specs.Session.{Call, Start, Ask, Chunk, CopyEnd, CopyFail, Terminate, Happening, Did, Came, AreAllowed}
-use Rattle.pg_client.specs.Client.{startup_pairs, call_messages, IsSpelled, IsSpelledAt}
-use Rattle.pg_client.specs.Turns.{turn_messages, turns_of, calls_in, farewell}
+use Rattle.pg_client.specs.Session.{Call, Start, Ask, Chunk, CopyEnd, CopyFail, Terminate, Happening, Did, Came, messages_in, AreAllowed}
+use Rattle.pg_client.specs.Client.{startup_pairs, answer_to, call_messages, IsSpelled, IsSpelledAt}
+use Rattle.pg_client.specs.Turns.{turn_messages, turns_of, calls_in, passwords, farewell}
 use Rattle.pg_client.specs.Spelled.{SendsSpelled}
 use Rattle.pg_client.proofs.TurnLaws.{IsOrderly, orderly_from, started_sent}
 
@@ -38,8 +38,13 @@ orderly_messages (_ ∷ cs) h = absurd h
 
 orderly_packet : (settings : Settings) (cs : List Call) → IsOrderly cs → AllByRecursion (IsSpelled settings) cs → (d : Call) (ds : List Call) → cs ≡ d ∷ ds → IsPacket (Startup (startup_pairs settings))
 orderly_packet settings [] h s d ds e = absurd cc
-orderly_packet settings (Start ∷ cs) h s d ds e = s.0
+orderly_packet settings (Start ∷ cs) h s d ds e = s.0.0
 orderly_packet settings (_ ∷ cs) h s d ds e = absurd h
+
+passwords_spelled : (settings : Settings) (hs : List Happening) → AllByRecursion (IsSpelledAt settings) hs → AllByRecursion (HasSpelling frontend) (passwords settings (messages_in hs))
+passwords_spelled settings [] h = tt
+passwords_spelled settings (Did c ∷ hs) h = passwords_spelled settings hs h.1
+passwords_spelled settings (Came m ∷ hs) h = all_of_both (HasSpelling frontend) (answer_to settings m) (passwords settings (messages_in hs)) h.0 (passwords_spelled settings hs h.1)
 
 pub spelled_in_turns : (settings : Settings) (hs : List Happening) → AreAllowed hs → AllByRecursion (IsSpelledAt settings) hs → SendsSpelled settings hs
 spelled_in_turns settings hs all spelled =
@@ -47,5 +52,7 @@ spelled_in_turns settings hs all spelled =
     let calls = calls_spelled settings hs spelled in
     record {
       packet = orderly_packet settings (calls_in hs) orderly calls;
-      messages = subst (AllByRecursion (HasSpelling frontend)) (orderly_messages (calls_in hs) orderly) (messages_spelled settings (calls_in hs) calls);
+      messages = all_of_both (HasSpelling frontend) (passwords settings (messages_in hs)) (flat_map turn_messages (turns_of (calls_in hs)) ++ farewell (calls_in hs))
+          (passwords_spelled settings hs spelled)
+          (subst (AllByRecursion (HasSpelling frontend)) (orderly_messages (calls_in hs) orderly) (messages_spelled settings (calls_in hs) calls));
     }

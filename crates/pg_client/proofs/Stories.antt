@@ -1,7 +1,6 @@
 -- A story has the calls of its run and the messages that were heard.
 use Rattle.std.proofs.Common.{◌≡◌, ℕ, ◌+◌, Bool, true, false, cond, List, [], ◌∷◌, ◌++◌, length, map, refl, sym, ap, ◌∙◌}
 use Rattle.std.specs.Prelude.{nat_lt}
-use Rattle.std.specs.List.{flat_map}
 use Rattle.std.proofs.lemmas.List.{append-nil, map-append}
 use Rattle.pg_wire.specs.declared.message.BackMessage.{BackMessage}
 use Rattle.pg_wire.specs.declared.message.FrontMessage.{FrontMessage}
@@ -9,9 +8,8 @@ use Rattle.pg_wire.specs.declared.message.FrontMessage.TheVariants as front
 use Rattle.pg_wire.specs.declared.session.Request.{Request}
 use Rattle.pg_wire.specs.Backend.{backend}
 use Rattle.pg_wire.specs.Direction.{spelling}
-use Rattle.pg_client.specs.declared.settings.Settings.{Settings}
 use Rattle.pg_client.specs.Session.{Call, Start, Ask, Chunk, CopyEnd, CopyFail, Terminate, Run, Happening, Did, Came, made_before, made_since, timeline, messages_in, requests_in}
-use Rattle.pg_client.specs.Client.{sent_by, sent_in, with_ends, story}
+use Rattle.pg_client.specs.Client.{with_ends, story}
 use Rattle.pg_client.specs.Turns.{Turn, copies_of, turns_of, calls_in}
 use Rattle.pg_client.specs.Answering.{calls_of, turns_with, IsStoryOf}
 
@@ -78,11 +76,6 @@ requests_of_calls [] = refl
 requests_of_calls (Did (Ask r) ∷ hs) = ap (λ (rs : List Request). r ∷ rs) (requests_of_calls hs)
 requests_of_calls (Did _ ∷ hs) = requests_of_calls hs
 requests_of_calls (Came m ∷ hs) = requests_of_calls hs
-
-sent_of_calls : (settings : Settings) (hs : List Happening) → sent_in settings hs ≡ flat_map (sent_by settings) (calls_in hs)
-sent_of_calls settings [] = refl
-sent_of_calls settings (Did c ∷ hs) = ap (λ (bs : List ℕ). sent_by settings c ++ bs) (sent_of_calls settings hs)
-sent_of_calls settings (Came m ∷ hs) = sent_of_calls settings hs
 
 -- ---- one call more
 
@@ -160,7 +153,6 @@ story_is run heard = record {
   calls = calls_are run (with_ends 0 heard);
   messages = messages_are run (with_ends 0 heard) ∙ without_ends 0 heard;
   requests = requests_of_calls (story run heard) ∙ ap (λ (cs : List Call). map (λ t. t.request) (turns_of cs)) (calls_are run (with_ends 0 heard));
-  sent = λ settings. sent_of_calls settings (story run heard) ∙ ap (flat_map (sent_by settings)) (calls_are run (with_ends 0 heard));
 }
 
 pub one_more : (run : Run) (c : Call) (place : ℕ) → turns_of (calls_of (run ++ (c, place) ∷ [])) ≡ turns_with (turns_of (calls_of run)) c

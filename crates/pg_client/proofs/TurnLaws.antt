@@ -11,8 +11,8 @@ use Rattle.pg_wire.specs.Frontend.{frontend}
 use Rattle.pg_wire.specs.Segment.{request_messages}
 use Rattle.pg_client.specs.declared.settings.Settings.{Settings}
 use Rattle.pg_client.specs.Session.{Call, Start, Ask, Chunk, CopyEnd, CopyFail, Terminate, Happening, Did, Came, requests_in, IsStarted, IsTerminated, AreAllowed}
-use Rattle.pg_client.specs.Client.{call_messages, sent_by, sent_in}
-use Rattle.pg_client.specs.Turns.{turn_messages, copies_of, turns_of, calls_in, greeting, farewell, InTurns}
+use Rattle.pg_client.specs.Client.{call_messages, sent_by}
+use Rattle.pg_client.specs.Turns.{turn_messages, copies_of, turns_of, calls_in, greeting, farewell}
 use Rattle.pg_client.proofs.History.{requests_in-more, IsStarted-more}
 
 -- ---- calls in order: start, then requests and their copies, then the end
@@ -159,17 +159,27 @@ begins_behind settings (Ask r ∷ cs) h = sent_behind settings (Ask r ∷ cs) h
 begins_behind settings (Terminate ∷ cs) h = rw h refl
 begins_behind settings (_ ∷ cs) h = absurd h
 
-all_sent : (settings : Settings) (cs : List Call) → IsOrderly cs → flat_map (sent_by settings) cs ≡ greeting settings cs ++ flat_map (spelling frontend) (flat_map turn_messages (turns_of cs) ++ farewell cs)
-all_sent settings [] h = refl
-all_sent settings (Start ∷ cs) h = ap (λ (bs : List ℕ). sent_by settings Start ++ bs) (begins_behind settings cs h ∙ ap (flat_map (spelling frontend)) (started_sent cs h))
-all_sent settings (_ ∷ cs) h = absurd h
+-- all calls but the first
+abbrev pub behind_first : List Call → List Call
+behind_first [] = []
+behind_first (c ∷ cs) = cs
 
-sent_by_calls : (settings : Settings) (hs : List Happening) → sent_in settings hs ≡ flat_map (sent_by settings) (calls_in hs)
-sent_by_calls settings [] = refl
-sent_by_calls settings (Did c ∷ hs) = ap (λ (bs : List ℕ). sent_by settings c ++ bs) (sent_by_calls settings hs)
-sent_by_calls settings (Came m ∷ hs) = sent_by_calls settings hs
+-- what the first call sends
+abbrev pub sent_first : Settings → List Call → List ℕ
+sent_first settings [] = []
+sent_first settings (c ∷ cs) = sent_by settings c
 
-requests_of : (hs : List Happening) → map (λ t. t.request) (turns_of (calls_in hs)) ≡ requests_in hs
+pub first_greets : (settings : Settings) (cs : List Call) → IsOrderly cs → sent_first settings cs ≡ greeting settings cs
+first_greets settings [] h = refl
+first_greets settings (Start ∷ cs) h = refl
+first_greets settings (_ ∷ cs) h = absurd h
+
+pub turns_behind : (settings : Settings) (cs : List Call) → IsOrderly cs → flat_map (sent_by settings) (behind_first cs) ≡ flat_map (spelling frontend) (flat_map turn_messages (turns_of cs) ++ farewell cs)
+turns_behind settings [] h = refl
+turns_behind settings (Start ∷ cs) h = begins_behind settings cs h ∙ ap (flat_map (spelling frontend)) (started_sent cs h)
+turns_behind settings (_ ∷ cs) h = absurd h
+
+pub requests_of : (hs : List Happening) → map (λ t. t.request) (turns_of (calls_in hs)) ≡ requests_in hs
 requests_of [] = refl
 requests_of (Did (Ask r) ∷ hs) = ap (λ (rs : List Request). r ∷ rs) (requests_of hs)
 requests_of (Did Start ∷ hs) = requests_of hs
@@ -178,9 +188,3 @@ requests_of (Did CopyEnd ∷ hs) = requests_of hs
 requests_of (Did (CopyFail b) ∷ hs) = requests_of hs
 requests_of (Did Terminate ∷ hs) = requests_of hs
 requests_of (Came m ∷ hs) = requests_of hs
-
-pub in_turns : (settings : Settings) (hs : List Happening) (sent : List ℕ) → AreAllowed hs → sent ≡ sent_in settings hs → InTurns settings hs sent
-in_turns settings hs sent all e = record {
-  sent_is = e ∙ sent_by_calls settings hs ∙ all_sent settings (calls_in hs) (orderly_from [] hs all (λ s. s) refl);
-  requests = requests_of hs;
-}

@@ -1,7 +1,7 @@
 -- A copy in and a query, and the turns that they are, by computation.
-use Rattle.std.proofs.Common.{◌≡◌, List, [], ◌∷◌, length, false, refl}
+use Rattle.std.proofs.Common.{◌≡◌, List, [], ◌∷◌, length, false, Some, None, refl}
 use Rattle.pg_wire.specs.declared.message.BackMessage.{BackMessage}
-use Rattle.pg_wire.specs.declared.message.BackMessage.TheVariants.{AuthOk, Ready, CommandComplete, NoticeResponse}
+use Rattle.pg_wire.specs.declared.message.BackMessage.TheVariants.{AuthOk, AuthCleartext, Ready, CommandComplete, NoticeResponse}
 use Rattle.pg_wire.specs.declared.message.BackMessage.TheVariants as back
 use Rattle.pg_wire.specs.declared.message.FrontMessage.TheVariants as front
 use Rattle.pg_wire.specs.declared.message.Status.TheVariants as status
@@ -9,7 +9,7 @@ use Rattle.pg_wire.specs.declared.session.Request.{Request}
 use Rattle.pg_wire.specs.declared.session.Request.TheVariants.{Query}
 use Rattle.pg_client.specs.Session.{Run, Start, Ask, Chunk, CopyEnd, Terminate, Happening, Did, Came, rest_in}
 use Rattle.pg_client.specs.Client.{groups_in, story, with_ends}
-use Rattle.pg_client.specs.Turns.{turns_of}
+use Rattle.pg_client.specs.Turns.{turns_of, messages_behind}
 use Rattle.pg_client.specs.Answering.{calls_of, turns_in, turns_with, last_copies, copies_ended, copies_begun, IsCopyingSince}
 
 abbrev copy : Request
@@ -39,6 +39,11 @@ story_is = refl
 -- the chunk and its end belong to the copy
 turns_are : turns_of (calls_of run) ≡ record { request = copy; copies = front.CopyData (97 ∷ []) ∷ front.CopyDone ∷ [] } ∷ record { request = select; copies = [] } ∷ []
 turns_are = refl
+
+-- a password that was asked for goes before them, and the end of the session behind
+all_messages : messages_behind (record { user = 117 ∷ []; database = None; pairs = []; password = Some (112 ∷ []); limit = 64 }) (AuthCleartext ∷ heard) (calls_of run)
+    ≡ front.Password (112 ∷ []) ∷ front.Query (67 ∷ []) ∷ front.CopyData (97 ∷ []) ∷ front.CopyDone ∷ front.Query (83 ∷ []) ∷ front.Terminate ∷ []
+all_messages = refl
 
 chunk_added : turns_with (turns_of (Start ∷ Ask copy ∷ [])) (Chunk (97 ∷ [])) ≡ record { request = copy; copies = front.CopyData (97 ∷ []) ∷ [] } ∷ []
 chunk_added = refl

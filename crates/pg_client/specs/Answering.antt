@@ -1,6 +1,6 @@
 -- A client and a server take turns: a request is made once all before it have been answered.
 use Rattle.std.specs.Prelude.{◌≡◌, ℕ, suc, ◌≤◌, List, [], ◌∷◌, ◌++◌, length, map, take}
-use Rattle.std.specs.List.{flat_map, AllByRecursion}
+use Rattle.std.specs.List.{AllByRecursion}
 use Rattle.pg_wire.specs.declared.message.BackMessage.{BackMessage}
 use Rattle.pg_wire.specs.declared.message.BackMessage.TheVariants as back
 use Rattle.pg_wire.specs.declared.message.CopyHead.{CopyHead}
@@ -8,10 +8,9 @@ use Rattle.pg_wire.specs.declared.message.FrontMessage.{FrontMessage}
 use Rattle.pg_wire.specs.declared.message.FrontMessage.TheVariants as front
 use Rattle.pg_wire.specs.declared.session.Request.{Request}
 use Rattle.pg_client.specs.declared.phase.Phase.TheVariants as phase
-use Rattle.pg_client.specs.declared.settings.Settings.{Settings}
 use Rattle.pg_client.specs.declared.settled.Settled.{Settled}
 use Rattle.pg_client.specs.Session.{Run, Call, Ask, Chunk, CopyEnd, CopyFail, Happening, Did, Came, messages_in, requests_in, rest_in, IsAside}
-use Rattle.pg_client.specs.Client.{ClientView, phase_of, sent_by, sent_in, groups_in}
+use Rattle.pg_client.specs.Client.{ClientView, phase_of, groups_in}
 use Rattle.pg_client.specs.Turns.{Turn, turns_of, calls_in}
 
 -- the calls of a run, without their places
@@ -24,13 +23,11 @@ turns_in hs = turns_of (calls_in hs)
 
 -- ---- a run
 
--- What happened is the calls of the run and the messages that were heard, each in their order. What is sent is what the calls
--- say.
+-- What happened is the calls of the run and the messages that were heard, each in their order.
 pub record IsStoryOf (run : Run) (heard : List BackMessage) (hs : List Happening) : Type 0 where
   pub calls : calls_in hs ≡ calls_of run
   pub messages : messages_in hs ≡ heard
   pub requests : requests_in hs ≡ map (λ t. t.request) (turns_of (calls_of run))
-  pub sent : (settings : Settings) → sent_in settings hs ≡ flat_map (sent_by settings) (calls_of run)
 
 -- ---- one call more
 

@@ -15,6 +15,7 @@ use Rattle.pg_wire.specs.Backend.{backend, tag}
 use Rattle.pg_wire.specs.Direction.{spelling, HasSpelling, encode_fault}
 use Rattle.pg_wire.specs.First.{packet, packet_fault, startup_parameters, IsPacket}
 use Rattle.pg_wire.specs.Frontend.{frontend}
+use Rattle.pg_wire.specs.Password.{md5_text}
 use Rattle.pg_wire.specs.Segment.{error_of, Fields, status_of, without_asides, request_messages}
 use Rattle.pg_wire.specs.Stream.{IsStream, IsWithin, IsOpen, IsFaulty}
 use Rattle.pg_client.specs.declared.place.CopyAnswer.{CopyAnswer}
@@ -35,7 +36,7 @@ use Rattle.pg_client.specs.declared.fault.CallFault.{CallFault}
 use Rattle.pg_client.specs.declared.fault.CallFault.TheVariants as fault
 use Rattle.pg_client.specs.declared.fault.FeedFault.{FeedFault}
 use Rattle.pg_client.specs.declared.fault.FeedFault.TheVariants as feeding
-use Rattle.pg_client.specs.Session.{Run, Call, Start, Ask, Chunk, CopyEnd, CopyFail, Terminate, Happening, Did, Came, timeline, requests_in, whole_in, rest_in, Expected, IsStarting, IsReady, IsTerminated, AreAllowed}
+use Rattle.pg_client.specs.Session.{Run, Call, Start, Ask, Chunk, CopyEnd, CopyFail, Terminate, Happening, Did, Came, timeline, requests_in, whole_in, rest_in, AsksPassword, Expected, IsStarting, IsReady, IsTerminated, AreAllowed}
 use Rattle.pg_client.specs.Judged.{Stands}
 
 -- What a clause sees of a client.
@@ -86,6 +87,22 @@ phase_of client = phase_with client.closed client.stand
 abbrev pub startup_pairs : Settings → List (List ℕ × List ℕ)
 startup_pairs settings = startup_parameters settings.user settings.database settings.pairs
 
+-- the password as a message, where one was given
+abbrev pub password_messages : Option (List ℕ) → List FrontMessage
+password_messages None = []
+password_messages (Some password) = front.Password password ∷ []
+
+-- and its MD5 text for this user and this salt
+abbrev pub md5_messages : List ℕ → Option (List ℕ) → List ℕ → List FrontMessage
+md5_messages user None salt = []
+md5_messages user (Some password) salt = front.Password (md5_text user password salt) ∷ []
+
+-- what is sent for a message that came: the answer to a question for a password
+abbrev pub answer_to : Settings → BackMessage → List FrontMessage
+answer_to settings AuthCleartext = password_messages settings.password
+answer_to settings (AuthMd5 salt) = md5_messages settings.user settings.password salt
+answer_to settings _ = []
+
 -- the messages that a call sends behind the startup packet
 abbrev pub call_messages : Call → List FrontMessage
 call_messages Start = []
@@ -99,31 +116,31 @@ abbrev pub sent_by : Settings → Call → List ℕ
 sent_by settings Start = packet (Startup (startup_pairs settings))
 sent_by settings c = flat_map (spelling frontend) (call_messages c)
 
--- All that a call sends has a spelling.
+-- All that a call sends has a spelling, and with start also the password, which may be asked for.
 abbrev pub IsSpelled : Settings → Call → Type 0
-IsSpelled settings Start = IsPacket (Startup (startup_pairs settings))
+IsSpelled settings Start = IsPacket (Startup (startup_pairs settings)) × AllByRecursion (HasSpelling frontend) (password_messages settings.password)
 IsSpelled settings c = AllByRecursion (HasSpelling frontend) (call_messages c)
 
 abbrev pub sent_at : Settings → Happening → List ℕ
 sent_at settings (Did c) = sent_by settings c
-sent_at settings (Came m) = []
+sent_at settings (Came m) = flat_map (spelling frontend) (answer_to settings m)
 
--- what went out, in order: what the calls send, and nothing for a message that came
+-- what went out, in order: what the calls send, and the answer to a question for a password
 abbrev pub sent_in : Settings → List Happening → List ℕ
 sent_in settings hs = flat_map (sent_at settings) hs
 
 abbrev pub IsSpelledAt : Settings → Happening → Type 0
 IsSpelledAt settings (Did c) = IsSpelled settings c
-IsSpelledAt settings (Came m) = Unit {0}
+IsSpelledAt settings (Came m) = AllByRecursion (HasSpelling frontend) (answer_to settings m)
 
 -- why a list of messages has no spelling: the fault of the first one that has none
 abbrev pub first_fault : List FrontMessage → Option EncodeFault
 first_fault [] = None
 first_fault (m ∷ ms) = or_else (encode_fault frontend m) (first_fault ms)
 
--- why a call can't be sent
+-- why a call can't be sent; a password is judged with start, behind the startup packet
 abbrev pub call_fault : Settings → Call → Option EncodeFault
-call_fault settings Start = packet_fault (Startup (startup_pairs settings))
+call_fault settings Start = or_else (packet_fault (Startup (startup_pairs settings))) (first_fault (password_messages settings.password))
 call_fault settings c = first_fault (call_messages c)
 
 -- ---- what the messages said
@@ -157,10 +174,6 @@ key_said _ = None
 abbrev pub IsFresh : List Happening → Type 0
 IsFresh hs = IsStarting hs × (without_asides (rest_in hs) ≡ [])
 
--- A password is asked for.
-abbrev pub AsksPassword : BackMessage → Type 0
-AsksPassword m = (m ≡ AuthCleartext) ⊎ ((salt : List ℕ) × (m ≡ AuthMd5 salt))
-
 -- Another way of authentication is asked for.
 abbrev pub AsksOther : BackMessage → Type 0
 AsksOther m = (code : ℤ) × (bytes : List ℕ) × (m ≡ AuthOther code bytes)
@@ -173,14 +186,14 @@ pub record HasNoName (hs : List Happening) (m : BackMessage) : Type 0 where
   pub no_error : IsError m → (IsStarting hs ⊎ IsReady hs) → ⊥
   pub no_question : (AsksPassword m ⊎ AsksOther m) → IsFresh hs → ⊥
 
--- The fault that a message is which isn't expected after these.
-abbrev pub IsFaultFor : List Happening → BackMessage → FeedFault → Type 0
-IsFaultFor hs m (feeding.StartupError fields) = IsStarting hs × (m ≡ ErrorResponse fields)
-IsFaultFor hs m (feeding.ServerEnd fields) = IsReady hs × (m ≡ ErrorResponse fields)
-IsFaultFor hs m feeding.PasswordWanted = IsFresh hs × AsksPassword m
-IsFaultFor hs m (feeding.UnsupportedAuth code) = IsFresh hs × (bytes : List ℕ) × (m ≡ AuthOther code bytes)
-IsFaultFor hs m (feeding.Unexpected t) = HasNoName hs m × (t ≡ tag m)
-IsFaultFor hs m _ = ⊥
+-- The fault that a message is which isn't expected after these, by a client that has this password or none.
+abbrev pub IsFaultFor : Option (List ℕ) → List Happening → BackMessage → FeedFault → Type 0
+IsFaultFor password hs m (feeding.StartupError fields) = IsStarting hs × (m ≡ ErrorResponse fields)
+IsFaultFor password hs m (feeding.ServerEnd fields) = IsReady hs × (m ≡ ErrorResponse fields)
+IsFaultFor password hs m feeding.PasswordWanted = IsFresh hs × AsksPassword m × (password ≡ None)
+IsFaultFor password hs m (feeding.UnsupportedAuth code) = IsFresh hs × (bytes : List ℕ) × (m ≡ AuthOther code bytes)
+IsFaultFor password hs m (feeding.Unexpected t) = HasNoName hs m × (t ≡ tag m)
+IsFaultFor password hs m _ = ⊥
 
 -- the cause that a fault is of a close; a client that was closed before keeps its cause
 abbrev pub cause_of : FeedFault → Option Cause
@@ -194,13 +207,13 @@ cause_of feeding.Memory = Some cause.Memory
 cause_of feeding.Closed = None
 
 -- The bytes begin with a message that isn't expected after these, which is this fault.
-pub record IsRefusedAt (limit : ℕ) (hs : List Happening) (bytes : List ℕ) (f : FeedFault) : Type 0 where
+pub record IsRefusedAt (settings : Settings) (hs : List Happening) (bytes : List ℕ) (f : FeedFault) : Type 0 where
   pub message : BackMessage
   pub more : List ℕ
   pub begins : bytes ≡ spelling backend message ++ more
-  pub within : IsWithin backend limit message
-  pub unexpected : Expected (hs ++ Came message ∷ []) → ⊥
-  pub fault : IsFaultFor hs message f
+  pub within : IsWithin backend settings.limit message
+  pub unexpected : Expected settings.password (hs ++ Came message ∷ []) → ⊥
+  pub fault : IsFaultFor settings.password hs message f
 
 -- What is left of the bytes is kept, and is open: more is to come.
 pub record IsKept (limit : ℕ) (rest kept : List ℕ) : Type 0 where
@@ -208,13 +221,13 @@ pub record IsKept (limit : ℕ) (rest kept : List ℕ) : Type 0 where
   pub is_open : IsOpen backend limit rest
 
 -- Why no more was heard than these. The rest is what follows in the bytes.
-abbrev pub Ends : ℕ → List Happening → List ℕ → List ℕ → Option Cause → Type 0
-Ends limit hs rest kept None = IsKept limit rest kept
-Ends limit hs rest kept (Some cause.Lost) = IsKept limit rest kept
-Ends limit hs rest kept (Some cause.Terminated) = IsKept limit rest kept × ((before : List Happening) × (hs ≡ before ++ Did Terminate ∷ []))
-Ends limit hs rest kept (Some cause.Wire) = (f : WireFault) × IsFaulty backend limit rest f
-Ends limit hs rest kept (Some cause.Memory) = Unit {0}
-Ends limit hs rest kept (Some c) = (f : FeedFault) × (cause_of f ≡ Some c) × IsRefusedAt limit hs rest f
+abbrev pub Ends : Settings → List Happening → List ℕ → List ℕ → Option Cause → Type 0
+Ends settings hs rest kept None = IsKept settings.limit rest kept
+Ends settings hs rest kept (Some cause.Lost) = IsKept settings.limit rest kept
+Ends settings hs rest kept (Some cause.Terminated) = IsKept settings.limit rest kept × ((before : List Happening) × (hs ≡ before ++ Did Terminate ∷ []))
+Ends settings hs rest kept (Some cause.Wire) = (f : WireFault) × IsFaulty backend settings.limit rest f
+Ends settings hs rest kept (Some cause.Memory) = Unit {0}
+Ends settings hs rest kept (Some c) = (f : FeedFault) × (cause_of f ≡ Some c) × IsRefusedAt settings hs rest f
 
 -- ---- where it stands
 
@@ -270,11 +283,11 @@ pub record IsRunOf (run : Run) (fed : List ℕ) (heard : List BackMessage) (rest
   pub allowed : AreAllowed (story run heard)
   pub terminated : IsTerminated (story run heard) ↔ (client.closed ≡ Some cause.Terminated)
   -- what was heard is expected, and it stands where that leads
-  pub expected : Expected (story run heard)
+  pub expected : Expected client.settings.password (story run heard)
   pub was : Stand
   pub stands : Stands (story run heard) was (given ++ client.settled)
   pub shows : Shows was client.stand client.closed handed_back
-  pub ends : Ends client.settings.limit (story run heard) rest client.kept client.closed
+  pub ends : Ends client.settings (story run heard) rest client.kept client.closed
   -- what was heard last
   pub status : client.status ≡ last_said status_of heard
   pub parameters : (name : List ℕ) → value_of name client.parameters ≡ last_said (value_said name) heard
@@ -342,28 +355,35 @@ Gives t old new = (run : Run) (fed : List ℕ) (heard : List BackMessage) (rest 
 -- ---- feed
 
 -- What feed answers, with the happenings and the rest that it leaves.
-abbrev pub Answers : ℕ → List Happening → List ℕ → List ℕ → Result Unit FeedFault → Option Cause → Type 0
-Answers limit hs rest piece (Ok x) closed = closed ≡ None
-Answers limit hs rest piece (Err (feeding.Wire f)) closed = IsFaulty backend limit rest f × (closed ≡ Some cause.Wire)
-Answers limit hs rest piece (Err feeding.Memory) closed = (0 < length piece) × (closed ≡ Some cause.Memory)
-Answers limit hs rest piece (Err feeding.Closed) closed = ⊥
-Answers limit hs rest piece (Err f) closed = IsRefusedAt limit hs rest f × (closed ≡ cause_of f)
+abbrev pub Answers : Settings → List Happening → List ℕ → List ℕ → Result Unit FeedFault → Option Cause → Type 0
+Answers settings hs rest piece (Ok x) closed = closed ≡ None
+Answers settings hs rest piece (Err (feeding.Wire f)) closed = IsFaulty backend settings.limit rest f × (closed ≡ Some cause.Wire)
+Answers settings hs rest piece (Err feeding.Memory) closed = (0 < length piece) × (closed ≡ Some cause.Memory)
+Answers settings hs rest piece (Err feeding.Closed) closed = ⊥
+Answers settings hs rest piece (Err f) closed = IsRefusedAt settings hs rest f × (closed ≡ cause_of f)
 
--- An open client was fed a piece, all of it, so that it was fed these bytes: it heard so many messages more.
+-- An open client was fed a piece, all of it, so that it was fed these bytes and has put these out: it heard so many messages
+-- more.
 pub record Hears (run : Run) (fed : List ℕ) (heard : List BackMessage) (given : List Settled) (sent : List ℕ) (piece : List ℕ) (result : Result Unit FeedFault) (new : ClientView) : Type 0 where
   pub more : List BackMessage
   pub rest : List ℕ
   pub run_is : IsRunOf run fed (heard ++ more) rest given sent false new
-  pub answers : Answers new.settings.limit (story run (heard ++ more)) rest piece result new.closed
+  pub answers : Answers new.settings (story run (heard ++ more)) rest piece result new.closed
+
+-- An open client was fed a piece and has put out what was added: by each history of it, the answers to what it heard.
+pub record FeedsOpen (old : ClientView) (piece : List ℕ) (result : Result Unit FeedFault) (new : ClientView) (before after : List ℕ) : Type 0 where
+  pub added : List ℕ
+  pub put : after ≡ before ++ added
+  pub hears : (run : Run) (fed : List ℕ) (heard : List BackMessage) (rest : List ℕ) (given : List Settled) (sent : List ℕ)
+      → IsRunOf run fed heard rest given sent false old → Hears run (fed ++ piece) heard given (sent ++ added) piece result new
 
 -- What feed does to a client that was closed before, and to an open one.
-abbrev pub FeedsWith : Option Cause → ClientView → List ℕ → Result Unit FeedFault → ClientView → Type 0
-FeedsWith (Some c) old piece result new = (result ≡ Err feeding.Closed) × (new ≡ old)
-FeedsWith None old piece result new = (run : Run) (fed : List ℕ) (heard : List BackMessage) (rest : List ℕ) (given : List Settled) (sent : List ℕ)
-    → IsRunOf run fed heard rest given sent false old → Hears run (fed ++ piece) heard given sent piece result new
+abbrev pub FeedsWith : Option Cause → ClientView → List ℕ → Result Unit FeedFault → ClientView → List ℕ → List ℕ → Type 0
+FeedsWith (Some c) old piece result new before after = (result ≡ Err feeding.Closed) × (new ≡ old) × (after ≡ before)
+FeedsWith None old piece result new before after = FeedsOpen old piece result new before after
 
-abbrev pub Feeds : ClientView → List ℕ → Result Unit FeedFault → ClientView → Type 0
-Feeds old piece result new = FeedsWith old.closed old piece result new
+abbrev pub Feeds : ClientView → List ℕ → Result Unit FeedFault → ClientView → List ℕ → List ℕ → Type 0
+Feeds old piece result new before after = FeedsWith old.closed old piece result new before after
 
 -- ---- lost
 

@@ -28,7 +28,7 @@ IsPhase hs None (phase.Closed c) = ⊥
 
 pub record Facts (hs : List Happening) (settled : List Settled) (client : ClientView) : Type 0 where
   -- what it heard may come so
-  pub expected : Expected hs
+  pub expected : Expected client.settings.password hs
   -- the settled groups, taken or waiting, are the first requests with the outcomes that their whole segments fit
   pub in_order : SettledInOrder (requests_in hs) (groups_in hs) settled
   pub phase : (p : Phase) → (phase_of client ≡ p) ↔ IsPhase hs client.closed p

@@ -1,7 +1,7 @@
 -- What one message does to where the client stands, and what it keeps of the calls for a copy in.
-use Rattle.std.specs.Prelude.{List, [], ◌∷◌, ◌++◌, Option, Some, None}
+use Rattle.std.specs.Prelude.{ℕ, List, [], ◌∷◌, ◌++◌, cond, Option, Some, None}
 use Rattle.pg_wire.specs.declared.message.BackMessage.{BackMessage}
-use Rattle.pg_wire.specs.declared.message.BackMessage.TheVariants.{AuthOk, KeyData, CommandComplete}
+use Rattle.pg_wire.specs.declared.message.BackMessage.TheVariants.{AuthOk, AuthCleartext, AuthMd5, KeyData, CommandComplete}
 use Rattle.pg_wire.specs.declared.message.BackMessage.TheVariants as back
 use Rattle.pg_wire.specs.declared.message.Status.{Status}
 use Rattle.pg_wire.specs.declared.session.Aside.{Aside}
@@ -13,13 +13,13 @@ use Rattle.pg_client.specs.declared.place.Stage.TheVariants.{Within}
 use Rattle.pg_client.specs.declared.place.CopyAnswer.{CopyAnswer}
 use Rattle.pg_client.specs.declared.place.CopyAnswer.TheVariants.{Awaited, Done, Refused}
 use Rattle.pg_client.specs.declared.place.Welcome.{Welcome}
-use Rattle.pg_client.specs.declared.place.Welcome.TheVariants.{Fresh, Admitted}
+use Rattle.pg_client.specs.declared.place.Welcome.TheVariants.{Fresh, Asked, Admitted}
 use Rattle.pg_client.specs.declared.place.Stand.{Stand}
 use Rattle.pg_client.specs.declared.place.Stand.TheVariants.{New, Starting, Idle, Busy}
 use Rattle.pg_client.specs.declared.settled.Settled.{Settled}
 use Rattle.pg_wire.specs.Segment.{aside_of, asked, status_of}
 use Rattle.pg_client.specs.Place.{Place, read, outcome_at}
-use Rattle.pg_client.specs.Session.{Ask, CopyEnd, CopyFail, Happening, Did, Came}
+use Rattle.pg_client.specs.Session.{Ask, CopyEnd, CopyFail, Happening, Did, Came, can_answer}
 
 pub data Effect : Type 0 where
   Stays : Stand → Effect
@@ -30,7 +30,13 @@ pub data Effect : Type 0 where
 
 abbrev pub greet_fresh : BackMessage → Option Welcome
 greet_fresh AuthOk = Some Admitted
+greet_fresh AuthCleartext = Some Asked
+greet_fresh (AuthMd5 salt) = Some Asked
 greet_fresh _ = None
+
+abbrev pub greet_asked : BackMessage → Option Welcome
+greet_asked AuthOk = Some Admitted
+greet_asked _ = None
 
 abbrev pub greet_admitted : BackMessage → Option Welcome
 greet_admitted (KeyData process secret) = Some Admitted
@@ -39,6 +45,7 @@ greet_admitted _ = None
 -- one more message of the startup, which is neither an aside nor its ReadyForQuery
 abbrev pub greet : Welcome → BackMessage → Option Welcome
 greet Fresh m = greet_fresh m
+greet Asked m = greet_asked m
 greet Admitted m = greet_admitted m
 
 abbrev pub greet_from : Option Welcome → List BackMessage → Option Welcome
@@ -121,3 +128,7 @@ hear New m = Rejected
 hear (Starting w) m = hear_starting w (aside_of m) (status_of m) m
 hear (Idle asides) m = hear_idle asides (aside_of m)
 hear (Busy request parts stage asides answer) m = hear_busy request (record { parts = parts; stage = stage }) asides answer (aside_of m) (status_of m) m
+
+-- the same by a client that has this password or none
+abbrev pub hear_with : Option (List ℕ) → Stand → BackMessage → Effect
+hear_with password stand m = cond (can_answer password m) (hear stand m) Rejected

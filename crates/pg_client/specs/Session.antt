@@ -1,8 +1,8 @@
 -- What a client did and what came, in order, and what may come (Frontend/Backend Protocol, "Message Flow").
-use Rattle.std.specs.Prelude.{◌≡◌, ℕ, ℤ, suc, ◌≤◌, nat_lt, cond, List, [], ◌∷◌, ◌++◌, length, map, filter_map, Option, Some, None, IsSome, ◌⊎◌}
+use Rattle.std.specs.Prelude.{◌≡◌, ℕ, ℤ, suc, ◌≤◌, nat_lt, cond, Bool, true, false, List, [], ◌∷◌, ◌++◌, length, map, filter_map, Option, Some, None, IsSome, ◌⊎◌}
 use Rattle.std.specs.List.{AllByRecursion}
 use Rattle.pg_wire.specs.declared.message.BackMessage.{BackMessage}
-use Rattle.pg_wire.specs.declared.message.BackMessage.TheVariants.{AuthOk, KeyData, Ready, CommandComplete}
+use Rattle.pg_wire.specs.declared.message.BackMessage.TheVariants.{AuthOk, AuthCleartext, AuthMd5, KeyData, Ready, CommandComplete}
 use Rattle.pg_wire.specs.declared.message.BackMessage.TheVariants as back
 use Rattle.pg_wire.specs.declared.message.CopyHead.{CopyHead}
 use Rattle.pg_wire.specs.declared.message.Status.{Status}
@@ -69,16 +69,32 @@ rest_in hs = (segments (messages_in hs)).rest
 
 -- ---- the startup ("Start-up")
 
+-- whether the message is a question for a password (AuthenticationCleartextPassword, AuthenticationMD5Password)
+abbrev pub is_question : BackMessage → Bool
+is_question AuthCleartext = true
+is_question (AuthMd5 salt) = true
+is_question _ = false
+
+abbrev pub AsksPassword : BackMessage → Type 0
+AsksPassword m = is_question m ≡ true
+
+abbrev pub AtMostOneQuestion : List BackMessage → Type 0
+AtMostOneQuestion [] = Unit {0}
+AtMostOneQuestion (m ∷ []) = AsksPassword m
+AtMostOneQuestion (m ∷ n ∷ ms) = ⊥
+
 abbrev pub key_data : ℤ × ℤ → BackMessage
 key_data key = KeyData key.0 key.1
 
--- Asides left out: AuthenticationOk, then keys.
+-- Asides left out: perhaps a question for a password, AuthenticationOk, then keys.
 pub record IsStartup (segment : List BackMessage) : Type 0 where
   pub body : List BackMessage
   pub status : Status
   pub closed : segment ≡ body ++ Ready status ∷ []
+  pub questions : List BackMessage
+  pub one_question : AtMostOneQuestion questions
   pub keys : List (ℤ × ℤ)
-  pub reads : without_asides body ≡ AuthOk ∷ map key_data keys
+  pub reads : without_asides body ≡ questions ++ AuthOk ∷ map key_data keys
 
 abbrev pub BeginsStartup : List BackMessage → Type 0
 BeginsStartup messages = (more : List BackMessage) × IsStartup (messages ++ more)
@@ -131,10 +147,17 @@ pub record IsAfterItsCall (before : List Happening) (m : BackMessage) : Type 0 w
   -- the end of a copy in comes after its copy_done
   pub copy_ended : (tag : List ℕ) → m ≡ CommandComplete tag → EndInCopyIn (rest_in before) → IsSaid CopyEnd before
 
--- These messages may come so, with these calls.
-pub record Expected (hs : List Happening) : Type 0 where
+-- whether the client has what the message asks for: a question for a password needs one
+abbrev pub can_answer : Option (List ℕ) → BackMessage → Bool
+can_answer None AuthCleartext = false
+can_answer None (AuthMd5 salt) = false
+can_answer _ _ = true
+
+-- These messages may come so, with these calls, to a client that has this password or none.
+pub record Expected (password : Option (List ℕ)) (hs : List Happening) : Type 0 where
   pub session : IsSession (requests_in hs) (whole_in hs) (rest_in hs)
   pub after : (before : List Happening) (m : BackMessage) (later : List Happening) → hs ≡ before ++ Came m ∷ later → IsAfterItsCall before m
+  pub answerable : AllByRecursion (λ m. can_answer password m ≡ true) (messages_in hs)
 
 -- ---- where a session stands, and which calls are allowed there
 

@@ -1,6 +1,7 @@
 -- What a client sends, request by request: a turn is a request and what was called for its copies.
-use Rattle.std.specs.Prelude.{◌≡◌, ℕ, List, [], ◌∷◌, ◌++◌, map, filter_map, Option, Some, None}
+use Rattle.std.specs.Prelude.{◌≡◌, ℕ, ◌≤◌, List, [], ◌∷◌, ◌++◌, length, map, filter_map, Option, Some, None}
 use Rattle.std.specs.List.{flat_map}
+use Rattle.pg_wire.specs.declared.message.BackMessage.{BackMessage}
 use Rattle.pg_wire.specs.declared.message.First.TheVariants.{Startup}
 use Rattle.pg_wire.specs.declared.message.FrontMessage.{FrontMessage}
 use Rattle.pg_wire.specs.declared.message.FrontMessage.TheVariants as front
@@ -8,10 +9,10 @@ use Rattle.pg_wire.specs.declared.session.Request.{Request}
 use Rattle.pg_wire.specs.Direction.{spelling}
 use Rattle.pg_wire.specs.First.{packet}
 use Rattle.pg_wire.specs.Frontend.{frontend}
-use Rattle.pg_wire.specs.Segment.{request_messages}
+use Rattle.pg_wire.specs.Segment.{request_messages, without_asides}
 use Rattle.pg_client.specs.declared.settings.Settings.{Settings}
-use Rattle.pg_client.specs.Session.{Call, Ask, Chunk, CopyEnd, CopyFail, Terminate, Happening, Did, Came, requests_in}
-use Rattle.pg_client.specs.Client.{startup_pairs}
+use Rattle.pg_client.specs.Session.{Call, Ask, Chunk, CopyEnd, CopyFail, Terminate, Happening, Did, Came, messages_in, requests_in}
+use Rattle.pg_client.specs.Client.{startup_pairs, answer_to}
 
 pub record Turn : Type 0 where
   pub request : Request
@@ -47,13 +48,29 @@ abbrev pub greeting : Settings → List Call → List ℕ
 greeting settings [] = []
 greeting settings (c ∷ cs) = packet (Startup (startup_pairs settings))
 
+-- what is sent before the first turn behind the startup packet: the password, where it was asked for
+abbrev pub passwords : Settings → List BackMessage → List FrontMessage
+passwords settings heard = flat_map (answer_to settings) heard
+
+-- the answer to the first of these messages
+abbrev pub first_answer : Settings → List BackMessage → List FrontMessage
+first_answer settings [] = []
+first_answer settings (m ∷ ms) = answer_to settings m
+
 -- what is sent behind the last turn: a Terminate, where the client said so
 abbrev pub farewell : List Call → List FrontMessage
 farewell [] = []
 farewell (Terminate ∷ cs) = front.Terminate ∷ []
 farewell (c ∷ cs) = farewell cs
 
--- What went out is the startup packet, the turns and the end of the session, in this order.
+-- the messages behind the startup packet: the password, where it was asked for, the turns and the end of the session
+abbrev pub messages_behind : Settings → List BackMessage → List Call → List FrontMessage
+messages_behind settings heard cs = passwords settings heard ++ (flat_map turn_messages (turns_of cs) ++ farewell cs)
+
+-- What went out is the startup packet and these messages, in this order, with one password at most: asides left out, the first
+-- message alone is answered.
 pub record InTurns (settings : Settings) (hs : List Happening) (sent : List ℕ) : Type 0 where
-  pub sent_is : sent ≡ greeting settings (calls_in hs) ++ flat_map (spelling frontend) (flat_map turn_messages (turns_of (calls_in hs)) ++ farewell (calls_in hs))
+  pub sent_is : sent ≡ greeting settings (calls_in hs) ++ flat_map (spelling frontend) (messages_behind settings (messages_in hs) (calls_in hs))
+  pub one_password : length (passwords settings (messages_in hs)) ≤ 1
+  pub first_answered : passwords settings (messages_in hs) ≡ first_answer settings (without_asides (messages_in hs))
   pub requests : map (λ t. t.request) (turns_of (calls_in hs)) ≡ requests_in hs

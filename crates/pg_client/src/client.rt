@@ -12,7 +12,7 @@ use crate::fault::CallFault;
 use crate::parameters::Parameters;
 use crate::phase::{Cause, Phase};
 use crate::place::{CopyAnswer, Open, Stage, Stand, Welcome};
-use crate::sending::{put_request, put_startup};
+use crate::sending::{put_request, put_start};
 use crate::settings::Settings;
 use crate::settled::{Loss, Settled};
 use pg_wire::{BackDecoder, Request, Seq, Status, frontend};
@@ -104,8 +104,9 @@ impl Client {
     /// Puts the startup packet out ("Start-up"): `user`, `database` if one is given, then the further pairs. Allowed in phase New,
     /// and leads to Starting.
     ///
-    /// C1 NotReady: another phase. C3 Encode: HasZero, EmptyName or TooLong for the packet, or Memory where it has none of
-    /// these. After a refusal the client and `out` are as they were.
+    /// C1 NotReady: another phase. C3 Encode: HasZero, EmptyName or TooLong for the packet, else HasZero or TooLong for the
+    /// password, which the server may ask for, or Memory where neither has one of these. After a refusal the client and `out` are
+    /// as they were.
     pub fn start(&mut self, out: &mut Vec<u8>) -> Result<(), CallFault>
         ensures ok { OnOk result ((phase_of self.old ≡ Phase.New) × (phase_of self.new ≡ Phase.Starting)) }
         ensures run { OnOk result (Accepts Start self.old self.new out.old.items out.new.items) }
@@ -116,7 +117,7 @@ impl Client {
         if phase != Phase::New {
             return Err(CallFault::NotReady(phase));
         }
-        put_startup(&self.settings, out)?;
+        put_start(&self.settings, out)?;
         self.stand = Stand::Starting(Welcome::Fresh);
         Ok(())
     }

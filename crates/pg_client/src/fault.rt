@@ -2,6 +2,7 @@
 
 ghost use Rattle.std.specs.Prelude.{◌≡◌};
 ghost use Rattle.pg_client.specs.Client.{cause_of};
+ghost use Rattle.pg_client.specs.Private.Feeding.{of_wire};
 ghost use Rattle.pg_client.specs.declared.fault.CallFault.TheVariants.{Encode};
 ghost use Rattle.pg_client.specs.declared.fault.FeedFault.TheVariants as feeding;
 
@@ -74,6 +75,16 @@ impl From<AllocError> for FeedFault {
 }
 
 impl FeedFault {
+    // What a fault of the stream is to the client.
+    pub(crate) fn of_wire(fault: WireFault) -> FeedFault
+        ensures { result ≡ of_wire fault }
+    {
+        match fault {
+            WireFault::Memory => FeedFault::Memory,
+            fault => FeedFault::Wire(fault),
+        }
+    }
+
     // The cause that it is of a close.
     pub(crate) fn cause(&self) -> Option<Cause>
         ensures { result ≡ cause_of self.now }

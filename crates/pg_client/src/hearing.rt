@@ -1,10 +1,11 @@
 //! What a message does to where the client stands.
 
-ghost use Rattle.std.specs.Prelude.{◌≡◌, IfOk, Ok};
+ghost use Rattle.std.specs.Prelude.{◌≡◌, false, IfOk, Ok};
 ghost use Rattle.pg_wire.specs.declared.message.BackMessage.{BackMessage};
 ghost use Rattle.pg_wire.specs.declared.message.BackMessage.TheVariants.{ErrorResponse, ParameterStatus, Ready};
 ghost use Rattle.pg_wire.specs.declared.session.Aside.TheVariants as aside;
 ghost use Rattle.pg_wire.specs.Backend.{tag as tag_of};
+ghost use Rattle.pg_client.specs.Session.{is_question};
 ghost use Rattle.pg_client.specs.Place.{stage_ending};
 ghost use Rattle.pg_client.specs.Private.Hearing.{error_in, failed_by, HearsAs, HearsParameter, IsKind, IsPlain, Greets, may_end_at, may_end_busy, settled_at};
 ghost use Rattle.pg_client.specs.declared.kind.Kind.TheVariants as kind;
@@ -145,6 +146,7 @@ fn hear_end(alloc: Global, stand: &mut Stand, status: Status, tag: u8) -> Heard
 // One more message of the startup.
 fn greet(welcome: &mut Welcome, message: BackMessage, tag: u8) -> Heard
     requires plain { IsPlain message }
+    requires question { is_question message ≡ false }
     requires tag { tag ≡ tag_of message }
     ensures { Greets welcome.old message result welcome.new }
 {
@@ -154,11 +156,15 @@ fn greet(welcome: &mut Welcome, message: BackMessage, tag: u8) -> Heard
                 *welcome = Welcome::Admitted;
                 Heard::Stays
             }
-            BackMessage::AuthCleartext | BackMessage::AuthMd5(_) => {
-                Heard::Refused(FeedFault::PasswordWanted)
-            }
             BackMessage::AuthOther { code, .. } => {
                 Heard::Refused(FeedFault::UnsupportedAuth(code))
+            }
+            _ => Heard::Refused(FeedFault::Unexpected(tag)),
+        },
+        Welcome::Asked => match message {
+            BackMessage::AuthOk => {
+                *welcome = Welcome::Admitted;
+                Heard::Stays
             }
             _ => Heard::Refused(FeedFault::Unexpected(tag)),
         },
@@ -176,6 +182,7 @@ fn hear_plain(
     tag: u8,
 ) -> Result<Heard, AllocError>
     requires plain { IsPlain message }
+    requires question { is_question message ≡ false }
     requires tag { tag ≡ tag_of message }
     ensures { HearsAs stand.old message result stand.new }
 {
@@ -226,8 +233,9 @@ pub fn hear_parameter(
     Ok(true)
 }
 
-/// Takes a message in. Where memory is refused the same request stays outstanding.
+/// Takes a message in that is no question for a password. Where memory is refused the same request stays outstanding.
 pub fn hear(alloc: Global, stand: &mut Stand, message: BackMessage) -> Result<Heard, AllocError>
+    requires { is_question message ≡ false }
     ensures { HearsAs stand.old message result stand.new }
 {
     let tag = message.tag();

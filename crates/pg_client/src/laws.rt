@@ -1,6 +1,6 @@
 //! Laws over the definitions: each function does nothing, and its contract is the law.
 
-ghost use Rattle.std.specs.Prelude.{◌≡◌, ◌++◌, [], ◌∷◌, Bool, ℕ, List};
+ghost use Rattle.std.specs.Prelude.{◌≡◌, ◌++◌, [], ◌∷◌, Bool, ℕ, List, Option};
 ghost use Rattle.pg_wire.specs.declared.message.BackMessage.{BackMessage};
 ghost use Rattle.pg_client.specs.declared.settled.Settled.{Settled};
 ghost use Rattle.pg_client.specs.Session.{Run, Call, Happening, Came, Expected};
@@ -22,14 +22,14 @@ pub fn loss_of_a_run()
         → IsRunOf run fed heard rest given sent handed_back client → Loses handed_back (story run heard) (known_loss client) }
 {}
 
-/// What went out is the startup packet, then each request with what was called for its copies, and the end of the session.
+/// What went out is the startup packet, the password if it was asked for, then each request with what was called for its copies, and
+/// the end of the session.
 pub fn turns_of_a_run()
     ensures { (run : Run) (fed : List ℕ) (heard : List BackMessage) (rest : List ℕ) (given : List Settled) (sent : List ℕ) (handed_back : Bool) (client : ClientView)
         → IsRunOf run fed heard rest given sent handed_back client → InTurns client.settings (story run heard) sent }
 {}
 
-/// What happened is the calls of the run and what was heard, and what is sent is what the calls say. A call more is a new turn, or
-/// is the last one's.
+/// What happened is the calls of the run and what was heard. A call more is a new turn, or is the last one's.
 pub fn story_of_a_run()
     ensures story { (run : Run) (heard : List BackMessage) → IsStoryOf run heard (story run heard) }
     ensures one_more { (run : Run) (c : Call) (place : ℕ) → turns_of (calls_of (run ++ (c, place) ∷ [])) ≡ turns_with (turns_of (calls_of run)) c }
@@ -37,8 +37,8 @@ pub fn story_of_a_run()
 
 /// What is expected was so at each time before, so that with a message that isn't expected nothing behind it is.
 pub fn expected_begins()
-    ensures begins { (hs more : List Happening) → Expected (hs ++ more) → Expected hs }
-    ensures longest { (hs : List Happening) (m : BackMessage) (later : List Happening) → (Expected (hs ++ Came m ∷ []) → ⊥) → Expected (hs ++ Came m ∷ later) → ⊥ }
+    ensures begins { (password : Option (List ℕ)) (hs more : List Happening) → Expected password (hs ++ more) → Expected password hs }
+    ensures longest { (password : Option (List ℕ)) (hs : List Happening) (m : BackMessage) (later : List Happening) → (Expected password (hs ++ Came m ∷ []) → ⊥) → Expected password (hs ++ Came m ∷ later) → ⊥ }
 {}
 
 /// A request is made once all before it have been answered, and what is called for a copy belongs to the last one.

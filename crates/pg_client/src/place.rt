@@ -36,6 +36,8 @@ pub enum Stage {
 #[derive(Clone, Copy, Debug, PartialEq, Eq)]
 pub enum Welcome {
     Fresh,
+    /// A password was asked for, and went out.
+    Asked,
     Admitted,
 }
 

@@ -5,16 +5,15 @@ ghost use Rattle.pg_wire.specs.Encoder.{Encodes, EncodesPacket};
 ghost use Rattle.pg_wire.specs.Frontend.{frontend};
 ghost use Rattle.pg_wire.specs.Segment.{request_messages, step_message};
 ghost use Rattle.pg_wire.specs.declared.message.First.TheVariants.{Startup};
-ghost use Rattle.pg_wire.specs.declared.message.FrontMessage.TheVariants.{Sync};
+ghost use Rattle.pg_wire.specs.declared.message.FrontMessage.TheVariants.{Password, Sync};
 ghost use Rattle.pg_wire.specs.declared.session.Request.TheVariants.{Group};
-ghost use Rattle.pg_client.specs.Client.{startup_pairs};
-ghost use Rattle.pg_client.specs.Private.Sending.{Puts, SendsAll, starved_after};
+ghost use Rattle.pg_client.specs.Client.{first_fault, password_messages, startup_pairs};
+ghost use Rattle.pg_client.specs.Private.Sending.{password_text, Puts, SendsAll, SendsStart, starved_after};
 
 use crate::settings::Settings;
-use pg_wire::{EncodeFault, Request, Seq, Step, frontend};
+use pg_wire::{EncodeFault, LONGEST, Request, Seq, Step, frontend, md5_answer};
 
-/// Puts the startup packet out.
-pub fn put_startup(settings: &Settings, out: &mut Vec<u8>) -> Result<(), EncodeFault>
+fn put_startup(settings: &Settings, out: &mut Vec<u8>) -> Result<(), EncodeFault>
     ensures { EncodesPacket (Startup (startup_pairs settings.now)) out.old.items result out.new.items }
 {
     let database = match &settings.database {
@@ -27,6 +26,62 @@ pub fn put_startup(settings: &Settings, out: &mut Vec<u8>) -> Result<(), EncodeF
         settings.pairs.as_slice(),
         out,
     )
+}
+
+// Why the password can't be sent, if one was given.
+fn password_fault(password: &Option<Seq<u8>>) -> Option<EncodeFault>
+    ensures { result ≡ first_fault (password_messages password.now) }
+{
+    let Some(password) = password else {
+        return None;
+    };
+    if password.as_slice().contains(&0) {
+        Some(EncodeFault::HasZero)
+    } else if password.len() > LONGEST as usize - 5 {
+        // the length field, which counts itself, and the zero byte at the end
+        Some(EncodeFault::TooLong)
+    } else {
+        None
+    }
+}
+
+/// Puts the startup packet out, or nothing. The password is judged too, also where memory was refused for the packet.
+pub fn put_start(settings: &Settings, out: &mut Vec<u8>) -> Result<(), EncodeFault>
+    ensures { SendsStart settings.now out.old.items result out.new.items }
+{
+    let end = out.len();
+    match put_startup(settings, out) {
+        Ok(()) => match password_fault(&settings.password) {
+            None => Ok(()),
+            Some(fault) => {
+                out.truncate(end);
+                Err(fault)
+            }
+        },
+        Err(EncodeFault::Memory) => match password_fault(&settings.password) {
+            None => Err(EncodeFault::Memory),
+            Some(fault) => Err(fault),
+        },
+        Err(fault) => Err(fault),
+    }
+}
+
+/// Puts a password out, or its MD5 text for the user and this salt.
+pub fn put_password(
+    user: &Seq<u8>,
+    password: &Seq<u8>,
+    salt: Option<[u8; 4]>,
+    out: &mut Vec<u8>,
+) -> Result<(), EncodeFault>
+    ensures { Encodes frontend (Password (password_text user.now password.now salt)) out.old.items result out.new.items }
+{
+    match salt {
+        None => frontend::password_message(password.as_slice(), out),
+        Some(salt) => {
+            let text = md5_answer(user.as_slice(), password.as_slice(), salt);
+            frontend::password_message(&text, out)
+        }
+    }
 }
 
 fn put_step(step: &Step, out: &mut Vec<u8>) -> Result<(), EncodeFault>

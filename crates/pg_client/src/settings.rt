@@ -11,6 +11,8 @@ pub struct Settings {
     pub database: Option<Seq<u8>>,
     /// Further parameters of the startup packet, names and values.
     pub pairs: Seq<(Seq<u8>, Seq<u8>)>,
+    /// The password, where the server may ask for one.
+    pub password: Option<Seq<u8>>,
     /// The greatest length field of a message that is taken, from 64 to 1,073,741,823.
     pub limit: u32,
 }

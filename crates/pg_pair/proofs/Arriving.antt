@@ -1,12 +1,12 @@
 -- Bytes that reach an end keep what is so of a pair.
-use Rattle.std.proofs.Common.{◌≡◌, ◌≤◌, ◌+◌, ℕ, false, Bool, List, [], ◌++◌, None, Result, length, take, refl, ap, sym, subst, ◌∙◌}
+use Rattle.std.proofs.Common.{◌≡◌, ◌≤◌, ◌+◌, ℕ, false, Bool, List, [], ◌++◌, None, Result, length, take, refl, ap, sym, subst, ◌∙◌, arith, length-append}
 use Rattle.std.proofs.lemmas.List.{append-nil}
 use Rattle.std.proofs.Math.Seq.{take-add}
 use Rattle.pg_wire.specs.declared.message.BackMessage.{BackMessage}
 use Rattle.pg_client.specs.declared.fault.FeedFault.{FeedFault}
 use Rattle.pg_client.specs.declared.settled.Settled.{Settled}
 use Rattle.pg_client.specs.Session.{Run}
-use Rattle.pg_client.specs.Client.{ClientView, IsRunOf, story, Feeds, FeedsWith, Hears}
+use Rattle.pg_client.specs.Client.{ClientView, IsRunOf, story, Feeds, FeedsOpen, FeedsWith, Hears}
 use Rattle.pg_client.specs.Judged.{Stands}
 use Rattle.pg_backend.specs.declared.stage.Stage.{Stage}
 use Rattle.pg_backend.specs.declared.stage.Stage.TheVariants as stage
@@ -15,6 +15,7 @@ use Rattle.pg_pair.specs.Applying.{IsStored, reached_more}
 use Rattle.pg_pair.specs.Standing.{Tied}
 use Rattle.pg_pair.specs.View.{Stream, arrived, waiting, PairView}
 use Rattle.pg_pair.proofs.Calling.{not_handed_back}
+use Rattle.pg_pair.proofs.Stepping.{arrived_more}
 
 -- with more bytes of those that wait
 arrived_with : (s : Stream) (bytes : List ℕ) → bytes ≡ take (length bytes) (waiting s) → arrived (reached_more s bytes) ≡ arrived s ++ bytes
@@ -43,31 +44,38 @@ emptied run fed heard rest given sent handed_back c r = record {
   spelled = r.spelled;
 }
 
--- the pair after the client was fed
-abbrev pub fed_pair : {C : Type 0} → PairView C → List ℕ → ClientView → PairView C
-fed_pair p bytes fed = record p { client = record fed { settled = [] }; to_client = reached_more p.to_client bytes; settled = p.settled ++ fed.settled }
+-- the pair after the client was fed, and has put out what was sent then
+abbrev pub fed_pair : {C : Type 0} → PairView C → List ℕ → ClientView → List ℕ → PairView C
+fed_pair p bytes fed sent =
+    record p { client = record fed { settled = [] }; to_backend = record p.to_backend { sent = sent }; to_client = reached_more p.to_client bytes; settled = p.settled ++ fed.settled }
 
 abbrev WithinMore : Stream → List ℕ → Type 0
 WithinMore s bytes = s.reached + length bytes ≤ length s.sent
 
-pub heard_more : {C : Type 0} (p : PairView C) (t : Tied p) (bytes : List ℕ) (result : Result Unit FeedFault) (fed : ClientView)
-    → p.client.closed ≡ None → bytes ≡ take (length bytes) (waiting p.to_client) → Feeds p.client bytes result fed
-    → Hears t.run (arrived p.to_client ++ bytes) t.heard p.settled p.to_backend.sent bytes result fed
-heard_more p t bytes result fed none e feeds =
+-- what an open client does that is fed
+pub fed_open : (old : ClientView) (bytes : List ℕ) (result : Result Unit FeedFault) (fed : ClientView) (before after : List ℕ) → old.closed ≡ None → Feeds old bytes result fed before after
+    → FeedsOpen old bytes result fed before after
+fed_open old bytes result fed before after none feeds = subst (λ c. FeedsWith c old bytes result fed before after) none feeds
+
+pub heard_more : {C : Type 0} (p : PairView C) (t : Tied p) (bytes : List ℕ) (result : Result Unit FeedFault) (fed : ClientView) (sent : List ℕ)
+    → p.client.closed ≡ None → (feeds : FeedsOpen p.client bytes result fed p.to_backend.sent sent)
+    → Hears t.run (arrived p.to_client ++ bytes) t.heard p.settled (p.to_backend.sent ++ feeds.added) bytes result fed
+heard_more p t bytes result fed sent none feeds =
     let back = not_handed_back t.client_run.was p.client.stand p.client.closed t.handed_back none t.client_run.shows in
     let was : IsRunOf t.run (arrived p.to_client) t.heard t.open_at_client p.settled p.to_backend.sent false p.client =
     subst (λ b. IsRunOf t.run (arrived p.to_client) t.heard t.open_at_client p.settled p.to_backend.sent b p.client) back t.client_run in
-    let does : FeedsWith None p.client bytes result fed = subst (λ c. FeedsWith c p.client bytes result fed) none feeds in
-    does t.run (arrived p.to_client) t.heard t.open_at_client p.settled p.to_backend.sent was
+    feeds.hears t.run (arrived p.to_client) t.heard t.open_at_client p.settled p.to_backend.sent was
 
-pub keeps_fed : {C : Type 0} (p : PairView C) (bytes : List ℕ) (result : Result Unit FeedFault) (fed : ClientView)
-    → p.client.closed ≡ None → bytes ≡ take (length bytes) (waiting p.to_client) → WithinMore p.to_client bytes → Feeds p.client bytes result fed
-    → Tied p → Tied (fed_pair p bytes fed)
-keeps_fed p bytes result fed none e within feeds t =
-    let hears = heard_more p t bytes result fed none e feeds in
+pub keeps_fed : {C : Type 0} (p : PairView C) (bytes : List ℕ) (result : Result Unit FeedFault) (fed : ClientView) (sent : List ℕ)
+    → p.client.closed ≡ None → bytes ≡ take (length bytes) (waiting p.to_client) → WithinMore p.to_client bytes → Feeds p.client bytes result fed p.to_backend.sent sent
+    → Tied p → Tied (fed_pair p bytes fed sent)
+keeps_fed p bytes result fed sent none e within feeds t =
+    let does = fed_open p.client bytes result fed p.to_backend.sent sent none feeds in
+    let put : sent ≡ p.to_backend.sent ++ does.added = does.put in
+    let hears = heard_more p t bytes result fed sent none does in
     let heard : List BackMessage = t.heard ++ hears.more in
     let bytes_are : arrived p.to_client ++ bytes ≡ arrived (reached_more p.to_client bytes) = sym (arrived_with p.to_client bytes e) in
-    let run = emptied t.run (arrived p.to_client ++ bytes) heard hears.rest p.settled p.to_backend.sent false fed hears.run_is in
+    let run = emptied t.run (arrived p.to_client ++ bytes) heard hears.rest p.settled (p.to_backend.sent ++ does.added) false fed hears.run_is in
     record {
       checked = t.checked;
       limit_is = t.limit_is;
@@ -75,18 +83,19 @@ keeps_fed p bytes result fed none e within feeds t =
       heard = heard;
       open_at_client = hears.rest;
       handed_back = false;
-      client_run = subst (λ l. IsRunOf t.run l heard hears.rest (p.settled ++ fed.settled) p.to_backend.sent false (record fed { settled = [] })) bytes_are run;
+      client_run = subst (λ l. IsRunOf t.run (arrived (reached_more p.to_client bytes)) heard hears.rest (p.settled ++ fed.settled) l false (record fed { settled = [] })) (sym put)
+          (subst (λ l. IsRunOf t.run l heard hears.rest (p.settled ++ fed.settled) (p.to_backend.sent ++ does.added) false (record fed { settled = [] })) bytes_are run);
       places_are = t.places_are;
       taken = refl;
       input = t.input;
       open_at_backend = t.open_at_backend;
-      handled = t.handled;
+      handled = subst (λ l. HasHandled p.backend l t.input t.open_at_backend p.to_client.sent) (sym (ap (take p.to_backend.reached) put ∙ arrived_more p.to_backend does.added t.within_backend)) t.handled;
       faultless = t.faultless;
       not_lost = t.not_lost;
       in_turn = t.in_turn;
       copied = t.copied;
       handed_are = t.handed_are;
-      within_backend = t.within_backend;
+      within_backend = let n = ap length put in let w = t.within_backend in omega (arith, length-append p.to_backend.sent does.added);
       within_client = within;
     }
 

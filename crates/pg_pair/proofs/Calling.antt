@@ -113,8 +113,8 @@ asked_in_turn k p t r ready =
     elim (tied_meets k p t) [
       | inl s ↦ absurd (idle.has_whole s.none)
       | inr m ↦
-          let ms = t.input.messages in
-          let first : Begins ms (flat_map turn_messages turns) = (m.read.left, sym (append-nil (flat_map turn_messages turns)) ∙ ap (λ l. flat_map turn_messages turns ++ l) (sym (idle.stays)) ∙ m.read.messages) in
+          let ms = m.since in
+          let first : Begins ms (flat_map turn_messages turns) = (m.read.left, sym (append-nil (flat_map turn_messages turns)) ∙ ap (λ l. flat_map turn_messages turns ++ l) (sym (idle.stays)) ∙ m.behind) in
           let no_fewer : length (map settled_as p.settled) ≤ length (map answered_as p.backend.log) = begins_length _ _ (settled_begin k p t) in
           let one : length (map settled_as p.settled) ≡ length p.settled = length-map p.settled settled_as in
           let two : length (map answered_as p.backend.log) ≡ length p.backend.log = length-map p.backend.log answered_as in

@@ -17,6 +17,7 @@ use Rattle.pg_pair.specs.Standing.{Tied}
 use Rattle.pg_pair.specs.View.{arrived, PairView}
 use Rattle.pg_pair.proofs.Calling.{GoesOn, accepted, called}
 use Rattle.pg_pair.proofs.Copying.{AreChunks, last_open, copied_on, in_turn_on, handed_chunk, handed_done, handed_failed}
+use Rattle.pg_pair.proofs.Meeting.{user_of}
 use Rattle.pg_pair.proofs.OneCopy.{heard_one, begun_one}
 use Rattle.pg_pair.proofs.Settling.{tied_meets}
 
@@ -26,7 +27,7 @@ one_begun k p t =
     let heard : copies_in (segments t.heard).rest ≤ 1 =
     elim (tied_meets k p t) [
       | inl s ↦ s.few
-      | inr m ↦ heard_one k.one_copy_each k.welcome_is_segment p.backend.script t.input.messages t.heard t.checked.one_copy m.heard_is
+      | inr m ↦ heard_one k.one_copy_each k.welcome_is_segment p.backend.script (user_of p.client.settings) m.since t.heard t.checked.one_copy m.heard_is
     ] in
     subst (λ ms. copies_begun (segments ms).rest ≤ 1) (sym ((k.story_of t.run t.heard).messages)) (begun_one (segments t.heard).rest heard)
 

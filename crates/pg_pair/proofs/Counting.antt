@@ -1,5 +1,5 @@
 -- A delivery settles one group at most, and there is room for it.
-use Rattle.std.proofs.Common.{◌≡◌, ◌≤◌, ◌+◌, suc, ℕ, false, List, [], ◌++◌, None, Result, length, take, ap, sym, ◌∙◌, arith, length-append}
+use Rattle.std.proofs.Common.{◌≡◌, ◌≤◌, ◌+◌, suc, ℕ, false, List, [], ◌++◌, None, Result, length, ap, sym, ◌∙◌, arith, length-append}
 use Rattle.std.proofs.lemmas.List.{append-nil, length-map}
 use Rattle.pg_client.specs.declared.fault.FeedFault.{FeedFault}
 use Rattle.pg_client.specs.Client.{ClientView, story, Feeds, groups_in}
@@ -9,23 +9,24 @@ use Rattle.pg_backend.specs.Turns.{Turn, chunks_of}
 use Rattle.pg_pair.specs.Copies.{as_turn, turns_made}
 use Rattle.pg_pair.specs.Private.Known.{Known}
 use Rattle.pg_pair.specs.Standing.{Tied}
-use Rattle.pg_pair.specs.View.{arrived, waiting, PairView}
-use Rattle.pg_pair.proofs.Arriving.{heard_more}
+use Rattle.pg_pair.specs.View.{arrived, PairView}
+use Rattle.pg_pair.proofs.Arriving.{fed_open, heard_more}
 
 -- What a client that was fed has settled.
 pub record SettlesOne {C : Type 0} (p : PairView C) (fed : ClientView) : Type 0 where
   pub one : length fed.settled ≤ 1
   pub room : length p.settled + length fed.settled ≤ length p.handed
 
-pub settles_one : Known → {C : Type 0} (p : PairView C) (t : Tied p) (bytes : List ℕ) (result : Result Unit FeedFault) (fed : ClientView)
-    → p.client.closed ≡ None → bytes ≡ take (length bytes) (waiting p.to_client) → Feeds p.client bytes result fed → SettlesOne p fed
-settles_one k p t bytes result fed none e feeds =
-    let hears = heard_more p t bytes result fed none e feeds in
+pub settles_one : Known → {C : Type 0} (p : PairView C) (t : Tied p) (bytes : List ℕ) (result : Result Unit FeedFault) (fed : ClientView) (sent : List ℕ)
+    → p.client.closed ≡ None → Feeds p.client bytes result fed p.to_backend.sent sent → SettlesOne p fed
+settles_one k p t bytes result fed sent none feeds =
+    let does = fed_open p.client bytes result fed p.to_backend.sent sent none feeds in
+    let hears = heard_more p t bytes result fed sent none does in
     let heard = t.heard ++ hears.more in
     let was = story t.run t.heard in
     let now = story t.run heard in
     let before = k.answering t.run (arrived p.to_client) t.heard t.open_at_client p.settled p.to_backend.sent t.handed_back p.client t.client_run in
-    let after = k.answering t.run (arrived p.to_client ++ bytes) heard hears.rest p.settled p.to_backend.sent false fed hears.run_is in
+    let after = k.answering t.run (arrived p.to_client ++ bytes) heard hears.rest p.settled (p.to_backend.sent ++ does.added) false fed hears.run_is in
     let turns_was : length (turns_in was) ≡ length (turns_of (calls_of t.run)) = ap (λ cs. length (turns_of cs)) ((k.story_of t.run t.heard).calls) in
     let turns_now : length (turns_in now) ≡ length (turns_of (calls_of t.run)) = ap (λ cs. length (turns_of cs)) ((k.story_of t.run heard).calls) in
     let few : length (turns_in was) ≤ suc (length (groups_in was)) = (before.in_turn was [] (sym (append-nil was))).one_at_most in

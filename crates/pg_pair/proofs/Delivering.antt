@@ -19,7 +19,7 @@ use Rattle.pg_pair.specs.Applying.{client_answer, delivered, is_closed, is_close
 use Rattle.pg_pair.specs.Private.Known.{Known}
 use Rattle.pg_pair.specs.Standing.{Tied}
 use Rattle.pg_pair.specs.View.{Stream, waiting, PairView}
-use Rattle.pg_pair.proofs.Arriving.{fed_pair, heard_more, keeps_fed, keeps_stored, stored_pair}
+use Rattle.pg_pair.proofs.Arriving.{fed_open, fed_pair, heard_more, keeps_fed, keeps_stored, stored_pair}
 use Rattle.pg_pair.proofs.Counting.{SettlesOne, settles_one}
 
 -- ---- what arrives
@@ -122,46 +122,53 @@ open_none (Some c) s h = absurd cc
 pub going_none : (c : ClientView) → is_closed_client (phase_of c) ≡ false → c.closed ≡ None
 going_none c h = open_none c.closed c.stand h
 
--- the pair after the client was fed so many bytes
-abbrev pub fed_at : {C : Type 0} → PairView C → ℕ → ClientView → PairView C
-fed_at p count fed = record p { client = record fed { settled = [] }; to_client = record p.to_client { reached = p.to_client.reached + count }; settled = p.settled ++ fed.settled }
+-- the pair after the client was fed so many bytes, and has put out what was sent then
+abbrev pub fed_at : {C : Type 0} → PairView C → ℕ → ClientView → List ℕ → PairView C
+fed_at p count fed sent = record p {
+  client = record fed { settled = [] };
+  to_backend = record p.to_backend { sent = sent };
+  to_client = record p.to_client { reached = p.to_client.reached + count };
+  settled = p.settled ++ fed.settled;
+}
 
 -- The client was fed so many of the bytes under way.
-pub record IsFed {C : Type 0} (p : PairView C) (count : ℕ) (result : Result Unit FeedFault) (fed : ClientView) : Type 0 where
+pub record IsFed {C : Type 0} (p : PairView C) (count : ℕ) (result : Result Unit FeedFault) (fed : ClientView) (sent : List ℕ) : Type 0 where
   pub none : p.client.closed ≡ None
   pub some : 0 < count
   pub within : count ≤ length (waiting p.to_client)
-  pub feeds : Feeds p.client (take count (waiting p.to_client)) result fed
+  pub feeds : Feeds p.client (take count (waiting p.to_client)) result fed p.to_backend.sent sent
 
-pub fed_settles : Known → {C : Type 0} (p : PairView C) (count : ℕ) (result : Result Unit FeedFault) (fed : ClientView) → IsFed p count result fed → ∥ Tied p ∥₁ → SettlesOne p fed
-fed_settles k p count result fed h some =
-    let settles : Tied p → SettlesOne p fed = λ t. settles_one k p t (take count (waiting p.to_client)) result fed h.none (itself count (waiting p.to_client) h.within) h.feeds in
+pub fed_settles : Known → {C : Type 0} (p : PairView C) (count : ℕ) (result : Result Unit FeedFault) (fed : ClientView) (sent : List ℕ) → IsFed p count result fed sent → ∥ Tied p ∥₁ → SettlesOne p fed
+fed_settles k p count result fed sent h some =
+    let settles : Tied p → SettlesOne p fed = λ t. settles_one k p t (take count (waiting p.to_client)) result fed sent h.none h.feeds in
     record { one = ∥∥₁_elim some le_prop (λ t. (settles t).one); room = ∥∥₁_elim some le_prop (λ t. (settles t).room) }
 
-pub fed_tied : {C : Type 0} (p : PairView C) (count : ℕ) (result : Result Unit FeedFault) (fed : ClientView) → IsFed p count result fed → Tied p → Tied (fed_at p count fed)
-fed_tied p count result fed h t =
-    subst (λ n. Tied (fed_at p n fed)) (counted count (waiting p.to_client) h.within)
-    (keeps_fed p (take count (waiting p.to_client)) result fed h.none (itself count (waiting p.to_client) h.within) (fits p.to_client count t.within_client h.within) h.feeds t)
+pub fed_tied : {C : Type 0} (p : PairView C) (count : ℕ) (result : Result Unit FeedFault) (fed : ClientView) (sent : List ℕ) → IsFed p count result fed sent → Tied p → Tied (fed_at p count fed sent)
+fed_tied p count result fed sent h t =
+    subst (λ n. Tied (fed_at p n fed sent)) (counted count (waiting p.to_client) h.within)
+    (keeps_fed p (take count (waiting p.to_client)) result fed sent h.none (itself count (waiting p.to_client) h.within) (fits p.to_client count t.within_client h.within) h.feeds t)
 
-takes_fed : {C : Type 0} (p : PairView C) (bytes : List ℕ) (result : Result Unit FeedFault) (fed : ClientView) → 0 < length bytes → Feeds p.client bytes result fed → TakesIn ToClient p bytes (client_answer result) (fed_pair p bytes fed)
-takes_fed p [] result fed some h = absurd (omega arith)
-takes_fed p (x ∷ xs) result fed some h = (result, record { fed = fed; feeds = h; rest = refl }, refl)
+takes_fed : {C : Type 0} (p : PairView C) (bytes : List ℕ) (result : Result Unit FeedFault) (fed : ClientView) (sent : List ℕ) → 0 < length bytes → Feeds p.client bytes result fed p.to_backend.sent sent
+    → TakesIn ToClient p bytes (client_answer result) (fed_pair p bytes fed sent)
+takes_fed p [] result fed sent some h = absurd (omega arith)
+takes_fed p (x ∷ xs) result fed sent some h = (result, record { fed = fed; feeds = h; rest = refl }, refl)
 
-pub fed_in : {C : Type 0} (p : PairView C) (count : ℕ) (result : Result Unit FeedFault) (fed : ClientView) → IsFed p count result fed → TakesIn ToClient p (take count (waiting_at ToClient p)) (client_answer result) (fed_at p count fed)
-fed_in p count result fed h =
+pub fed_in : {C : Type 0} (p : PairView C) (count : ℕ) (result : Result Unit FeedFault) (fed : ClientView) (sent : List ℕ) → IsFed p count result fed sent
+    → TakesIn ToClient p (take count (waiting_at ToClient p)) (client_answer result) (fed_at p count fed sent)
+fed_in p count result fed sent h =
     let n : length (take count (waiting p.to_client)) ≡ count = counted count (waiting p.to_client) h.within in
     let some = h.some in
-    subst (λ n. TakesIn ToClient p (take count (waiting p.to_client)) (client_answer result) (fed_at p n fed)) n
-    (takes_fed p (take count (waiting p.to_client)) result fed (omega (arith, n, some)) h.feeds)
+    subst (λ n. TakesIn ToClient p (take count (waiting p.to_client)) (client_answer result) (fed_at p n fed sent)) n
+    (takes_fed p (take count (waiting p.to_client)) result fed sent (omega (arith, n, some)) h.feeds)
 
 -- a client that answers no fault is open
-no_fault : {C : Type 0} (p : PairView C) (bytes : List ℕ) (result : Result Unit FeedFault) (fed : ClientView) → p.client.closed ≡ None → bytes ≡ take (length bytes) (waiting p.to_client)
-    → Feeds p.client bytes result fed → client_answer result ≡ None → Tied p → is_closed_client (phase_of fed) ≡ false
-no_fault p bytes (Ok x) fed none e feeds answer t =
-    let closed : fed.closed ≡ None = (heard_more p t bytes (Ok x) fed none e feeds).answers in
+no_fault : {C : Type 0} (p : PairView C) (bytes : List ℕ) (result : Result Unit FeedFault) (fed : ClientView) (sent : List ℕ) → p.client.closed ≡ None → Feeds p.client bytes result fed p.to_backend.sent sent
+    → client_answer result ≡ None → Tied p → is_closed_client (phase_of fed) ≡ false
+no_fault p bytes (Ok x) fed sent none feeds answer t =
+    let closed : fed.closed ≡ None = (heard_more p t bytes (Ok x) fed sent none (fed_open p.client bytes (Ok x) fed p.to_backend.sent sent none feeds)).answers in
     ap (λ c. is_closed_client (phase_with c fed.stand)) closed ∙ stand_open fed.stand
-no_fault p bytes (Err f) fed none e feeds answer t = absurd cc
+no_fault p bytes (Err f) fed sent none feeds answer t = absurd cc
 
-pub fed_going : {C : Type 0} (p : PairView C) (count : ℕ) (result : Result Unit FeedFault) (fed : ClientView) → IsFed p count result fed → ∥ Tied p ∥₁ → client_answer result ≡ None → is_closed ToClient (fed_at p count fed) ≡ false
-fed_going p count result fed h some answer =
-    ∥∥₁_elim some (Bool-set _ _) (no_fault p (take count (waiting p.to_client)) result fed h.none (itself count (waiting p.to_client) h.within) h.feeds answer)
+pub fed_going : {C : Type 0} (p : PairView C) (count : ℕ) (result : Result Unit FeedFault) (fed : ClientView) (sent : List ℕ) → IsFed p count result fed sent → ∥ Tied p ∥₁ → client_answer result ≡ None
+    → is_closed ToClient (fed_at p count fed sent) ≡ false
+fed_going p count result fed sent h some answer = ∥∥₁_elim some (Bool-set _ _) (no_fault p (take count (waiting p.to_client)) result fed sent h.none h.feeds answer)

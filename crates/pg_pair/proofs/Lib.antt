@@ -20,3 +20,5 @@ pub mod Begun
 pub mod Delivering
 pub mod Moving
 pub mod Rows
+pub mod Ways
+pub mod Deliveries

@@ -1,20 +1,16 @@
 -- A delivery goes piece by piece.
-use Rattle.std.proofs.Common.{◌≡◌, ◌≤◌, ◌<◌, ◌+◌, ◌-◌, ℕ, true, false, ◌||◌, Bool, List, [], ◌∷◌, Option, Some, None, is_some, Result, min, length, take, refl, ap, sym, subst, ◌∙◌, arith, ◌⊎◌, inl, inr}
+use Rattle.std.proofs.Common.{◌≡◌, ◌≤◌, ◌<◌, ◌+◌, ◌-◌, ℕ, true, false, ◌||◌, Bool, List, [], ◌∷◌, Option, Some, None, is_some, min, length, take, refl, ap, sym, subst, ◌∙◌, arith, ◌⊎◌, inl, inr}
 use Rattle.std.proofs.lemmas.List.{length-take, length-take-le, take-take, take_min}
-use Rattle.pg_pair.specs.declared.carry.CarryFault.{CarryFault}
 use Rattle.pg_pair.specs.declared.carry.Way.{Way}
 use Rattle.pg_pair.specs.declared.carry.Way.TheVariants.{ToBackend, ToClient}
 use Rattle.pg_pair.specs.declared.event.Applied.{Applied}
 use Rattle.pg_pair.specs.declared.pair.carrying.Carried.{Carried}
 use Rattle.pg_pair.specs.declared.pair.delivering.Moved.{Moved}
 use Rattle.pg_pair.specs.Applying.{BreaksIf, CarriesPiece, delivered, delivery_applied, DeliversUnless, EndsWith, Goes, goes_on, GoesWhole, is_bad, is_closed, is_shut, stream_of, TakesIn, waiting_at}
-use Rattle.pg_pair.specs.Carrying.{longest_piece}
+use Rattle.pg_pair.specs.Carrying.{Carrying, longest_piece}
 use Rattle.pg_pair.specs.Private.Delivering.{Carries, Moves}
 use Rattle.pg_pair.specs.View.{PairView}
 use Rattle.pg_pair.proofs.Delivering.{delivered_of_count, delivered_of_waiting, delivered_whole, delivered_within}
-
-abbrev pub Carrying : Type 0 → Type 1
-Carrying C = C → Way → List ℕ → Result (List ℕ) CarryFault → C → Type 0
 
 -- ---- one piece
 

@@ -8,12 +8,14 @@ use Rattle.pg_wire.specs.declared.message.Status.{Status}
 use Rattle.pg_wire.specs.declared.message.Status.TheVariants.{Idle}
 use Rattle.pg_wire.specs.Segment.{Segments, status_of, put_before, segments}
 use Rattle.pg_client.specs.Answering.{copies_begun}
+use Rattle.pg_backend.specs.declared.script.Auth.{Auth}
+use Rattle.pg_backend.specs.declared.script.Auth.TheVariants.{Trust, Cleartext, Md5}
 use Rattle.pg_backend.specs.declared.script.Key.{Key}
 use Rattle.pg_backend.specs.declared.script.Script.{Script}
 use Rattle.pg_backend.specs.Check.{HasOneCopyEach}
 use Rattle.pg_backend.specs.Laws.{copies_in, HaveOneCopy, OneCopyEach, WelcomeIsSegment}
 use Rattle.pg_backend.specs.Lists.{Begins}
-use Rattle.pg_backend.specs.Opening.{welcome, pair_message, key_messages}
+use Rattle.pg_backend.specs.Opening.{welcome, asked, pair_message, key_messages}
 use Rattle.pg_backend.specs.Session.{replies}
 use Rattle.pg_pair.proofs.Beginnings.{begins_nil, begins_cons}
 
@@ -86,12 +88,20 @@ pairs_none (p ∷ pairs) ms = pairs_none pairs ms
 welcome_none : (s : Script) → copies_in (welcome s) ≡ 0
 welcome_none s = ap copies_in (append_assoc (map pair_message s.pairs) (key_messages s.key) (back.Ready Idle ∷ [])) ∙ pairs_none s.pairs (key_messages s.key ++ back.Ready Idle ∷ []) ∙ key_none s.key
 
--- What was heard of the welcome and the replies has one copy in at most behind its last whole segment.
-pub heard_one : OneCopyEach → WelcomeIsSegment → (s : Script) (ms : List FrontMessage) (heard : List BackMessage) → HasOneCopyEach s → Begins heard (welcome s ++ replies s.answers ms) → copies_in (segments heard).rest ≤ 1
-heard_one one first s ms heard each begins =
+asked_none : (auth : Auth) (user : List ℕ) (ms : List BackMessage) → copies_in (asked auth user ++ ms) ≡ copies_in ms
+asked_none auth [] ms = refl
+asked_none Trust (c ∷ cs) ms = refl
+asked_none (Cleartext password) (c ∷ cs) ms = refl
+asked_none (Md5 password salt) (c ∷ cs) ms = refl
+
+-- What was heard of a question, the welcome and the replies has one copy in at most behind its last whole segment.
+pub heard_one : OneCopyEach → WelcomeIsSegment → (s : Script) (user : List ℕ) (ms : List FrontMessage) (heard : List BackMessage) → HasOneCopyEach s
+    → Begins heard (asked s.auth user ++ (welcome s ++ replies s.answers ms)) → copies_in (segments heard).rest ≤ 1
+heard_one one first s user ms heard each begins =
     let of_replies = one s.answers ms each in
-    let of_all : HaveOneCopy (segments (welcome s ++ replies s.answers ms)) = subst HaveOneCopy (sym (first s (replies s.answers ms))) ((omega (arith, welcome_none s), of_replies.0), of_replies.1) in
-    rest_one heard (welcome s ++ replies s.answers ms) begins of_all
+    let of_all : HaveOneCopy (segments (asked s.auth user ++ (welcome s ++ replies s.answers ms))) =
+    subst HaveOneCopy (sym (first s user (replies s.answers ms))) ((omega (arith, asked_none s.auth user (welcome s), welcome_none s), of_replies.0), of_replies.1) in
+    rest_one heard (asked s.auth user ++ (welcome s ++ replies s.answers ms)) begins of_all
 
 pub begun_one : (ms : List BackMessage) → copies_in ms ≤ 1 → copies_begun ms ≤ 1
 begun_one ms h = omega (arith, same_copies ms)

@@ -30,11 +30,10 @@ use Rattle.pg_pair.specs.Copies.{as_turn, turns_made}
 use Rattle.pg_pair.specs.Headline.{settled_as, answered_as, input_bytes, StandsReady, Headline}
 use Rattle.pg_pair.specs.Private.Known.{Known}
 use Rattle.pg_pair.specs.Standing.{Tied}
-use Rattle.pg_pair.specs.View.{arrived, waiting, PairView}
+use Rattle.pg_pair.specs.View.{arrived, PairView}
 use Rattle.pg_pair.proofs.Beginnings.{begins_length, begins_take}
-use Rattle.pg_pair.proofs.Meeting.{HasMet}
 use Rattle.pg_pair.proofs.Opening.{opening}
-use Rattle.pg_pair.proofs.Settling.{run_messages, tied_meets, settled_begin, all_taken, one_unsettled}
+use Rattle.pg_pair.proofs.Settling.{Messages, Met, tied_meets, settled_begin, all_taken, all_asked, one_unsettled}
 
 -- ---- of the client
 
@@ -97,15 +96,15 @@ sent_parts o all ps ms left is e =
     ∙ ap (λ l. (l ++ flat_map (spelling frontend) ms) ++ flat_map (spelling frontend) left) (sym (append-nil (packet o)) ∙ ap (flat_map packet) (sym is))
 
 ready_with : Known → {C : Type 0} (p : PairView C) (t : Tied p) → IsIdle p t
-    → HasMet p.backend.script p.client.settings (run_messages t.run) t.input t.open_at_backend (waiting p.to_backend) p.to_backend.sent t.heard p.backend.log
+    → Met p t
     → p.to_backend.broken ≡ false → is_spared p.backend.stage ≡ true → StandsReady p
 ready_with k p t idle m whole spared =
     let answers = p.backend.script.answers in
-    let ms = t.input.messages in
+    let ms = m.since in
     let turns = turns_made t.run in
     let left = m.read.left in
     let all : flat_map turn_messages turns ≡ ms ++ left =
-    sym (append-nil (flat_map turn_messages turns)) ∙ ap (λ l. flat_map turn_messages turns ++ l) (sym (idle.stays)) ∙ m.read.messages in
+    sym (append-nil (flat_map turn_messages turns)) ∙ ap (λ l. flat_map turn_messages turns ++ l) (sym (idle.stays)) ∙ m.behind in
     let no_fewer : length (map settled_as p.settled) ≤ length (map answered_as p.backend.log) = begins_length _ _ (settled_begin k p t) in
     let one : length (map settled_as p.settled) ≡ length p.settled = length-map p.settled settled_as in
     let two : length (map answered_as p.backend.log) ≡ length p.backend.log = length-map p.backend.log answered_as in
@@ -113,7 +112,7 @@ ready_with k p t idle m whole spared =
     let settled_all : length p.settled ≡ length turns = idle.settled_all in
     let rest = k.turns_left answers turns ms left t.in_turn all (omega arith) in
     let bytes : p.to_backend.sent ≡ input_bytes t.input ++ flat_map (spelling frontend) left =
-    m.read.sent_is ∙ sent_parts (opening p.client.settings) (run_messages t.run) t.input.packets ms left m.read.packets m.read.messages in
+    m.read.sent_is ∙ sent_parts (opening p.client.settings) (Messages p t) t.input.packets t.input.messages left m.read.packets m.read.messages in
     record {
       phase = t.handled.phase_is ∙ spared_phase p.backend.stage _ spared (t.not_lost whole) ∙ m.phase ∙ ap place_phase rest.1;
       left = ∣ record { input = t.input; rest = t.open_at_backend; handled = t.handled; left = left; sent = bytes; copies = rest.0 } ∣₁;
@@ -123,6 +122,7 @@ pub headline : Known → {C : Type 0} (p : PairView C) → Tied p → Headline p
 headline k p t = record {
   beginning = subst (λ n. map settled_as p.settled ≡ take n (map answered_as p.backend.log)) (length-map p.settled settled_as) (begins_take (map settled_as p.settled) (map answered_as p.backend.log) (settled_begin k p t));
   copied = all_taken k p t;
+  asked = ∣ all_asked k p t ∣₁;
   one_at_most = one_unsettled k p t;
   ready = λ ready whole spared.
       let idle = client_idle k p t ready in

@@ -1,21 +1,28 @@
 -- Worked rows, by computation.
-use Rattle.std.proofs.Common.{◌≡◌, ℕ, true, false, List, [], ◌∷◌, None, Some, Result, Ok, map, take, refl, inr}
+use Rattle.std.proofs.Common.{◌≡◌, ℕ, true, false, List, [], ◌∷◌, Option, None, Some, Result, Ok, map, take, refl, inr}
+use Rattle.std.specs.Prelude.{codes}
+use Rattle.pg_wire.specs.declared.message.BackMessage.{BackMessage}
 use Rattle.pg_wire.specs.declared.message.BackMessage.TheVariants as back
+use Rattle.pg_wire.specs.declared.message.FrontMessage.{FrontMessage}
 use Rattle.pg_wire.specs.declared.message.FrontMessage.TheVariants as front
 use Rattle.pg_wire.specs.declared.message.Status.TheVariants.{Idle}
 use Rattle.pg_wire.specs.declared.session.Outcome.{Outcome}
 use Rattle.pg_wire.specs.declared.session.Part.TheVariants as part
 use Rattle.pg_wire.specs.declared.session.Request.{Request}
 use Rattle.pg_wire.specs.declared.session.Request.TheVariants.{Query}
+use Rattle.pg_wire.proofs.Rows.{salted}
 use Rattle.pg_client.specs.declared.phase.Cause.TheVariants as cause
 use Rattle.pg_client.specs.declared.place.Stand.TheVariants as stands
+use Rattle.pg_client.specs.declared.settings.Settings.{Settings}
 use Rattle.pg_client.specs.Session.{Run, Start, Ask, Chunk, CopyEnd, Terminate}
+use Rattle.pg_client.specs.Turns.{messages_behind}
 use Rattle.pg_backend.specs.declared.script.Answer.{Answer}
-use Rattle.pg_backend.specs.declared.script.Auth.TheVariants.{Trust}
+use Rattle.pg_backend.specs.declared.script.Auth.TheVariants.{Trust, Cleartext, Md5}
 use Rattle.pg_backend.specs.declared.script.Load.TheVariants as load
 use Rattle.pg_backend.specs.declared.script.ScriptPart.TheVariants as script
 use Rattle.pg_backend.specs.declared.stage.Ending.TheVariants as ending
 use Rattle.pg_backend.specs.declared.stage.Stage.TheVariants as stage
+use Rattle.pg_backend.specs.Opening.{Refused, Awaited, Admitted, admission, wrong_password}
 use Rattle.pg_backend.specs.Session.{log_of, replies}
 use Rattle.pg_pair.specs.declared.event.Applied.TheVariants as applied
 use Rattle.pg_pair.specs.declared.event.Call.TheVariants as call
@@ -25,7 +32,7 @@ use Rattle.pg_pair.specs.declared.carry.Way.{Way}
 use Rattle.pg_pair.specs.declared.carry.Way.TheVariants.{ToBackend, ToClient}
 use Rattle.pg_pair.specs.Applying.{delivered, delivery_applied, handed_after, is_bad, is_shut, Happens, Ran}
 use Rattle.pg_pair.specs.Copies.{handed_for, TookEach, turns_made}
-use Rattle.pg_pair.specs.Headline.{answered_as, settled_as}
+use Rattle.pg_pair.specs.Headline.{answered_as, requests_of, settled_as}
 use Rattle.pg_pair.specs.View.{PairView}
 
 -- ---- what arrives of a piece
@@ -65,6 +72,31 @@ bytes_moved = refl
 carrier_failed : delivery_applied None true 1 ≡ applied.Carrier
 carrier_failed = refl
 
+-- ---- a password
+
+-- a client of the user c that has this password, or none
+abbrev named : Option (List ℕ) → Settings
+named password = record { user = codes "c"; database = None; pairs = []; password = password; limit = 64 }
+
+-- what it sends behind its startup packet where it was asked this
+abbrev answering : Option (List ℕ) → BackMessage → List FrontMessage
+answering password question = messages_behind (named password) (question ∷ []) (Start ∷ [])
+
+abbrev salt : List ℕ
+salt = 1 ∷ 2 ∷ 3 ∷ 4 ∷ []
+
+right_password : admission (Cleartext (codes "ab")) (codes "c") (answering (Some (codes "ab")) back.AuthCleartext) ≡ Admitted []
+right_password = refl
+
+wrong_one : admission (Cleartext (codes "ab")) (codes "c") (answering (Some (codes "a")) back.AuthCleartext) ≡ Refused wrong_password
+wrong_one = refl
+
+no_one : admission (Cleartext (codes "ab")) (codes "c") (answering None back.AuthCleartext) ≡ Awaited
+no_one = refl
+
+right_by_md5 : admission (Md5 (codes "ab") salt) (codes "c") (answering (Some (codes "ab")) (back.AuthMd5 salt)) ≡ Admitted []
+right_by_md5 = rw salted refl
+
 -- ---- a query
 
 select : Request
@@ -103,6 +135,11 @@ copy_handed : handed_for (turns_made run) ≡ ((49 ∷ []) ∷ (50 ∷ []) ∷ [
 unfolding run
 copy_handed = refl
 
+-- which is the one that was made
+copy_asked : requests_of (turns_made run) ≡ select ∷ []
+unfolding run
+copy_asked = refl
+
 request_hands_none : handed_after (call.Request select) [] ≡ [] ∷ []
 request_hands_none = refl
 
@@ -133,7 +170,7 @@ refused_took_the_first = (record { first = refl; all = λ e. absurd cc }, tt)
 -- a client and a backend as they are made, and a carrier that keeps nothing
 fresh : PairView (Unit {0})
 fresh = record {
-  client = record { settings = record { user = 117 ∷ []; database = None; pairs = []; limit = 64 }; kept = []; stand = stands.New; settled = []; status = None; parameters = []; key = None; closed = None };
+  client = record { settings = record { user = 117 ∷ []; database = None; pairs = []; password = None; limit = 64 }; kept = []; stand = stands.New; settled = []; status = None; parameters = []; key = None; closed = None };
   backend = record { script = record { auth = Trust; pairs = []; key = None; answers = [] }; limit = 64; left = []; stage = stage.First (record { kept = []; ended = false; fault = None }); log = [] };
   carrier = tt;
   to_backend = record { sent = []; reached = 0; broken = false };

@@ -1,37 +1,40 @@
 -- What a client has settled is a beginning of what the backend has answered.
-use Rattle.std.proofs.Common.{◌≡◌, ℕ, List, [], ◌∷◌, ◌++◌, map, drop, refl, ap, sym, subst, ◌∙◌, append_assoc, ◌⊎◌, inl, inr, length, suc, arith, ◌≤◌}
+use Rattle.std.proofs.Common.{◌≡◌, ℕ, List, [], ◌∷◌, ◌++◌, map, drop, take, refl, ap, sym, subst, ◌∙◌, append_assoc, ◌⊎◌, inl, inr, length, suc, arith, ◌≤◌}
 use Rattle.std.specs.List.{flat_map, AllByRecursion}
 use Rattle.std.proofs.lemmas.List.{append-nil, take-append-drop, length-map}
 use Rattle.pg_wire.specs.declared.message.BackMessage.{BackMessage}
 use Rattle.pg_wire.specs.declared.message.FrontMessage.{FrontMessage}
 use Rattle.pg_wire.specs.declared.message.FrontMessage.TheVariants as front
 use Rattle.pg_wire.specs.declared.session.Request.{Request}
+use Rattle.pg_wire.specs.declared.session.Request.TheVariants.{Query, Group}
+use Rattle.pg_wire.specs.declared.session.Step.TheVariants as step
 use Rattle.pg_wire.specs.Direction.{spelling, HasSpelling}
 use Rattle.pg_wire.specs.First.{IsPacket}
 use Rattle.pg_wire.specs.Frontend.{frontend}
 use Rattle.pg_wire.specs.Laws.{OneOutcome}
-use Rattle.pg_wire.specs.Segment.{Fits, Segments, segments}
+use Rattle.pg_wire.specs.Segment.{Fits, Segments, segments, request_messages, without_asides}
+use Rattle.pg_client.specs.declared.settings.Settings.{Settings}
 use Rattle.pg_client.specs.declared.settled.Settled.{Settled}
-use Rattle.pg_client.specs.Session.{Run, Call, Terminate, Happening, requests_in}
+use Rattle.pg_client.specs.Session.{Run, Call, Terminate, Happening, Did, Came, messages_in, requests_in, IsAfterItsCall}
 use Rattle.pg_client.specs.Client.{story, groups_in}
 use Rattle.pg_client.specs.Facts.{SettledInOrder}
-use Rattle.pg_client.specs.Turns.{turns_of, calls_in, greeting, farewell}
+use Rattle.pg_client.specs.Turns.{turns_of, calls_in, passwords, first_answer, messages_behind, greeting, farewell}
 use Rattle.pg_client.specs.Turns as client
 use Rattle.pg_client.specs.Answering.{calls_of, turns_in}
 use Rattle.pg_backend.specs.declared.script.Logged.{Logged}
 use Rattle.pg_backend.specs.Laws.{FitEach, AreFirstOf}
 use Rattle.pg_backend.specs.Lists.{Begins}
-use Rattle.pg_backend.specs.Opening.{welcome}
+use Rattle.pg_backend.specs.Opening.{welcome, asked}
 use Rattle.pg_backend.specs.Session.{replies, log_of}
 use Rattle.pg_backend.specs.Turns.{Turn, turn_messages}
 use Rattle.pg_backend.specs.Turns as backend
 use Rattle.pg_pair.specs.Copies.{as_turn, turns_made, TookEach}
-use Rattle.pg_pair.specs.Headline.{settled_as, answered_as}
+use Rattle.pg_pair.specs.Headline.{settled_as, answered_as, requests_of, requests_logged, IsAsked}
 use Rattle.pg_pair.specs.Private.Known.{Known}
 use Rattle.pg_pair.specs.Standing.{Tied}
 use Rattle.pg_pair.specs.View.{arrived, waiting, PairView}
 use Rattle.pg_pair.proofs.Beginnings.{begins_nil, begins_head, begins_tail, begins_cons, begins_take}
-use Rattle.pg_pair.proofs.Meeting.{IsSilent, HasMet, meets}
+use Rattle.pg_pair.proofs.Meeting.{user_of, IsSilent, SendsPassword, HasMet, meets}
 use Rattle.pg_pair.proofs.Opening.{opening, IsUnread, IsRead, reads}
 use Rattle.pg_pair.proofs.Streams.{segments_grow}
 
@@ -75,20 +78,36 @@ turns_requests : (ts : List client.Turn) → map (λ (t : Turn). t.request) (map
 turns_requests [] = refl
 turns_requests (t ∷ ts) = ap (λ l. t.request ∷ l) (turns_requests ts)
 
--- the messages of a run: those of its turns, and maybe a Terminate
+-- the messages of a run behind the password: those of its turns, and maybe a Terminate
 abbrev pub run_messages : Run → List FrontMessage
 run_messages run = flat_map turn_messages (turns_made run) ++ farewell (calls_of run)
 
-abbrev call_messages_of : List Call → List FrontMessage
-call_messages_of cs = flat_map client.turn_messages (turns_of cs) ++ farewell cs
+-- all messages behind the startup packet, by what was heard
+abbrev pub all_messages : Settings → List BackMessage → Run → List FrontMessage
+all_messages settings heard run = passwords settings heard ++ run_messages run
 
-run_messages_are : (run : Run) → call_messages_of (calls_of run) ≡ run_messages run
-run_messages_are run = ap (λ l. l ++ farewell (calls_of run)) (turns_messages (turns_of (calls_of run)))
+all_messages_are : (settings : Settings) (heard : List BackMessage) (run : Run) → messages_behind settings heard (calls_of run) ≡ all_messages settings heard run
+all_messages_are settings heard run = ap (λ l. passwords settings heard ++ (l ++ farewell (calls_of run))) (turns_messages (turns_of (calls_of run)))
 
 one_farewell : (cs : List Call) → (farewell cs ≡ []) ⊎ (farewell cs ≡ front.Terminate ∷ [])
 one_farewell [] = inl refl
 one_farewell (Terminate ∷ cs) = inr refl
 one_farewell (_ ∷ cs) = one_farewell cs
+
+-- no message of a run is a password, so the first isn't one
+no_password : (ts : List Turn) (end : List FrontMessage) → (end ≡ []) ⊎ (end ≡ front.Terminate ∷ []) → (password : List ℕ) (more : List FrontMessage) → flat_map turn_messages ts ++ end ≡ front.Password password ∷ more → ⊥
+no_password [] end (inl none) password more e = cc
+no_password [] end (inr said) password more e = cc
+no_password (t ∷ ts) end ends password more e = by_request t.request e
+  where
+    by_request : (r : Request) → ((request_messages r ++ t.copies) ++ flat_map turn_messages ts) ++ end ≡ front.Password password ∷ more → ⊥
+    by_request (Query text) k = cc
+    by_request (Group []) k = cc
+    by_request (Group (step.Parse name text types ∷ steps)) k = cc
+    by_request (Group (step.Bind portal statement formats values result_formats ∷ steps)) k = cc
+    by_request (Group (step.Describe target name ∷ steps)) k = cc
+    by_request (Group (step.Execute portal max_rows ∷ steps)) k = cc
+    by_request (Group (step.Close target name ∷ steps)) k = cc
 
 -- what is handled of the messages of a run
 handled_first : (ts : List Turn) (end handled left : List FrontMessage) → (end ≡ []) ⊎ (end ≡ front.Terminate ∷ []) → flat_map turn_messages ts ++ end ≡ handled ++ left → AreFirstOf handled ts
@@ -101,23 +120,28 @@ handled_first ts end handled left (inr said) e = (left, ap (λ l. flat_map turn_
 abbrev Story : {C : Type 0} (p : PairView C) → Tied p → List Happening
 Story p t = story t.run t.heard
 
+-- all messages that the client sends behind its startup packet
+abbrev pub Messages : {C : Type 0} (p : PairView C) → Tied p → List FrontMessage
+Messages p t = all_messages p.client.settings t.heard t.run
+
+behind_story : Known → {C : Type 0} (p : PairView C) (t : Tied p) → messages_behind p.client.settings (messages_in (Story p t)) (calls_in (Story p t)) ≡ Messages p t
+behind_story k p t =
+    let told = k.story_of t.run t.heard in
+    ap (λ ms. messages_behind p.client.settings ms (calls_in (Story p t))) told.messages ∙ ap (messages_behind p.client.settings t.heard) told.calls ∙ all_messages_are p.client.settings t.heard t.run
+
 -- what the client has sent, in the messages of its run
-pub sent_messages : Known → {C : Type 0} (p : PairView C) (t : Tied p) → p.to_backend.sent ≡ greeting p.client.settings (calls_of t.run) ++ flat_map (spelling frontend) (run_messages t.run)
+pub sent_messages : Known → {C : Type 0} (p : PairView C) (t : Tied p) → p.to_backend.sent ≡ greeting p.client.settings (calls_of t.run) ++ flat_map (spelling frontend) (Messages p t)
 sent_messages k p t =
     let turns = k.turns t.run (arrived p.to_client) t.heard t.open_at_client p.settled p.to_backend.sent t.handed_back p.client t.client_run in
     let told = k.story_of t.run t.heard in
-    turns.sent_is ∙ ap (λ cs. greeting p.client.settings cs ++ flat_map (spelling frontend) (call_messages_of cs)) told.calls
-    ∙ ap (λ l. greeting p.client.settings (calls_of t.run) ++ flat_map (spelling frontend) l) (run_messages_are t.run)
-
-no_messages : (cs : List Call) → cs ≡ [] → call_messages_of cs ≡ []
-no_messages cs e = ap call_messages_of e
+    turns.sent_is ∙ ap (λ cs. greeting p.client.settings cs ++ flat_map (spelling frontend) (messages_behind p.client.settings (messages_in (Story p t)) (calls_in (Story p t)))) told.calls
+    ∙ ap (λ l. greeting p.client.settings (calls_of t.run) ++ flat_map (spelling frontend) l) (behind_story k p t)
 
 -- what a run sends has a spelling
-pub tied_spelled : Known → {C : Type 0} (p : PairView C) (t : Tied p) → AllByRecursion (HasSpelling frontend) (run_messages t.run)
+pub tied_spelled : Known → {C : Type 0} (p : PairView C) (t : Tied p) → AllByRecursion (HasSpelling frontend) (Messages p t)
 tied_spelled k p t =
-    let told = k.story_of t.run t.heard in
     let says = k.spelled t.run (arrived p.to_client) t.heard t.open_at_client p.settled p.to_backend.sent t.handed_back p.client t.client_run in
-    subst (AllByRecursion (HasSpelling frontend)) (ap call_messages_of told.calls ∙ run_messages_are t.run) says.messages
+    subst (AllByRecursion (HasSpelling frontend)) (behind_story k p t) says.messages
 
 pub tied_packet : Known → {C : Type 0} (p : PairView C) (t : Tied p) → (c : Call) (ds : List Call) → calls_of t.run ≡ c ∷ ds → IsPacket (opening p.client.settings)
 tied_packet k p t c ds e =
@@ -125,22 +149,46 @@ tied_packet k p t c ds e =
     let says = k.spelled t.run (arrived p.to_client) t.heard t.open_at_client p.settled p.to_backend.sent t.handed_back p.client t.client_run in
     says.packet c ds (told.calls ∙ e)
 
-pub tied_none : {C : Type 0} (p : PairView C) (t : Tied p) → calls_of t.run ≡ [] → run_messages t.run ≡ []
-tied_none p t e = sym (run_messages_are t.run) ∙ no_messages (calls_of t.run) e
+-- without a call nothing was heard
+none_heard : (hs : List Happening) → ((before : List Happening) (m : BackMessage) (later : List Happening) → hs ≡ before ++ Came m ∷ later → IsAfterItsCall before m) → calls_in hs ≡ [] → messages_in hs ≡ []
+none_heard [] after e = refl
+none_heard (Did c ∷ hs) after e = absurd cc
+none_heard (Came m ∷ hs) after e = absurd (after [] m hs refl).started
+
+-- nor sent
+pub tied_none : Known → {C : Type 0} (p : PairView C) (t : Tied p) → calls_of t.run ≡ [] → Messages p t ≡ []
+tied_none k p t e =
+    let told = k.story_of t.run t.heard in
+    let nothing : t.heard ≡ [] = sym (told.messages) ∙ none_heard (Story p t) t.client_run.expected.after (told.calls ∙ e) in
+    sym (all_messages_are p.client.settings t.heard t.run) ∙ ap (messages_behind p.client.settings t.heard) e ∙ ap (λ ms. messages_behind p.client.settings ms []) nothing
+
+-- the password that it has sent
+tied_password : Known → {C : Type 0} (p : PairView C) (t : Tied p) → SendsPassword p.client.settings t.heard (run_messages t.run)
+tied_password k p t =
+    let turns = k.turns t.run (arrived p.to_client) t.heard t.open_at_client p.settled p.to_backend.sent t.handed_back p.client t.client_run in
+    let told = k.story_of t.run t.heard in
+    record {
+      one = subst (λ ms. length (passwords p.client.settings ms) ≤ 1) told.messages turns.one_password;
+      first = subst (λ ms. passwords p.client.settings ms ≡ first_answer p.client.settings (without_asides ms)) told.messages turns.first_answered;
+      no_other = no_password (turns_made t.run) (farewell (calls_of t.run)) (one_farewell (calls_of t.run));
+    }
 
 -- what the backend has read of what the client has sent
 pub tied_reads : Known → {C : Type 0} (p : PairView C) (t : Tied p)
-    → IsUnread t.input ⊎ IsRead p.client.settings (run_messages t.run) t.input t.open_at_backend (waiting p.to_backend) p.to_backend.sent
+    → IsUnread t.input ⊎ IsRead p.client.settings (Messages p t) t.input t.open_at_backend (waiting p.to_backend) p.to_backend.sent
 tied_reads k p t =
-    reads k.one_front k.one_packet p.client.settings (calls_of t.run) (run_messages t.run) p.backend.limit (arrived p.to_backend) (waiting p.to_backend) p.to_backend.sent t.input t.open_at_backend
-    (tied_packet k p t) (tied_spelled k p t) (tied_none p t) t.handled.input (take-append-drop p.to_backend.reached p.to_backend.sent) (sent_messages k p t)
+    reads k.one_front k.one_packet p.client.settings (calls_of t.run) (Messages p t) p.backend.limit (arrived p.to_backend) (waiting p.to_backend) p.to_backend.sent t.input t.open_at_backend
+    (tied_packet k p t) (tied_spelled k p t) (tied_none k p t) t.handled.input (take-append-drop p.to_backend.reached p.to_backend.sent) (sent_messages k p t)
+
+-- The client was let in, and this is what it heard.
+abbrev pub Met : {C : Type 0} (p : PairView C) → Tied p → Type 0
+Met p t = HasMet p.backend.script p.client.settings (run_messages t.run) t.input t.open_at_backend (waiting p.to_backend) p.to_backend.sent t.heard p.backend.log
 
 -- what the two ends have of each other
-pub tied_meets : Known → {C : Type 0} (p : PairView C) (t : Tied p)
-    → IsSilent t.heard p.backend.log ⊎ HasMet p.backend.script p.client.settings (run_messages t.run) t.input t.open_at_backend (waiting p.to_backend) p.to_backend.sent t.heard p.backend.log
+pub tied_meets : Known → {C : Type 0} (p : PairView C) (t : Tied p) → IsSilent t.heard p.backend.log ⊎ Met p t
 tied_meets k p t =
     meets k.one_back p.backend.script p.client.settings (run_messages t.run) t.input t.open_at_backend (waiting p.to_backend) p.to_backend.sent t.heard p.backend.log
-    p.client.settings.limit (arrived p.to_client) t.open_at_client (waiting p.to_client) (tied_reads k p t)
+    p.client.settings.limit (arrived p.to_client) t.open_at_client (waiting p.to_client) (tied_password k p t) (tied_reads k p t)
     t.faultless t.client_run.stream (take-append-drop p.to_client.reached p.to_client.sent ∙ t.handled.sent_is) t.handled.spelled t.handled.log_is
 
 -- the settled groups, by what was heard
@@ -158,18 +206,21 @@ none_settled [] [] (s ∷ ss) e h = absurd h
 none_settled (r ∷ rs) [] (s ∷ ss) e h = absurd h
 none_settled rs (x ∷ xs) ss e h = absurd cc
 
--- the messages that the backend has handled, as the first of the turns'
-pub met_handled : {C : Type 0} (p : PairView C) (t : Tied p) → HasMet p.backend.script p.client.settings (run_messages t.run) t.input t.open_at_backend (waiting p.to_backend) p.to_backend.sent t.heard p.backend.log → AreFirstOf t.input.messages (turns_made t.run)
-met_handled p t m = handled_first (turns_made t.run) (farewell (calls_of t.run)) t.input.messages m.read.left (one_farewell (calls_of t.run)) m.read.messages
+-- the messages that the backend has handled behind the password, as the first of the turns'
+pub met_handled : {C : Type 0} (p : PairView C) (t : Tied p) (m : Met p t) → AreFirstOf m.since (turns_made t.run)
+met_handled p t m = handled_first (turns_made t.run) (farewell (calls_of t.run)) m.since m.read.left (one_farewell (calls_of t.run)) m.behind
 
-met_begins : Known → {C : Type 0} (p : PairView C) (t : Tied p) → HasMet p.backend.script p.client.settings (run_messages t.run) t.input t.open_at_backend (waiting p.to_backend) p.to_backend.sent t.heard p.backend.log → Begins (map settled_as p.settled) (map answered_as p.backend.log)
+met_begins : Known → {C : Type 0} (p : PairView C) (t : Tied p) → Met p t → Begins (map settled_as p.settled) (map answered_as p.backend.log)
 met_begins k p t m =
     let answers = p.backend.script.answers in
-    let ms = t.input.messages in
-    let heard : Begins (segments t.heard).whole (welcome p.backend.script ∷ (segments (replies answers ms)).whole) =
-    subst (λ (s : Segments). Begins (segments t.heard).whole s.whole) (k.welcome_is_segment p.backend.script (replies answers ms)) (segments_grow t.heard (welcome p.backend.script ++ replies answers ms) m.heard_is) in
+    let ms = m.since in
+    let user = user_of p.client.settings in
+    let first : List BackMessage = asked p.backend.script.auth user ++ welcome p.backend.script in
+    let heard : Begins (segments t.heard).whole (first ∷ (segments (replies answers ms)).whole) =
+    subst (λ (s : Segments). Begins (segments t.heard).whole s.whole) (k.welcome_is_segment p.backend.script user (replies answers ms))
+    (segments_grow t.heard (asked p.backend.script.auth user ++ (welcome p.backend.script ++ replies answers ms)) m.heard_is) in
     rw (m.log_is) (settled_first k.one_outcome (map (λ (x : Turn). x.request) (turns_made t.run)) (drop 1 (segments t.heard).whole) p.settled (log_of answers ms) (segments (replies answers ms)).whole
-    (settled_by_heard k p t) (k.segments_fit_log answers ms) (without_first (segments t.heard).whole (segments (replies answers ms)).whole (welcome p.backend.script) heard)
+    (settled_by_heard k p t) (k.segments_fit_log answers ms) (without_first (segments t.heard).whole (segments (replies answers ms)).whole first heard)
     (k.turns_logged answers (turns_made t.run) ms t.in_turn (met_handled p t m)))
 
 pub settled_begin : Known → {C : Type 0} (p : PairView C) (t : Tied p) → Begins (map settled_as p.settled) (map answered_as p.backend.log)
@@ -184,9 +235,32 @@ handed_of ts = map (λ (x : Turn). backend.chunks_of x.copies) ts
 pub all_taken : Known → {C : Type 0} (p : PairView C) (t : Tied p) → TookEach p.backend.log p.handed
 all_taken k p t = elim (tied_meets k p t) [
   | inl s ↦ rw (s.no_log) tt
-  | inr m ↦ rw (m.log_is, t.handed_are) (took_each (log_of p.backend.script.answers t.input.messages) (handed_of (turns_made t.run))
-      (k.turns_loaded p.backend.script.answers (turns_made t.run) t.input.messages t.in_turn t.copied (met_handled p t m)))
+  | inr m ↦ rw (m.log_is, t.handed_are) (took_each (log_of p.backend.script.answers m.since) (handed_of (turns_made t.run))
+      (k.turns_loaded p.backend.script.answers (turns_made t.run) m.since t.in_turn t.copied (met_handled p t m)))
 ]
+
+log_first : (ls : List Logged) (rs : List Request) → Begins (map (λ (l : Logged). l.request) ls) rs → map (λ (l : Logged). l.request) ls ≡ take (length ls) rs
+log_first ls rs h = begins_take (map (λ (l : Logged). l.request) ls) rs h ∙ ap (λ n. take n rs) (length-map ls (λ (l : Logged). l.request))
+
+-- the log's requests are the first that were made
+logged_first : Known → {C : Type 0} (p : PairView C) (t : Tied p) → requests_logged p.backend.log ≡ take (length p.backend.log) (requests_of (turns_made t.run))
+logged_first k p t = elim (tied_meets k p t) [
+  | inl s ↦ rw (s.no_log) refl
+  | inr m ↦ rw (m.log_is) (log_first (log_of p.backend.script.answers m.since) (requests_of (turns_made t.run))
+      (k.turns_logged p.backend.script.answers (turns_made t.run) m.since t.in_turn (met_handled p t m)))
+]
+
+pub all_asked : Known → {C : Type 0} (p : PairView C) (t : Tied p) → IsAsked p
+all_asked k p t = record {
+  run = t.run;
+  heard = t.heard;
+  rest = t.open_at_client;
+  handed_back = t.handed_back;
+  client_run = t.client_run;
+  places = t.places_are;
+  logged = logged_first k p t;
+  handed = t.handed_are;
+}
 
 -- at most one request isn't settled
 pub one_unsettled : Known → {C : Type 0} (p : PairView C) (t : Tied p) → length p.handed ≤ suc (length p.settled)

@@ -96,6 +96,7 @@ keeps_step k p answer b sent step t = by_answer k p t answer b sent step.call (s
 pub steps_in : {C : Type 0} (b : BackPhase) (p : PairView C) (result : Applied) (q : PairView C) → is_closed_backend b ≡ false → OneStep p result q → StepsIn b p result q
 steps_in back.Closed p result q going h = absurd cc
 steps_in back.First p result q going h = h
+steps_in back.Password p result q going h = h
 steps_in back.Ready p result q going h = h
 steps_in back.Grouping p result q going h = h
 steps_in back.CopyIn p result q going h = h

@@ -39,6 +39,7 @@ pub kept_headline : {C : Type 0} (p : PairView C) → (Tied p → Headline p) �
 kept_headline p holds some = record {
   beginning = ∥∥₁_elim some (groups_prop _ _) (λ t. (holds t).beginning);
   copied = ∥∥₁_elim some (each_prop _ _) (λ t. (holds t).copied);
+  asked = ∥∥₁_elim some ∥∥₁_prop (λ t. (holds t).asked);
   one_at_most = ∥∥₁_elim some le_prop (λ t. (holds t).one_at_most);
   ready = λ a b c. record {
     phase = ∥∥₁_elim some (phase_prop _ _) (λ t. ((holds t).ready a b c).phase);

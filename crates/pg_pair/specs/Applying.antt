@@ -196,11 +196,16 @@ pub record CarriesPiece {C : Type 0} (carries : C → Way → List ℕ → Resul
 abbrev pub reached_more : Stream → List ℕ → Stream
 reached_more s bytes = record s { reached = s.reached + length bytes }
 
--- Bytes reach the client: it is fed, and what it has settled is taken.
+-- Bytes reach the client: it is fed, what it puts out is sent to the backend, and what it has settled is taken.
 pub record Feeding {C : Type 0} (p : PairView C) (bytes : List ℕ) (result : Result Unit FeedFault) (q : PairView C) : Type 0 where
   pub fed : ClientView
-  pub feeds : Feeds p.client bytes result fed
-  pub rest : q ≡ record p { client = record fed { settled = [] }; to_client = reached_more p.to_client bytes; settled = p.settled ++ fed.settled }
+  pub feeds : Feeds p.client bytes result fed p.to_backend.sent q.to_backend.sent
+  pub rest : q ≡ record p {
+    client = record fed { settled = [] };
+    to_backend = record p.to_backend { sent = q.to_backend.sent };
+    to_client = reached_more p.to_client bytes;
+    settled = p.settled ++ fed.settled;
+  }
 
 -- The backend has stored a piece: it has handled nothing of it.
 pub record IsStored (old : BackendState) (bytes : List ℕ) (new : BackendState) : Type 0 where

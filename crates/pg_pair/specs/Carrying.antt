@@ -2,6 +2,12 @@
 use Rattle.std.specs.Prelude.{ℕ, ◌≡◌, ◌≤◌, List, length, take, Result, Ok, Err}
 use Rattle.pg_wire.specs.Link.{HasRisen}
 use Rattle.pg_pair.specs.declared.carry.CarryFault.{CarryFault}
+use Rattle.pg_pair.specs.declared.carry.Way.{Way}
+
+-- what the calls of a carrier may do: carry a piece along a way, with these bytes arriving or with a
+-- fault, and leave the carrier so
+abbrev pub Carrying : Type 0 → Type 1
+Carrying C = C → Way → List ℕ → Result (List ℕ) CarryFault → C → Type 0
 
 -- the greatest piece
 abbrev pub longest_piece : ℕ

@@ -1,6 +1,7 @@
 -- What the groups that the client has settled say of those that the backend has answered.
-use Rattle.std.specs.Prelude.{◌≡◌, ◌≤◌, suc, ℕ, true, false, List, ◌++◌, length, map, take}
+use Rattle.std.specs.Prelude.{◌≡◌, ◌≤◌, suc, ℕ, Bool, true, false, List, ◌++◌, length, map, take}
 use Rattle.std.specs.List.{flat_map}
+use Rattle.pg_wire.specs.declared.message.BackMessage.{BackMessage}
 use Rattle.pg_wire.specs.declared.message.FrontMessage.{FrontMessage}
 use Rattle.pg_wire.specs.declared.session.Outcome.{Outcome}
 use Rattle.pg_wire.specs.declared.session.Request.{Request}
@@ -9,14 +10,16 @@ use Rattle.pg_wire.specs.First.{packet}
 use Rattle.pg_wire.specs.Frontend.{frontend}
 use Rattle.pg_client.specs.declared.settled.Settled.{Settled}
 use Rattle.pg_client.specs.declared.phase.Phase.TheVariants as client_phase
+use Rattle.pg_client.specs.Session.{Run}
+use Rattle.pg_client.specs.Client.{IsRunOf}
 use Rattle.pg_client.specs.Client as client
 use Rattle.pg_backend.specs.declared.script.Logged.{Logged}
 use Rattle.pg_backend.specs.declared.backend.BackPhase.TheVariants as backend_phase
 use Rattle.pg_backend.specs.Backend.{HasHandled, is_spared}
 use Rattle.pg_backend.specs.Backend as backend
 use Rattle.pg_backend.specs.Input.{Input}
-use Rattle.pg_backend.specs.Turns.{AreCopies}
-use Rattle.pg_pair.specs.Copies.{TookEach}
+use Rattle.pg_backend.specs.Turns.{Turn, AreCopies}
+use Rattle.pg_pair.specs.Copies.{TookEach, turns_made, handed_for}
 use Rattle.pg_pair.specs.View.{arrived, PairView}
 
 -- a group as it was settled, and as it was answered
@@ -25,6 +28,28 @@ settled_as s = (s.request, s.outcome)
 
 abbrev pub answered_as : Logged → Request × Outcome
 answered_as l = (l.request, l.outcome)
+
+-- the requests of turns
+abbrev pub requests_of : List Turn → List Request
+requests_of ts = map (λ t. t.request) ts
+
+-- the requests of a log
+abbrev pub requests_logged : List Logged → List Request
+requests_logged ls = map (λ l. l.request) ls
+
+-- The client has accepted these calls in their places. The log's requests are the first of those
+-- that they made, and what was handed over is a list of chunks for each of those.
+pub record IsAsked {C : Type 0} (p : PairView C) : Type 0 where
+  pub run : Run
+  pub heard : List BackMessage
+  pub rest : List ℕ
+  pub handed_back : Bool
+  pub client_run : IsRunOf run (arrived p.to_client) heard rest
+      p.settled p.to_backend.sent handed_back p.client
+  pub places : map (λ c. c.1) run ≡ p.places
+  pub logged : requests_logged p.backend.log
+      ≡ take (length p.backend.log) (requests_of (turns_made run))
+  pub handed : p.handed ≡ handed_for (turns_made run)
 
 -- the bytes of an input
 abbrev pub input_bytes : Input → List ℕ
@@ -50,6 +75,8 @@ pub record Headline {C : Type 0} (p : PairView C) : Type 0 where
   -- the chunks that the backend took for a request begin those that were handed over for it, and are all of them where its
   -- outcome has a copy in
   pub copied : TookEach p.backend.log p.handed
+  -- entry k of the log and list k of what was handed over are of one request, also where it isn't settled
+  pub asked : ∥ IsAsked p ∥₁
   -- at most one request isn't settled
   pub one_at_most : length p.handed ≤ suc (length p.settled)
   -- where the client stands ready the backend does too, unless the way to it is broken or a step of it was refused memory

@@ -7,5 +7,7 @@ pub mod Standing
 pub mod Headline
 pub mod Beginning
 pub mod Applying
+-- laws of these
+pub mod Deliveries
 -- Words of private functions, which no public contract cites.
 pub mod Private

@@ -109,8 +109,8 @@ impl<C: Carry> Pair<C> {
     }
 
     /// Applies an event. A call that the client refuses is answered Refused; a delivery goes in pieces of at most 4,096 bytes,
-    /// and ends where the carrier gives fewer than its piece or where the end answers a fault. Steps, deliveries and breaks for a
-    /// closed end or a broken way do nothing.
+    /// and ends where the carrier gives fewer than its piece or where the end answers a fault. What the client puts out as it is fed
+    /// is sent to the backend. Steps, deliveries and breaks for a closed end or a broken way do nothing.
     ///
     /// P1 Memory: memory for what the pair keeps of a call was refused. Both ways break as by the two break events, the call is
     /// dropped, and what was settled stays.
@@ -244,5 +244,12 @@ impl<C: Carry> Pair<C> {
         ensures { result.now ≡ self.now.backend }
     {
         &self.backend
+    }
+
+    /// What carries the bytes.
+    pub fn carrier(&self) -> &C
+        ensures { result.now ≡ self.now.carrier }
+    {
+        &self.carrier
     }
 }

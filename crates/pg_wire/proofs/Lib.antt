@@ -5,6 +5,7 @@ pub mod Bodies
 pub mod BackMessages
 pub mod Rests
 pub mod Streams
+pub mod Passwords
 pub mod Rows
 pub mod FrontMessages
 pub mod Segments

@@ -1,8 +1,10 @@
 -- Worked examples, computed from the definitions alone but where a rest has to be judged.
-use Rattle.std.proofs.Common.{◌≡◌, true, List, [], ◌∷◌, ◌++◌, Option, Some, None, refl, sym, ap, subst, ◌∙◌, append_assoc, arith, lit≤, inl, inr}
+use Rattle.std.proofs.Common.{◌≡◌, true, List, [], ◌∷◌, ◌++◌, codes, take, Option, Some, None, refl, sym, ap, subst, ◌∙◌, append_assoc, arith, lit≤, inl, inr}
 use Rattle.std.specs.Prelude.{pos, negsuc}
 use Rattle.std.specs.List.{flat_map}
 use Rattle.std.proofs.lemmas.Int.{ints}
+use Rattle.hex.specs.Hex.{encode_with}
+use Rattle.md5.specs.Md5.{block_words, rounds, compress, hash_after, digest_bytes, md5}
 use Rattle.pg_wire.specs.declared.fault.EncodeFault.TheVariants as faults
 use Rattle.pg_wire.specs.declared.fault.WireFault.TheVariants as wire
 use Rattle.pg_wire.specs.declared.message.Status.TheVariants.{Idle, InBlock}
@@ -21,13 +23,14 @@ use Rattle.pg_wire.specs.declared.session.Step.TheVariants as step
 use Rattle.pg_wire.specs.Segment.{Fields, Fits, Begins, Reads, Answers, IsDone, IsCutOff, Asked, Results, Steps, is_result, is_answer, messages_of, without_asides, segments}
 use Rattle.pg_wire.specs.declared.backend.kind.BackKind.TheVariants as kinds
 use Rattle.pg_wire.specs.declared.message.BackMessage.TheVariants.{AuthOk, AuthOther, Ready, RowDescription, DataRow, CommandComplete, ErrorResponse}
-use Rattle.pg_wire.specs.declared.message.FrontMessage.TheVariants.{Query, Bind}
+use Rattle.pg_wire.specs.declared.message.FrontMessage.TheVariants.{Query, Bind, Password}
 use Rattle.pg_wire.specs.declared.message.First.TheVariants as first
 use Rattle.pg_wire.specs.Direction.{spelling, encode_fault}
 use Rattle.pg_wire.specs.Frontend.{frontend}
 use Rattle.pg_wire.specs.First.{packet, packet_fault, IsBeginning, IsFaultyPacket}
 use Rattle.pg_wire.specs.Backend.{backend}
 use Rattle.pg_wire.specs.Stream.{IsStream, IsFaulty, IsOpen}
+use Rattle.pg_wire.specs.Password.{hex_digest, md5_text}
 use Rattle.pg_wire.specs.Private.BackReader.{back_message_of}
 use Rattle.pg_wire.specs.declared.first.kind.FirstKind.TheVariants as packets
 use Rattle.pg_wire.specs.Private.Reader.{counted_at, times_at, value_at}
@@ -158,6 +161,20 @@ ssl_with_content : IsFaultyPacket (0 ∷ 0 ∷ 0 ∷ 9 ∷ 4 ∷ 0xD2 ∷ 0x16 �
 ssl_with_content = packet_bad (0 ∷ 0 ∷ 0 ∷ 9 ∷ 4 ∷ 0xD2 ∷ 0x16 ∷ 0x2F ∷ 0 ∷ []) packets.Ssl 9 1
     (record { head = record { there = omega arith; length_is = refl }; code = record { there = omega arith; code_is = refl }; known = (first.Ssl, refl); not_short = omega arith; not_long = omega arith; there = omega arith })
     refl refl
+
+-- ---- the answer to an MD5 question
+
+-- the digits that are hashed again with the salt
+user_c_password_ab : hex_digest (codes "ab" ++ codes "c") ≡ codes "900150983cd24fb0d6963f7d28e17f72"
+unfolding block_words rounds compress hash_after digest_bytes md5 encode_with
+user_c_password_ab = refl
+
+pub salted : md5_text (codes "c") (codes "ab") (1 ∷ 2 ∷ 3 ∷ 4 ∷ []) ≡ codes "md596838e208aad1ff8fc396693d03e488d"
+unfolding block_words rounds compress hash_after digest_bytes md5 encode_with md5_text
+salted = refl
+
+salted_message : take 5 (spelling frontend (Password (md5_text (codes "c") (codes "ab") (1 ∷ 2 ∷ 3 ∷ 4 ∷ [])))) ≡ 0x70 ∷ 0 ∷ 0 ∷ 0 ∷ 0x28 ∷ []
+salted_message = rw salted refl
 
 -- ---- segments
 

@@ -5,12 +5,15 @@ use Rattle.pg_wire.specs.declared.fault.WireFault.{WireFault}
 use Rattle.pg_wire.specs.declared.message.First.{First}
 use Rattle.pg_wire.specs.declared.message.BackMessage.{BackMessage}
 use Rattle.pg_wire.specs.declared.message.BackMessage.TheVariants.{Ready}
+use Rattle.pg_wire.specs.declared.message.FrontMessage.TheVariants.{Password}
 use Rattle.pg_wire.specs.declared.message.Status.{Status}
 use Rattle.pg_wire.specs.declared.session.Outcome.{Outcome}
 use Rattle.pg_wire.specs.declared.session.Request.{Request}
 use Rattle.pg_wire.specs.Segment.{Fits, Segments, segments, status_of}
 use Rattle.pg_wire.specs.First.{packet, IsPacket, EndsIn, IsBeginning, IsFaultyPacket, BeginsNoPacket}
 use Rattle.pg_wire.specs.Direction.{Direction, spelling, HasSpelling}
+use Rattle.pg_wire.specs.Frontend.{frontend}
+use Rattle.pg_wire.specs.Password.{md5_text}
 use Rattle.pg_wire.specs.Stream.{IsWithin, IsStream, IsFaulty, BeginsNoMessage}
 
 -- No two messages have the same tag and the same body.
@@ -96,3 +99,9 @@ pub record AreSegments (ms : List BackMessage) (s : Segments) : Type 0 where
 -- The segments of a session are its messages, cut after each ReadyForQuery, and there is one such cut.
 abbrev pub OneCut : Type 0
 OneCut = ((ms : List BackMessage) → AreSegments ms (segments ms)) × ((ms : List BackMessage) (s t : Segments) → AreSegments ms s → AreSegments ms t → s ≡ t)
+
+-- ---- passwords
+
+-- The answer to an AuthMd5 has a spelling.
+abbrev pub AnswerIsSpelled : Type 0
+AnswerIsSpelled = (user password salt : List ℕ) → HasSpelling frontend (Password (md5_text user password salt))

@@ -10,6 +10,7 @@ pub mod Decoder
 pub mod First
 pub mod FirstDecoder
 pub mod Laws
+pub mod Password
 pub mod Segment
 pub mod Link
 -- Words of private functions, which no public contract cites.

@@ -1,6 +1,6 @@
 //! Laws of the formats: each function does nothing, and its contract is the law.
 
-ghost use Rattle.pg_wire.specs.Laws.{OneSpelling, OneReading, FaultyBeginsNone, OneFault, RoundTrip, OnePacket, OneBeginning, FaultyBeginsNoPacket, OnePacketFault, PacketsAgain, OneOutcome, OneCut};
+ghost use Rattle.pg_wire.specs.Laws.{OneSpelling, OneReading, FaultyBeginsNone, OneFault, RoundTrip, OnePacket, OneBeginning, FaultyBeginsNoPacket, OnePacketFault, PacketsAgain, OneOutcome, OneCut, AnswerIsSpelled};
 
 use crate::direction::Message;
 
@@ -68,4 +68,9 @@ pub fn one_outcome()
 /// The segments of a session are its messages, cut after each ReadyForQuery, and there is one such cut.
 pub fn one_cut()
     ensures { OneCut }
+{}
+
+/// The answer to an AuthMd5 has a spelling as a Password, whatever the user, the password and the salt are.
+pub fn answer_is_spelled()
+    ensures { AnswerIsSpelled }
 {}

@@ -13,6 +13,8 @@ use thiserror::Error;
 pub enum Act {
     /// The parameters of the startup packet, the user first.
     Start(Seq<(Seq<u8>, Seq<u8>)>),
+    /// The password that the client has, behind its start. It is sent where the server asks for it, not by a call.
+    Password(Seq<u8>),
     Query(Seq<u8>),
     Step(Step),
     /// The group of the steps before it.
@@ -177,6 +179,7 @@ impl Act {
         let (name, rest) = word(line);
         match name {
             "start" => Ok(Act::Start(parameters_of(alloc, rest)?)),
+            "password" => Ok(Act::Password(text_of(alloc, rest)?)),
             "query" => Ok(Act::Query(text_of(alloc, rest)?)),
             "parse" => Ok(Act::Step(parse_of(alloc, rest)?)),
             "bind" => Ok(Act::Step(bind_of(alloc, rest)?)),

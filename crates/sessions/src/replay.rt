@@ -1,6 +1,7 @@
 //! A session made again with a client.
 
-ghost use Rattle.std.specs.Prelude.{◌≡◌, IfOk};
+ghost use Rattle.std.specs.Prelude.{◌≡◌, IfOk, option_copied};
+ghost use Rattle.sessions.specs.Acts.{password_of};
 
 use crate::act::Act;
 use anyhow::{Result, bail};
@@ -25,6 +26,8 @@ pub enum Cut {
 pub struct Ending {
     pub settled: Vec<Settled>,
     pub loss: Loss,
+    /// Why the client wasn't let in.
+    pub refusal: Option<FeedFault>,
 }
 
 // A client, and what came of it so far.
@@ -36,33 +39,7 @@ struct Running {
     /// What the client put out since it was last compared.
     out: Vec<u8>,
     settled: Vec<Settled>,
-}
-
-// Bytes that come behind a Terminate are refused.
-fn feed_piece(client: &mut Client, piece: &[u8], out: &mut Vec<u8>) -> Result<()> {
-    let ended = client.phase() == Phase::Closed(Cause::Terminated);
-    match client.feed(piece, out) {
-        Err(FeedFault::Closed) if ended => Ok(()),
-        Ok(()) if ended => bail!("a closed client takes bytes"),
-        other => Ok(other?),
-    }
-}
-
-fn feed(client: &mut Client, bytes: &[u8], cut: Cut, out: &mut Vec<u8>) -> Result<()> {
-    match cut {
-        Cut::Nowhere => feed_piece(client, bytes, out)?,
-        Cut::Everywhere => {
-            for i in 0..bytes.len() {
-                feed_piece(client, &bytes[i..i + 1], out)?;
-            }
-        }
-        Cut::At(place) => {
-            let (front, back) = bytes.split_at(place.min(bytes.len()));
-            feed_piece(client, front, out)?;
-            feed_piece(client, back, out)?;
-        }
-    }
-    Ok(())
+    refusal: Option<FeedFault>,
 }
 
 // What a `SHOW` showed has to be the parameter that the client knows.
@@ -102,7 +79,39 @@ impl Running {
             steps: Vec::new(alloc),
             out: Vec::new(alloc),
             settled: Vec::new(alloc),
+            refusal: None,
         }
+    }
+
+    // Notes why the client isn't let in. Bytes that come behind that, or behind a Terminate, are refused.
+    fn feed_piece(&mut self, piece: &[u8]) -> Result<()> {
+        let closed = matches!(self.client.phase(), Phase::Closed(_));
+        match self.client.feed(piece, &mut self.out) {
+            Err(FeedFault::Closed) if closed => {}
+            Ok(()) if closed => bail!("a closed client takes bytes"),
+            Err(fault @ (FeedFault::StartupError(_) | FeedFault::UnsupportedAuth(_))) => {
+                self.refusal = Some(fault);
+            }
+            other => other?,
+        }
+        Ok(())
+    }
+
+    fn feed(&mut self, bytes: &[u8], cut: Cut) -> Result<()> {
+        match cut {
+            Cut::Nowhere => self.feed_piece(bytes)?,
+            Cut::Everywhere => {
+                for i in 0..bytes.len() {
+                    self.feed_piece(&bytes[i..i + 1])?;
+                }
+            }
+            Cut::At(place) => {
+                let (front, back) = bytes.split_at(place.min(bytes.len()));
+                self.feed_piece(front)?;
+                self.feed_piece(back)?;
+            }
+        }
+        Ok(())
     }
 
     fn make(&mut self, alloc: Global, act: &Act, cut: Cut) -> Result<()> {
@@ -114,6 +123,7 @@ impl Running {
         } = self;
         match act {
             Act::Start(_) => client.start(out)?,
+            Act::Password(_) => {}
             Act::Query(text) => request(client, Request::Query(text.clone()?), out)?,
             Act::Step(step) => steps.push(step.clone()?)?,
             Act::Sync => {
@@ -130,7 +140,7 @@ impl Running {
                 }
                 out.clear();
             }
-            Act::Bytes(bytes) => feed(client, bytes.as_slice(), cut, out)?,
+            Act::Bytes(bytes) => self.feed(bytes.as_slice(), cut)?,
         }
         Ok(())
     }
@@ -148,27 +158,48 @@ impl Running {
         Ok(())
     }
 
-    fn end(self) -> Result<Ending> {
-        let Running {
-            mut client,
-            steps,
-            out,
-            settled,
-        } = self;
-        if client.phase() != Phase::Closed(Cause::Terminated) {
-            bail!("the session ends in {:?}", client.phase());
+    // The session has to end by its Terminate, or where the client isn't let in, and leave nothing over.
+    fn check_end(&self) -> Result<()> {
+        if self.refusal.is_none() && self.client.phase() != Phase::Closed(Cause::Terminated) {
+            bail!("the session ends in {:?}", self.client.phase());
         }
-        if !steps.is_empty() || !out.is_empty() {
+        if !self.steps.is_empty() || !self.out.is_empty() {
             bail!("steps or bytes are left over");
         }
+        Ok(())
+    }
+
+    fn end(self) -> Result<Ending> {
+        self.check_end()?;
+        let Running {
+            mut client,
+            settled,
+            refusal,
+            ..
+        } = self;
         let loss = client.lost();
-        Ok(Ending { settled, loss })
+        Ok(Ending {
+            settled,
+            loss,
+            refusal,
+        })
+    }
+}
+
+// The password that the client has, if it has one.
+fn password_of(acts: &[Act]) -> Option<&Seq<u8>>
+    ensures { option_copied result ≡ password_of acts.now }
+{
+    match acts {
+        [_, Act::Password(password), ..] => Some(password),
+        _ => None,
     }
 }
 
 // The settings that a startup packet's parameters say: the user, maybe the database, and others.
 fn settings_of(alloc: Global, acts: &[Act]) -> Result<Settings>
-    ensures { IfOk result (λ settings. settings.limit ≡ 65536) }
+    ensures limit { IfOk result (λ settings. settings.limit ≡ 65536) }
+    ensures password { IfOk result (λ settings. settings.password ≡ password_of acts.now) }
 {
     let Some(Act::Start(parameters)) = acts.first() else {
         bail!("a session begins with its start");
@@ -186,10 +217,15 @@ fn settings_of(alloc: Global, acts: &[Act]) -> Result<Settings>
     let Some(user) = user else {
         bail!("a startup names the user");
     };
+    let password = match password_of(acts) {
+        Some(password) => Some(password.clone()?),
+        None => None,
+    };
     Ok(Settings {
         user,
         database,
         pairs: Seq::new(pairs),
+        password,
         limit: 65_536,
     })
 }

@@ -1,7 +1,7 @@
 //! A settled group in words: a line for each message of its whole results or answers, and what is known beside them.
 
 use crate::replay::Ending;
-use pg_client::Settled;
+use pg_client::{FeedFault, Settled};
 use pg_wire::{Aside, Column, CopyHead, ExecEnd, Fields, Outcome, Part, Seq, Status, Values};
 use std::io;
 use std::io::Write;
@@ -196,8 +196,13 @@ pub fn write_words(settled: &Settled, out: &mut impl Write) -> io::Result<()> {
     })
 }
 
-/// Writes whether a request was left unsettled.
+/// Writes why the client wasn't let in, if so, and whether a request was left unsettled.
 pub fn write_ending(ending: &Ending, out: &mut impl Write) -> io::Result<()> {
+    match &ending.refusal {
+        Some(FeedFault::StartupError(fields)) => write_fields(b"refused", fields, out)?,
+        Some(fault) => writeln!(out, "refused {fault}")?,
+        None => {}
+    }
     if ending.loss.unsettled.is_some() {
         out.write_all(b"unsettled")?;
         if ending.loss.seen_error {

@@ -1,8 +1,12 @@
+mod password;
+mod places;
 mod psql;
 
-use crate::text;
-use pg_backend::{Answer, Auth, BackPhase, Backend, BackendFault, Script, ScriptFault, ScriptPart};
-use pg_wire::{Seq, Status, WireFault};
+use crate::values::text;
+use pg_backend::{
+    Answer, Auth, BackPhase, Backend, BackendFault, Load, Script, ScriptFault, ScriptPart,
+};
+use pg_wire::{CopyHead, Seq, Status, WireFault};
 use std::alloc::{AllocError, Global};
 use std::process::Abort;
 use std::test::Fail;
@@ -20,6 +24,16 @@ fn answer(alloc: Global, part: ScriptPart) -> Result<Answer, AllocError> {
         error: None,
         status: Status::Idle,
     })
+}
+
+/// A copy from the client of two rows with a column, which is taken.
+fn copy_in(alloc: Global) -> Result<ScriptPart, AllocError> {
+    let head = CopyHead {
+        binary: false,
+        formats: Seq::from_slice(alloc, &[0])?,
+    };
+    let load = Load::Accept(text(alloc, b"COPY 2")?);
+    Ok(ScriptPart::CopyIn { head, load })
 }
 
 /// A script without parameters, key and answers.

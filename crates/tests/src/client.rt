@@ -1,6 +1,7 @@
 mod calls;
 mod copies;
 mod faults;
+mod passwords;
 
 use pg_client::{Cause, Client, Loss, Phase, Settings, Settled};
 use pg_wire::{Aside, Outcome, Part, Request, Seq, Status, Step};
@@ -94,6 +95,7 @@ fn fresh(alloc: Global) -> Result<Client, AllocError> {
         user: Seq::from_slice(alloc, b"u")?,
         database: None,
         pairs: Seq::new(Vec::new(alloc)),
+        password: None,
         limit: 65_536,
     };
     Ok(Client::new(alloc, settings))

@@ -1,4 +1,4 @@
-//! Tests of this repository's libraries, by their public interface alone.
+//! Tests of this repository's libraries, by their public interface alone, and the values that tests are written with.
 //!
 //! They stand in a crate of their own, so that no library is proved once more for the sake of its tests.
 #![tactic(auto)]
@@ -9,12 +9,8 @@ mod backend;
 mod client;
 #[cfg(test)]
 mod copy;
-mod data;
-#[cfg(test)]
-mod pipe;
 #[cfg(test)]
 mod seq;
+pub mod values;
 #[cfg(test)]
 mod wire;
-
-pub use data::text;

@@ -1,6 +1,7 @@
 mod first;
 mod frontend;
 mod link;
+mod password;
 
 use pg_wire::{
     BackDecoder, BackMessage, Column, EncodeFault, FrontMessage, Seq, Status, WireFault, backend,
@@ -170,4 +171,5 @@ fn the_laws_are_called() {
     laws::packets_again();
     laws::one_outcome();
     laws::one_cut();
+    laws::answer_is_spelled();
 }

@@ -2,10 +2,11 @@
 
 ghost use Rattle.std.specs.Prelude.{◌≡◌, IfOk};
 ghost use Rattle.pg_backend.specs.Check.{IsChecked};
+ghost use Rattle.pg_wire.specs.Direction.{IsLimit};
 
 use pg_backend::{Answer, Auth, Load, Script, ScriptPart};
 use pg_client::Settings;
-use pg_pair::{Carry, Pair};
+use pg_pair::{Carry, Direct, Pair};
 use pg_wire::{
     Aside, Column, CopyHead, ErrorField, ExecEnd, Fields, Request, Seq, Status, Step, Target,
     Values,
@@ -22,18 +23,20 @@ pub enum Reply {
     Failing,
     // A command with a notice before it.
     Told,
+    // A command.
+    Command,
     // A command within a transaction.
     InBlock,
     // A command whose tag is longer than the client takes.
     Long,
     // A copy from the client that is taken.
     Accepting,
-    // A copy from the client that is refused with its first chunk.
-    Refusing,
+    // A copy from the client that is refused with the chunk of this number.
+    Refusing(u32),
     // An answer to each step of a group.
     Steps,
-    // An answer to the first step of a group, and an error.
-    FailingStep,
+    // An answer to the first step of a group, and an error, in this status.
+    FailingStep(Status),
 }
 
 pub fn text(alloc: Global, bytes: &[u8]) -> Result<Seq<u8>, AllocError> {
@@ -74,6 +77,27 @@ fn execute(alloc: Global) -> Result<Step, AllocError> {
         portal: text(alloc, b"p")?,
         max_rows: 0,
     })
+}
+
+// A query without parameters is prepared, bound and run, and nothing has a name.
+pub fn unnamed_group(alloc: Global) -> Result<Request, AllocError> {
+    let parse = Step::Parse {
+        name: text(alloc, b"")?,
+        text: text(alloc, b"SELECT")?,
+        types: Seq::new(Vec::new(alloc)),
+    };
+    let bind = Step::Bind {
+        portal: text(alloc, b"")?,
+        statement: text(alloc, b"")?,
+        formats: Seq::new(Vec::new(alloc)),
+        values: Seq::new(Vec::new(alloc)),
+        result_formats: Seq::new(Vec::new(alloc)),
+    };
+    let execute = Step::Execute {
+        portal: text(alloc, b"")?,
+        max_rows: 0,
+    };
+    Ok(Request::Group(Seq::new(vec![in alloc; parse, bind, execute]?)))
 }
 
 // A query with one parameter is prepared, bound, described and run.
@@ -125,14 +149,15 @@ fn long(alloc: Global) -> Result<ScriptPart, AllocError> {
     Ok(ScriptPart::Command(Seq::new(vec![in alloc; b'A'; 70_000]?)))
 }
 
-fn head(alloc: Global) -> Result<CopyHead, AllocError> {
+// One column, in text.
+pub fn head(alloc: Global) -> Result<CopyHead, AllocError> {
     Ok(CopyHead {
         binary: false,
         formats: Seq::new(vec![in alloc; 0]?),
     })
 }
 
-fn field(alloc: Global, code: u8, value: &[u8]) -> Result<ErrorField, AllocError> {
+pub fn field(alloc: Global, code: u8, value: &[u8]) -> Result<ErrorField, AllocError> {
     Ok(ErrorField {
         code,
         value: text(alloc, value)?,
@@ -144,11 +169,17 @@ pub fn fields(alloc: Global, message: &[u8]) -> Result<Fields, AllocError> {
     Ok(Seq::new(vec![in alloc; field(alloc, b'M', message)?]?))
 }
 
+// Fields of an error.
+pub fn failure(alloc: Global) -> Result<Fields, AllocError> {
+    let code = field(alloc, b'C', b"XX000")?;
+    Ok(Seq::new(vec![in alloc; code, field(alloc, b'M', b"bad")?]?))
+}
+
 fn load(alloc: Global, reply: Reply) -> Result<Load, AllocError> {
     match reply {
-        Reply::Refusing => Ok(Load::Refuse {
-            after: 1,
-            fields: fields(alloc, b"no")?,
+        Reply::Refusing(after) => Ok(Load::Refuse {
+            after,
+            fields: failure(alloc)?,
         }),
         _ => Ok(Load::Accept(text(alloc, b"COPY 2")?)),
     }
@@ -165,10 +196,11 @@ fn first_part(alloc: Global, reply: Reply) -> Result<ScriptPart, AllocError> {
     match reply {
         Reply::Row => row(alloc),
         Reply::Failing | Reply::Told => command(alloc, b"A"),
+        Reply::Command => command(alloc, b"OK"),
         Reply::InBlock => command(alloc, b"B"),
         Reply::Long => long(alloc),
-        Reply::Accepting | Reply::Refusing => copy_in(alloc, reply),
-        Reply::Steps | Reply::FailingStep => Ok(ScriptPart::Parsed),
+        Reply::Accepting | Reply::Refusing(_) => copy_in(alloc, reply),
+        Reply::Steps | Reply::FailingStep(_) => Ok(ScriptPart::Parsed),
     }
 }
 
@@ -212,14 +244,15 @@ fn before(alloc: Global, reply: Reply) -> Result<Seq<Aside>, AllocError> {
 
 fn error(alloc: Global, reply: Reply) -> Result<Option<Fields>, AllocError> {
     match reply {
-        Reply::Failing | Reply::FailingStep => Ok(Some(fields(alloc, b"bad")?)),
+        Reply::Failing | Reply::FailingStep(_) => Ok(Some(failure(alloc)?)),
         _ => Ok(None),
     }
 }
 
 fn status(reply: Reply) -> Status {
     match reply {
-        Reply::Failing | Reply::FailingStep => Status::Failed,
+        Reply::Failing => Status::Failed,
+        Reply::FailingStep(status) => status,
         Reply::InBlock => Status::InBlock,
         _ => Status::Idle,
     }
@@ -242,10 +275,10 @@ fn answers(alloc: Global, replies: &[Reply]) -> Result<Vec<Answer>, AllocError> 
     Ok(answers)
 }
 
-// A script whose answers are these, in their order.
-fn script(alloc: Global, replies: &[Reply]) -> Result<Script, AllocError> {
+// A script that asks so, and whose answers are these, in their order.
+fn script(alloc: Global, auth: Auth, replies: &[Reply]) -> Result<Script, AllocError> {
     Ok(Script {
-        auth: Auth::Trust,
+        auth,
         pairs: Seq::new(Vec::new(alloc)),
         key: None,
         answers: Seq::new(answers(alloc, replies)?),
@@ -253,28 +286,44 @@ fn script(alloc: Global, replies: &[Reply]) -> Result<Script, AllocError> {
 }
 
 // Such a script, which can be played.
-fn checked(alloc: Global, replies: &[Reply]) -> Result<Script, Fail>
+pub fn checked(alloc: Global, auth: Auth, replies: &[Reply]) -> Result<Script, Fail>
     ensures { IfOk result IsChecked }
 {
-    let script = script(alloc, replies)?;
+    let script = script(alloc, auth, replies)?;
     script.check(alloc)?;
     Ok(script)
 }
 
-// A client of the user `u`.
-pub fn settings(alloc: Global) -> Result<Settings, AllocError>
+fn optional(alloc: Global, bytes: Option<&[u8]>) -> Result<Option<Seq<u8>>, AllocError> {
+    match bytes {
+        Some(bytes) => Ok(Some(text(alloc, bytes)?)),
+        None => Ok(None),
+    }
+}
+
+// A client of the user `u` that has this password, or none.
+pub fn settings(alloc: Global, password: Option<&[u8]>) -> Result<Settings, AllocError>
     ensures { IfOk result (λ s. s.limit ≡ 65536) }
 {
     Ok(Settings {
         user: text(alloc, b"u")?,
         database: None,
         pairs: Seq::new(Vec::new(alloc)),
+        password: optional(alloc, password)?,
         limit: 65_536,
     })
 }
 
-// A pair of that client and a backend with these answers.
+// A pair of that client, without a password, and a backend with these answers that asks for none.
 pub fn pair<C: Carry>(alloc: Global, replies: &[Reply], carrier: C) -> Result<Pair<C>, Fail> {
-    let script = checked(alloc, replies)?;
-    Ok(Pair::new(alloc, settings(alloc)?, script, carrier))
+    let script = checked(alloc, Auth::Trust, replies)?;
+    Ok(Pair::new(alloc, settings(alloc, None)?, script, carrier))
+}
+
+// A pair of a client with these settings and a backend that asks so and answers a row.
+pub fn asking_pair(alloc: Global, auth: Auth, settings: Settings) -> Result<Pair<Direct>, Fail>
+    requires { IsLimit settings.limit }
+{
+    let script = checked(alloc, auth, &[Reply::Row])?;
+    Ok(Pair::new(alloc, settings, script, Direct))
 }

@@ -82,7 +82,7 @@ fn client_lost(reached: usize, count: usize) -> [Claim<'static>; 5] {
         Claim::Reached(Way::ToClient, reached),
         Claim::Broken(false, true),
         Claim::Settled(count),
-        Claim::Alike,
+        Claim::Alike(&[Act::Start, Act::Query(ASKED)]),
         Claim::Stand(Phase::Closed(Cause::Lost), BackPhase::Ready),
     ]
 }

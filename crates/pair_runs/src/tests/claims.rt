@@ -25,9 +25,9 @@ pub enum Claim<'a> {
     Groups(&'a [Settled]),
     // The one group is settled with an error, or without one.
     Failed(bool),
-    // A client outside the pair settles the same of the same bytes.
-    Alike,
-    // These chunks were handed over for the one request, and the backend took these of them.
+    // A client outside the pair, with these calls, settles the same of the same bytes.
+    Alike(&'a [Act<'a>]),
+    // These chunks were handed over for the first request, and the backend took these of them; and each request was answered.
     Loaded(&'a [&'a [u8]], &'a [&'a [u8]]),
     // The client has said this of the break.
     Lost(Option<&'a Loss>),
@@ -96,9 +96,14 @@ fn took(log: &[Logged], wanted: &[&[u8]]) -> bool {
 
 fn handed(lists: &[Seq<Seq<u8>>], wanted: &[&[u8]]) -> bool {
     match lists.first() {
-        Some(chunks) => lists.len() == 1 && are(chunks.as_slice(), wanted),
+        Some(chunks) => are(chunks.as_slice(), wanted),
         None => false,
     }
+}
+
+fn is_loaded<C: Carry>(pair: &Pair<C>, all: &[&[u8]], taken: &[&[u8]]) -> bool {
+    let log = pair.backend().log();
+    pair.handed().len() == log.len() && handed(pair.handed(), all) && took(log, taken)
 }
 
 // Whether each of the acts is answered so.
@@ -116,7 +121,7 @@ fn answer<C: Carry>(
     Ok(true)
 }
 
-fn events(alloc: Global, acts: &[Act<'_>]) -> Result<Vec<Event>, AllocError> {
+pub fn events(alloc: Global, acts: &[Act<'_>]) -> Result<Vec<Event>, AllocError> {
     let mut events = Vec::new(alloc);
     for act in acts {
         events.push(event(alloc, *act)?)?;
@@ -138,10 +143,8 @@ fn holds<C: Carry>(alloc: Global, pair: &mut Pair<C>, claim: Claim<'_>) -> Resul
         Claim::Settled(count) => Ok(is_settled(pair, count)),
         Claim::Groups(groups) => Ok(gives(pair, groups)),
         Claim::Failed(fails) => Ok(is_failed(pair.settled(), fails)),
-        Claim::Alike => settles_alike(alloc, pair),
-        Claim::Loaded(all, taken) => Ok(
-            handed(pair.handed(), all) && took(pair.backend().log(), taken),
-        ),
+        Claim::Alike(calls) => settles_alike(alloc, pair, calls),
+        Claim::Loaded(all, taken) => Ok(is_loaded(pair, all, taken)),
         Claim::Lost(loss) => Ok(pair.loss() == loss),
         Claim::Answer(acts, wanted) => answer(alloc, pair, acts, wanted),
         Claim::Idle(acts) => answer(alloc, pair, acts, &Applied::Nothing),

@@ -1,6 +1,6 @@
 //! Groups of steps.
 
-use super::answers::{Reply, columns, fields, group, pair, rows, text};
+use super::answers::{Reply, columns, failure, group, pair, rows, text};
 use super::claims::Claim;
 use super::{Act, carried_out, judge};
 use pg_backend::BackPhase;
@@ -56,21 +56,24 @@ fn whole(alloc: Global) -> Result<Settled, AllocError> {
 // A group whose second step fails.
 fn broken_off(alloc: Global) -> Result<Settled, AllocError> {
     let parts = vec![in alloc; Part::Parsed]?;
-    let error = fields(alloc, b"bad")?;
+    let error = failure(alloc)?;
     settled(alloc, parts, Some(error), Status::Failed)
 }
 
-// Whether this alone is settled where the client asks for the group and is answered so, in deliveries of at most so many bytes.
+const ASKS: [Act<'static>; 2] = [Act::Start, Act::Group];
+
+// Whether this alone is settled where the client asks for the group and is answered so, in deliveries of at most so many bytes; and a
+// client outside the pair settles it, too.
 fn settles(alloc: Global, reply: Reply, cut: u32, wanted: &[Settled]) -> Result<bool, Fail> {
-    let acts = [Act::Start, Act::Group];
     let claims = [
         Claim::Groups(wanted),
+        Claim::Alike(&ASKS),
         Claim::Stand(Phase::Ready, BackPhase::Ready),
     ];
     judge(
         alloc,
         pair(alloc, &[reply], Direct)?,
-        carried_out(&acts, cut),
+        carried_out(&ASKS, cut),
         &claims,
     )
 }
@@ -87,6 +90,13 @@ fn a_group_settles_with_the_answers_to_its_steps(rt: HostRuntime) -> Result<(), 
 #[test]
 fn a_group_settles_with_the_error_of_a_step(rt: HostRuntime) -> Result<(), Fail> {
     let wanted = [broken_off(rt.alloc())?];
-    assert!(rt; settles(rt.alloc(), Reply::FailingStep, 4_096, &wanted)?);
+    assert!(rt;
+        settles(
+            rt.alloc(),
+            Reply::FailingStep(Status::Failed),
+            4_096,
+            &wanted
+        )?
+    );
     Ok(())
 }

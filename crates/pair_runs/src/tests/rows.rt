@@ -1,6 +1,6 @@
 //! What is settled.
 
-use super::answers::{Reply, columns, fields, pair, rows, text};
+use super::answers::{Reply, columns, failure, fields, pair, rows, text};
 use super::claims::Claim;
 use super::{ASKED, Act, carried_out, done, judge, query};
 use pg_backend::BackPhase;
@@ -46,15 +46,16 @@ fn row_group(alloc: Global) -> Result<Settled, AllocError> {
     })
 }
 
+const ASKS: [Act<'static>; 2] = [Act::Start, Act::Query(ASKED)];
+
 // Whether this alone is settled where the client asks and is answered so, in deliveries of at most so many bytes; and a client outside
 // the pair settles it, too.
 fn settles(alloc: Global, reply: Reply, cut: u32, wanted: &[Settled]) -> Result<bool, Fail> {
-    let acts = [Act::Start, Act::Query(ASKED)];
-    let claims = [Claim::Groups(wanted), Claim::Alike, READY];
+    let claims = [Claim::Groups(wanted), Claim::Alike(&ASKS), READY];
     judge(
         alloc,
         pair(alloc, &[reply], Direct)?,
-        carried_out(&acts, cut),
+        carried_out(&ASKS, cut),
         &claims,
     )
 }
@@ -73,10 +74,10 @@ fn commands(alloc: Global) -> Result<Seq<Part>, AllocError> {
     Ok(Seq::new(vec![in alloc; first, command(alloc, b"B")?]?))
 }
 
-fn failure(alloc: Global) -> Result<Outcome, AllocError> {
+fn failed(alloc: Global) -> Result<Outcome, AllocError> {
     Ok(Outcome {
         parts: commands(alloc)?,
-        error: Some(fields(alloc, b"bad")?),
+        error: Some(failure(alloc)?),
         status: Status::Failed,
         asides: Seq::new(Vec::new(alloc)),
     })
@@ -85,7 +86,7 @@ fn failure(alloc: Global) -> Result<Outcome, AllocError> {
 fn failed_group(alloc: Global) -> Result<Settled, AllocError> {
     Ok(Settled {
         request: query(alloc, ASKED)?,
-        outcome: failure(alloc)?,
+        outcome: failed(alloc)?,
     })
 }
 
@@ -119,15 +120,16 @@ fn told_and_in_block(alloc: Global) -> Result<Vec<Settled>, AllocError> {
     Ok(vec![in alloc; first, in_block(alloc)?]?)
 }
 
+const ASKS_TWICE: [Act<'static>; 3] = [Act::Start, Act::Query(b"Q1"), Act::Query(b"Q2")];
+
 // Whether these are settled, where the client asks twice.
 fn settles_both(alloc: Global, wanted: &[Settled]) -> Result<bool, Fail> {
     let pair = pair(alloc, &[Reply::Told, Reply::InBlock], Direct)?;
-    let acts = [Act::Start, Act::Query(b"Q1"), Act::Query(b"Q2")];
     judge(
         alloc,
         pair,
-        carried_out(&acts, 4_096),
-        &[Claim::Groups(wanted), READY],
+        carried_out(&ASKS_TWICE, 4_096),
+        &[Claim::Groups(wanted), Claim::Alike(&ASKS_TWICE), READY],
     )
 }
 
@@ -138,12 +140,40 @@ fn asides_settle_with_their_request(rt: HostRuntime) -> Result<(), Fail> {
     Ok(())
 }
 
-// Whether the list of a row's events runs, and then a list of none.
-fn runs(alloc: Global, acts: &[Act<'_>]) -> Result<bool, Fail> {
+// All that waits goes there.
+const TO_BACKEND: Act<'static> = Act::Deliver(Way::ToBackend, u32::MAX);
+
+const TO_CLIENT: Act<'static> = Act::Deliver(Way::ToClient, u32::MAX);
+
+// Start and a query, with a flow behind each: twice all that waits to the backend, steps up to the one that does nothing, and all that
+// waits to the client.
+const ROW_EVENTS: [Act<'static>; 16] = [
+    Act::Start,
+    TO_BACKEND,
+    Act::Step,
+    Act::Step,
+    TO_CLIENT,
+    TO_BACKEND,
+    Act::Step,
+    TO_CLIENT,
+    Act::Query(ASKED),
+    TO_BACKEND,
+    Act::Step,
+    Act::Step,
+    TO_CLIENT,
+    TO_BACKEND,
+    Act::Step,
+    TO_CLIENT,
+];
+
+const NO_EVENTS: &'static [Act<'static>] = &[];
+
+// Whether the list of the row's events runs and settles these groups, and a list of none no more.
+fn runs(alloc: Global, wanted: &[Settled]) -> Result<bool, Fail> {
     let claims = [
-        Claim::Runs(acts),
-        Claim::Settled(1),
-        Claim::Runs(&acts[..0]),
+        Claim::Runs(&ROW_EVENTS),
+        Claim::Groups(wanted),
+        Claim::Runs(NO_EVENTS),
         Claim::Settled(1),
         READY,
     ];
@@ -157,16 +187,7 @@ fn runs(alloc: Global, acts: &[Act<'_>]) -> Result<bool, Fail> {
 
 #[test]
 fn a_list_of_events_runs(rt: HostRuntime) -> Result<(), Fail> {
-    let acts = [
-        Act::Start,
-        Act::Deliver(Way::ToBackend, 4_096),
-        Act::Step,
-        Act::Deliver(Way::ToClient, 4_096),
-        Act::Query(ASKED),
-        Act::Deliver(Way::ToBackend, 4_096),
-        Act::Step,
-        Act::Deliver(Way::ToClient, 4_096),
-    ];
-    assert!(rt; runs(rt.alloc(), &acts)?);
+    let wanted = [row_group(rt.alloc())?];
+    assert!(rt; runs(rt.alloc(), &wanted)?);
     Ok(())
 }

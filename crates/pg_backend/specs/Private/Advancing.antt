@@ -16,16 +16,16 @@ use Rattle.pg_backend.specs.declared.fault.BackendFault.{BackendFault}
 use Rattle.pg_backend.specs.declared.fault.BackendFault.TheVariants as faults
 use Rattle.pg_backend.specs.declared.script.Answer.{Answer}
 use Rattle.pg_backend.specs.declared.script.Logged.{Logged}
-use Rattle.pg_backend.specs.declared.stage.Awaits.TheVariants as awaits
 use Rattle.pg_backend.specs.declared.stage.Ending.TheVariants as ending
 use Rattle.pg_backend.specs.declared.stage.Next.{Next}
 use Rattle.pg_backend.specs.declared.stage.Next.TheVariants as next
 use Rattle.pg_backend.specs.declared.stage.Stage.{Stage}
 use Rattle.pg_backend.specs.declared.stage.Stage.TheVariants as stage
 use Rattle.pg_backend.specs.Lists.{Begins}
-use Rattle.pg_backend.specs.Opening.{Sent, No, Says, welcome, user_from, Admission, Refused, Admitted, admission}
+use Rattle.pg_backend.specs.Opening.{Sent, No, Says, user_from, no_user}
 use Rattle.pg_backend.specs.Input.{sent_bytes, IsSpelled, last_word}
 use Rattle.pg_backend.specs.Backend.{BackendState, phase_of, IsWaiting, IsBroken, WantsMemory}
+use Rattle.pg_backend.specs.Private.Greeting.{awaits_first, greeting}
 use Rattle.pg_backend.specs.Private.Moves.{Move, move}
 use Rattle.pg_backend.specs.Private.Telling.{Puts}
 
@@ -44,16 +44,22 @@ applied b e = record b { left = e.left; stage = e.stage; log = b.log ++ e.logged
 abbrev pub only_sends : BackendState → Stage → List Sent → Effect
 only_sends b stage sent = record { stage = stage; left = b.left; sent = sent; logged = [] }
 
-abbrev pub admission_effect : BackendState → FirstState → Admission → Effect
-admission_effect b d (Refused fields) = only_sends b (stage.Closed ending.Input) (Says (back.ErrorResponse fields) ∷ [])
-admission_effect b d (Admitted ms) = only_sends b (stage.Open (record { kept = d.kept; limit = b.limit; fault = d.fault }) (awaits.Request [])) (map Says (welcome b.script))
+-- a Startup of this user, who isn't empty
+abbrev pub named_effect : BackendState → FirstState → List ℕ → Effect
+named_effect b d user =
+    let auth = b.script.auth in
+    only_sends b (stage.Open (record { kept = d.kept; limit = b.limit; fault = d.fault }) (awaits_first auth user)) (map Says (greeting b.script auth))
+
+abbrev pub startup_effect : BackendState → FirstState → List ℕ → Effect
+startup_effect b d [] = only_sends b (stage.Closed ending.Input) (Says (back.ErrorResponse no_user) ∷ [])
+startup_effect b d (c ∷ cs) = named_effect b d (c ∷ cs)
 
 -- the packet, where the decoder stands behind it
 abbrev pub packet_effect : BackendState → FirstState → First → Effect
 packet_effect b d first.Ssl = only_sends b (stage.First d) (No ∷ [])
 packet_effect b d first.Gss = only_sends b (stage.First d) (No ∷ [])
 packet_effect b d (first.Cancel process secret) = only_sends b (stage.Closed ending.Input) []
-packet_effect b d (first.Startup pairs) = admission_effect b d (admission b.script.auth (user_from [] pairs) [])
+packet_effect b d (first.Startup pairs) = startup_effect b d (user_from [] pairs)
 
 -- ---- a message
 
@@ -84,7 +90,7 @@ Taken d new m = (pushed : List ℕ) (given : List FrontMessage) → decoder.HasT
 -- What is kept begins with a packet or a message that has this effect, and this tag where it can't stand in its place.
 abbrev pub HasNext : BackendState → Stage → Option ℕ → Effect → Type 0
 HasNext b (stage.First d) stray e = (p : First) × (new : FirstState) × FirstTakes d (Ok (Some p)) new × Begun d new p × (stray ≡ None) × (e ≡ packet_effect b new p)
-HasNext b (stage.Open d a) stray e = (m : FrontMessage) × (new : DecoderState) × decoder.Takes frontend d (Ok (Some m)) new × Taken d new m × (stray ≡ stray_tag (move b.left a m).next) × (e ≡ message_effect new (move b.left a m))
+HasNext b (stage.Open d a) stray e = (m : FrontMessage) × (new : DecoderState) × decoder.Takes frontend d (Ok (Some m)) new × Taken d new m × (stray ≡ stray_tag (move b.script b.left a m).next) × (e ≡ message_effect new (move b.script b.left a m))
 HasNext b (stage.Closed e) stray f = ⊥
 
 -- This is spelled at the end of the buffer.

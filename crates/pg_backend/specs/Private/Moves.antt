@@ -1,12 +1,15 @@
 -- What one message does: where it leads, which answers are left, what is sent, what is logged.
-use Rattle.std.specs.Prelude.{ℕ, Bool, false, ◌==◌, length, List, [], ◌∷◌, ◌++◌, Option, Some, None, if◌then◌else◌, Result, Ok, Err}
+use Rattle.std.specs.Prelude.{ℕ, Bool, true, false, ◌==◌, length, List, [], ◌∷◌, ◌++◌, Option, Some, None, if◌then◌else◌, Result, Ok, Err}
+use Rattle.std.specs.Str.{bytes_eq}
 use Rattle.pg_wire.specs.declared.message.BackMessage.{BackMessage}
 use Rattle.pg_wire.specs.declared.message.BackMessage.TheVariants as back
 use Rattle.pg_wire.specs.declared.message.ErrorField.{ErrorField}
 use Rattle.pg_wire.specs.declared.message.FrontMessage.{FrontMessage}
+use Rattle.pg_wire.specs.declared.message.FrontMessage.TheVariants as front
 use Rattle.pg_wire.specs.declared.session.Request.{Request}
 use Rattle.pg_wire.specs.declared.session.Request.TheVariants as request
 use Rattle.pg_wire.specs.declared.session.Step.{Step}
+use Rattle.pg_wire.specs.Frontend.{frontend}
 use Rattle.pg_backend.specs.declared.meaning.InCopy.{InCopy}
 use Rattle.pg_backend.specs.declared.meaning.InCopy.TheVariants as copy
 use Rattle.pg_backend.specs.declared.meaning.Meaning.{Meaning}
@@ -15,6 +18,7 @@ use Rattle.pg_backend.specs.declared.script.Answer.{Answer}
 use Rattle.pg_backend.specs.declared.script.Load.{Load}
 use Rattle.pg_backend.specs.declared.script.Load.TheVariants.{Accept, Refuse}
 use Rattle.pg_backend.specs.declared.script.Logged.{Logged}
+use Rattle.pg_backend.specs.declared.script.Script.{Script}
 use Rattle.pg_backend.specs.declared.script.ScriptPart.{ScriptPart}
 use Rattle.pg_backend.specs.declared.script.ScriptPart.TheVariants as part
 use Rattle.pg_backend.specs.declared.stage.Awaits.{Awaits}
@@ -25,6 +29,7 @@ use Rattle.pg_backend.specs.Answers.{answer_for, others}
 use Rattle.pg_backend.specs.Copies.{in_copy, canceled, out_of_copy}
 use Rattle.pg_backend.specs.Replies.{Shape, Whole, Copies, shape, Verdict, verdict, outcome_at, after_end, reply}
 use Rattle.pg_backend.specs.Session.{meaning, logged, fatal_unexpected}
+use Rattle.pg_backend.specs.Opening.{welcome, wrong_password}
 
 pub record Move : Type 0 where
   pub next : Next
@@ -41,6 +46,18 @@ ends left = record { next = next.Ends; left = left; sent = []; logged = [] }
 
 abbrev pub strays : List Answer → ℕ → Move
 strays left tag = record { next = next.Strays tag; left = left; sent = back.ErrorResponse fatal_unexpected ∷ []; logged = [] }
+
+-- ---- a password
+
+-- the password is the one that is awaited, or it isn't
+abbrev pub entered : Script → List Answer → Bool → Move
+entered s left true = record { next = next.Goes (awaits.Request []); left = left; sent = welcome s; logged = [] }
+entered s left false = record { next = next.Ends; left = left; sent = back.ErrorResponse wrong_password ∷ []; logged = [] }
+
+abbrev pub entering : Script → List Answer → List ℕ → FrontMessage → Move
+entering s left expected (front.Password password) = entered s left (bytes_eq password expected)
+entering s left expected front.Terminate = ends left
+entering s left expected m = strays left (frontend.tag m)
 
 -- ---- a request
 
@@ -122,6 +139,7 @@ has_effect left r load Abandons = ends left
 
 -- ---- a message
 
-abbrev pub move : List Answer → Awaits → FrontMessage → Move
-move left (awaits.Request steps) m = between left steps (meaning m)
-move left (awaits.Data c) m = has_effect left c.request c.load (effect c.load c.loaded (in_copy m))
+abbrev pub move : Script → List Answer → Awaits → FrontMessage → Move
+move s left (awaits.Password expected) m = entering s left expected m
+move s left (awaits.Request steps) m = between left steps (meaning m)
+move s left (awaits.Data c) m = has_effect left c.request c.load (effect c.load c.loaded (in_copy m))

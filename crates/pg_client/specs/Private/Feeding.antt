@@ -1,10 +1,13 @@
 -- What one message does to a client, and what holds between two messages.
-use Rattle.std.specs.Prelude.{◌≡◌, ℕ, ◌+◌, ◌≤◌, ◌<◌, List, [], ◌∷◌, ◌++◌, length, Bool, true, false, Some, None, Result, Ok, Err}
+use Rattle.std.specs.Prelude.{◌≡◌, ℕ, ◌+◌, ◌≤◌, ◌<◌, List, [], ◌∷◌, ◌++◌, length, Bool, true, false, Option, Some, None, Result, Ok, Err}
 use Rattle.std.specs.List.{flat_map, AllByRecursion}
+use Rattle.pg_wire.specs.declared.fault.WireFault.{WireFault}
+use Rattle.pg_wire.specs.declared.fault.WireFault.TheVariants as wire
 use Rattle.pg_wire.specs.declared.message.BackMessage.{BackMessage}
-use Rattle.pg_wire.specs.declared.message.BackMessage.TheVariants.{KeyData, ParameterStatus, Ready}
+use Rattle.pg_wire.specs.declared.message.BackMessage.TheVariants.{AuthCleartext, AuthMd5, KeyData, ParameterStatus, Ready}
 use Rattle.pg_wire.specs.Backend.{backend}
-use Rattle.pg_wire.specs.Direction.{spelling}
+use Rattle.pg_wire.specs.Direction.{spelling, HasSpelling}
+use Rattle.pg_wire.specs.Frontend.{frontend}
 use Rattle.pg_wire.specs.Segment.{status_of}
 use Rattle.pg_wire.specs.Stream.{IsStream, IsWithin, IsOpen, IsFaulty}
 use Rattle.pg_client.specs.declared.fault.FeedFault.{FeedFault}
@@ -13,11 +16,12 @@ use Rattle.pg_client.specs.declared.news.News.{News}
 use Rattle.pg_client.specs.declared.news.News.TheVariants as news
 use Rattle.pg_client.specs.declared.phase.Cause.TheVariants as cause
 use Rattle.pg_client.specs.declared.place.Stand.TheVariants.{Idle}
+use Rattle.pg_client.specs.declared.settings.Settings.{Settings}
 use Rattle.pg_client.specs.declared.settled.Settled.{Settled}
 use Rattle.pg_client.specs.Session.{Run, IsTerminated, AreAllowed, Expected}
-use Rattle.pg_client.specs.Client.{ClientView, AreOrdered, IsAlike, IsSpelledAt, or_else, last_said, value_of, value_said, key_said, sent_in, story, cause_of}
+use Rattle.pg_client.specs.Client.{ClientView, answer_to, AreOrdered, Hears, IsAlike, IsSpelledAt, or_else, last_said, value_of, value_said, key_said, sent_in, story, cause_of}
 use Rattle.pg_client.specs.Judged.{Stands}
-use Rattle.pg_client.specs.Machine.{Effect, Stays, Settles, Rejected, hear}
+use Rattle.pg_client.specs.Machine.{Effect, Stays, Settles, Rejected, hear_with}
 use Rattle.pg_client.specs.Private.Hearing.{fault_at}
 
 -- whether the message says the value of a parameter
@@ -61,26 +65,41 @@ pub record HearsOne (m : BackMessage) (old new : ClientView) : Type 0 where
   pub settings : new.settings ≡ old.settings
   pub kept : new.kept ≡ old.kept
   pub closed : new.closed ≡ old.closed
-  pub moves : MovesBy (hear old.stand m) old new
+  pub moves : MovesBy (hear_with old.settings.password old.stand m) old new
   pub knows : Knows m old new
 
 -- What taking a message in does.
 abbrev pub HearsMessage : BackMessage → ClientView → Result Unit FeedFault → ClientView → Type 0
 HearsMessage m old (Ok x) new = HearsOne m old new
 HearsMessage m old (Err feeding.Memory) new = HearsNothing old new × (new.closed ≡ old.closed)
-HearsMessage m old (Err f) new = (hear old.stand m ≡ Rejected) × (f ≡ fault_at old.stand m) × HearsNothing old new × (new.closed ≡ old.closed)
+HearsMessage m old (Err f) new = (hear_with old.settings.password old.stand m ≡ Rejected) × (f ≡ fault_at old.stand m) × HearsNothing old new × (new.closed ≡ old.closed)
+
+-- What is put out for a message that is taken in: the answer to a question.
+abbrev pub PutsAnswer : Settings → BackMessage → List ℕ → Result Unit FeedFault → List ℕ → Type 0
+PutsAnswer settings m before (Ok x) after = AllByRecursion (HasSpelling frontend) (answer_to settings m) × (after ≡ before ++ flat_map (spelling frontend) (answer_to settings m))
+PutsAnswer settings m before (Err f) after = after ≡ before
+
+-- the question for a password, or for its MD5 text with this salt
+abbrev pub question : Option (List ℕ) → BackMessage
+question None = AuthCleartext
+question (Some salt) = AuthMd5 salt
+
+-- what a fault of the stream is to the client
+abbrev pub of_wire : WireFault → FeedFault
+of_wire wire.Memory = feeding.Memory
+of_wire f = feeding.Wire f
 
 -- the client with so many bytes left
 abbrev pub leaving : ClientView → List ℕ → ClientView
 leaving client kept = record client { kept = kept }
 
 -- What looking for the next message does.
-abbrev pub HearsNext : ClientView → Result Bool FeedFault → ClientView → Type 0
-HearsNext old (Ok false) new = IsOpen backend old.settings.limit old.kept × (new ≡ old)
-HearsNext old (Ok true) new = (m : BackMessage) × IsWithin backend old.settings.limit m × (old.kept ≡ spelling backend m ++ new.kept) × HearsOne m (leaving old new.kept) new
-HearsNext old (Err (feeding.Wire f)) new = IsFaulty backend old.settings.limit old.kept f × HearsNothing old new × (new.closed ≡ Some cause.Wire)
-HearsNext old (Err feeding.Memory) new = HearsNothing old new × (new.closed ≡ Some cause.Memory)
-HearsNext old (Err f) new = (m : BackMessage) × (more : List ℕ) × IsWithin backend old.settings.limit m × (old.kept ≡ spelling backend m ++ more) × (hear old.stand m ≡ Rejected) × (f ≡ fault_at old.stand m) × HearsNothing old new × (new.closed ≡ cause_of f)
+abbrev pub HearsNext : ClientView → Result Bool FeedFault → ClientView → List ℕ → List ℕ → Type 0
+HearsNext old (Ok false) new before after = IsOpen backend old.settings.limit old.kept × (new ≡ old) × (after ≡ before)
+HearsNext old (Ok true) new before after = (m : BackMessage) × IsWithin backend old.settings.limit m × (old.kept ≡ spelling backend m ++ new.kept) × HearsOne m (leaving old new.kept) new × PutsAnswer old.settings m before (Ok tt) after
+HearsNext old (Err (feeding.Wire f)) new before after = IsFaulty backend old.settings.limit old.kept f × HearsNothing old new × (new.closed ≡ Some cause.Wire) × (after ≡ before)
+HearsNext old (Err feeding.Memory) new before after = HearsNothing old new × (new.closed ≡ Some cause.Memory) × (after ≡ before)
+HearsNext old (Err f) new before after = (m : BackMessage) × (more : List ℕ) × IsWithin backend old.settings.limit m × (old.kept ≡ spelling backend m ++ more) × (hear_with old.settings.password old.stand m ≡ Rejected) × (f ≡ fault_at old.stand m) × HearsNothing old new × (new.closed ≡ cause_of f) × (after ≡ before)
 
 -- What holds of an open client between two messages of a piece: it was fed the piece, its rest is what it keeps, and no message
 -- in that was whole before the piece.
@@ -93,13 +112,20 @@ pub record IsHearing (before : ℕ) (run : Run) (fed : List ℕ) (heard : List B
   pub is_open : client.closed ≡ None
   pub not_terminated : IsTerminated (story run heard) → ⊥
   pub allowed : AreAllowed (story run heard)
-  pub expected : Expected (story run heard)
+  pub expected : Expected client.settings.password (story run heard)
   pub stands : Stands (story run heard) client.stand (given ++ client.settled)
   pub status : client.status ≡ last_said status_of heard
   pub parameters : (name : List ℕ) → value_of name client.parameters ≡ last_said (value_said name) heard
   pub key : client.key ≡ last_said key_said heard
   pub sent_is : sent ≡ sent_in client.settings (story run heard)
   pub spelled : AllByRecursion (IsSpelledAt client.settings) (story run heard)
+
+-- What taking in all that is whole does, to a client that was fed a piece: what was added are the answers to what it heard.
+pub record HearsAll (old : ClientView) (result : Result Unit FeedFault) (new : ClientView) (before after : List ℕ) : Type 0 where
+  pub added : List ℕ
+  pub put : after ≡ before ++ added
+  pub hears : (place : ℕ) (run : Run) (fed : List ℕ) (heard : List BackMessage) (given : List Settled) (sent piece : List ℕ)
+      → 0 < length piece → IsHearing place run fed heard given sent old → Hears run fed heard given (sent ++ added) piece result new
 
 -- Nothing but what the client knows has changed.
 pub record Notes (old new : ClientView) : Type 0 where

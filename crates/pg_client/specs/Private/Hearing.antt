@@ -20,7 +20,7 @@ use Rattle.pg_client.specs.declared.place.Stage.TheVariants.{Within, Failed}
 use Rattle.pg_client.specs.declared.place.Stand.{Stand}
 use Rattle.pg_client.specs.declared.place.Stand.TheVariants.{New, Starting, Idle, Busy}
 use Rattle.pg_client.specs.declared.place.Welcome.{Welcome}
-use Rattle.pg_client.specs.declared.place.Welcome.TheVariants.{Fresh, Admitted}
+use Rattle.pg_client.specs.declared.place.Welcome.TheVariants.{Fresh, Asked, Admitted}
 use Rattle.pg_client.specs.declared.settled.Settled.{Settled}
 use Rattle.pg_client.specs.Place.{Place, left, stage_ending}
 use Rattle.pg_client.specs.Machine.{Effect, Stays, Settles, Rejected, hear, greet}
@@ -51,13 +51,14 @@ fresh_fault AuthCleartext = feeding.PasswordWanted
 fresh_fault (AuthMd5 salt) = feeding.PasswordWanted
 fresh_fault m = feeding.Unexpected (tag m)
 
-abbrev pub admitted_fault : BackMessage → FeedFault
-admitted_fault (ErrorResponse fields) = feeding.StartupError fields
-admitted_fault m = feeding.Unexpected (tag m)
+abbrev pub later_fault : BackMessage → FeedFault
+later_fault (ErrorResponse fields) = feeding.StartupError fields
+later_fault m = feeding.Unexpected (tag m)
 
 abbrev pub welcome_fault : Welcome → BackMessage → FeedFault
 welcome_fault Fresh m = fresh_fault m
-welcome_fault Admitted m = admitted_fault m
+welcome_fault Asked m = later_fault m
+welcome_fault Admitted m = later_fault m
 
 abbrev pub idle_fault : BackMessage → FeedFault
 idle_fault (ErrorResponse fields) = feeding.ServerEnd fields

@@ -69,7 +69,7 @@ impl<C: Carry> Pair<C> {
         }
     }
 
-    // The first bytes under way reach the client.
+    // The first bytes under way reach the client. What it puts out then, for a question for its password, waits on the other way.
     fn feed(&mut self, count: usize) -> Option<Applied>
         requires some { 0 < count }
         requires within { count ≤ length (waiting_at ToClient self.old) }

@@ -2,10 +2,10 @@
 
 ghost use Rattle.std.specs.Prelude.{◌<◌};
 
-use super::{answer, begin, run, silent};
-use crate::text;
-use pg_backend::{BackPhase, Backend, Load, Script, ScriptPart};
-use pg_wire::{Column, CopyHead, Seq};
+use super::{answer, begin, copy_in, run, silent};
+use crate::values::text;
+use pg_backend::{BackPhase, Backend, Script, ScriptPart};
+use pg_wire::{Column, Seq};
 use std::alloc::{AllocError, Global};
 use std::test::Fail;
 
@@ -41,17 +41,9 @@ fn script(alloc: Global) -> Result<Script, AllocError> {
         rows: Seq::new(vec![in alloc; row]?),
         tag: text(alloc, b"SELECT 1")?,
     };
-    let head = CopyHead {
-        binary: false,
-        formats: Seq::from_slice(alloc, &[0])?,
-    };
-    let copy = ScriptPart::CopyIn {
-        head,
-        load: Load::Accept(text(alloc, b"COPY 2")?),
-    };
     let answers = vec![in alloc;
         answer(alloc, rows)?,
-        answer(alloc, copy)?,
+        answer(alloc, copy_in(alloc)?)?,
         answer(alloc, ScriptPart::Empty)?,
     ]?;
     Ok(Script {

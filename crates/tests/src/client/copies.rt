@@ -59,15 +59,45 @@ fn a_copy_that_failed_is_not_completed(rt: HostRuntime) -> Result<(), Fail> {
     Ok(())
 }
 
-/// What the client answers to a chunk.
-fn chunk(shown: (Client, Vec<u8>)) -> Result<(), CallFault> {
-    let (mut client, mut out) = shown;
-    client.copy_chunk(b"1", &mut out)
+#[test]
+fn a_copy_is_not_completed_before_its_end(rt: HostRuntime) -> Result<(), Fail> {
+    let copied = b"G\0\0\0\x07\0\0\0C\0\0\0\x07OK\0";
+    let fault = FeedFault::Unexpected(67);
+    assert!(rt; refuses(answered(rt.alloc(), b"")?, copied, fault, Cause::Unexpected));
+    Ok(())
 }
 
 #[test]
-fn without_a_copy_there_is_no_chunk(rt: HostRuntime) -> Result<(), Fail> {
-    let refused = chunk(answered(rt.alloc(), b"")?);
-    assert!(rt; refused == Err(CallFault::NotCopying(Phase::Busy)));
+fn a_group_wants_no_copy(rt: HostRuntime) -> Result<(), Fail> {
+    let acts = [Act::Start, Act::Feed(&WELCOME), Act::Group];
+    let fault = FeedFault::Unexpected(71);
+    assert!(rt;
+        refuses(
+            behind(rt.alloc(), &acts)?,
+            &COPY_IN,
+            fault,
+            Cause::Unexpected
+        )
+    );
+    Ok(())
+}
+
+/// Whether the client refuses a chunk as it isn't copying, but in this phase, and puts nothing out.
+fn takes_no_chunk(shown: (Client, Vec<u8>), phase: Phase) -> bool {
+    let (mut client, mut out) = shown;
+    out.clear();
+    let refused = client.copy_chunk(b"1", &mut out) == Err(CallFault::NotCopying(phase));
+    refused && out.is_empty() && client.phase() == phase
+}
+
+#[test]
+fn a_busy_client_takes_no_chunk(rt: HostRuntime) -> Result<(), Fail> {
+    assert!(rt; takes_no_chunk(answered(rt.alloc(), b"")?, Phase::Busy));
+    Ok(())
+}
+
+#[test]
+fn a_ready_client_takes_no_chunk(rt: HostRuntime) -> Result<(), Fail> {
+    assert!(rt; takes_no_chunk(answered(rt.alloc(), &ANSWER)?, Phase::Ready));
     Ok(())
 }

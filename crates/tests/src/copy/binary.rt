@@ -1,7 +1,7 @@
 //! Binary files.
 
 use super::{is_row, write_file};
-use crate::text;
+use crate::values::text;
 use pg_copy::{
     BinaryFault, BinaryReader, Row, RowFault, Seq, write_binary_head, write_binary_row,
     write_binary_trailer,

@@ -3,7 +3,7 @@
 ghost use Rattle.std.specs.Prelude.{◌<◌, ◌≤◌};
 
 use super::{is_row, write_file};
-use crate::text;
+use crate::values::text;
 use pg_copy::{Row, RowFault, Seq, TextFault, TextReader, write_text_field, write_text_row};
 use std::alloc::{AllocError, Global};
 use std::test::Fail;

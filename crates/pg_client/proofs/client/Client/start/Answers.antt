@@ -8,4 +8,4 @@ use Rattle.pg_client.proofs.client.Client.start.Goals as goal
 pub returns-clause-run : goal.returns-clause-run
 returns-clause-run c =
     let k : phase_of c.args.self.now ≡ phase.New = search rules in
-    start_accepted (the_view c.self.inside) c.args.self.now c.args.out.now.items c.put_startup.new.out.items c.self.view_is k (record { of_type = c.in_ok-put_startup.ensures.0; no_fault = c.in_ok-put_startup.ensures.1 }) c.in_ok-put_startup.ensures.2
+    start_accepted (the_view c.self.inside) c.args.self.now c.args.out.now.items c.put_start.new.out.items c.self.view_is k c.in_ok-put_start.ensures.0 c.in_ok-put_start.ensures.1

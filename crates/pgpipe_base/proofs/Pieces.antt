@@ -1,0 +1,138 @@
+-- Text that is put piece by piece.
+use Rattle.std.proofs.Common.{◌≡◌, ℕ, ◌+◌, ◌≤◌, List, [], ◌∷◌, ◌++◌, take, drop, Result, Ok, Err, refl, sym, ap, subst, ◌∙◌, append_assoc, append-nil, length, length-append, arith}
+use Rattle.std.specs.List.{FoldsTo, concat}
+use Rattle.std.proofs.lemmas.List.Folds.{concat-append}
+use Rattle.std.proofs.lemmas.Grind.{flat_map-append}
+use Rattle.std.proofs.lemmas.List.{length-take, take_all, take-append-le}
+use Rattle.pg_wire.specs.declared.link.LinkFault.{LinkFault}
+use Rattle.pg_wire.specs.Link.{HasRisen}
+use Rattle.pgpipe_base.specs.Lines.{hexadecimal_byte, hexadecimal}
+use Rattle.pgpipe_base.specs.Receiving.{longest_piece}
+use Rattle.pgpipe_base.specs.Sending.{most_collected, Begins, IsSentBut, Puts}
+
+-- calls after calls
+pub FoldsTo-append : {P A : Type 0} (R : P → A → P → Type 0) (p : P) (xs ys : List A) (q r : P) → FoldsTo R p xs q → FoldsTo R q ys r → FoldsTo R p (xs ++ ys) r
+FoldsTo-append R p [] ys q r e f = subst (λ (x : _). FoldsTo R x ys r) (sym e) f
+FoldsTo-append R p (x ∷ xs) ys q r e f = (e.0, e.1, FoldsTo-append R e.0 xs ys q r e.2 f)
+
+-- one more call
+pub one_more : {P : Type 0} (gives : P → List ℕ → P → Type 0) (p : P) (pieces : List (List ℕ)) (q : P) (piece : List ℕ) (r : P) → FoldsTo gives p pieces q → gives q piece r → FoldsTo gives p (pieces ++ piece ∷ []) r
+one_more gives p pieces q piece r f last = FoldsTo-append gives p pieces (piece ∷ []) q r f (r, last, refl)
+
+-- what pieces and one more are together
+pub joined : (pieces : List (List ℕ)) (piece : List ℕ) → concat pieces ++ piece ≡ concat (pieces ++ piece ∷ [])
+joined pieces piece = sym (concat-append pieces (piece ∷ []) ∙ ap (λ (l : List ℕ). concat pieces ++ l) (append-nil piece))
+
+-- ---- a piece that was received
+
+-- what was written over the whole of a list
+pub read_back : (n : ℕ) (into old now : List ℕ) → now ≡ take n (into ++ drop (length into) old) → n ≡ length into → now ≡ into
+read_back n into old now e all = e ∙ take-append-le n into (drop (length into) old) (omega arith) ∙ take_all n into (omega arith)
+
+-- a piece is no longer than what it was received in
+pub piece_within : (n : ℕ) (into : List ℕ) → length into ≡ longest_piece → length (take n into) ≤ longest_piece
+piece_within n into room = omega (arith, length-take n into)
+
+-- ---- a text that begins another
+
+pub begins_itself : (text : List ℕ) → Begins text text
+begins_itself text = ([], sym (append-nil text))
+
+pub begins_more : (before text more : List ℕ) → Begins before text → Begins before (text ++ more)
+begins_more before text more b = (b.0 ++ more, ap (λ (l : List ℕ). l ++ more) b.1 ∙ append_assoc before b.0 more)
+
+-- ---- text that is put
+
+module _ {K : Type 0} (takes : K → List ℕ → K → Type 0) (failures : K → ℕ) where
+  abbrev pub Sent : {A : Type 0} → List ℕ → K → List ℕ → Result A LinkFault → List ℕ → K → Type 0
+  Sent {A} c s t r c' s' = Puts {A = A} takes failures c s t r c' s'
+
+  -- nothing is put
+  pub puts_none : (c : List ℕ) (s : K) → Puts {A = Unit {0}} takes failures c s [] (Ok tt) c s
+  puts_none c s = record { pieces = []; calls = refl; sent = append-nil c; counted = refl }
+
+  -- text is put behind text
+  pub puts_then : {A : Type 0} (c : List ℕ) (s : K) (t : List ℕ) (c' : List ℕ) (s' : K) (u : List ℕ) (r : Result A LinkFault) (c'' : List ℕ) (s'' : K)
+      → Puts {A = Unit {0}} takes failures c s t (Ok tt) c' s' → Puts takes failures c' s' u r c'' s'' → Puts takes failures c s (t ++ u) r c'' s''
+  puts_then c s t c' s' u (Ok x) c'' s'' p q = record {
+    pieces = p.pieces ++ q.pieces;
+    calls = FoldsTo-append takes s p.pieces q.pieces s' s'' p.calls q.calls;
+    sent = sym (append_assoc c t u) ∙ ap (λ (l : List ℕ). l ++ u) p.sent ∙ append_assoc (concat p.pieces) c' u ∙ ap (λ (l : List ℕ). concat p.pieces ++ l) q.sent ∙ sym (append_assoc (concat p.pieces) (concat q.pieces) c'') ∙ ap (λ (l : List ℕ). l ++ c'') (sym (concat-append p.pieces q.pieces));
+    counted = q.counted ∙ p.counted;
+  }
+  puts_then c s t c' s' u (Err f) c'' s'' p q = record {
+    pieces = p.pieces ++ q.pieces;
+    calls = FoldsTo-append takes s p.pieces q.pieces s' s'' p.calls q.calls;
+    sent = (q.sent.0, sym (append_assoc c t u) ∙ ap (λ (l : List ℕ). l ++ u) p.sent ∙ append_assoc (concat p.pieces) c' u ∙ ap (λ (l : List ℕ). concat p.pieces ++ l) q.sent.1 ∙ sym (append_assoc (concat p.pieces) (concat q.pieces) q.sent.0) ∙ ap (λ (l : List ℕ). l ++ q.sent.0) (sym (concat-append p.pieces q.pieces)));
+    counted = subst (λ (n : ℕ). HasRisen n (failures s'')) p.counted q.counted;
+  }
+
+  -- the same text in other words
+  abbrev pub puts_as : {A : Type 0} (c : List ℕ) (s : K) (t u : List ℕ) (r : Result A LinkFault) (c' : List ℕ) (s' : K) → t ≡ u → Puts {A = A} takes failures c s t r c' s' → Puts {A = A} takes failures c s u r c' s'
+  puts_as c s t u r c' s' e p = record { pieces = p.pieces; calls = p.calls; sent = subst (λ (l : List ℕ). IsSentBut r (c ++ l) (concat p.pieces) c') e p.sent; counted = p.counted }
+
+  -- what was sent before is a part of all that was sent
+  pub sent_within : {A : Type 0} (c : List ℕ) (s : K) (t : List ℕ) (c' : List ℕ) (s' : K) (u : List ℕ) (r : Result A LinkFault) (c'' : List ℕ) (s'' : K) (p : Puts {A = Unit {0}} takes failures c s t (Ok tt) c' s') (q : Puts takes failures c' s' u r c'' s'')
+      → length (concat p.pieces) ≤ length (concat (puts_then c s t c' s' u r c'' s'' p q).pieces)
+  unfolding puts_then
+  sent_within c s t c' s' u (Ok x) c'' s'' p q = omega (arith, ap (λ (l : List ℕ). length l) (concat-append p.pieces q.pieces), length-append (concat p.pieces) (concat q.pieces))
+  sent_within c s t c' s' u (Err f) c'' s'' p q = omega (arith, ap (λ (l : List ℕ). length l) (concat-append p.pieces q.pieces), length-append (concat p.pieces) (concat q.pieces))
+
+  -- a beginning of what was put is no more than what was sent and what may be collected
+  pub put_at_once : (s : K) (before t c' : List ℕ) (s' : K) (p : Puts {A = Unit {0}} takes failures [] s t (Ok tt) c' s') → Begins before t → length c' ≤ most_collected → length before ≤ most_collected + length (concat p.pieces)
+  put_at_once s before t c' s' p b within = omega (arith, within, ap (λ (l : List ℕ). length l) b.1, length-append before b.0, ap (λ (l : List ℕ). length l) p.sent, length-append (concat p.pieces) c')
+
+  -- nor more than what is sent in the end
+  pub sent_at_once : {A : Type 0} (s : K) (before t c' : List ℕ) (s' : K) (u : List ℕ) (r : Result A LinkFault) (c'' : List ℕ) (s'' : K) (p : Puts {A = Unit {0}} takes failures [] s t (Ok tt) c' s') (q : Puts takes failures c' s' u r c'' s'')
+      → Begins before t → length c' ≤ most_collected → length before ≤ most_collected + length (concat (puts_then [] s t c' s' u r c'' s'' p q).pieces)
+  sent_at_once s before t c' s' u r c'' s'' p q b within = omega (arith, put_at_once s before t c' s' p b within, sent_within [] s t c' s' u r c'' s'' p q)
+
+  -- where the sink failed, more text changes nothing
+  pub puts_fails : {A B : Type 0} (c : List ℕ) (s : K) (t : List ℕ) (f g : LinkFault) (c' : List ℕ) (s' : K) (u c'' : List ℕ) → Puts {A = A} takes failures c s t (Err f) c' s' → Puts {A = B} takes failures c s (t ++ u) (Err g) c'' s'
+  puts_fails c s t f g c' s' u c'' p = record {
+    pieces = p.pieces;
+    calls = p.calls;
+    sent = (p.sent.0 ++ u, sym (append_assoc c t u) ∙ ap (λ (l : List ℕ). l ++ u) p.sent.1 ∙ append_assoc (concat p.pieces) p.sent.0 u);
+    counted = p.counted;
+  }
+
+  -- text is collected, and nothing is sent
+  pub puts_collected : (c : List ℕ) (s : K) (u c' : List ℕ) → c' ≡ c ++ u → Puts {A = Unit {0}} takes failures c s u (Ok tt) c' s
+  puts_collected c s u c' e = record { pieces = []; calls = refl; sent = sym e; counted = refl }
+
+  -- what was collected begins with a piece, and the sink took it
+  pub puts_sent : (c : List ℕ) (s : K) (piece c' : List ℕ) (s' : K) → c ≡ piece ++ c' → takes s piece s' → failures s' ≡ failures s → Puts {A = Unit {0}} takes failures c s [] (Ok tt) c' s'
+  puts_sent c s piece c' s' e t n = record { pieces = piece ∷ []; calls = (s', t, refl); sent = append-nil c ∙ e ∙ ap (λ (l : List ℕ). l ++ c') (sym (append-nil piece)); counted = n }
+
+  -- the sink failed at once
+  pub puts_nothing : (c : List ℕ) (s : K) (f : LinkFault) (c' : List ℕ) (s' : K) → takes s [] s' → HasRisen (failures s) (failures s') → Puts {A = Unit {0}} takes failures c s [] (Err f) c' s'
+  puts_nothing c s f c' s' t n = record { pieces = [] ∷ []; calls = (s', t, refl); sent = (c, append-nil c); counted = n }
+
+  -- some of the bytes are put in hexadecimal, and the rest is left
+  pub record PutsSome (c : List ℕ) (s : K) (bytes rest c' : List ℕ) (s' : K) : Type 0 where
+    pub done : List ℕ
+    pub whole : bytes ≡ done ++ rest
+    pub put : Puts {A = Unit {0}} takes failures c s (hexadecimal done) (Ok tt) c' s'
+
+  hexadecimal-append : (xs ys : List ℕ) → hexadecimal (xs ++ ys) ≡ hexadecimal xs ++ hexadecimal ys
+  hexadecimal-append xs ys = flat_map-append hexadecimal_byte xs ys
+
+  -- more of the bytes are put
+  pub some_more : (c : List ℕ) (s : K) (bytes rest c' : List ℕ) (s' : K) (c'' : List ℕ) (s'' : K) (piece later after : List ℕ) → PutsSome c s bytes rest c' s' → Puts {A = Unit {0}} takes failures c' s' [] (Ok tt) c'' s''
+      → rest ≡ piece ++ later → after ≡ c'' ++ hexadecimal piece → PutsSome c s bytes later after s''
+  some_more c s bytes rest c' s' c'' s'' piece later after p room split e =
+      let roomy = puts_then c s (hexadecimal p.done) c' s' [] (Ok tt) c'' s'' p.put room in
+      let all = puts_then c s (hexadecimal p.done ++ []) c'' s'' (hexadecimal piece) (Ok tt) after s'' roomy (puts_collected c'' s'' (hexadecimal piece) after e) in
+      record {
+        done = p.done ++ piece;
+        whole = p.whole ∙ ap (λ (l : List ℕ). p.done ++ l) split ∙ sym (append_assoc p.done piece later);
+        put = subst (λ (t : List ℕ). Puts {A = Unit {0}} takes failures c s t (Ok tt) after s'') (ap (λ (l : List ℕ). l ++ hexadecimal piece) (append-nil (hexadecimal p.done)) ∙ sym (hexadecimal-append p.done piece)) all;
+      }
+
+  -- the sink failed before all were put
+  pub some_fails : {A : Type 0} (c : List ℕ) (s : K) (bytes rest c' : List ℕ) (s' : K) (f g : LinkFault) (c'' : List ℕ) (s'' : K) (after : List ℕ) → PutsSome c s bytes rest c' s' → Puts {A = A} takes failures c' s' [] (Err f) c'' s''
+      → Puts {A = A} takes failures c s (hexadecimal bytes) (Err g) after s''
+  some_fails {A} c s bytes rest c' s' f g c'' s'' after p failed =
+      let broken = puts_then c s (hexadecimal p.done) c' s' [] (Err f) c'' s'' p.put failed in
+      let all = puts_fails {A = A} {B = A} c s (hexadecimal p.done ++ []) f g c'' s'' (hexadecimal rest) after broken in
+      subst (λ (t : List ℕ). Puts {A = A} takes failures c s t (Err g) after s'') (ap (λ (l : List ℕ). l ++ hexadecimal rest) (append-nil (hexadecimal p.done)) ∙ sym (hexadecimal-append p.done rest) ∙ ap hexadecimal (sym p.whole)) all

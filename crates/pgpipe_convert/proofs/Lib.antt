@@ -1,0 +1,5 @@
+pub mod Readers
+pub mod Growing
+pub mod Converting
+pub mod Sent
+pub mod Rows

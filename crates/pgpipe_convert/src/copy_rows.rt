@@ -1,0 +1,159 @@
+//! The rows of a file of either format, read from pieces and written behind what is to be sent.
+
+ghost use Rattle.std.specs.Prelude.{◌≡◌, ◌<◌, ◌≤◌, [], ℕ, List, false, true};
+ghost use Rattle.pg_copy.specs.Row.{Row};
+ghost use Rattle.pg_copy.specs.BinaryReader.{HasReadBinary};
+ghost use Rattle.pg_copy.specs.TextReader.{HasRead};
+ghost use Rattle.pgpipe_convert.specs.Convert.{file_of};
+ghost use Rattle.pgpipe_convert.specs.declared.copy_rows.RowReader.TheVariants.{Text, Binary};
+ghost use Rattle.pgpipe_convert.specs.Private.Conversion.{file_by, ended_of, HasReadBy, text_stop, binary_stop, stopped, TakesPiece, GivesRow, PutsRow, PutsRows};
+
+use crate::convert::{Converted, Stop};
+use crate::format::Format;
+use pg_copy::{BinaryFault, BinaryReader, Row, RowFault, TextFault, TextReader};
+use pg_wire::{LONGEST, Sink};
+use pgpipe_base::outbox::{ROOM, send};
+use std::alloc::Global;
+
+/// A reader of a file of either format.
+#[derive(Drop)]
+pub enum RowReader {
+    Text(TextReader),
+    Binary(BinaryReader),
+}
+
+fn text_stop(fault: TextFault) -> Stop
+    ensures { result ≡ text_stop fault }
+{
+    match fault {
+        TextFault::Memory => Stop::Memory,
+        _ => Stop::Answer(Converted::Text(fault)),
+    }
+}
+
+fn binary_stop(fault: BinaryFault) -> Stop
+    ensures { result ≡ binary_stop fault }
+{
+    match fault {
+        BinaryFault::Memory => Stop::Memory,
+        _ => Stop::Answer(Converted::Binary(fault)),
+    }
+}
+
+impl RowReader {
+    /// Nothing was read yet.
+    pub fn new(alloc: Global, from: Format, columns: u16) -> RowReader
+        requires { (0 < columns) × (columns ≤ 32767) }
+        ensures file { file_by result ≡ file_of from columns }
+        ensures read { HasReadBy result [] [] }
+        ensures ended { ended_of result ≡ false }
+    {
+        match from {
+            Format::Text => RowReader::Text(TextReader::new(alloc, Some(columns))),
+            Format::Binary => RowReader::Binary(BinaryReader::new(alloc, columns, LONGEST)),
+        }
+    }
+
+    /// Takes the next piece of the file.
+    pub fn push(&mut self, piece: &[u8]) -> Result<(), Stop>
+        requires { ended_of self.old ≡ false }
+        ensures { TakesPiece self.old piece.now result self.new }
+    {
+        match self {
+            RowReader::Text(reader) => reader.push(piece).map_err(text_stop),
+            RowReader::Binary(reader) => reader.push(piece).map_err(binary_stop),
+        }
+    }
+
+    /// The next row that waits, or, at the end of the input, the next that is left.
+    fn next(&mut self, at_end: bool) -> Result<Option<Row>, Stop>
+        requires begun { at_end ≡ false → ended_of self.old ≡ false }
+        requires read { (bytes : List ℕ) × (given : List Row) × HasReadBy self.old bytes given }
+        ensures { GivesRow at_end self.old result self.new }
+    {
+        match self {
+            RowReader::Text(reader) => next_of_text(reader, at_end),
+            RowReader::Binary(reader) => next_of_binary(reader, at_end),
+        }
+    }
+}
+
+// The next row of a text file.
+fn next_of_text(reader: &mut TextReader, at_end: bool) -> Result<Option<Row>, Stop>
+    requires begun { at_end ≡ false → reader.old.ended ≡ false }
+    requires read { (bytes : List ℕ) × (given : List Row) × HasRead reader.old bytes given }
+    ensures { GivesRow at_end (Text reader.old) result (Text reader.new) }
+{
+    if at_end {
+        return text_row(reader.finish());
+    }
+    text_row(reader.next())
+}
+
+// The next row of a binary file.
+fn next_of_binary(reader: &mut BinaryReader, at_end: bool) -> Result<Option<Row>, Stop>
+    requires begun { at_end ≡ false → reader.old.ended ≡ false }
+    requires read { (bytes : List ℕ) × (given : List Row) × HasReadBinary reader.old bytes given }
+    ensures { GivesRow at_end (Binary reader.old) result (Binary reader.new) }
+{
+    if at_end {
+        return binary_row(reader.finish());
+    }
+    binary_row(reader.next())
+}
+
+fn text_row(answer: Result<Option<Row>, TextFault>) -> Result<Option<Row>, Stop>
+    ensures { result ≡ stopped text_stop answer }
+{
+    match answer {
+        Ok(row) => Ok(row),
+        Err(fault) => Err(text_stop(fault)),
+    }
+}
+
+fn binary_row(answer: Result<Option<Row>, BinaryFault>) -> Result<Option<Row>, Stop>
+    ensures { result ≡ stopped binary_stop answer }
+{
+    match answer {
+        Ok(row) => Ok(row),
+        Err(fault) => Err(binary_stop(fault)),
+    }
+}
+
+// Puts a row, and sends what was put where it is much.
+fn put_row<K: Sink>(to: Format, row: &Row, out: &mut Vec<u8>, sink: &mut K) -> Result<(), Stop>
+    ensures { PutsRow K.takes K.failures to row.now out.old.items sink.old result out.new.items sink.new }
+{
+    match to.write_row(row, out) {
+        Ok(()) => {}
+        Err(RowFault::Memory) => return Err(Stop::Memory),
+        Err(fault) => return Err(Stop::Answer(Converted::Row(fault))),
+    }
+    if out.len() < ROOM {
+        return Ok(());
+    }
+    match send(out, sink) {
+        Ok(()) => Ok(()),
+        Err(_) => Err(Stop::SinkFailed),
+    }
+}
+
+/// Puts the rows that wait, or, at the end of the input, all that are left.
+pub fn put_rows<K: Sink>(
+    reader: &mut RowReader,
+    at_end: bool,
+    to: Format,
+    out: &mut Vec<u8>,
+    sink: &mut K,
+) -> Result<(), Stop>
+    requires begun { at_end ≡ false → ended_of reader.old ≡ false }
+    requires read { (bytes : List ℕ) × (given : List Row) × HasReadBy reader.old bytes given }
+    ensures { PutsRows K.takes K.failures at_end to reader.old out.old.items sink.old result reader.new out.new.items sink.new }
+{
+    loop {
+        match reader.next(at_end)? {
+            None => return Ok(()),
+            Some(row) => put_row(to, &row, out, sink)?,
+        }
+    }
+}

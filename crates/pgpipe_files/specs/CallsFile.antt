@@ -1,0 +1,163 @@
+-- What CALLS is read as: the meaning of each of its lines in its place.
+use Rattle.std.specs.Prelude.{ℕ, Bool, true, false, if◌then◌else◌, List, [], ◌∷◌, ◌++◌, map, Option, Some, None, Result, Ok, Err, codes, string_bytes}
+use Rattle.std.specs.Str.{bytes_eq, is_utf8}
+use Rattle.pg_copy.specs.Row.{Row}
+use Rattle.pg_client.specs.declared.settings.Settings.{Settings}
+use Rattle.pg_wire.specs.declared.message.Target.{Target}
+use Rattle.pg_wire.specs.declared.session.Step.{Step}
+use Rattle.pg_wire.specs.declared.session.Step.TheVariants as step
+use Rattle.pg_wire.specs.declared.session.Request.TheVariants as request
+use Rattle.pg_pair.specs.declared.event.Call.TheVariants as call
+use Rattle.pg_pair.specs.declared.event.Event.{Event}
+use Rattle.pg_pair.specs.declared.event.Event.TheVariants as event
+use Rattle.pgpipe_files.specs.declared.calls_file.CallLine.{CallLine}
+use Rattle.pgpipe_files.specs.declared.calls_file.CallLine.TheVariants as line
+use Rattle.pgpipe_files.specs.declared.calls_file.Calls.{Calls}
+use Rattle.pgpipe_files.specs.declared.calls_file.Group.{Group}
+use Rattle.pgpipe_files.specs.declared.verb.CallVerb.{CallVerb}
+use Rattle.pgpipe_files.specs.declared.verb.CallVerb.TheVariants as verb
+use Rattle.pgpipe_files.specs.declared.verb.StepVerb.{StepVerb}
+use Rattle.pgpipe_files.specs.declared.verb.StepVerb.TheVariants as step_line
+use Rattle.pgpipe_files.specs.Verbs.{call_verb, step_verb, target_of}
+use Rattle.pgpipe_files.specs.Fields.{◌>>=◌, text_at, read_at, pair_at, signed_number, if_all, nothing_of, text_of, pair_of, number_of, numbers_of}
+use Rattle.pgpipe_files.specs.FileLines.{with_file, in_the_end}
+
+-- What a line says that happens: an event, a flow, or that the bytes of the file of this path are handed over.
+pub data Said : Type 0 where
+  Happens : Event → Said
+  Flows : Said
+  HandsOver : List ℕ → Said
+
+-- what CALLS says
+pub record CallsSaid : Type 0 where
+  pub settings : Settings
+  pub lines : List Said
+
+-- what was read of CALLS so far: the settings, what happens, whether `start` was read, and the group that is open
+pub record CallsSoFar : Type 0 where
+  pub settings : Settings
+  pub lines : List Said
+  pub started : Bool
+  pub group : Option Group
+
+-- ---- lines in no group
+
+-- a setting stands before `start`
+abbrev pub if_before_start : CallsSoFar → Option Unit
+if_before_start s = if s.started then None else Some tt
+
+abbrev pub set : {A : Type 0} → CallsSoFar → Option A → (A → Settings) → Option CallsSoFar
+set s read make = if_before_start s >>= λ _. read >>= λ x. Some (record s { settings = make x })
+
+abbrev pub says : CallsSoFar → Said → CallsSoFar
+says s said = record s { lines = s.lines ++ said ∷ [] }
+
+-- a line that says this, where its fields can be read
+abbrev pub said : {A : Type 0} → CallsSoFar → Option A → (A → Said) → Option CallsSoFar
+said s read make = read >>= λ x. Some (says s (make x))
+
+abbrev pub called : {A : Type 0} → CallsSoFar → Option A → (A → Event) → Option CallsSoFar
+called s read make = said s read (λ x. Happens (make x))
+
+-- a path is UTF-8
+abbrev pub path : List ℕ → Option (List ℕ)
+path bytes = if is_utf8 bytes then Some bytes else None
+
+-- a line in the row of this number
+abbrev pub call_line : CallsSoFar → ℕ → CallVerb → Row → Option CallsSoFar
+call_line s n verb.User fields = set s (text_of fields) (λ user. record s.settings { user = user })
+call_line s n verb.Database fields = set s (text_of fields) (λ name. record s.settings { database = Some name })
+call_line s n verb.Parameter fields =
+    set s (pair_of fields) (λ pair. record s.settings { pairs = s.settings.pairs ++ pair ∷ [] })
+call_line s n verb.Password fields =
+    set s (text_of fields) (λ password. record s.settings { password = Some password })
+call_line s n verb.Start fields =
+    nothing_of fields >>= λ _. Some (record (says s (Happens (event.Call call.Start))) { started = true })
+call_line s n verb.Query fields = called s (text_of fields) (λ text. event.Call (call.Request (request.Query text)))
+call_line s n verb.Group fields =
+    nothing_of fields >>= λ _. Some (record s { group = Some (record { row = n; steps = [] }) })
+call_line s n verb.Chunk fields = called s (text_of fields) (λ bytes. event.Call (call.Chunk bytes))
+call_line s n verb.File fields = said s (text_of fields >>= λ bytes. path bytes) HandsOver
+call_line s n verb.Done fields = called s (nothing_of fields) (λ _. event.Call call.Done)
+call_line s n verb.Fail fields = called s (text_of fields) (λ reason. event.Call (call.Fail reason))
+call_line s n verb.Terminate fields = called s (nothing_of fields) (λ _. event.Call call.Terminate)
+call_line s n verb.ToBackend fields = called s (number_of fields) event.ToBackend
+call_line s n verb.ToClient fields = called s (number_of fields) event.ToClient
+call_line s n verb.Step fields = called s (nothing_of fields) (λ _. event.Step)
+call_line s n verb.BreakToBackend fields = called s (nothing_of fields) (λ _. event.BreakToBackend)
+call_line s n verb.BreakToClient fields = called s (nothing_of fields) (λ _. event.BreakToClient)
+call_line s n verb.Flow fields = said s (nothing_of fields) (λ _. Flows)
+
+-- ---- lines in a group
+
+-- a statement or a portal, and its name
+abbrev pub named_of : Row → Option (Target × List ℕ)
+named_of fields = read_at target_of fields >>= λ t. text_of t.1 >>= λ name. Some (t.0, name)
+
+-- the step of a line; the values of a `bind` are in the text format, as are the columns that come of it
+abbrev pub step_of : StepVerb → Row → Option Step
+step_of step_line.Parse fields =
+    pair_at fields >>= λ p. numbers_of p.1 >>= λ types. Some (step.Parse p.0.0 p.0.1 types)
+step_of step_line.Bind fields = pair_at fields >>= λ p. Some (step.Bind p.0.0 p.0.1 [] p.1 [])
+step_of step_line.Describe fields = named_of fields >>= λ named. Some (step.Describe named.0 named.1)
+step_of step_line.Execute fields =
+    text_at fields >>= λ t. read_at signed_number t.1 >>= λ n. if_all (step.Execute t.0 n.0) n.1
+step_of step_line.Close fields = named_of fields >>= λ named. Some (step.Close named.0 named.1)
+
+-- `sync` ends the group: it is a request of its steps
+abbrev pub sync_said : CallsSoFar → Group → Row → Option CallsSoFar
+sync_said s group fields = called s (nothing_of fields) (λ _. event.Call (call.Request (request.Group group.steps)))
+
+abbrev pub step_or_sync : CallsSoFar → Group → Option StepVerb → List ℕ → Row → Option CallsSoFar
+step_or_sync s group (Some v) word fields =
+    step_of v fields >>= λ st. Some (record s { group = Some (record group { steps = group.steps ++ st ∷ [] }) })
+step_or_sync s group None word fields = if bytes_eq word (codes "sync") then sync_said s group fields else None
+
+-- a line with this word first, in a group
+abbrev pub in_group : CallsSoFar → Group → List ℕ → Row → Option CallsSoFar
+in_group s group word fields = step_or_sync s group (step_verb word) word fields
+
+-- ---- the file
+
+-- a line with this word first, in no group
+abbrev pub in_no_group : CallsSoFar → ℕ → List ℕ → Row → Option CallsSoFar
+in_no_group s n word fields = call_verb word >>= λ v. call_line s n v fields
+
+abbrev pub line_by : Option Group → CallsSoFar → ℕ → List ℕ → Row → Option CallsSoFar
+line_by (Some group) s n word fields = in_group s group word fields
+line_by None s n word fields = in_no_group s n word fields
+
+-- a line with this word first, in its place; where a group was open, its line says whether it still is
+unfoldable pub calls_line : CallsSoFar → ℕ → List ℕ → Row → Option CallsSoFar
+calls_line s n word fields = line_by s.group (record s { group = None }) n word fields
+
+-- before the first line: no user is an empty one, and the limit is the greatest that a client takes
+abbrev pub no_calls : CallsSoFar
+no_calls = record {
+  settings = record { user = []; database = None; pairs = []; password = None; limit = 1073741823 };
+  lines = [];
+  started = false;
+  group = None;
+}
+
+abbrev pub closed_calls : CallsSoFar → Option Group → Result CallsSaid ℕ
+closed_calls s None = Ok (record { settings = s.settings; lines = s.lines })
+closed_calls s (Some group) = Err group.row
+
+-- behind the last line: a group that is open is refused at its own line
+abbrev pub calls_said : CallsSoFar → Result CallsSaid ℕ
+calls_said s = closed_calls s s.group
+
+-- What the bytes of CALLS are read as, or the number of the row that is refused.
+unfoldable pub calls_of : List ℕ → Result CallsSaid ℕ
+calls_of bytes = in_the_end (with_file calls_line no_calls bytes) calls_said
+
+-- ---- what was read, as the program has it
+
+abbrev pub line_said : CallLine → Said
+line_said (line.Event e) = Happens e
+line_said line.Flow = Flows
+line_said (line.File path) = HandsOver (string_bytes path)
+
+abbrev pub what_is_said : Calls → CallsSaid
+what_is_said calls = record { settings = calls.settings; lines = map line_said calls.lines }

@@ -1,0 +1,4 @@
+-- Words of private functions. No public contract cites them.
+pub mod Reads
+pub mod Files
+pub mod Begun

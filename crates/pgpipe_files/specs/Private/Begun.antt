@@ -1,0 +1,7 @@
+-- The row of a `paramtypes` whose `described` has yet to come.
+use Rattle.std.specs.Prelude.{ℕ, Option, Some, None, option_map}
+use Rattle.pgpipe_files.specs.declared.answer_file.Open.{Open}
+
+abbrev pub row_left_open : Option Open → Option ℕ
+row_left_open None = None
+row_left_open (Some o) = option_map (λ t. t.row) o.types

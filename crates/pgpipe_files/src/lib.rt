@@ -1,0 +1,15 @@
+//! The two files of a loop, read: what a backend answers (SCRIPT), and what a client is made with and what happens (CALLS).
+#![tactic(auto)]
+
+mod answer_file;
+mod arguments;
+mod calls_file;
+mod file_lines;
+mod line_fault;
+mod script_file;
+mod step_lines;
+mod verb;
+
+pub use calls_file::{CallLine, Calls, read_calls};
+pub use line_fault::LineFault;
+pub use script_file::read_script;

@@ -1,0 +1,6 @@
+pub mod LineWriting
+pub mod Loops
+pub mod LoopGroups
+pub mod LoopEnds
+pub mod LoopRows
+pub mod Rows

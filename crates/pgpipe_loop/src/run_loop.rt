@@ -1,0 +1,272 @@
+//! Running a loop: a client and a scripted backend in one process, and what happens between them.
+
+ghost use Rattle.std.specs.Prelude.{◌≡◌, ◌≤◌, ℕ, List, drop, length, IfOk, cond};
+ghost use Rattle.std.specs.List.{FoldsTo, concat};
+ghost use Rattle.pg_wire.specs.Direction.{IsLimit};
+ghost use Rattle.pg_wire.specs.Link.{HasRisen};
+ghost use Rattle.pg_backend.specs.Check.{IsChecked};
+ghost use Rattle.pg_pair.specs.Beginning.{IsBegun};
+ghost use Rattle.pg_pair.specs.View.{PairView};
+ghost use Rattle.pg_pair.specs.declared.event.Event.TheVariants as event;
+ghost use Rattle.pgpipe_files.specs.Filling.{next_file};
+ghost use Rattle.pgpipe_loop.specs.LoopLines.{event_rows, text_lines};
+ghost use Rattle.pgpipe_loop.specs.Looping.{Doing, times, most_times, flow_once, line_doings, doings, is_carrier, is_nothing, Answers};
+ghost use Rattle.pgpipe_loop.specs.Private.Loops.{at, delivery, SendsLines, Prints, Stands, DoesAll, DoesOnce, Closes, Ends, answer_of};
+ghost use Rattle.pgpipe_base.specs.Receiving.{CountsNoFailure};
+
+use crate::event_lines::{closing_lines, event_lines};
+use pg_backend::Script;
+use pg_pair::{Applied, Carry, Event, Pair, PairFault, Way};
+use pg_wire::{Seq, Sink};
+use pgpipe_base::ToolFault;
+use pgpipe_base::outbox::send;
+use pgpipe_files::{CallLine, Calls};
+use std::alloc::{AllocError, Global};
+
+/// How a loop ended.
+#[derive(Clone, Copy, Debug, PartialEq, Eq)]
+pub enum Ran {
+    /// All its lines are done.
+    Whole,
+    /// All its lines are done, and the carrier failed or gave other bytes at one of them.
+    CarrierFailed,
+}
+
+// How often an event of a flow happens at most: each time but the last moves a byte or handles a message.
+const MOST_TIMES: u64 = u64::MAX;
+
+// Why the work stops.
+#[derive(Clone, Copy, PartialEq, Eq)]
+enum Stop {
+    Memory,
+    SinkFailed,
+}
+
+impl From<AllocError> for Stop {
+    ghost use Rattle.pgpipe_loop.specs.declared.run_loop.Stop.TheVariants.{Memory};
+
+    ghost from_gives = { λ _ stop. stop ≡ Memory };
+
+    fn from(_e: AllocError) -> Stop {
+        Stop::Memory
+    }
+}
+
+impl From<PairFault> for Stop {
+    ghost use Rattle.pgpipe_loop.specs.declared.run_loop.Stop.TheVariants.{Memory};
+
+    ghost from_gives = { λ _ stop. stop ≡ Memory };
+
+    fn from(_e: PairFault) -> Stop {
+        Stop::Memory
+    }
+}
+
+// A pair, and whether its carrier has failed or given other bytes.
+#[derive(Drop)]
+struct Work<C: Carry> {
+    alloc: Global,
+    pair: Pair<C>,
+    carrier_failed: bool,
+}
+
+impl<C: Carry> Work<C> {
+    // Applies an event, and sends its lines.
+    fn apply<K: Sink>(&mut self, event: Event, sink: &mut K) -> Result<Applied, Stop>
+        ensures { Prints C.carries K.takes K.failures event (at self.old.pair self.old.carrier_failed sink.old) result (at self.new.pair self.new.carrier_failed sink.new) }
+    {
+        let settled = self.pair.settled().len();
+        let lost = self.pair.loss().is_some();
+        let answer = self.pair.apply(event)?;
+        self.carrier_failed |= is_carrier(&answer);
+        let lines = self.lines_since(settled, lost, &answer)?;
+        send_lines(lines, sink)?;
+        Ok(answer)
+    }
+
+    // The lines of an event, before which so many groups were settled.
+    fn lines_since(
+        &self,
+        settled: usize,
+        lost: bool,
+        answer: &Applied,
+    ) -> Result<Vec<u8>, AllocError>
+        requires { settled ≤ length self.now.pair.settled }
+        ensures { IfOk result (λ text. text.items ≡ text_lines (event_rows (drop settled self.now.pair.settled) answer.now (cond lost None self.now.pair.loss))) }
+    {
+        let (_, new) = self.pair.settled().split_at(settled);
+        let loss = if lost { None } else { self.pair.loss() };
+        event_lines(self.alloc, new, answer, loss)
+    }
+
+    // Delivers at most so many bytes, and answers whether no byte was moved.
+    fn deliver_once<K: Sink>(&mut self, way: Way, count: u32, sink: &mut K) -> Result<bool, Stop>
+        ensures { DoesOnce C.carries K.takes K.failures (delivery way count) (at self.old.pair self.old.carrier_failed sink.old) result (at self.new.pair self.new.carrier_failed sink.new) }
+    {
+        let before = self.pair.reached(way);
+        self.apply(delivery(way, count), sink)?;
+        Ok(self.pair.reached(way) == before)
+    }
+
+    // Makes a step, and answers whether nothing whole waited.
+    fn step_once<K: Sink>(&mut self, sink: &mut K) -> Result<bool, Stop>
+        ensures { DoesOnce C.carries K.takes K.failures event.Step (at self.old.pair self.old.carrier_failed sink.old) result (at self.new.pair self.new.carrier_failed sink.new) }
+    {
+        let answer = self.apply(Event::Step, sink)?;
+        Ok(is_nothing(&answer))
+    }
+
+    // Delivers so many bytes at a time, until none is moved.
+    fn deliver<K: Sink>(&mut self, way: Way, count: u32, sink: &mut K) -> Result<(), Stop>
+        ensures { DoesAll C.carries K.takes K.failures (times most_times (delivery way count)) (at self.old.pair self.old.carrier_failed sink.old) result (at self.new.pair self.new.carrier_failed sink.new) }
+    {
+        for _ in 0..MOST_TIMES {
+            if self.deliver_once(way, count, sink)? {
+                return Ok(());
+            }
+        }
+        Ok(())
+    }
+
+    // Has the backend step, until nothing whole waits.
+    fn step<K: Sink>(&mut self, sink: &mut K) -> Result<(), Stop>
+        ensures { DoesAll C.carries K.takes K.failures (times most_times event.Step) (at self.old.pair self.old.carrier_failed sink.old) result (at self.new.pair self.new.carrier_failed sink.new) }
+    {
+        for _ in 0..MOST_TIMES {
+            if self.step_once(sink)? {
+                return Ok(());
+            }
+        }
+        Ok(())
+    }
+
+    // All that waits goes to the backend, it steps, and all that waits goes to the client.
+    fn flow_once<K: Sink>(&mut self, cut: u32, sink: &mut K) -> Result<(), Stop>
+        ensures { DoesAll C.carries K.takes K.failures (flow_once cut) (at self.old.pair self.old.carrier_failed sink.old) result (at self.new.pair self.new.carrier_failed sink.new) }
+    {
+        self.deliver(Way::ToBackend, cut, sink)?;
+        self.step(sink)?;
+        self.deliver(Way::ToClient, cut, sink)
+    }
+
+    // Does a line of the calls.
+    fn line<K: Sink>(&mut self, line: CallLine, cut: u32, sink: &mut K) -> Result<(), Stop>
+        ensures { DoesAll C.carries K.takes K.failures (line_doings cut line) (at self.old.pair self.old.carrier_failed sink.old) result (at self.new.pair self.new.carrier_failed sink.new) }
+    {
+        match line {
+            CallLine::Event(event) => {
+                self.apply(event, sink)?;
+                Ok(())
+            }
+            CallLine::Flow => {
+                self.flow_once(cut, sink)?;
+                self.flow_once(cut, sink)
+            }
+            // no file is left
+            CallLine::File(_) => Ok(()),
+        }
+    }
+
+    // Does the lines, one after the other.
+    fn lines<K: Sink>(&mut self, lines: Seq<CallLine>, cut: u32, sink: &mut K) -> Result<(), Stop>
+        ensures { DoesAll C.carries K.takes K.failures (doings cut lines) (at self.old.pair self.old.carrier_failed sink.old) result (at self.new.pair self.new.carrier_failed sink.new) }
+    {
+        for line in lines {
+            self.line(line, cut, sink)?;
+        }
+        Ok(())
+    }
+
+    // Sends the closing lines.
+    fn close<K: Sink>(&self, sink: &mut K) -> Result<(), Stop>
+        ensures { Closes K.takes K.failures self.now.pair sink.old result sink.new }
+    {
+        let (client, backend) = (self.pair.client(), self.pair.backend());
+        let lines = closing_lines(self.alloc, backend.log(), client.phase(), backend.phase())?;
+        send_lines(lines, sink)
+    }
+
+    // Does the lines, and sends the closing ones.
+    fn run<K: Sink>(&mut self, lines: Seq<CallLine>, cut: u32, sink: &mut K) -> Result<Ran, Stop>
+        ensures { (start : K) (begun : PairView C) (all : List Doing) → Stands C.carries K.takes K.failures start begun all (at self.old.pair self.old.carrier_failed sink.old) (doings cut lines) → Ends C.carries K.takes K.failures start begun all result sink.new }
+    {
+        self.lines(lines, cut, sink)?;
+        self.close(sink)?;
+        Ok(if self.carrier_failed {
+            Ran::CarrierFailed
+        } else {
+            Ran::Whole
+        })
+    }
+}
+
+fn is_carrier(answer: &Applied) -> bool
+    ensures { result ≡ is_carrier answer.now }
+{
+    matches!(answer, Applied::Carrier)
+}
+
+fn is_nothing(answer: &Applied) -> bool
+    ensures { result ≡ is_nothing answer.now }
+{
+    matches!(answer, Applied::Nothing)
+}
+
+fn delivery(way: Way, count: u32) -> Event
+    ensures { result ≡ delivery way count }
+{
+    match way {
+        Way::ToBackend => Event::ToBackend(count),
+        Way::ToClient => Event::ToClient(count),
+    }
+}
+
+fn send_lines<K: Sink>(lines: Vec<u8>, sink: &mut K) -> Result<(), Stop>
+    ensures { SendsLines K.takes K.failures sink.old lines.items result sink.new }
+{
+    let mut lines = lines;
+    send(&mut lines, sink).map_err(|_| Stop::SinkFailed)
+}
+
+// The answer where the work ended so.
+fn answer_of(ended: Result<Ran, Stop>) -> Result<Ran, ToolFault>
+    ensures { result ≡ answer_of ended }
+{
+    match ended {
+        Ok(ran) => Ok(ran),
+        Err(Stop::Memory) => Err(ToolFault::Memory),
+        Err(Stop::SinkFailed) => Err(ToolFault::Device),
+    }
+}
+
+/// Runs the lines of `calls` over a client with their settings and a backend with `script`, between which `carrier` carries, and sends
+/// the lines of each event, in order, and then the closing lines. In a flow `cut` bytes are delivered at a time. The script has to be
+/// checked, each file of the calls filled in, and the limit of the settings to be from 64 to 1,073,741,823.
+///
+/// `Device` is answered where the sink failed in this call; a beginning of the lines was then sent. `Memory` is answered where memory
+/// was refused; the lines of the events before were then sent.
+pub fn run_loop<C: Carry, K: Sink>(
+    alloc: Global,
+    script: Script,
+    calls: Calls,
+    cut: u32,
+    carrier: C,
+    sink: &mut K,
+) -> Result<Ran, ToolFault>
+    requires limit { IsLimit calls.settings.limit }
+    requires checked { IsChecked script }
+    requires filled { next_file calls.lines ≡ None }
+    // the pair as it begins, what was sent, and the answer for what has happened
+    ensures ran { (begun : PairView C) × (sent : List (List ℕ)) × IsBegun calls.settings script carrier begun × FoldsTo K.takes sink.old sent sink.new
+        × Answers (HasRisen (K.failures sink.old) (K.failures sink.new)) C.carries begun (doings cut calls.lines) (concat sent) result }
+    // where the answer isn't Device, the sink didn't fail
+    ensures sink { CountsNoFailure (K.failures sink.old) result (K.failures sink.new) }
+{
+    let Calls { settings, lines } = calls;
+    let mut work = Work {
+        alloc,
+        pair: Pair::new(alloc, settings, script, carrier),
+        carrier_failed: false,
+    };
+    answer_of(work.run(lines, cut, sink))
+}

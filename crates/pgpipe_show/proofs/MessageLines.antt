@@ -1,0 +1,115 @@
+-- How the lines go on from message to message.
+use Rattle.std.proofs.Common.{◌≡◌, ℕ, List, [], ◌∷◌, ◌++◌, ◌⊎◌, inl, inr, Option, Some, None, Ok, Err, refl, sym, ap, subst, ◌∙◌, append_assoc, append-nil}
+use Rattle.std.specs.List.{flat_map, AllByRecursion}
+use Rattle.std.proofs.lemmas.Grind.{flat_map-append}
+use Rattle.std.proofs.lemmas.Option.{none-some}
+use Rattle.pg_wire.specs.declared.fault.WireFault.{WireFault}
+use Rattle.pg_wire.specs.declared.fault.WireFault.TheVariants as wire
+use Rattle.pg_wire.specs.declared.link.LinkFault.{LinkFault}
+use Rattle.pg_wire.specs.Decoder.{DecoderState, Takes}
+use Rattle.pg_wire.specs.Direction.{Direction, spelling}
+use Rattle.pg_wire.specs.Stream.{IsStream, IsWithin, IsOpen, IsFaulty}
+use Rattle.pgpipe_show.specs.declared.halt.Halt.{Halt}
+use Rattle.pgpipe_show.specs.declared.halt.Halt.TheVariants as halt
+use Rattle.pgpipe_show.specs.Lines.{line, lines}
+use Rattle.pgpipe_base.specs.Sending.{Puts}
+use Rattle.pgpipe_show.specs.Show.{limit}
+use Rattle.pgpipe_show.specs.Private.Work.{IsSound, HasPut, Breaks, PutsMessages, StepsSource, PutsLine, halt_of}
+use Rattle.pgpipe_base.proofs.Pieces.{puts_none, puts_then}
+
+pub each_append : {X : Type 0} (P : X → Type 0) (xs ys : List X) → AllByRecursion P xs → AllByRecursion P ys → AllByRecursion P (xs ++ ys)
+each_append P [] ys all more = more
+each_append P (x ∷ xs) ys all more = (all.0, each_append P xs ys all.1 more)
+
+-- messages behind messages
+pub stream_append : {M : Type 0} (D : Direction M) (bytes : List ℕ) (ms : List M) (rest : List ℕ) (ns : List M) (rest' : List ℕ) → IsStream D limit bytes ms rest → IsStream D limit rest ns rest' → IsStream D limit bytes (ms ++ ns) rest'
+stream_append D bytes ms rest ns rest' s t = record {
+  whole = s.whole ∙ ap (λ (u : List ℕ). flat_map (spelling D) ms ++ u) t.whole ∙ sym (append_assoc (flat_map (spelling D) ms) (flat_map (spelling D) ns) rest') ∙ ap (λ (u : List ℕ). u ++ rest') (sym (flat_map-append (spelling D) ms ns));
+  each = each_append (IsWithin D limit) ms ns s.each t.each;
+}
+
+-- one message at the beginning
+one_message : {M : Type 0} (D : Direction M) (rest : List ℕ) (m : M) (rest' : List ℕ) → rest ≡ spelling D m ++ rest' → IsWithin D limit m → IsStream D limit rest (m ∷ []) rest'
+one_message D rest m rest' e w = record { whole = e ∙ ap (λ (u : List ℕ). u ++ rest') (sym (append-nil (spelling D m))); each = (w, tt) }
+
+lines_then : {M : Type 0} (D : Direction M) (ms : List M) (m : M) → lines D (ms ++ m ∷ []) ≡ lines D ms ++ line D m
+lines_then D ms m = flat_map-append (line D) ms (m ∷ []) ∙ ap (λ (t : List ℕ). lines D ms ++ t) (append-nil (line D m))
+
+-- where no fault was found before, it was found in this call
+found_now : {M : Type 0} (D : Direction M) (d : DecoderState) (f : WireFault) (d' : DecoderState) → d.fault ≡ None → ((d.fault ≡ Some f) × (d' ≡ d)) ⊎ ((d.fault ≡ None) × (d' ≡ record d { fault = Some f }) × IsFaulty D d.limit d.kept f) → IsFaulty D d.limit d.kept f
+found_now D d f d' none (inl p) = absurd (none-some f (sym none ∙ p.0))
+found_now D d f d' none (inr p) = p.2
+
+module _ {K M : Type 0} (D : Direction M) (takes : K → List ℕ → K → Type 0) (failures : K → ℕ) (c0 : List ℕ) (s0 : K) (bytes : List ℕ) where
+  pub has_put_none : HasPut takes failures D c0 s0 bytes bytes c0 s0
+  has_put_none = record { messages = []; stream = record { whole = refl; each = tt }; put = puts_none takes failures c0 s0; within = λ w. w }
+
+  -- the line of the next message is put
+  has_put_more : (rest c : List ℕ) (s : K) (m : M) (rest' c' : List ℕ) (s' : K) → HasPut takes failures D c0 s0 bytes rest c s → rest ≡ spelling D m ++ rest' → IsWithin D limit m
+      → PutsLine takes failures c s (line D m) (Ok tt) c' s' → HasPut takes failures D c0 s0 bytes rest' c' s'
+  has_put_more rest c s m rest' c' s' h e w p = record {
+    messages = h.messages ++ m ∷ [];
+    stream = stream_append D bytes h.messages rest (m ∷ []) rest' h.stream (one_message D rest m rest' e w);
+    put = subst (λ (t : List ℕ). Puts {A = Unit {0}} takes failures c0 s0 t (Ok tt) c' s') (sym (lines_then D h.messages m)) (puts_then takes failures c0 s0 (lines D h.messages) c s (line D m) (Ok tt) c' s' h.put p.0);
+    within = λ w. p.1;
+  }
+
+  -- the sink failed in the line of the next message
+  breaks_more : (rest c : List ℕ) (s : K) (m : M) (rest' c' : List ℕ) (s' : K) (f : LinkFault) → HasPut takes failures D c0 s0 bytes rest c s → rest ≡ spelling D m ++ rest' → IsWithin D limit m
+      → Puts {A = Unit {0}} takes failures c s (line D m) (Err f) c' s' → Breaks takes failures D c0 s0 bytes c' s'
+  breaks_more rest c s m rest' c' s' f h e w p = record {
+    fault = f;
+    messages = h.messages ++ m ∷ [];
+    rest = rest';
+    stream = stream_append D bytes h.messages rest (m ∷ []) rest' h.stream (one_message D rest m rest' e w);
+    put = subst (λ (t : List ℕ). Puts {A = Unit {0}} takes failures c0 s0 t (Err f) c' s') (sym (lines_then D h.messages m)) (puts_then takes failures c0 s0 (lines D h.messages) c s (line D m) (Err f) c' s' h.put p);
+  }
+
+  module _ (d : DecoderState) (c : List ℕ) (s : K) (sound : IsSound d) (h : HasPut takes failures D c0 s0 bytes d.kept c s) where
+    -- ---- what the decoder answers
+
+    -- no whole message waits
+    pub at_none : (o : Option M) (d' : DecoderState) → o ≡ None → Takes D d (Ok o) d' → PutsMessages takes failures D c0 s0 bytes (Ok d') c s
+    at_none o d' none got =
+        let t = subst (λ (x : Option M). Takes D d (Ok x) d') none got in
+        let is_open : IsOpen D limit d.kept = subst (λ (l : ℕ). IsOpen D l d.kept) sound.limited t.2 in
+        subst (λ (e : DecoderState). PutsMessages takes failures D c0 s0 bytes (Ok e) c s) (sym t.1) (sound, h, is_open)
+
+    -- the rest is faulty, or memory was refused
+    pub at_fault : (f : WireFault) (d' : DecoderState) → Takes D d (Err f) d' → PutsMessages takes failures D c0 s0 bytes (Err (halt_of f)) c s
+    at_fault wire.Memory d' t = (d.kept, h)
+    at_fault (wire.UnknownTag b) d' t = (d.kept, h, subst (λ (l : ℕ). IsFaulty D l d.kept (wire.UnknownTag b)) sound.limited (found_now D d (wire.UnknownTag b) d' sound.no_fault t))
+    at_fault (wire.ShortLength n) d' t = (d.kept, h, subst (λ (l : ℕ). IsFaulty D l d.kept (wire.ShortLength n)) sound.limited (found_now D d (wire.ShortLength n) d' sound.no_fault t))
+    at_fault (wire.LongLength n) d' t = (d.kept, h, subst (λ (l : ℕ). IsFaulty D l d.kept (wire.LongLength n)) sound.limited (found_now D d (wire.LongLength n) d' sound.no_fault t))
+    at_fault (wire.BadFirst n) d' t = (d.kept, h, subst (λ (l : ℕ). IsFaulty D l d.kept (wire.BadFirst n)) sound.limited (found_now D d (wire.BadFirst n) d' sound.no_fault t))
+    at_fault (wire.BadBody b) d' t = (d.kept, h, subst (λ (l : ℕ). IsFaulty D l d.kept (wire.BadBody b)) sound.limited (found_now D d (wire.BadBody b) d' sound.no_fault t))
+
+    -- ---- what is done with a message
+
+    -- its line is put
+    pub at_line : (o : Option M) (d' : DecoderState) (m : M) (c' : List ℕ) (s' : K) → o ≡ Some m → Takes D d (Ok o) d' → PutsLine takes failures c s (line D m) (Ok tt) c' s'
+        → IsSound d' × HasPut takes failures D c0 s0 bytes d'.kept c' s'
+    at_line o d' m c' s' some got p =
+        let t = subst (λ (x : Option M). Takes D d (Ok x) d') some got in
+        let within : IsWithin D limit m = subst (λ (l : ℕ). IsWithin D l m) sound.limited t.1 in
+        (record { limited = ap (λ (e : DecoderState). e.limit) t.3 ∙ sound.limited; no_fault = ap (λ (e : DecoderState). e.fault) t.3 ∙ sound.no_fault }, has_put_more d.kept c s m d'.kept c' s' h t.2 within p)
+
+    -- the work halted in it
+    pub at_halt : (o : Option M) (d' : DecoderState) (m : M) (w : Halt) (c' : List ℕ) (s' : K) → o ≡ Some m → Takes D d (Ok o) d' → PutsLine takes failures c s (line D m) (Err w) c' s' → PutsMessages takes failures D c0 s0 bytes (Err w) c' s'
+    at_halt o d' m halt.Memory c' s' some got p =
+        (d.kept, subst (λ (k : List ℕ). HasPut takes failures D c0 s0 bytes d.kept k s') (sym p.0) (subst (λ (k : K). HasPut takes failures D c0 s0 bytes d.kept c k) (sym p.1) h))
+    at_halt o d' m halt.SinkFailed c' s' some got p =
+        let t = subst (λ (x : Option M). Takes D d (Ok x) d') some got in
+        breaks_more d.kept c s m d'.kept c' s' p.0 h t.2 (subst (λ (l : ℕ). IsWithin D l m) sound.limited t.1) p.1
+    at_halt o d' m (halt.Ended n) c' s' some got p = absurd p
+    at_halt o d' m (halt.Faulty f) c' s' some got p = absurd p
+    at_halt o d' m halt.SourceFailed c' s' some got p = absurd p
+    at_halt o d' m halt.Endless c' s' some got p = absurd p
+
+pub faults_leave_source : (A : Type 0) (ended : Type 0) (n : ℕ) (f : WireFault) → StepsSource {A = A} ended n n (Err (halt_of f))
+faults_leave_source A ended n wire.Memory = refl
+faults_leave_source A ended n (wire.UnknownTag b) = refl
+faults_leave_source A ended n (wire.ShortLength b) = refl
+faults_leave_source A ended n (wire.LongLength b) = refl
+faults_leave_source A ended n (wire.BadFirst b) = refl
+faults_leave_source A ended n (wire.BadBody b) = refl

@@ -1,0 +1,32 @@
+use Rattle.std.proofs.Common.{[], refl, inl}
+use Rattle.std.specs.List.{concat}
+use Rattle.pg_wire.specs.Link.{HasRisen}
+use Rattle.pgpipe_show.proofs.Settling.{settled, unsettled, counts_none, source_counts, nothing_shown}
+use Rattle.pgpipe_show.proofs.show.show.Goals as goal
+
+pub returns-in-Err-clause-shown : goal.returns-in-Err-clause-shown
+returns-in-Err-clause-shown g c = ([], [], refl, refl, nothing_shown c.args.front)
+
+pub returns-in-Ok-settle-clause-shown : goal.returns-in-Ok-settle-clause-shown
+returns-in-Ok-settle-clause-shown g c =
+    let run = c.run-halt.ensures in
+    let broke = HasRisen (g.K.Sink.failures c.args.sink.now) (g.K.Sink.failures c.settle.new.sink) in
+    let sent = settled g.K.Sink.takes g.K.Sink.failures _ run.pieces (g.S.Source.failures c.args.source.now) (g.S.Source.failures c.run-halt.new.source) broke c.args.sink.now (concat run.pieces) run.before (g.S.Source.has_ended c.run-halt.new.source) c.run-halt.result c.run-halt.new.self.outbox c.run-halt.new.sink c.settle.new.self.outbox c.settle.new.sink run.shown_before run.halts run.halts_source c.in-Ok-settle.ensures in
+    (run.pieces, sent.0.0, run.received, sent.0.1, rw (c.answer_of.ensures, ← c.begin-2.ensures.side) sent.0.2)
+
+pub returns-in-Ok-settle-clause-source : goal.returns-in-Ok-settle-clause-source
+returns-in-Ok-settle-clause-source g c =
+    let run = c.run-halt.ensures in
+    rw c.answer_of.ensures (source_counts (g.S.Source.has_ended c.run-halt.new.source) (g.S.Source.failures c.args.source.now) (g.S.Source.failures c.run-halt.new.source) run.pieces c.run-halt.result run.halts_source)
+
+pub returns-in-Ok-settle-clause-sink : goal.returns-in-Ok-settle-clause-sink
+returns-in-Ok-settle-clause-sink g c =
+    let run = c.run-halt.ensures in
+    let sent = settled g.K.Sink.takes g.K.Sink.failures _ run.pieces (g.S.Source.failures c.args.source.now) (g.S.Source.failures c.run-halt.new.source) ⊥ c.args.sink.now (concat run.pieces) run.before (g.S.Source.has_ended c.run-halt.new.source) c.run-halt.result c.run-halt.new.self.outbox c.run-halt.new.sink c.settle.new.self.outbox c.settle.new.sink run.shown_before run.halts run.halts_source c.in-Ok-settle.ensures in
+    counts_none (g.K.Sink.failures c.args.sink.now) c.answer_of.result (g.K.Sink.failures c.settle.new.sink) sent.1
+
+pub returns-clause-shown : goal.returns-clause-shown
+returns-clause-shown g c =
+    let run = c.run-halt.ensures in
+    let failed = unsettled g.K.Sink.takes g.K.Sink.failures _ c.args.sink.now (concat run.pieces) run.before c.run-halt.result c.run-halt.new.self.outbox c.run-halt.new.sink c.in-Err-settle.field-0 c.settle.new.self.outbox c.settle.new.sink run.shown_before run.halts c.in-Err-settle.ensures in
+    (run.pieces, failed.0.0, run.received, failed.0.1, inl (failed.1, rw (← c.begin-2.ensures.side) failed.0.2.0, rw (← c.begin-2.ensures.side) failed.0.2.1))

@@ -1,0 +1,14 @@
+use Rattle.std.proofs.Common.{rules, Ok}
+use Rattle.pgpipe_words.proofs.loop_files.run_judged.Goals as goal
+
+pub returns : goal.returns
+returns g c =
+    let ran = c.run_loop.ensures.ran in (
+      Ok tt,
+      search rules,
+      (
+        c.run_loop.result,
+        record { begun = ran.0; sent = ran.1; is_begun = ran.2; was_sent = ran.3; answers = ran.4; sink_counts = c.run_loop.ensures.sink },
+        c.loop_result_of.ensures,
+      ),
+    )

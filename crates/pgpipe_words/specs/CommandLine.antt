@@ -1,0 +1,41 @@
+-- The command line: its subcommands with their arguments, as clap reads them.
+use Rattle.std.specs.Prelude.{◌≡◌, pos, true, [], ◌∷◌, map, Some, codes}
+use Rattle.clap.specs.Words.{App, Rule, Shape, Text, new_app, new_rule, with_rule, with_subcommand}
+use Rattle.clap.specs.declared.builder.action.ArgAction.TheVariants.{SetTrue}
+use Rattle.clap.specs.declared.builder.value_parser.ValueParser.{ValueParser}
+use Rattle.clap.specs.declared.builder.value_parser.ValueParser.TheVariants as parser
+
+-- the parser that takes the names of the two formats, and no other text
+abbrev pub IsFormats : ValueParser → Type 0
+IsFormats (parser.Names names) = map (λ name. name.now) names.now ≡ codes "text" ∷ codes "binary" ∷ []
+IsFormats _ = ⊥
+
+-- `--front`, which has no value
+abbrev pub front : Rule
+front = record (new_rule (codes "front")) { long = Some (codes "front"); action = Some SetTrue }
+
+-- an option with one value, `--name VALUE`
+abbrev pub option : Text → ValueParser → Rule
+option name values = record (new_rule name) { long = Some name; value_names = 1; parser = Some values }
+
+abbrev pub required : Rule → Rule
+required rule = record rule { required = true }
+
+abbrev pub show : Shape
+show = (with_rule (new_app (codes "show")) front).top
+
+abbrev pub convert : ValueParser → Shape
+convert formats = (with_rule (with_rule (with_rule (new_app (codes "convert"))
+    (required (option (codes "from") formats)))
+    (required (option (codes "to") formats)))
+    (required (option (codes "columns") (parser.Signed (pos 1) (pos 32767))))).top
+
+-- the paths of both files stand behind the options, SCRIPT first
+abbrev pub loop : Shape
+loop = (with_rule (with_rule (with_rule (new_app (codes "loop"))
+    (option (codes "cut") (parser.Signed (pos 1) (pos 4096))))
+    (required (new_rule (codes "SCRIPT"))))
+    (required (new_rule (codes "CALLS")))).top
+
+abbrev pub command_line : ValueParser → App
+command_line formats = with_subcommand (with_subcommand (with_subcommand (new_app (codes "pgpipe")) show) (convert formats)) loop

@@ -1,0 +1,100 @@
+//! Doing a task, and how the program ends.
+
+ghost use Rattle.std.specs.Prelude.{◌≡◌, ◌<◌, ◌≤◌, MatchResult};
+ghost use Rattle.std.specs.Process.{exit_status};
+ghost use Rattle.clap.specs.Words.{kind_of};
+ghost use Rattle.pgpipe_words.specs.Doing.{Does, DoesShow, DoesConvert};
+ghost use Rattle.pgpipe_words.specs.Failing.{status_of, Explains};
+ghost use Rattle.pgpipe_words.specs.Tasks.{IsTask};
+
+use crate::failure::{Failure, conversion_result_of, result_of};
+use crate::files::FileStore;
+use crate::loop_files::run_files;
+use crate::words::Task;
+use clap::error::ErrorKind;
+use pg_pair::Carry;
+use pg_wire::{Sink, Source};
+use pgpipe_convert::Format;
+use pgpipe_convert::convert::convert;
+use pgpipe_show::show::show;
+use std::alloc::Global;
+use std::process::ExitCode;
+
+// Shows what the source gives.
+fn do_show<S: Source, K: Sink>(
+    alloc: Global,
+    front: bool,
+    source: &mut S,
+    sink: &mut K,
+) -> Result<(), Failure>
+    ensures { DoesShow S.gives S.failures S.has_ended K.takes K.failures front source.old sink.old result source.new sink.new }
+{
+    result_of(show(alloc, front, source, sink))
+}
+
+// Converts what the source gives.
+fn do_convert<S: Source, K: Sink>(
+    alloc: Global,
+    from: Format,
+    to: Format,
+    columns: u16,
+    source: &mut S,
+    sink: &mut K,
+) -> Result<(), Failure>
+    requires { (0 < columns) × (columns ≤ 32767) }
+    ensures { DoesConvert S.gives S.failures S.has_ended K.takes K.failures from to columns source.old sink.old result source.new sink.new }
+{
+    conversion_result_of(convert(alloc, from, to, columns, source, sink))
+}
+
+/// Does a task: shows or converts what the source gives, or runs a loop of two files, over a carrier; what comes of it is sent.
+pub fn do_task<F: FileStore, C: Carry, S: Source, K: Sink>(
+    alloc: Global,
+    task: Task,
+    files: &F,
+    carrier: C,
+    source: &mut S,
+    sink: &mut K,
+) -> Result<(), Failure>
+    requires { IsTask task }
+    ensures { Does (F.holds files.now) (F.fails files.now) C.carries S.gives S.failures S.has_ended K.takes K.failures carrier task source.old sink.old result source.new sink.new }
+{
+    match task {
+        Task::Show { front } => do_show(alloc, front, source, sink),
+        Task::Convert { from, to, columns } => do_convert(alloc, from, to, columns, source, sink),
+        Task::Loop { cut, script, calls } => run_files(
+            alloc,
+            cut,
+            script.as_str(),
+            calls.as_str(),
+            files,
+            carrier,
+            sink,
+        ),
+    }
+}
+
+/// Prints help, or why the words are no task, and answers the status for it.
+pub fn explain<R: Print + Eprint>(rt: &R, error: &clap::Error) -> Result<ExitCode, Failure>
+    ensures { Explains (kind_of error.now) result }
+{
+    if matches!(error.kind(), ErrorKind::OutOfMemory) {
+        return Err(Failure::Memory);
+    }
+    error.print(rt).map_err(|_| Failure::Device)?;
+    Ok(if error.use_stderr() {
+        ExitCode::from(1)
+    } else {
+        ExitCode::from(0)
+    })
+}
+
+/// The status that the program ends with.
+pub fn exit_code(ended: &Result<ExitCode, Failure>) -> ExitCode
+    ensures { MatchResult ended.now (λ code. result ≡ code) (λ failure. exit_status result ≡ status_of failure) }
+{
+    match ended {
+        Ok(code) => *code,
+        Err(failure) => ExitCode::from(failure.status()),
+    }
+}

@@ -1,0 +1,167 @@
+//! How the program fails.
+
+ghost use Rattle.std.specs.Prelude.{◌≡◌, ◌≢◌};
+ghost use Rattle.std.specs.IoError.{error_kind};
+ghost use Rattle.pgpipe_words.specs.Failing.{status_of, Results, ConversionResults, LoopResults, script_failure, calls_failure, check_failure};
+
+use pg_backend::ScriptFault;
+use pg_copy::{BinaryFault, RowFault, TextFault};
+use pg_wire::WireFault;
+use pgpipe_base::ToolFault;
+use pgpipe_convert::convert::Converted;
+use pgpipe_files::LineFault;
+use pgpipe_loop::run_loop::Ran;
+use pgpipe_show::show::Shown;
+use std::io;
+use std::io::ErrorKind;
+use thiserror::Error;
+
+/// Why the program ends with a status other than 0.
+#[derive(Debug, Drop, Error)]
+pub enum Failure {
+    /// A word is no text.
+    #[error("a word is not UTF-8")]
+    NotUtf8,
+    /// The input ends with so many bytes that are no whole message.
+    #[error("rest {0}")]
+    Rest(usize),
+    /// The input has a fault.
+    #[error("{0}")]
+    Fault(WireFault),
+    /// The text file on the input has a fault.
+    #[error("{0}")]
+    Text(TextFault),
+    /// The binary file on the input has a fault.
+    #[error("{0}")]
+    Binary(BinaryFault),
+    /// A row of the input has no place in the other format.
+    #[error("{0}")]
+    Row(RowFault),
+    /// This row of SCRIPT is refused.
+    #[error("SCRIPT line {0}")]
+    Script(usize),
+    /// This row of CALLS is refused.
+    #[error("CALLS line {0}")]
+    Calls(usize),
+    /// The script can't be played.
+    #[error("{0}")]
+    Check(ScriptFault),
+    /// A file, a stream or a carrier failed.
+    #[error("device")]
+    Device,
+    /// Memory was refused.
+    #[error("memory")]
+    Memory,
+}
+
+impl Failure {
+    /// The exit status.
+    pub fn status(&self) -> u8
+        ensures { result ≡ status_of self.now }
+    {
+        match self {
+            Failure::NotUtf8 => 1,
+            Failure::Rest(_) => 2,
+            Failure::Fault(_) => 2,
+            Failure::Text(_) => 2,
+            Failure::Binary(_) => 2,
+            Failure::Row(_) => 2,
+            Failure::Script(_) => 2,
+            Failure::Calls(_) => 2,
+            Failure::Check(_) => 2,
+            Failure::Device => 3,
+            Failure::Memory => 4,
+        }
+    }
+}
+
+/// What it means that the words of the command line can't be had.
+pub fn words_failure(error: &io::Error) -> Failure
+    ensures memory { error_kind error.now ≡ ErrorKind.OutOfMemory → result ≡ Failure.Memory }
+    ensures text { error_kind error.now ≢ ErrorKind.OutOfMemory → result ≡ Failure.NotUtf8 }
+{
+    match error.kind() {
+        ErrorKind::OutOfMemory => Failure::Memory,
+        _ => Failure::NotUtf8,
+    }
+}
+
+/// What an answer of `show` means for the program: only a whole stream is a success.
+pub fn result_of(answer: Result<Shown, ToolFault>) -> Result<(), Failure>
+    ensures { Results answer result }
+{
+    match answer {
+        Ok(Shown::Whole) => Ok(()),
+        Ok(Shown::Rest(count)) => Err(Failure::Rest(count)),
+        Ok(Shown::Fault(fault)) => Err(Failure::Fault(fault)),
+        Err(ToolFault::Device) => Err(Failure::Device),
+        Err(ToolFault::Memory) => Err(Failure::Memory),
+    }
+}
+
+/// What an answer of `convert` means for the program: only a whole file is a success.
+pub fn conversion_result_of(answer: Result<Converted, ToolFault>) -> Result<(), Failure>
+    ensures { ConversionResults answer result }
+{
+    match answer {
+        Ok(Converted::Whole) => Ok(()),
+        Ok(Converted::Text(fault)) => Err(Failure::Text(fault)),
+        Ok(Converted::Binary(fault)) => Err(Failure::Binary(fault)),
+        Ok(Converted::Row(fault)) => Err(Failure::Row(fault)),
+        Err(ToolFault::Device) => Err(Failure::Device),
+        Err(ToolFault::Memory) => Err(Failure::Memory),
+    }
+}
+
+/// What it means that a file can't be read.
+pub fn file_failure(error: &io::Error) -> Failure
+    ensures memory { error_kind error.now ≡ ErrorKind.OutOfMemory → result ≡ Failure.Memory }
+    ensures device { error_kind error.now ≢ ErrorKind.OutOfMemory → result ≡ Failure.Device }
+{
+    if matches!(error.kind(), ErrorKind::OutOfMemory) {
+        return Failure::Memory;
+    }
+    Failure::Device
+}
+
+/// What a fault of SCRIPT means for the program.
+pub fn script_failure(fault: LineFault) -> Failure
+    ensures { result ≡ script_failure fault }
+{
+    match fault {
+        LineFault::Line(number) => Failure::Script(number),
+        LineFault::Memory => Failure::Memory,
+    }
+}
+
+/// What a fault of CALLS means for the program.
+pub fn calls_failure(fault: LineFault) -> Failure
+    ensures { result ≡ calls_failure fault }
+{
+    match fault {
+        LineFault::Line(number) => Failure::Calls(number),
+        LineFault::Memory => Failure::Memory,
+    }
+}
+
+/// What it means for the program that a script can't be played.
+pub fn check_failure(fault: ScriptFault) -> Failure
+    ensures { result ≡ check_failure fault }
+{
+    match fault {
+        ScriptFault::Memory => Failure::Memory,
+        _ => Failure::Check(fault),
+    }
+}
+
+/// What an answer of `run_loop` means for the program: a carrier that failed is no success.
+pub fn loop_result_of(answer: Result<Ran, ToolFault>) -> Result<(), Failure>
+    ensures { LoopResults answer result }
+{
+    match answer {
+        Ok(Ran::Whole) => Ok(()),
+        Ok(Ran::CarrierFailed) => Err(Failure::Device),
+        Err(ToolFault::Device) => Err(Failure::Device),
+        Err(ToolFault::Memory) => Err(Failure::Memory),
+    }
+}

@@ -1,0 +1,176 @@
+use crate::links::{Paper, broke_behind, sheet, source_of};
+use pg_copy::{BinaryFault, TextFault};
+use pgpipe_base::ToolFault;
+use pgpipe_convert::Format;
+use pgpipe_convert::convert::{Converted, convert};
+use std::alloc::Global;
+use std::test::Fail;
+
+/// Two columns: 1 and null.
+const TEXT_ROW: &[u8] = b"1\t\\N\n";
+
+const BINARY_ROW: &[u8] =
+    b"PGCOPY\n\xFF\r\n\0\0\0\0\0\0\0\0\0\0\x02\0\0\0\x011\xFF\xFF\xFF\xFF\xFF\xFF";
+
+/// The head, and a row of one column.
+const ONE_ROW: &[u8] = b"PGCOPY\n\xFF\r\n\0\0\0\0\0\0\0\0\0\0\x01\0\0\0\x01a";
+
+/// What stands in a file: its format, its columns and its bytes.
+#[derive(Clone, Copy)]
+struct File<'a> {
+    format: Format,
+    columns: u16,
+    bytes: &'a [u8],
+}
+
+fn text(columns: u16, bytes: &[u8]) -> File<'_> {
+    File {
+        format: Format::Text,
+        columns: columns.clamp(1, 32_767),
+        bytes,
+    }
+}
+
+fn binary(columns: u16, bytes: &[u8]) -> File<'_> {
+    File {
+        format: Format::Binary,
+        columns: columns.clamp(1, 32_767),
+        bytes,
+    }
+}
+
+/// What comes of a file in pieces of so many bytes: the answer, and what is written.
+fn converted(
+    alloc: Global,
+    file: File<'_>,
+    to: Format,
+    most: usize,
+) -> (Result<Converted, ToolFault>, Paper) {
+    let mut source = source_of(file.bytes, most, 0);
+    let mut sink = sheet(alloc, 0);
+    let columns = file.columns.clamp(1, 32_767);
+    let answer = convert(alloc, file.format, to, columns, &mut source, &mut sink);
+    (answer, sink)
+}
+
+/// Whether this answer and these bytes come of a file, in pieces of each size up to 39.
+fn becomes(alloc: Global, file: File<'_>, to: Format, answer: Converted, bytes: &[u8]) -> bool {
+    for most in 1..40 {
+        let (given, sink) = converted(alloc, file, to, most);
+        if given != Ok(answer) || sink.text.as_slice() != bytes {
+            return false;
+        }
+    }
+    true
+}
+
+#[test]
+fn rows_converted(rt: HostRuntime) {
+    let (alloc, whole) = (rt.alloc(), Converted::Whole);
+    let (from_text, from_binary) = (text(2, TEXT_ROW), binary(2, BINARY_ROW));
+    assert!(rt; becomes(alloc, from_text, Format::Binary, whole, BINARY_ROW));
+    assert!(rt; becomes(alloc, from_binary, Format::Text, whole, TEXT_ROW));
+    assert!(rt; becomes(alloc, from_binary, Format::Binary, whole, BINARY_ROW));
+}
+
+#[test]
+fn rows_before_a_fault(rt: HostRuntime) {
+    let file = text(1, b"a\nb\tc\n");
+    let fault = Converted::Text(TextFault::Columns(2));
+    assert!(rt; becomes(rt.alloc(), file, Format::Text, fault, b"a\n"));
+    assert!(rt; becomes(rt.alloc(), file, Format::Binary, fault, ONE_ROW));
+}
+
+#[test]
+fn rows_of_a_file_without_its_end(rt: HostRuntime) {
+    let fault = Converted::Binary(BinaryFault::Truncated);
+    assert!(rt; becomes(rt.alloc(), binary(1, ONE_ROW), Format::Text, fault, b"a\n"));
+}
+
+#[test]
+fn ends_of_a_text_file(rt: HostRuntime) {
+    let (alloc, to, whole) = (rt.alloc(), Format::Text, Converted::Whole);
+    // the last line is open, and what follows the end mark is dropped
+    assert!(rt; becomes(alloc, text(1, b"a\nb"), to, whole, b"a\nb\n"));
+    assert!(rt; becomes(alloc, text(1, b"a\n\\.\n\r\n"), to, whole, b"a\n"));
+    assert!(rt; becomes(alloc, text(1, b""), to, whole, b""));
+}
+
+/// A line of 100,000 bytes, and 20,000 short ones.
+fn long_file(alloc: Global) -> Result<Vec<u8>, Fail> {
+    let mut bytes = Vec::new(alloc);
+    for _ in 0..100_000 {
+        bytes.push(b'a')?;
+    }
+    for _ in 0..20_000 {
+        bytes.extend_from_slice(b"\nb\\n")?;
+    }
+    bytes.push(b'\n')?;
+    Ok(bytes)
+}
+
+/// Whether that file becomes a binary one of this length, and that one this file again.
+fn goes_and_comes(alloc: Global, file: Vec<u8>, length: usize) -> bool {
+    let bytes = file.as_slice();
+    let (gone, there) = converted(alloc, text(1, bytes), Format::Binary, 100_000);
+    let back = binary(1, there.text.as_slice());
+    let (come, here) = converted(alloc, back, Format::Text, 5);
+    let whole = gone == Ok(Converted::Whole) && come == Ok(Converted::Whole);
+    whole && there.text.len() == length && here.text.as_slice() == bytes
+}
+
+// A row that is longer than what is collected at once, and rows that together are.
+#[test]
+fn a_long_file(rt: HostRuntime) -> Result<(), Fail> {
+    let file = long_file(rt.alloc())?;
+    // the head, six bytes and the value for each row, and the trailer
+    let length = 19 + 100_006 + 20_000 * 8 + 2;
+    assert!(rt; goes_and_comes(rt.alloc(), file, length));
+    Ok(())
+}
+
+/// Whether so many bytes are written of two rows in pieces of five bytes, where this receive fails.
+fn converts_before(alloc: Global, call: u64, size: usize) -> bool {
+    let mut source = source_of(b"1\t\\N\n2\t\\N\n", 5, call);
+    let mut sink = sheet(alloc, 0);
+    let answer = convert(
+        alloc,
+        Format::Text,
+        Format::Binary,
+        2,
+        &mut source,
+        &mut sink,
+    );
+    answer == Err(ToolFault::Device) && sink.text.len() == size
+}
+
+#[test]
+fn a_source_that_fails(rt: HostRuntime) {
+    // the head, and eleven bytes a row
+    for (call, size) in [(1, 19), (2, 30), (3, 41)] {
+        assert!(rt; converts_before(rt.alloc(), call, size), "at {call}");
+    }
+}
+
+/// Whether a beginning of the row's file is written, where the sink fails behind so many sends.
+fn converts_to(alloc: Global, sends: u8) -> bool {
+    let mut source = source_of(TEXT_ROW, 5, 0);
+    let mut sink = sheet(alloc, u64::from(sends) + 1);
+    let answer = convert(
+        alloc,
+        Format::Text,
+        Format::Binary,
+        2,
+        &mut source,
+        &mut sink,
+    );
+    answer == Err(ToolFault::Device) && broke_behind(&sink, sends, BINARY_ROW)
+}
+
+#[test]
+fn a_sink_that_fails(rt: HostRuntime) {
+    // 32 bytes make five sends
+    for sends in 0..5 {
+        assert!(rt; converts_to(rt.alloc(), sends), "behind {sends}");
+    }
+}

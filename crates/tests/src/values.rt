@@ -1,0 +1,103 @@
+//! The values that the tests of all crates are written with. Each call fails only where memory runs out.
+
+ghost use Rattle.std.specs.Prelude.{◌≡◌, IfOk};
+
+use pg_wire::{Aside, Column, CopyHead, ErrorField, Fields, Request, Seq, Values};
+use std::alloc::{AllocError, Global};
+
+/// These bytes, as a list of a message or a script.
+pub fn text(alloc: Global, bytes: &[u8]) -> Result<Seq<u8>, AllocError>
+    ensures { IfOk result (λ list. list ≡ bytes.now) }
+{
+    Seq::from_slice(alloc, bytes)
+}
+
+/// No element.
+pub fn none<T: Drop>(alloc: Global) -> Seq<T> {
+    Seq::new(Vec::new(alloc))
+}
+
+/// A name and a value.
+pub fn pair(alloc: Global, name: &[u8], value: &[u8]) -> Result<(Seq<u8>, Seq<u8>), AllocError> {
+    Ok((text(alloc, name)?, text(alloc, value)?))
+}
+
+/// A request to run this text.
+pub fn query(alloc: Global, bytes: &[u8]) -> Result<Request, AllocError> {
+    Ok(Request::Query(text(alloc, bytes)?))
+}
+
+/// A column of the type text.
+pub fn column(alloc: Global, name: &[u8]) -> Result<Column, AllocError> {
+    Ok(Column {
+        name: text(alloc, name)?,
+        table_oid: 0,
+        attribute: 0,
+        type_oid: 25,
+        size: -1,
+        modifier: -1,
+        format: 0,
+    })
+}
+
+/// One column.
+pub fn columns(alloc: Global, name: &[u8]) -> Result<Seq<Column>, AllocError> {
+    Ok(Seq::new(vec![in alloc; column(alloc, name)?]?))
+}
+
+/// A row of a value.
+pub fn row(alloc: Global, value: &[u8]) -> Result<Values, AllocError> {
+    Ok(Seq::new(vec![in alloc; Some(text(alloc, value)?)]?))
+}
+
+/// A row of a value and a null.
+pub fn row_and_null(alloc: Global, value: &[u8]) -> Result<Values, AllocError> {
+    Ok(Seq::new(vec![in alloc; Some(text(alloc, value)?), None]?))
+}
+
+/// The head of a copy with as many formats of 0 as columns.
+pub fn head(alloc: Global, binary: bool, columns: usize) -> Result<CopyHead, AllocError> {
+    Ok(CopyHead {
+        binary,
+        formats: Seq::new(vec![in alloc; 0; columns]?),
+    })
+}
+
+fn field(alloc: Global, code: u8, value: &[u8]) -> Result<ErrorField, AllocError> {
+    Ok(ErrorField {
+        code,
+        value: text(alloc, value)?,
+    })
+}
+
+/// The fields of an error: the code `XX000` and the text `bad`.
+pub fn bad(alloc: Global) -> Result<Fields, AllocError> {
+    let fields = vec![in alloc; field(alloc, b'C', b"XX000")?, field(alloc, b'M', b"bad")?]?;
+    Ok(Seq::new(fields))
+}
+
+fn notice(alloc: Global) -> Result<Aside, AllocError> {
+    let fields = vec![in alloc; field(alloc, b'M', b"hi")?]?;
+    Ok(Aside::Notice(Seq::new(fields)))
+}
+
+fn parameter(alloc: Global) -> Result<Aside, AllocError> {
+    Ok(Aside::Parameter {
+        name: text(alloc, b"n")?,
+        value: text(alloc, b"v")?,
+    })
+}
+
+fn notification(alloc: Global) -> Result<Aside, AllocError> {
+    Ok(Aside::Notification {
+        process: -1,
+        channel: text(alloc, b"c")?,
+        payload: text(alloc, b"p")?,
+    })
+}
+
+/// A notice, a parameter and a notification.
+pub fn asides(alloc: Global) -> Result<Seq<Aside>, AllocError> {
+    let asides = vec![in alloc; notice(alloc)?, parameter(alloc)?, notification(alloc)?]?;
+    Ok(Seq::new(asides))
+}
