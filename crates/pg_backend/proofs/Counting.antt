@@ -1,6 +1,6 @@
 -- A copy message by message: what a machine has to count.
 use Rattle.std.proofs.Common.{◌≡◌, ℕ, zero, suc, ◌+◌, length, List, [], ◌∷◌, ◌++◌, Option, Some, None, option_map, refl, ap, ◌∙◌, arith}
-use Rattle.pg_wire.specs.declared.message.ErrorField.{ErrorField}
+use Rattle.pg_wire.specs.value.ErrorField.{ErrorField}
 use Rattle.pg_backend.specs.declared.meaning.InCopy.{InCopy}
 use Rattle.pg_backend.specs.declared.meaning.InCopy.TheVariants as copy
 use Rattle.pg_backend.specs.Standing.{chunks_in, AllWait}

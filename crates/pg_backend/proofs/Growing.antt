@@ -3,10 +3,10 @@ use Rattle.std.proofs.Common.{inl, inr, ℕ, Bool, true, false, List, [], ◌∷
 use Rattle.std.specs.Prelude.{if◌then◌else◌}
 use Rattle.std.specs.Str.{bytes_eq}
 use Rattle.std.proofs.lemmas.List.{append-nil, map-append}
-use Rattle.pg_wire.specs.declared.message.First.{First}
-use Rattle.pg_wire.specs.declared.message.First.TheVariants as first
-use Rattle.pg_wire.specs.declared.message.FrontMessage.{FrontMessage}
-use Rattle.pg_wire.specs.declared.message.FrontMessage.TheVariants as front
+use Rattle.pg_wire.specs.message.First.{First}
+use Rattle.pg_wire.specs.message.First.TheVariants as first
+use Rattle.pg_wire.specs.message.FrontMessage.{FrontMessage}
+use Rattle.pg_wire.specs.message.FrontMessage.TheVariants as front
 use Rattle.pg_wire.specs.Password.{md5_text}
 use Rattle.pg_backend.specs.declared.script.Auth.{Auth}
 use Rattle.pg_backend.specs.declared.script.Auth.TheVariants.{Trust, Cleartext, Md5}

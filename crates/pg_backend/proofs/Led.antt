@@ -2,9 +2,9 @@
 use Rattle.std.proofs.Common.{◌≡◌, ℕ, Bool, true, false, List, [], ◌∷◌, ◌++◌, map, refl, ap, sym, ◌∙◌, append_assoc}
 use Rattle.std.specs.Str.{bytes_eq}
 use Rattle.std.proofs.lemmas.List.{append-nil, map-append}
-use Rattle.pg_wire.specs.declared.message.First.{First}
-use Rattle.pg_wire.specs.declared.message.FrontMessage.{FrontMessage}
-use Rattle.pg_wire.specs.declared.message.FrontMessage.TheVariants as front
+use Rattle.pg_wire.specs.message.First.{First}
+use Rattle.pg_wire.specs.message.FrontMessage.{FrontMessage}
+use Rattle.pg_wire.specs.message.FrontMessage.TheVariants as front
 use Rattle.pg_wire.specs.Frontend.{frontend}
 use Rattle.pg_backend.specs.declared.backend.BackPhase.TheVariants as phase
 use Rattle.pg_backend.specs.declared.script.Answer.{Answer}

@@ -3,9 +3,9 @@ use Rattle.std.proofs.Common.{◌≡◌, ℕ, true, false, List, [], ◌∷◌, 
 use Rattle.std.specs.Prelude.{Ok}
 use Rattle.std.specs.List.{flat_map, AllByRecursion}
 use Rattle.std.proofs.lemmas.List.{append-nil}
-use Rattle.pg_wire.specs.declared.message.BackMessage.TheVariants as back
-use Rattle.pg_wire.specs.declared.message.First.{First}
-use Rattle.pg_wire.specs.declared.message.First.TheVariants as first
+use Rattle.pg_wire.specs.message.BackMessage.TheVariants as back
+use Rattle.pg_wire.specs.message.First.{First}
+use Rattle.pg_wire.specs.message.First.TheVariants as first
 use Rattle.pg_wire.specs.First.{packet, is_last, IsPacket}
 use Rattle.pg_wire.specs.FirstDecoder.{FirstState, HasBegun, FirstTakes}
 use Rattle.pg_backend.specs.declared.script.Answer.{Answer}

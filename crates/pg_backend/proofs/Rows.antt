@@ -2,16 +2,16 @@
 use Rattle.std.proofs.Common.{◌≡◌, ℕ, List, [], ◌∷◌, ◌++◌, map, Option, Some, None, refl, ap}
 use Rattle.std.specs.Prelude.{codes, pos, negsuc, false, true}
 use Rattle.std.specs.List.{list_all}
-use Rattle.pg_wire.specs.declared.message.BackMessage.{BackMessage}
-use Rattle.pg_wire.specs.declared.message.BackMessage.TheVariants as back
-use Rattle.pg_wire.specs.declared.message.ErrorField.{ErrorField}
-use Rattle.pg_wire.specs.declared.message.CopyHead.{CopyHead}
-use Rattle.pg_wire.specs.declared.message.Column.{Column}
-use Rattle.pg_wire.specs.declared.message.First.TheVariants as first
-use Rattle.pg_wire.specs.declared.message.FrontMessage.{FrontMessage}
-use Rattle.pg_wire.specs.declared.message.FrontMessage.TheVariants as front
-use Rattle.pg_wire.specs.declared.message.Status.TheVariants.{Idle, InBlock, Failed}
-use Rattle.pg_wire.specs.declared.message.Target.TheVariants.{Portal, Statement}
+use Rattle.pg_wire.specs.message.BackMessage.{BackMessage}
+use Rattle.pg_wire.specs.message.BackMessage.TheVariants as back
+use Rattle.pg_wire.specs.value.ErrorField.{ErrorField}
+use Rattle.pg_wire.specs.value.CopyHead.{CopyHead}
+use Rattle.pg_wire.specs.value.Column.{Column}
+use Rattle.pg_wire.specs.message.First.TheVariants as first
+use Rattle.pg_wire.specs.message.FrontMessage.{FrontMessage}
+use Rattle.pg_wire.specs.message.FrontMessage.TheVariants as front
+use Rattle.pg_wire.specs.value.Status.TheVariants.{Idle, InBlock, Failed}
+use Rattle.pg_wire.specs.value.Target.TheVariants.{Portal, Statement}
 use Rattle.pg_wire.specs.declared.session.Aside.TheVariants as aside
 use Rattle.pg_wire.specs.declared.session.ExecEnd.TheVariants.{Suspended}
 use Rattle.pg_wire.specs.declared.session.Request.TheVariants as request

@@ -2,7 +2,7 @@
 use Rattle.std.proofs.Common.{◌≡◌, ℕ, suc, ◌+◌, ◌<◌, ◌≤◌, add-one, length, get_or, take, drop, List, [], ◌∷◌, ◌++◌, refl, ap, ◌∙◌, drop-cons}
 use Rattle.std.proofs.Math.Seq.{take-suc}
 use Rattle.std.proofs.lemmas.List.{append-nil, drop_all}
-use Rattle.pg_wire.specs.declared.message.CopyHead.{CopyHead}
+use Rattle.pg_wire.specs.value.CopyHead.{CopyHead}
 use Rattle.pg_backend.specs.declared.script.Load.{Load}
 use Rattle.pg_backend.specs.declared.script.ScriptPart.{ScriptPart}
 use Rattle.pg_backend.specs.declared.script.ScriptPart.TheVariants as part

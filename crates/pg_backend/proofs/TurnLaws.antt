@@ -4,10 +4,10 @@ use Rattle.std.specs.Prelude.{Result, Ok, Err}
 use Rattle.std.specs.List.{flat_map}
 use Rattle.std.proofs.lemmas.List.{append-nil, length-map, map-append}
 use Rattle.std.proofs.lemmas.Option.{same_Some}
-use Rattle.pg_wire.specs.declared.message.BackMessage.{BackMessage}
-use Rattle.pg_wire.specs.declared.message.ErrorField.{ErrorField}
-use Rattle.pg_wire.specs.declared.message.FrontMessage.{FrontMessage}
-use Rattle.pg_wire.specs.declared.message.FrontMessage.TheVariants as front
+use Rattle.pg_wire.specs.message.BackMessage.{BackMessage}
+use Rattle.pg_wire.specs.value.ErrorField.{ErrorField}
+use Rattle.pg_wire.specs.message.FrontMessage.{FrontMessage}
+use Rattle.pg_wire.specs.message.FrontMessage.TheVariants as front
 use Rattle.pg_wire.specs.declared.session.Request.{Request}
 use Rattle.pg_wire.specs.declared.session.Request.TheVariants as request
 use Rattle.pg_wire.specs.declared.session.Step.{Step}
@@ -22,7 +22,7 @@ use Rattle.pg_backend.specs.declared.meaning.Meaning.TheVariants.{Adds, Drops}
 use Rattle.pg_backend.specs.Answers.{answer_for, others}
 use Rattle.pg_backend.specs.Copies.{in_copy, CopyEnd, ended, with_chunk, with_wait, accepted, refused, copy_end}
 use Rattle.pg_backend.specs.Replies.{Shape, Whole, Copies, shape, Verdict, verdict, verdict_of, at_copy_end, whole_outcome, after_copy, parts_sent, aside_message, reply_of}
-use Rattle.pg_wire.specs.declared.message.BackMessage.TheVariants as back
+use Rattle.pg_wire.specs.message.BackMessage.TheVariants as back
 use Rattle.pg_backend.specs.Session.{meaning, Exchange, exchange, Place, Terminated, Session, copy_place, begun, begin, cut}
 use Rattle.pg_backend.specs.Turns.{Turn, turn_messages, is_copy, AreCopies, one_place}
 use Rattle.pg_backend.specs.Laws.{TurnsRead, TurnsEnd}

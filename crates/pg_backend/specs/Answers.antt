@@ -1,8 +1,8 @@
 -- The answers of a script, and which of them a request gets.
 use Rattle.std.specs.Prelude.{ℕ, nat_le, count_by, Bool, true, false, ◌&&◌, List, [], ◌∷◌, Some, is_some, if◌then◌else◌, codes}
 use Rattle.std.specs.List.{flat_map, list_all, list_any}
-use Rattle.pg_wire.specs.declared.message.ErrorField.{ErrorField}
-use Rattle.pg_wire.specs.declared.message.Status.TheVariants.{Idle}
+use Rattle.pg_wire.specs.value.ErrorField.{ErrorField}
+use Rattle.pg_wire.specs.value.Status.TheVariants.{Idle}
 use Rattle.pg_wire.specs.declared.session.Part.{Part}
 use Rattle.pg_wire.specs.declared.session.Part.TheVariants as whole
 use Rattle.pg_wire.specs.declared.session.Request.{Request}

@@ -1,8 +1,8 @@
 -- Which scripts can be played.
 use Rattle.std.specs.Prelude.{None, ◌≡◌, true, List, [], ◌∷◌, ◌++◌, map, Result, Ok, Err}
 use Rattle.std.specs.List.{flat_map, list_all, AllByRecursion}
-use Rattle.pg_wire.specs.declared.message.BackMessage.{BackMessage}
-use Rattle.pg_wire.specs.declared.message.BackMessage.TheVariants as back
+use Rattle.pg_wire.specs.message.BackMessage.{BackMessage}
+use Rattle.pg_wire.specs.message.BackMessage.TheVariants as back
 use Rattle.pg_wire.specs.Backend.{backend}
 use Rattle.pg_wire.specs.Direction.{encode_fault, HasSpelling}
 use Rattle.pg_wire.specs.Segment.{messages_of}

@@ -1,8 +1,8 @@
 -- How a copy from the client ends ("COPY Operations").
 use Rattle.std.specs.Prelude.{ℕ, zero, suc, List, [], ◌∷◌, ◌++◌, Option, Some, None, option_map, map, take, codes, Result, Ok, Err}
-use Rattle.pg_wire.specs.declared.message.ErrorField.{ErrorField}
-use Rattle.pg_wire.specs.declared.message.FrontMessage.{FrontMessage}
-use Rattle.pg_wire.specs.declared.message.FrontMessage.TheVariants as front
+use Rattle.pg_wire.specs.value.ErrorField.{ErrorField}
+use Rattle.pg_wire.specs.message.FrontMessage.{FrontMessage}
+use Rattle.pg_wire.specs.message.FrontMessage.TheVariants as front
 use Rattle.pg_backend.specs.declared.meaning.InCopy.{InCopy}
 use Rattle.pg_backend.specs.declared.meaning.InCopy.TheVariants.{Chunk, Done, Fails, Waits, Leaves, Strays}
 use Rattle.pg_backend.specs.declared.script.Load.{Load}

@@ -1,7 +1,7 @@
 -- Where a session stands: what is known of all messages that may still come.
 use Rattle.std.specs.Prelude.{◌≡◌, ℕ, ◌<◌, length, List, [], ◌∷◌, ◌++◌, map}
-use Rattle.pg_wire.specs.declared.message.CopyHead.{CopyHead}
-use Rattle.pg_wire.specs.declared.message.FrontMessage.{FrontMessage}
+use Rattle.pg_wire.specs.value.CopyHead.{CopyHead}
+use Rattle.pg_wire.specs.message.FrontMessage.{FrontMessage}
 use Rattle.pg_wire.specs.declared.session.Request.{Request}
 use Rattle.pg_wire.specs.declared.session.Step.{Step}
 use Rattle.pg_backend.specs.declared.meaning.InCopy.{InCopy}

@@ -2,8 +2,8 @@
 -- request once this one is decided.
 use Rattle.std.specs.Prelude.{ℕ, ◌≡◌, Bool, true, false, IsSome, List, [], ◌∷◌, ◌++◌, Option, Some, None, map}
 use Rattle.std.specs.List.{list_any, AllByRecursion}
-use Rattle.pg_wire.specs.declared.message.FrontMessage.{FrontMessage}
-use Rattle.pg_wire.specs.declared.message.FrontMessage.TheVariants as front
+use Rattle.pg_wire.specs.message.FrontMessage.{FrontMessage}
+use Rattle.pg_wire.specs.message.FrontMessage.TheVariants as front
 use Rattle.pg_wire.specs.declared.session.Part.{Part}
 use Rattle.pg_wire.specs.declared.session.Part.TheVariants as whole
 use Rattle.pg_wire.specs.declared.session.Request.{Request}

@@ -1,7 +1,7 @@
 //! Answering one request.
 
 ghost use Rattle.std.specs.Prelude.{◌≡◌, ◌++◌, ◌∷◌, [], map, MatchOption, MatchResult, Ok, Err, Some};
-ghost use Rattle.pg_wire.specs.declared.message.BackMessage.TheVariants.{Ready, CopyIn, CommandComplete};
+ghost use Rattle.pg_wire.specs.message.BackMessage.TheVariants.{Ready, CopyIn, CommandComplete};
 ghost use Rattle.pg_backend.specs.Answers.{parts_of};
 ghost use Rattle.pg_backend.specs.Replies.{aside_message, parts_sent, error_sent, end_sent, whole_outcome};
 ghost use Rattle.pg_backend.specs.declared.script.Load.TheVariants.{Refuse};

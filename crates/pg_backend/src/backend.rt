@@ -7,7 +7,7 @@ ghost use Rattle.pg_backend.specs.Input.{Input};
 ghost use Rattle.pg_backend.specs.Backend.{phase_of, lost_stage, IsSound, Stores, Steps, HasHandled, Handles};
 ghost use Rattle.pg_backend.specs.Private.Moves.{move};
 ghost use Rattle.pg_backend.specs.Private.Advancing.{BreaksOff, Advances, AdvancesUnlessClosed, is_refused, TakesEffect, Hands, only_sends, named_effect, packet_effect};
-ghost use Rattle.pg_wire.specs.declared.message.BackMessage.TheVariants.{ErrorResponse};
+ghost use Rattle.pg_wire.specs.message.BackMessage.TheVariants.{ErrorResponse};
 ghost use Rattle.pg_wire.specs.Direction.{IsLimit};
 ghost use Rattle.pg_wire.specs.First.{is_last};
 ghost use Rattle.pg_backend.specs.declared.stage.Ending.TheVariants.{Input as ByInput, Memory as ByMemory};

@@ -4,8 +4,8 @@
 
 ghost use Rattle.std.specs.Prelude.{◌≡◌, ◌∷◌, [], ◌++◌, List, map};
 ghost use Rattle.std.specs.List.{flat_map};
-ghost use Rattle.pg_wire.specs.declared.message.BackMessage.{BackMessage};
-ghost use Rattle.pg_wire.specs.declared.message.BackMessage.TheVariants.{DataRow, CopyData};
+ghost use Rattle.pg_wire.specs.message.BackMessage.{BackMessage};
+ghost use Rattle.pg_wire.specs.message.BackMessage.TheVariants.{DataRow, CopyData};
 ghost use Rattle.pg_wire.specs.declared.session.Part.TheVariants.{Rows, CopyOut, CopyIn, Described, Executed};
 ghost use Rattle.pg_wire.specs.Segment.{messages_of, parameters_sent, columns_sent, end_sent};
 ghost use Rattle.pg_backend.specs.Answers.{complete};

@@ -3,10 +3,10 @@ use Rattle.std.proofs.Common.{◌≡◌, ℕ, List, [], ◌∷◌, ◌++◌, Opt
 use Rattle.std.specs.Prelude.{IsSome, ◌⊎◌}
 use Rattle.std.specs.List.{AllByRecursion}
 use Rattle.std.proofs.lemmas.List.{append_cancel_left}
-use Rattle.pg_wire.specs.declared.message.BackMessage.{BackMessage}
-use Rattle.pg_wire.specs.declared.message.BackMessage.TheVariants as back
-use Rattle.pg_wire.specs.declared.message.CopyHead.{CopyHead}
-use Rattle.pg_wire.specs.declared.message.Status.{Status}
+use Rattle.pg_wire.specs.message.BackMessage.{BackMessage}
+use Rattle.pg_wire.specs.message.BackMessage.TheVariants as back
+use Rattle.pg_wire.specs.value.CopyHead.{CopyHead}
+use Rattle.pg_wire.specs.value.Status.{Status}
 use Rattle.pg_wire.specs.declared.session.Aside.{Aside}
 use Rattle.pg_wire.specs.Segment.{aside_of, without_asides, Segments, status_of}
 use Rattle.pg_client.specs.declared.place.CopyAnswer.{CopyAnswer}

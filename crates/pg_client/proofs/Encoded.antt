@@ -3,14 +3,14 @@ use Rattle.std.proofs.Common.{◌≡◌, ℕ, zero, suc, ◌+◌, ◌≤◌, ◌
 use Rattle.std.specs.List.{flat_map, AllByRecursion}
 use Rattle.std.proofs.lemmas.List.{append-nil, map-append}
 use Rattle.std.proofs.lemmas.Grind.{flat_map-append}
-use Rattle.pg_wire.specs.declared.fault.EncodeFault.{EncodeFault}
-use Rattle.pg_wire.specs.declared.fault.EncodeFault.TheVariants as encoding
-use Rattle.pg_wire.specs.declared.message.FrontMessage.{FrontMessage}
+use Rattle.pg_wire.specs.fault.EncodeFault.{EncodeFault}
+use Rattle.pg_wire.specs.fault.EncodeFault.TheVariants as encoding
+use Rattle.pg_wire.specs.message.FrontMessage.{FrontMessage}
 use Rattle.pg_wire.specs.Direction.{spelling, HasSpelling, encode_fault}
 use Rattle.pg_wire.specs.Encoder.{Encodes}
 use Rattle.pg_wire.specs.Frontend.{frontend}
 use Rattle.pg_wire.specs.Segment.{step_message}
-use Rattle.pg_wire.specs.declared.message.FrontMessage.TheVariants.{Sync}
+use Rattle.pg_wire.specs.message.FrontMessage.TheVariants.{Sync}
 use Rattle.pg_wire.specs.declared.session.Step.{Step}
 use Rattle.pg_client.specs.Client.{first_fault, or_else}
 use Rattle.pg_client.specs.Private.Sending.{Puts, ArePut, Lengthens, starved_after}

@@ -1,8 +1,8 @@
 -- The fault that a message is which is rejected.
 use Rattle.std.proofs.Common.{◌≡◌, ℕ, List, [], ◌∷◌, ◌++◌, length, map, Bool, true, false, Option, Some, None, refl, sym, ap, subst, ◌∙◌, arith, inl, inr, length-append}
 use Rattle.std.specs.Prelude.{◌⊎◌}
-use Rattle.pg_wire.specs.declared.message.BackMessage.{BackMessage}
-use Rattle.pg_wire.specs.declared.message.BackMessage.TheVariants as back
+use Rattle.pg_wire.specs.message.BackMessage.{BackMessage}
+use Rattle.pg_wire.specs.message.BackMessage.TheVariants as back
 use Rattle.pg_wire.specs.Segment.{error_of, without_asides}
 use Rattle.pg_client.specs.declared.place.Stand.{Stand}
 use Rattle.pg_client.specs.declared.place.Stand.TheVariants.{New, Starting, Idle, Busy}

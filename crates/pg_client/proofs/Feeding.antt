@@ -6,7 +6,7 @@ use Rattle.std.proofs.lemmas.Bool.{cases_lt}
 use Rattle.std.proofs.lemmas.Grind.{flat_map-append}
 use Rattle.std.proofs.lemmas.List.{append-nil}
 use Rattle.pg_wire.specs.declared.fault.WireFault.{WireFault}
-use Rattle.pg_wire.specs.declared.message.BackMessage.{BackMessage}
+use Rattle.pg_wire.specs.message.BackMessage.{BackMessage}
 use Rattle.pg_wire.specs.Backend.{backend}
 use Rattle.pg_wire.specs.declared.fault.WireFault.TheVariants as wire
 use Rattle.pg_wire.specs.Decoder.{DecoderState, Pushes}

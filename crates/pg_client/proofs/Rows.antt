@@ -3,14 +3,14 @@ use Rattle.std.proofs.Common.{◌≡◌, ℕ, List, [], ◌∷◌, ◌++◌, tru
 use Rattle.std.specs.Prelude.{pos, ℤ, codes, ◌⊎◌}
 use Rattle.std.specs.List.{flat_map, AllByRecursion}
 use Rattle.pg_wire.proofs.Rows.{salted}
-use Rattle.pg_wire.specs.declared.message.BackMessage.{BackMessage}
-use Rattle.pg_wire.specs.declared.message.BackMessage.TheVariants.{AuthOk, AuthCleartext, AuthMd5, AuthOther, Ready, RowDescription, DataRow, CommandComplete, EmptyQuery, ErrorResponse, NoticeResponse, ParameterStatus, KeyData, ParseComplete, PortalSuspended}
-use Rattle.pg_wire.specs.declared.message.BackMessage.TheVariants as back
-use Rattle.pg_wire.specs.declared.message.CopyHead.{CopyHead}
-use Rattle.pg_wire.specs.declared.fault.EncodeFault.TheVariants as encoding
-use Rattle.pg_wire.specs.declared.message.First.TheVariants.{Cancel}
-use Rattle.pg_wire.specs.declared.message.FrontMessage.TheVariants as front
-use Rattle.pg_wire.specs.declared.message.Status.TheVariants as status
+use Rattle.pg_wire.specs.message.BackMessage.{BackMessage}
+use Rattle.pg_wire.specs.message.BackMessage.TheVariants.{AuthOk, AuthCleartext, AuthMd5, AuthOther, Ready, RowDescription, DataRow, CommandComplete, EmptyQuery, ErrorResponse, NoticeResponse, ParameterStatus, KeyData, ParseComplete, PortalSuspended}
+use Rattle.pg_wire.specs.message.BackMessage.TheVariants as back
+use Rattle.pg_wire.specs.value.CopyHead.{CopyHead}
+use Rattle.pg_wire.specs.fault.EncodeFault.TheVariants as encoding
+use Rattle.pg_wire.specs.message.First.TheVariants.{Cancel}
+use Rattle.pg_wire.specs.message.FrontMessage.TheVariants as front
+use Rattle.pg_wire.specs.value.Status.TheVariants as status
 use Rattle.pg_wire.specs.declared.session.Aside.TheVariants as aside
 use Rattle.pg_wire.specs.declared.session.ExecEnd.TheVariants as ends
 use Rattle.pg_wire.specs.declared.session.Part.TheVariants as part
@@ -26,7 +26,7 @@ use Rattle.pg_client.specs.declared.fault.FeedFault.TheVariants as feeding
 use Rattle.pg_client.specs.declared.fault.CallFault.TheVariants as fault
 use Rattle.pg_client.specs.declared.phase.Cause.TheVariants as cause
 use Rattle.pg_client.specs.declared.phase.Phase.TheVariants as phase
-use Rattle.pg_wire.specs.declared.message.Status.{Status}
+use Rattle.pg_wire.specs.value.Status.{Status}
 use Rattle.pg_client.specs.Facts.{SettledInOrder}
 use Rattle.pg_client.specs.declared.place.CopyAnswer.TheVariants.{Awaited, Done}
 use Rattle.pg_client.specs.declared.place.Open.TheVariants as begun

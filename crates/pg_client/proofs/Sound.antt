@@ -3,12 +3,12 @@ use Rattle.std.proofs.Common.{◌≡◌, ℕ, List, [], ◌∷◌, ◌++◌, map
 use Rattle.std.specs.Prelude.{IfSome, ℤ}
 use Rattle.std.specs.List.{flat_map}
 use Rattle.std.proofs.lemmas.List.{append-nil, map-append}
-use Rattle.pg_wire.specs.declared.message.BackMessage.{BackMessage}
-use Rattle.pg_wire.specs.declared.message.BackMessage.TheVariants.{Ready, RowDescription, DataRow, CommandComplete, EmptyQuery, ParseComplete, BindComplete, CloseComplete, NoData, PortalSuspended, ParameterDescription, ErrorResponse, CopyData, CopyDone}
-use Rattle.pg_wire.specs.declared.message.BackMessage.TheVariants as back
-use Rattle.pg_wire.specs.declared.message.Column.{Column}
-use Rattle.pg_wire.specs.declared.message.CopyHead.{CopyHead}
-use Rattle.pg_wire.specs.declared.message.Target.TheVariants.{Statement, Portal}
+use Rattle.pg_wire.specs.message.BackMessage.{BackMessage}
+use Rattle.pg_wire.specs.message.BackMessage.TheVariants.{Ready, RowDescription, DataRow, CommandComplete, EmptyQuery, ParseComplete, BindComplete, CloseComplete, NoData, PortalSuspended, ParameterDescription, ErrorResponse, CopyData, CopyDone}
+use Rattle.pg_wire.specs.message.BackMessage.TheVariants as back
+use Rattle.pg_wire.specs.value.Column.{Column}
+use Rattle.pg_wire.specs.value.CopyHead.{CopyHead}
+use Rattle.pg_wire.specs.value.Target.TheVariants.{Statement, Portal}
 use Rattle.pg_wire.specs.declared.session.ExecEnd.TheVariants as ends
 use Rattle.pg_wire.specs.declared.session.Part.{Part}
 use Rattle.pg_wire.specs.declared.session.Part.TheVariants as part

@@ -1,7 +1,7 @@
 -- The steps of a group that are left to be answered.
 use Rattle.std.proofs.Common.{◌≡◌, ℕ, zero, suc, leb, List, [], ◌∷◌, length, drop, Some, None, is_some, slice_get, refl, ap, ◌∙◌}
 use Rattle.std.proofs.Math.Dec.{leb-zero, leb-suc-zero, leb-suc-suc}
-use Rattle.pg_wire.specs.declared.message.BackMessage.{BackMessage}
+use Rattle.pg_wire.specs.message.BackMessage.{BackMessage}
 use Rattle.pg_wire.specs.declared.session.Step.{Step}
 use Rattle.pg_wire.specs.Segment.{Steps}
 use Rattle.pg_client.specs.declared.place.Progress.TheVariants.{Stuck}

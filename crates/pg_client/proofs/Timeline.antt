@@ -4,7 +4,7 @@ use Rattle.std.specs.Prelude.{nat_lt}
 use Rattle.std.specs.List.{flat_map, AllByRecursion}
 use Rattle.std.proofs.lemmas.List.{map-append}
 use Rattle.std.proofs.lemmas.Bool.{lt-ltb, le-ltb}
-use Rattle.pg_wire.specs.declared.message.BackMessage.{BackMessage}
+use Rattle.pg_wire.specs.message.BackMessage.{BackMessage}
 use Rattle.pg_client.specs.Session.{Call, Run, Happening, Did, Came, made_before, made_since, timeline}
 use Rattle.pg_wire.specs.Backend.{backend}
 use Rattle.pg_wire.specs.Direction.{spelling}

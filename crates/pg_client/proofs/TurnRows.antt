@@ -1,10 +1,10 @@
 -- A copy in and a query, and the turns that they are, by computation.
 use Rattle.std.proofs.Common.{◌≡◌, List, [], ◌∷◌, length, false, Some, None, refl}
-use Rattle.pg_wire.specs.declared.message.BackMessage.{BackMessage}
-use Rattle.pg_wire.specs.declared.message.BackMessage.TheVariants.{AuthOk, AuthCleartext, Ready, CommandComplete, NoticeResponse}
-use Rattle.pg_wire.specs.declared.message.BackMessage.TheVariants as back
-use Rattle.pg_wire.specs.declared.message.FrontMessage.TheVariants as front
-use Rattle.pg_wire.specs.declared.message.Status.TheVariants as status
+use Rattle.pg_wire.specs.message.BackMessage.{BackMessage}
+use Rattle.pg_wire.specs.message.BackMessage.TheVariants.{AuthOk, AuthCleartext, Ready, CommandComplete, NoticeResponse}
+use Rattle.pg_wire.specs.message.BackMessage.TheVariants as back
+use Rattle.pg_wire.specs.message.FrontMessage.TheVariants as front
+use Rattle.pg_wire.specs.value.Status.TheVariants as status
 use Rattle.pg_wire.specs.declared.session.Request.{Request}
 use Rattle.pg_wire.specs.declared.session.Request.TheVariants.{Query}
 use Rattle.pg_client.specs.Session.{Run, Start, Ask, Chunk, CopyEnd, Terminate, Happening, Did, Came, rest_in}

@@ -1,11 +1,11 @@
 -- A client and a server take turns: a request is made once all before it have been answered.
 use Rattle.std.specs.Prelude.{◌≡◌, ℕ, suc, ◌≤◌, List, [], ◌∷◌, ◌++◌, length, map, take}
 use Rattle.std.specs.List.{AllByRecursion}
-use Rattle.pg_wire.specs.declared.message.BackMessage.{BackMessage}
-use Rattle.pg_wire.specs.declared.message.BackMessage.TheVariants as back
-use Rattle.pg_wire.specs.declared.message.CopyHead.{CopyHead}
-use Rattle.pg_wire.specs.declared.message.FrontMessage.{FrontMessage}
-use Rattle.pg_wire.specs.declared.message.FrontMessage.TheVariants as front
+use Rattle.pg_wire.specs.message.BackMessage.{BackMessage}
+use Rattle.pg_wire.specs.message.BackMessage.TheVariants as back
+use Rattle.pg_wire.specs.value.CopyHead.{CopyHead}
+use Rattle.pg_wire.specs.message.FrontMessage.{FrontMessage}
+use Rattle.pg_wire.specs.message.FrontMessage.TheVariants as front
 use Rattle.pg_wire.specs.declared.session.Request.{Request}
 use Rattle.pg_client.specs.declared.phase.Phase.TheVariants as phase
 use Rattle.pg_client.specs.declared.settled.Settled.{Settled}

@@ -1,15 +1,15 @@
 -- What a client was called with and fed, and where that leaves it.
 use Rattle.std.specs.Prelude.{◌≡◌, ◌≢◌, ℕ, ℤ, ◌+◌, ◌≤◌, ◌<◌, List, [], ◌∷◌, ◌++◌, length, drop, Bool, true, false, bytes_eq, cond, Option, Some, None, Result, Ok, Err, is_some, ◌⊎◌, ◌↔◌}
 use Rattle.std.specs.List.{flat_map, list_any, slice_get, AllByRecursion}
-use Rattle.pg_wire.specs.declared.fault.EncodeFault.{EncodeFault}
-use Rattle.pg_wire.specs.declared.fault.EncodeFault.TheVariants as encoding
+use Rattle.pg_wire.specs.fault.EncodeFault.{EncodeFault}
+use Rattle.pg_wire.specs.fault.EncodeFault.TheVariants as encoding
 use Rattle.pg_wire.specs.declared.fault.WireFault.{WireFault}
-use Rattle.pg_wire.specs.declared.message.BackMessage.{BackMessage}
-use Rattle.pg_wire.specs.declared.message.BackMessage.TheVariants.{AuthCleartext, AuthMd5, AuthOther, KeyData, ParameterStatus, ErrorResponse}
-use Rattle.pg_wire.specs.declared.message.First.TheVariants.{Startup, Cancel}
-use Rattle.pg_wire.specs.declared.message.FrontMessage.{FrontMessage}
-use Rattle.pg_wire.specs.declared.message.FrontMessage.TheVariants as front
-use Rattle.pg_wire.specs.declared.message.Status.{Status}
+use Rattle.pg_wire.specs.message.BackMessage.{BackMessage}
+use Rattle.pg_wire.specs.message.BackMessage.TheVariants.{AuthCleartext, AuthMd5, AuthOther, KeyData, ParameterStatus, ErrorResponse}
+use Rattle.pg_wire.specs.message.First.TheVariants.{Startup, Cancel}
+use Rattle.pg_wire.specs.message.FrontMessage.{FrontMessage}
+use Rattle.pg_wire.specs.message.FrontMessage.TheVariants as front
+use Rattle.pg_wire.specs.value.Status.{Status}
 use Rattle.pg_wire.specs.declared.session.Request.{Request}
 use Rattle.pg_wire.specs.Backend.{backend, tag}
 use Rattle.pg_wire.specs.Direction.{spelling, HasSpelling, encode_fault}

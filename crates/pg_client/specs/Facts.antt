@@ -1,6 +1,6 @@
 -- What holds of a client after what it did and what it heard, in the words of the protocol alone.
 use Rattle.std.specs.Prelude.{◌≡◌, List, [], ◌∷◌, Option, Some, None, ◌↔◌}
-use Rattle.pg_wire.specs.declared.message.BackMessage.{BackMessage}
+use Rattle.pg_wire.specs.message.BackMessage.{BackMessage}
 use Rattle.pg_wire.specs.declared.session.Request.{Request}
 use Rattle.pg_wire.specs.Segment.{Fits}
 use Rattle.pg_client.specs.declared.phase.Cause.{Cause}

@@ -1,6 +1,6 @@
 -- Where the client stands after what it did and what came.
 use Rattle.std.specs.Prelude.{◌≡◌, List, [], ◌∷◌, ◌++◌, Some}
-use Rattle.pg_wire.specs.declared.message.BackMessage.{BackMessage}
+use Rattle.pg_wire.specs.message.BackMessage.{BackMessage}
 use Rattle.pg_wire.specs.declared.session.Aside.{Aside}
 use Rattle.pg_wire.specs.declared.session.Part.{Part}
 use Rattle.pg_wire.specs.declared.session.Request.{Request}

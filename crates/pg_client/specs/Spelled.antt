@@ -1,7 +1,7 @@
 -- What a client sends has a spelling.
 use Rattle.std.specs.Prelude.{◌≡◌, List, ◌∷◌}
 use Rattle.std.specs.List.{AllByRecursion}
-use Rattle.pg_wire.specs.declared.message.First.TheVariants.{Startup}
+use Rattle.pg_wire.specs.message.First.TheVariants.{Startup}
 use Rattle.pg_wire.specs.Direction.{HasSpelling}
 use Rattle.pg_wire.specs.First.{IsPacket}
 use Rattle.pg_wire.specs.Frontend.{frontend}

@@ -1,8 +1,8 @@
 //! What a message does to where the client stands.
 
 ghost use Rattle.std.specs.Prelude.{◌≡◌, false, IfOk, Ok};
-ghost use Rattle.pg_wire.specs.declared.message.BackMessage.{BackMessage};
-ghost use Rattle.pg_wire.specs.declared.message.BackMessage.TheVariants.{ErrorResponse, ParameterStatus, Ready};
+ghost use Rattle.pg_wire.specs.message.BackMessage.{BackMessage};
+ghost use Rattle.pg_wire.specs.message.BackMessage.TheVariants.{ErrorResponse, ParameterStatus, Ready};
 ghost use Rattle.pg_wire.specs.declared.session.Aside.TheVariants as aside;
 ghost use Rattle.pg_wire.specs.Backend.{tag as tag_of};
 ghost use Rattle.pg_client.specs.Session.{is_question};

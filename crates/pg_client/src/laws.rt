@@ -1,7 +1,7 @@
 //! Laws over the definitions: each function does nothing, and its contract is the law.
 
 ghost use Rattle.std.specs.Prelude.{◌≡◌, ◌++◌, [], ◌∷◌, Bool, ℕ, List, Option};
-ghost use Rattle.pg_wire.specs.declared.message.BackMessage.{BackMessage};
+ghost use Rattle.pg_wire.specs.message.BackMessage.{BackMessage};
 ghost use Rattle.pg_client.specs.declared.settled.Settled.{Settled};
 ghost use Rattle.pg_client.specs.Session.{Run, Call, Happening, Came, Expected};
 ghost use Rattle.pg_client.specs.Client.{ClientView, IsRunOf, known_loss, Loses, story};

@@ -1,6 +1,6 @@
 -- A call for a copy that the client accepts keeps what is so of a pair.
 use Rattle.std.proofs.Common.{◌≡◌, ◌≤◌, ℕ, suc, List, refl, ap, sym, subst, ◌∙◌, arith, inl, inr}
-use Rattle.pg_wire.specs.declared.message.FrontMessage.TheVariants as front
+use Rattle.pg_wire.specs.message.FrontMessage.TheVariants as front
 use Rattle.pg_wire.specs.Segment.{segments}
 use Rattle.pg_client.specs.declared.phase.Phase.{Phase}
 use Rattle.pg_client.specs.declared.phase.Phase.TheVariants as phase

@@ -1,7 +1,7 @@
 -- One more message for the copies of the last turn.
 use Rattle.std.proofs.Common.{◌≡◌, ℕ, suc, true, List, [], ◌∷◌, ◌++◌, map, length, refl, ap, sym, ◌∙◌, arith}
-use Rattle.pg_wire.specs.declared.message.FrontMessage.{FrontMessage}
-use Rattle.pg_wire.specs.declared.message.FrontMessage.TheVariants as front
+use Rattle.pg_wire.specs.message.FrontMessage.{FrontMessage}
+use Rattle.pg_wire.specs.message.FrontMessage.TheVariants as front
 use Rattle.pg_client.specs.Turns as client
 use Rattle.pg_client.specs.Answering.{with_copy, last_copies, copies_ended}
 use Rattle.pg_backend.specs.declared.script.Answer.{Answer}

@@ -1,11 +1,11 @@
 -- Of what a client hears for one request, one message at most begins a copy in.
 use Rattle.std.proofs.Common.{◌≡◌, ◌≤◌, ℕ, suc, List, [], ◌∷◌, ◌++◌, map, Option, Some, None, refl, ap, sym, subst, ◌∙◌, append_assoc, arith}
 use Rattle.std.specs.List.{AllByRecursion}
-use Rattle.pg_wire.specs.declared.message.BackMessage.{BackMessage}
-use Rattle.pg_wire.specs.declared.message.BackMessage.TheVariants as back
-use Rattle.pg_wire.specs.declared.message.FrontMessage.{FrontMessage}
-use Rattle.pg_wire.specs.declared.message.Status.{Status}
-use Rattle.pg_wire.specs.declared.message.Status.TheVariants.{Idle}
+use Rattle.pg_wire.specs.message.BackMessage.{BackMessage}
+use Rattle.pg_wire.specs.message.BackMessage.TheVariants as back
+use Rattle.pg_wire.specs.message.FrontMessage.{FrontMessage}
+use Rattle.pg_wire.specs.value.Status.{Status}
+use Rattle.pg_wire.specs.value.Status.TheVariants.{Idle}
 use Rattle.pg_wire.specs.Segment.{Segments, status_of, put_before, segments}
 use Rattle.pg_client.specs.Answering.{copies_begun}
 use Rattle.pg_backend.specs.declared.script.Auth.{Auth}

@@ -5,8 +5,8 @@ use Rattle.std.specs.List.{flat_map, AllByRecursion}
 use Rattle.std.proofs.lemmas.Bool.{ltb-false}
 use Rattle.std.proofs.lemmas.List.{take-append-drop}
 use Rattle.pg_wire.specs.declared.fault.WireFault.{WireFault}
-use Rattle.pg_wire.specs.declared.message.FrontMessage.{FrontMessage}
-use Rattle.pg_wire.specs.declared.fault.EncodeFault.TheVariants as faults
+use Rattle.pg_wire.specs.message.FrontMessage.{FrontMessage}
+use Rattle.pg_wire.specs.fault.EncodeFault.TheVariants as faults
 use Rattle.pg_wire.specs.Direction.{spelling, longest, HasSpelling, fault_of}
 use Rattle.pg_wire.specs.First.{IsPacket, packet, IsFaultyPacket}
 use Rattle.pg_wire.specs.Frontend.{frontend}

@@ -1,8 +1,8 @@
 -- What was sent is read as what was meant, and segments grow.
 use Rattle.std.proofs.Common.{◌≡◌, ℕ, List, [], ◌∷◌, ◌++◌, Option, Some, None, refl, sym, ◌∙◌, append_assoc}
 use Rattle.std.specs.List.{flat_map, AllByRecursion}
-use Rattle.pg_wire.specs.declared.message.BackMessage.{BackMessage}
-use Rattle.pg_wire.specs.declared.message.Status.{Status}
+use Rattle.pg_wire.specs.message.BackMessage.{BackMessage}
+use Rattle.pg_wire.specs.value.Status.{Status}
 use Rattle.pg_wire.specs.Direction.{Direction, spelling, HasSpelling}
 use Rattle.pg_wire.specs.Laws.{OneSpelling}
 use Rattle.pg_wire.specs.Segment.{status_of, put_before, segments}

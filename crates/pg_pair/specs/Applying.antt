@@ -10,7 +10,7 @@ use Rattle.pg_client.specs.declared.settled.Settled.{Settled}
 use Rattle.pg_client.specs.declared.settled.Loss.{Loss}
 use Rattle.pg_client.specs.Session as session
 use Rattle.pg_client.specs.Client.{ClientView, phase_of, IsOpenPhase, Accepts, RefusesUnless, RefusesCopy, RefusesEnd, Feeds, first_cause, IsRunOf, Loses, story}
-use Rattle.pg_wire.specs.declared.message.BackMessage.{BackMessage}
+use Rattle.pg_wire.specs.message.BackMessage.{BackMessage}
 use Rattle.pg_backend.specs.declared.backend.BackPhase.{BackPhase}
 use Rattle.pg_backend.specs.declared.backend.BackPhase.TheVariants as back
 use Rattle.pg_backend.specs.declared.fault.BackendFault.{BackendFault}

@@ -1,6 +1,6 @@
 -- What is so of a pair at any time: what its client did and heard, what its backend has handled, and how the two go together.
 use Rattle.std.specs.Prelude.{◌≡◌, ℕ, ◌≤◌, Bool, false, List, [], length, map}
-use Rattle.pg_wire.specs.declared.message.BackMessage.{BackMessage}
+use Rattle.pg_wire.specs.message.BackMessage.{BackMessage}
 use Rattle.pg_wire.specs.Direction.{longest}
 use Rattle.pg_client.specs.Session.{Run}
 use Rattle.pg_client.specs.Client.{IsRunOf}

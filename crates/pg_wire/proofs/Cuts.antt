@@ -1,9 +1,9 @@
 -- A session's segments: its messages are cut after each ReadyForQuery in one way.
 use Rattle.std.proofs.Common.{◌≡◌, List, [], ◌∷◌, ◌++◌, Option, Some, None, refl, sym, ap, subst, ◌∙◌, append_assoc}
 use Rattle.std.specs.List.{flat_map, AllByRecursion}
-use Rattle.pg_wire.specs.declared.message.BackMessage.{BackMessage}
-use Rattle.pg_wire.specs.declared.message.BackMessage.TheVariants as back
-use Rattle.pg_wire.specs.declared.message.Status.{Status}
+use Rattle.pg_message.specs.declared.message.BackMessage.{BackMessage}
+use Rattle.pg_message.specs.declared.message.BackMessage.TheVariants as back
+use Rattle.pg_layout.specs.declared.value.Status.{Status}
 use Rattle.pg_wire.specs.Segment.{Segments, segments, status_of, put_before}
 use Rattle.pg_wire.specs.Laws.{NoReady, EndsAtReady, AreSegments, OneCut}
 

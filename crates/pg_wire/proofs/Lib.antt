@@ -1,15 +1,10 @@
-pub mod Layouts
-pub mod Fields
-pub mod Loops
-pub mod Bodies
-pub mod BackMessages
 pub mod Rests
 pub mod Streams
 pub mod Passwords
 pub mod Rows
-pub mod FrontMessages
 pub mod Segments
 pub mod Cuts
-pub mod Encoding
 pub mod Packets
-pub mod Startups
+-- What proofs above cite of the crate below.
+pub use Rattle.pg_message.proofs.BackMessages
+pub use Rattle.pg_message.specs.declared.backend.kind

@@ -8,11 +8,11 @@ use Rattle.std.proofs.lemmas.List.{take-append-drop, length-take, length-drop, d
 use Rattle.std.proofs.lemmas.Nat.{be_bytes_4, from_be_bytes-to_be_bytes_4}
 use Rattle.pg_wire.specs.declared.fault.WireFault.{WireFault}
 use Rattle.pg_wire.specs.declared.fault.WireFault.TheVariants as wire
-use Rattle.pg_wire.specs.Direction.{Direction, spelling, length_field, longest}
+use Rattle.pg_message.specs.Direction.{Direction, spelling, length_field, longest}
 use Rattle.pg_wire.specs.Stream.{IsWithin, Head, IsTag, IsWhole, NoMessage, IsFaulty, BeginsNoMessage, IsOpen}
-use Rattle.pg_wire.specs.Message.{IsMessage}
-use Rattle.pg_wire.proofs.Layouts.{IsBytes, IsBytes-take, wide32}
-use Rattle.pg_wire.proofs.Bodies.{spelled_parts, spelled_from}
+use Rattle.pg_message.specs.Message.{IsMessage}
+use Rattle.pg_layout.proofs.Layouts.{IsBytes, IsBytes-take, wide32}
+use Rattle.pg_message.proofs.Bodies.{spelled_parts, spelled_from}
 
 -- ---- heads
 

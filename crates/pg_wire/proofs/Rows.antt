@@ -5,13 +5,13 @@ use Rattle.std.specs.List.{flat_map}
 use Rattle.std.proofs.lemmas.Int.{ints}
 use Rattle.hex.specs.Hex.{encode_with}
 use Rattle.md5.specs.Md5.{block_words, rounds, compress, hash_after, digest_bytes, md5}
-use Rattle.pg_wire.specs.declared.fault.EncodeFault.TheVariants as faults
+use Rattle.pg_layout.specs.declared.fault.EncodeFault.TheVariants as faults
 use Rattle.pg_wire.specs.declared.fault.WireFault.TheVariants as wire
-use Rattle.pg_wire.specs.declared.message.Status.TheVariants.{Idle, InBlock}
-use Rattle.pg_wire.specs.declared.message.BackMessage.{BackMessage}
-use Rattle.pg_wire.specs.declared.message.BackMessage.TheVariants as back
-use Rattle.pg_wire.specs.declared.message.CopyHead.{CopyHead}
-use Rattle.pg_wire.specs.declared.message.Target.TheVariants.{Statement, Portal}
+use Rattle.pg_layout.specs.declared.value.Status.TheVariants.{Idle, InBlock}
+use Rattle.pg_message.specs.declared.message.BackMessage.{BackMessage}
+use Rattle.pg_message.specs.declared.message.BackMessage.TheVariants as back
+use Rattle.pg_layout.specs.declared.value.CopyHead.{CopyHead}
+use Rattle.pg_layout.specs.declared.value.Target.TheVariants.{Statement, Portal}
 use Rattle.pg_wire.specs.declared.session.Aside.TheVariants as aside
 use Rattle.pg_wire.specs.declared.session.ExecEnd.TheVariants as ends
 use Rattle.pg_wire.specs.declared.session.Outcome.{Outcome}
@@ -21,21 +21,21 @@ use Rattle.pg_wire.specs.declared.session.Request.TheVariants as asking
 use Rattle.pg_wire.specs.declared.session.Step.{Step}
 use Rattle.pg_wire.specs.declared.session.Step.TheVariants as step
 use Rattle.pg_wire.specs.Segment.{Fields, Fits, Begins, Reads, Answers, IsDone, IsCutOff, Asked, Results, Steps, is_result, is_answer, messages_of, without_asides, segments}
-use Rattle.pg_wire.specs.declared.backend.kind.BackKind.TheVariants as kinds
-use Rattle.pg_wire.specs.declared.message.BackMessage.TheVariants.{AuthOk, AuthOther, Ready, RowDescription, DataRow, CommandComplete, ErrorResponse}
-use Rattle.pg_wire.specs.declared.message.FrontMessage.TheVariants.{Query, Bind, Password}
-use Rattle.pg_wire.specs.declared.message.First.TheVariants as first
-use Rattle.pg_wire.specs.Direction.{spelling, encode_fault}
-use Rattle.pg_wire.specs.Frontend.{frontend}
+use Rattle.pg_message.specs.declared.backend.kind.BackKind.TheVariants as kinds
+use Rattle.pg_message.specs.declared.message.BackMessage.TheVariants.{AuthOk, AuthOther, Ready, RowDescription, DataRow, CommandComplete, ErrorResponse}
+use Rattle.pg_message.specs.declared.message.FrontMessage.TheVariants.{Query, Bind, Password}
+use Rattle.pg_message.specs.declared.message.First.TheVariants as first
+use Rattle.pg_message.specs.Direction.{spelling, encode_fault}
+use Rattle.pg_message.specs.Frontend.{frontend}
 use Rattle.pg_wire.specs.First.{packet, packet_fault, IsBeginning, IsFaultyPacket}
-use Rattle.pg_wire.specs.Backend.{backend}
+use Rattle.pg_message.specs.Backend.{backend}
 use Rattle.pg_wire.specs.Stream.{IsStream, IsFaulty, IsOpen}
 use Rattle.pg_wire.specs.Password.{hex_digest, md5_text}
-use Rattle.pg_wire.specs.Private.BackReader.{back_message_of}
+use Rattle.pg_message.specs.Private.BackReader.{back_message_of}
 use Rattle.pg_wire.specs.declared.first.kind.FirstKind.TheVariants as packets
-use Rattle.pg_wire.specs.Private.Reader.{counted_at, times_at, value_at}
+use Rattle.pg_layout.specs.Private.Reader.{counted_at, times_at, value_at}
 use Rattle.pg_wire.proofs.Packets.{no_code, packet_bad}
-use Rattle.pg_wire.proofs.BackMessages.{is_tag, no_tag, read_none}
+use Rattle.pg_message.proofs.BackMessages.{is_tag, no_tag, read_none}
 use Rattle.pg_wire.proofs.Rests.{short_open, partial_open, bad_fault}
 use Rattle.pg_wire.proofs.Segments.{last_same, error_in, HasNone, part_some}
 

@@ -3,10 +3,10 @@ use Rattle.std.proofs.Common.{◌≡◌, ℕ, List, [], ◌∷◌, ◌++◌, len
 use Rattle.std.specs.Prelude.{pos}
 use Rattle.std.specs.List.{flat_map, AllByRecursion}
 use Rattle.std.proofs.lemmas.List.{append_cancel_left, append-nil, take_at}
-use Rattle.pg_wire.specs.Direction.{Direction, spelling, length_field, longest}
+use Rattle.pg_message.specs.Direction.{Direction, spelling, length_field, longest}
 use Rattle.pg_wire.specs.Stream.{IsWithin, BeginsNoMessage}
 use Rattle.pg_wire.specs.Laws.{OneToOne, OneSpelling, OneReading, RoundTrip}
-use Rattle.pg_wire.proofs.Bodies.{spelled_parts}
+use Rattle.pg_message.proofs.Bodies.{spelled_parts}
 use Rattle.pg_wire.proofs.Rests.{same_length, same_tag, first_head, pos_same}
 
 module _ {M : Type 0} (d : Direction M) (one : OneToOne d) where

@@ -2,7 +2,7 @@
 use Rattle.std.specs.Prelude.{ℕ, ◌≡◌, ◌<◌, ◌+◌, ◌++◌, ◌∷◌, [], ◌⊎◌, List, length, Option, Some, None, Result, Ok, Err}
 use Rattle.pg_wire.specs.declared.fault.WireFault.{WireFault}
 use Rattle.pg_wire.specs.declared.fault.WireFault.TheVariants as wire
-use Rattle.pg_wire.specs.Direction.{Direction, spelling}
+use Rattle.pg_message.specs.Direction.{Direction, spelling}
 use Rattle.pg_wire.specs.Stream.{IsWithin, IsStream, IsWhole, IsFaulty, IsOpen}
 
 -- the bytes that it was given and has made no message of, its limit, and the fault that it found

@@ -1,97 +1,15 @@
--- First packets, which have no tag (Frontend/Backend Protocol, "Message Formats": StartupMessage, CancelRequest, SSLRequest,
--- GSSENCRequest), and what a connection begins with.
-use Rattle.std.specs.Prelude.{ℕ, ℤ, pos, ◌≡◌, ◌≤◌, ◌+◌, ◌<ℤ◌, ◌≤ℤ◌, nat_lt, ◌==◌, if◌then◌else◌, Bool, true, false, ◌||◌, List, [], ◌∷◌, ◌++◌, length, take, drop, codes, Option, Some, None}
-use Rattle.std.specs.List.{flat_map, list_any, AllByRecursion}
-use Rattle.std.specs.Int.{w32, to_be_bytes, from_be_bytes, cast_signed}
-use Rattle.std.specs.Int.RustNames.{FitsSigned}
-use Rattle.pg_wire.specs.declared.fault.EncodeFault.{EncodeFault}
-use Rattle.pg_wire.specs.declared.fault.EncodeFault.TheVariants as faults
+-- What a connection begins with: first packets, and the rest behind them (Frontend/Backend Protocol, "Start-up"). How a packet is
+-- spelled is passed on.
+use Rattle.std.specs.Prelude.{ℕ, ℤ, pos, ◌≡◌, ◌≤◌, ◌<ℤ◌, ◌≤ℤ◌, Bool, true, false, List, [], ◌∷◌, ◌++◌, length, take, drop}
+use Rattle.std.specs.List.{flat_map, AllByRecursion}
+use Rattle.std.specs.Int.{w32, from_be_bytes, cast_signed}
 use Rattle.pg_wire.specs.declared.fault.WireFault.{WireFault}
 use Rattle.pg_wire.specs.declared.fault.WireFault.TheVariants as wire
-use Rattle.pg_wire.specs.declared.message.First.{First}
-use Rattle.pg_wire.specs.declared.message.First.TheVariants as first
-use Rattle.pg_wire.specs.Field.{int32, string, contains_zero}
-
--- ---- a packet as bytes
-
--- a parameter of a session: its name and its value
-abbrev pub parameter : List ℕ × List ℕ → List ℕ
-parameter p = string p.0 ++ string p.1
-
--- the number behind the length: the version 3.0, or a number that stands for a request
-abbrev pub code : First → ℕ
-code (first.Startup pairs) = 196608
-code (first.Cancel process secret) = 80877102
-code first.Ssl = 80877103
-code first.Gss = 80877104
-
--- what stands behind the code
-abbrev pub content : First → List ℕ
-content (first.Startup pairs) = flat_map parameter pairs ++ 0 ∷ []
-content (first.Cancel process secret) = int32 process ++ int32 secret
-content first.Ssl = []
-content first.Gss = []
-
--- the length, which counts itself, the code and what stands behind it
-abbrev pub packet_length : First → ℕ
-packet_length p = 8 + length (content p)
-
--- the greatest length
-abbrev pub longest_packet : ℕ
-longest_packet = 10000
-
--- a packet as bytes: its length, its code, its content
-abbrev pub packet : First → List ℕ
-packet p = to_be_bytes w32 (packet_length p) ++ to_be_bytes w32 (code p) ++ content p
-
--- ---- which packets have a spelling
-
-abbrev pub parameter_has_zero : List ℕ × List ℕ → Bool
-parameter_has_zero p = contains_zero p.0 || contains_zero p.1
-
-abbrev pub has_no_name : List ℕ × List ℕ → Bool
-has_no_name p = length p.0 == 0
-
-abbrev pub packet_has_zero : First → Bool
-packet_has_zero (first.Startup pairs) = list_any parameter_has_zero pairs
-packet_has_zero _ = false
-
-abbrev pub packet_has_no_name : First → Bool
-packet_has_no_name (first.Startup pairs) = list_any has_no_name pairs
-packet_has_no_name _ = false
-
--- why there is no spelling: the first of these that holds
-abbrev pub packet_fault_of : Bool → Bool → ℕ → Option EncodeFault
-packet_fault_of zero no_name size =
-    if zero then Some faults.HasZero
-    else if no_name then Some faults.EmptyName
-    else if nat_lt longest_packet size then Some faults.TooLong
-    else None
-
-abbrev pub packet_fault : First → Option EncodeFault
-packet_fault p = packet_fault_of (packet_has_zero p) (packet_has_no_name p) (packet_length p)
-
--- The numbers are of their types.
-abbrev pub PacketIsOfType : First → Type 0
-PacketIsOfType (first.Cancel process secret) = FitsSigned w32 process × FitsSigned w32 secret
-PacketIsOfType _ = Unit {0}
-
--- What has a spelling.
-pub record IsPacket (p : First) : Type 0 where
-  pub of_type : PacketIsOfType p
-  pub no_fault : packet_fault p ≡ None
-
--- ---- the parameters of a startup ("Start-up")
-
-abbrev pub database_pair : Option (List ℕ) → List (List ℕ × List ℕ)
-database_pair None = []
-database_pair (Some name) = (codes "database", name) ∷ []
-
--- the user, the database if one is named, and further parameters
-abbrev pub startup_parameters : List ℕ → Option (List ℕ) → List (List ℕ × List ℕ) → List (List ℕ × List ℕ)
-startup_parameters user database pairs = (codes "user", user) ∷ database_pair database ++ pairs
-
--- ---- what a connection begins with
+use Rattle.pg_message.specs.declared.message.First.{First}
+use Rattle.pg_message.specs.declared.message.First.TheVariants as first
+pub use Rattle.pg_message.specs.First.{parameter, code, content, packet_length, longest_packet, packet}
+pub use Rattle.pg_message.specs.First.{parameter_has_zero, has_no_name, packet_has_zero, packet_has_no_name, packet_fault_of, packet_fault, PacketIsOfType, IsPacket}
+pub use Rattle.pg_message.specs.First.{database_pair, startup_parameters}
 
 -- no first packet comes behind it
 abbrev pub is_last : First → Bool

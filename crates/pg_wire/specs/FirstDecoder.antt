@@ -2,7 +2,7 @@
 use Rattle.std.specs.Prelude.{ℕ, ℤ, ◌≡◌, ◌<◌, ◌++◌, ◌∷◌, [], ◌⊎◌, Bool, true, false, List, length, Option, Some, None, Result, Ok, Err}
 use Rattle.pg_wire.specs.declared.fault.WireFault.{WireFault}
 use Rattle.pg_wire.specs.declared.fault.WireFault.TheVariants as wire
-use Rattle.pg_wire.specs.declared.message.First.{First}
+use Rattle.pg_message.specs.declared.message.First.{First}
 use Rattle.pg_wire.specs.First.{IsPacket, packet, is_last, IsBeginning, longest_packet, IsWholePacket, IsFaultyPacket, IsOpenPacket}
 
 -- the bytes that it was given and has made no packet of, whether the last packet was given, and the fault that it found

@@ -2,23 +2,20 @@
 use Rattle.std.specs.Prelude.{ℕ, ◌≡◌, ◌≤◌, Bool, true, false, List, [], ◌∷◌, ◌++◌, None}
 use Rattle.std.specs.List.{flat_map, AllByRecursion}
 use Rattle.pg_wire.specs.declared.fault.WireFault.{WireFault}
-use Rattle.pg_wire.specs.declared.message.First.{First}
-use Rattle.pg_wire.specs.declared.message.BackMessage.{BackMessage}
-use Rattle.pg_wire.specs.declared.message.BackMessage.TheVariants.{Ready}
-use Rattle.pg_wire.specs.declared.message.FrontMessage.TheVariants.{Password}
-use Rattle.pg_wire.specs.declared.message.Status.{Status}
+use Rattle.pg_message.specs.declared.message.First.{First}
+use Rattle.pg_message.specs.declared.message.BackMessage.{BackMessage}
+use Rattle.pg_message.specs.declared.message.BackMessage.TheVariants.{Ready}
+use Rattle.pg_message.specs.declared.message.FrontMessage.TheVariants.{Password}
+use Rattle.pg_layout.specs.declared.value.Status.{Status}
 use Rattle.pg_wire.specs.declared.session.Outcome.{Outcome}
 use Rattle.pg_wire.specs.declared.session.Request.{Request}
 use Rattle.pg_wire.specs.Segment.{Fits, Segments, segments, status_of}
 use Rattle.pg_wire.specs.First.{packet, IsPacket, EndsIn, IsBeginning, IsFaultyPacket, BeginsNoPacket}
-use Rattle.pg_wire.specs.Direction.{Direction, spelling, HasSpelling}
-use Rattle.pg_wire.specs.Frontend.{frontend}
+use Rattle.pg_message.specs.Direction.{Direction, spelling, HasSpelling}
+use Rattle.pg_message.specs.Frontend.{frontend}
 use Rattle.pg_wire.specs.Password.{md5_text}
+pub use Rattle.pg_message.specs.Message.{OneToOne}
 use Rattle.pg_wire.specs.Stream.{IsWithin, IsStream, IsFaulty, BeginsNoMessage}
-
--- No two messages have the same tag and the same body.
-abbrev pub OneToOne : {M : Type 0} → Direction M → Type 0
-OneToOne {M} d = (m n : M) → HasSpelling d m → HasSpelling d n → d.tag m ≡ d.tag n → d.body m ≡ d.body n → m ≡ n
 
 -- No message has the bytes of another, and none begins another.
 abbrev pub OneSpelling : {M : Type 0} → Direction M → Type 0

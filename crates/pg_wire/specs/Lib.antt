@@ -1,17 +1,23 @@
 -- What a reader must believe: how messages are spelled, which have a spelling, what a stream is, and what each call does.
-pub mod Field
-pub mod Direction
-pub mod Backend
-pub mod Frontend
 pub mod Stream
-pub mod Message
-pub mod Encoder
 pub mod Decoder
 pub mod First
 pub mod FirstDecoder
 pub mod Laws
 pub mod Password
 pub mod Segment
-pub mod Link
 -- Words of private functions, which no public contract cites.
 pub mod Private
+-- What the crates below define and the contracts here speak of. Who uses pg_wire names it through these lines.
+pub use Rattle.pg_layout.specs.Field
+pub use Rattle.pg_message.specs.Direction
+pub use Rattle.pg_message.specs.Backend
+pub use Rattle.pg_message.specs.Frontend
+pub use Rattle.pg_message.specs.Message
+pub use Rattle.pg_message.specs.Encoder
+pub use Rattle.pg_link.specs.Link
+-- Their types.
+pub use Rattle.pg_layout.specs.declared.fault
+pub use Rattle.pg_layout.specs.declared.value
+pub use Rattle.pg_message.specs.declared.message
+pub use Rattle.pg_link.specs.declared as link

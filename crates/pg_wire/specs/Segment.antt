@@ -1,15 +1,15 @@
 -- Segments: what a server may send for one request, up to its ReadyForQuery (Frontend/Backend Protocol, "Message Flow").
 use Rattle.std.specs.Prelude.{◌≡◌, ℕ, Bool, true, false, List, [], ◌∷◌, ◌++◌, map, filter, filter_map, Option, Some, None, is_none, ◌⊎◌}
 use Rattle.std.specs.List.{flat_map}
-use Rattle.pg_wire.specs.declared.message.BackMessage.{BackMessage}
-use Rattle.pg_wire.specs.declared.message.BackMessage.TheVariants.{Ready, RowDescription, DataRow, CommandComplete, EmptyQuery, ParseComplete, BindComplete, CloseComplete, NoData, PortalSuspended, ParameterDescription, ErrorResponse, NoticeResponse, Notification, ParameterStatus, CopyData, CopyDone}
-use Rattle.pg_wire.specs.declared.message.BackMessage.TheVariants as back
-use Rattle.pg_wire.specs.declared.message.Column.{Column}
-use Rattle.pg_wire.specs.declared.message.ErrorField.{ErrorField}
-use Rattle.pg_wire.specs.declared.message.FrontMessage.{FrontMessage}
-use Rattle.pg_wire.specs.declared.message.FrontMessage.TheVariants as front
-use Rattle.pg_wire.specs.declared.message.Status.{Status}
-use Rattle.pg_wire.specs.declared.message.Target.TheVariants.{Statement, Portal}
+use Rattle.pg_message.specs.declared.message.BackMessage.{BackMessage}
+use Rattle.pg_message.specs.declared.message.BackMessage.TheVariants.{Ready, RowDescription, DataRow, CommandComplete, EmptyQuery, ParseComplete, BindComplete, CloseComplete, NoData, PortalSuspended, ParameterDescription, ErrorResponse, NoticeResponse, Notification, ParameterStatus, CopyData, CopyDone}
+use Rattle.pg_message.specs.declared.message.BackMessage.TheVariants as back
+use Rattle.pg_layout.specs.declared.value.Column.{Column}
+use Rattle.pg_layout.specs.declared.value.ErrorField.{ErrorField}
+use Rattle.pg_message.specs.declared.message.FrontMessage.{FrontMessage}
+use Rattle.pg_message.specs.declared.message.FrontMessage.TheVariants as front
+use Rattle.pg_layout.specs.declared.value.Status.{Status}
+use Rattle.pg_layout.specs.declared.value.Target.TheVariants.{Statement, Portal}
 use Rattle.pg_wire.specs.declared.session.Aside.{Aside}
 use Rattle.pg_wire.specs.declared.session.Aside.TheVariants as aside
 use Rattle.pg_wire.specs.declared.session.ExecEnd.{ExecEnd}

@@ -4,7 +4,8 @@ use Rattle.std.specs.List.{flat_map, AllByRecursion}
 use Rattle.std.specs.Int.{w32, from_be_bytes, cast_signed}
 use Rattle.pg_wire.specs.declared.fault.WireFault.{WireFault}
 use Rattle.pg_wire.specs.declared.fault.WireFault.TheVariants as wire
-use Rattle.pg_wire.specs.Direction.{Direction, spelling, length_field, HasSpelling}
+use Rattle.pg_message.specs.Direction.{Direction, spelling, length_field, HasSpelling}
+pub use Rattle.pg_message.specs.Message.{IsTag, NoMessage}
 
 -- The message has a spelling whose length field is at most the limit.
 pub record IsWithin {M : Type 0} (d : Direction M) (limit : ℕ) (m : M) : Type 0 where
@@ -24,10 +25,6 @@ pub record Head (rest : List ℕ) (t : ℕ) (n : ℤ) : Type 0 where
   pub tag_is : slice_index rest 0 ≡ t
   pub length_is : cast_signed w32 (from_be_bytes w32 (take 4 (drop 1 rest))) ≡ n
 
--- Some message has this tag.
-abbrev pub IsTag : {M : Type 0} → Direction M → ℕ → Type 0
-IsTag {M} d t = (m : M) × (d.tag m ≡ t)
-
 -- The bytes of the next message are all there, by its length field.
 pub record IsWhole {M : Type 0} (d : Direction M) (limit : ℕ) (rest : List ℕ) (t len : ℕ) : Type 0 where
   pub head : Head rest t (pos len)
@@ -35,10 +32,6 @@ pub record IsWhole {M : Type 0} (d : Direction M) (limit : ℕ) (rest : List ℕ
   pub not_short : 4 ≤ len
   pub not_long : len ≤ limit
   pub there : len + 1 ≤ length rest
-
--- No message has this tag and this body.
-abbrev pub NoMessage : {M : Type 0} → Direction M → ℕ → List ℕ → Type 0
-NoMessage {M} d t bytes = (m : M) → HasSpelling d m → d.tag m ≡ t → d.body m ≡ bytes → ⊥
 
 -- The rest is faulty, for this reason. Each reason is looked at only where those above it don't hold.
 abbrev pub IsFaulty : {M : Type 0} → Direction M → ℕ → List ℕ → WireFault → Type 0

@@ -1,14 +1,14 @@
 //! A stream of one direction, taken in pieces.
 
 ghost use Rattle.std.specs.Prelude.{◌≡◌, ◌<◌, ◌≤◌, ◌++◌, [], List, ℕ, length, None, OnOk, MatchOption};
-ghost use Rattle.pg_wire.specs.Direction.{IsLimit};
+ghost use Rattle.pg_message.specs.Direction.{IsLimit};
 ghost use Rattle.pg_wire.specs.Stream.{Head};
 ghost use Rattle.pg_wire.specs.Decoder.{HasTaken, Pushes, Stays, Takes, given_after};
 ghost use Rattle.pg_wire.specs.Private.Found.{Judges, Finds};
 
-use crate::direction::Message;
-use crate::fault::{BodyFault, WireFault};
-use crate::message::{BackMessage, FrontMessage};
+use crate::fault::WireFault;
+use pg_layout::BodyFault;
+use pg_message::{BackMessage, FrontMessage, Message};
 use pg_seq::Buffer;
 use std::alloc::Global;
 use std::marker::{Model, PhantomData};

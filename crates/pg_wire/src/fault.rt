@@ -1,35 +1,10 @@
-//! Why a message was not written, or not read.
+//! Why a stream gives no next message.
 
 ghost use Rattle.std.specs.Prelude.{◌≡◌};
-ghost use Rattle.pg_wire.specs.declared.fault.BodyFault.TheVariants.{Memory};
 ghost use Rattle.pg_wire.specs.declared.fault.WireFault.TheVariants as wire;
 
-use std::alloc::{AllocError, AllocFailed};
+use std::alloc::AllocError;
 use thiserror::Error;
-
-/// Why an encoder refused a message: the first of these that holds. The buffer is then as it was. What has no spelling follows
-/// from "Message Formats".
-#[derive(Clone, Copy, Debug, PartialEq, Eq, Error)]
-pub enum EncodeFault {
-    /// A String holds a zero byte, or the code of an error field is 0.
-    #[error("E1 HasZero")]
-    HasZero,
-    /// A name of a startup packet's parameter is empty.
-    #[error("E2 EmptyName")]
-    EmptyName,
-    /// A list with a 16-bit count has more than 65,535 elements.
-    #[error("E3 TooMany")]
-    TooMany,
-    /// An AuthOther has the code 0, 3 or 5, which other messages have.
-    #[error("E6 ReservedCode")]
-    ReservedCode,
-    /// The length field would pass 1,073,741,823, or 10,000 for a startup packet.
-    #[error("E4 TooLong")]
-    TooLong,
-    /// The buffer could not grow.
-    #[error("E5 Memory")]
-    Memory,
-}
 
 /// What stands in the place of a next message: the first of these that holds ("Overview" and "Message Formats" say what a
 /// message is). After any of them but Memory the decoder answers it for good; after Memory it is unchanged.
@@ -60,30 +35,5 @@ impl From<AllocError> for WireFault {
 
     fn from(_e: AllocError) -> WireFault {
         WireFault::Memory
-    }
-}
-
-/// Why no message was made of a body.
-#[derive(Clone, Copy, Debug, PartialEq, Eq)]
-pub enum BodyFault {
-    /// No message has this tag and this body.
-    Bad,
-    /// Memory was refused.
-    Memory,
-}
-
-impl From<AllocError> for BodyFault {
-    ghost from_gives = { λ _ e. e ≡ Memory };
-
-    fn from(_e: AllocError) -> BodyFault {
-        BodyFault::Memory
-    }
-}
-
-impl<T: Drop> From<AllocFailed<T>> for BodyFault {
-    ghost from_gives = { λ _ e. e ≡ Memory };
-
-    fn from(_e: AllocFailed<T>) -> BodyFault {
-        BodyFault::Memory
     }
 }

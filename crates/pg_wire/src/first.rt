@@ -3,21 +3,20 @@
 mod kind;
 
 ghost use Rattle.std.specs.Prelude.{◌≡◌, ◌<◌, ◌≤◌, ◌++◌, [], List, ℕ, length, None, Some, OnOk, MatchOption, true, false};
-ghost use Rattle.pg_wire.specs.declared.message.First.{First};
+ghost use Rattle.pg_message.specs.declared.message.First.{First};
 ghost use Rattle.pg_wire.specs.First.{PacketHead, PacketCode, is_last};
 ghost use Rattle.pg_wire.specs.FirstDecoder.{HasBegun, FirstPushes, FirstTakes, packets_after};
 ghost use Rattle.pg_wire.specs.Decoder.{HasTaken};
-ghost use Rattle.pg_wire.specs.Direction.{IsLimit};
-ghost use Rattle.pg_wire.specs.Frontend.{frontend};
-ghost use Rattle.pg_wire.specs.Private.Reader.{Gives};
+ghost use Rattle.pg_message.specs.Direction.{IsLimit};
+ghost use Rattle.pg_message.specs.Frontend.{frontend};
+ghost use Rattle.pg_layout.specs.Private.Reader.{Gives};
 ghost use Rattle.pg_wire.specs.Private.FirstReader.{first_of, JudgesPacket, FindsPacket};
 
 use crate::decoder::FrontDecoder;
-use crate::fault::{BodyFault, WireFault};
-use crate::message::First;
-use crate::part::LONGEST_PACKET;
-use crate::reader::{ended, i32_at, terminated};
+use crate::fault::WireFault;
 use kind::FirstKind;
+use pg_layout::{BodyFault, LONGEST_PACKET, ended, i32_at, terminated};
+use pg_message::First;
 use pg_seq::Buffer;
 use std::alloc::Global;
 use std::marker::Model;

@@ -2,7 +2,7 @@
 
 ghost use Rattle.pg_wire.specs.Laws.{OneSpelling, OneReading, FaultyBeginsNone, OneFault, RoundTrip, OnePacket, OneBeginning, FaultyBeginsNoPacket, OnePacketFault, PacketsAgain, OneOutcome, OneCut, AnswerIsSpelled};
 
-use crate::direction::Message;
+use pg_message::Message;
 
 /// No message has the bytes of another, and none begins another.
 pub fn one_spelling<M: Message>()

@@ -1,6 +1,6 @@
 //! What a session is made of, for either end: requests, and how they end.
 
-use crate::message::{Column, CopyHead, Fields, Status, Target, Values};
+use pg_layout::{Column, CopyHead, Fields, Status, Target, Values};
 use pg_seq::Seq;
 
 /// A step of an extended query ("Extended Query"). Its texts hold no zero byte, and its lists have at most 65,535 elements: else a

@@ -4,7 +4,7 @@ use Rattle.std.specs.List.{FoldsTo, concat}
 use Rattle.std.proofs.lemmas.List.Folds.{concat-append}
 use Rattle.std.proofs.lemmas.Grind.{flat_map-append}
 use Rattle.std.proofs.lemmas.List.{length-take, take_all, take-append-le}
-use Rattle.pg_wire.specs.declared.link.LinkFault.{LinkFault}
+use Rattle.pg_wire.specs.link.LinkFault.{LinkFault}
 use Rattle.pg_wire.specs.Link.{HasRisen}
 use Rattle.pgpipe_base.specs.Lines.{hexadecimal_byte, hexadecimal}
 use Rattle.pgpipe_base.specs.Receiving.{longest_piece}

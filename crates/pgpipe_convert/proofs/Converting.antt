@@ -8,7 +8,7 @@ use Rattle.pg_copy.specs.Text as text_reading
 use Rattle.pg_copy.specs.BinaryReading as file_reading
 use Rattle.pg_copy.specs.BinaryReader as binary
 use Rattle.pg_copy.specs.TextReader as text
-use Rattle.pg_wire.specs.declared.link.LinkFault.{LinkFault}
+use Rattle.pg_wire.specs.link.LinkFault.{LinkFault}
 use Rattle.pg_wire.specs.Link.{HasRisen}
 use Rattle.pgpipe_convert.specs.declared.convert.Converted.{Converted}
 use Rattle.pgpipe_convert.specs.declared.convert.Converted.TheVariants as converted

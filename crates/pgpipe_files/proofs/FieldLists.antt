@@ -1,7 +1,7 @@
 -- Lists of fields, read one after the other.
 use Rattle.std.proofs.Common.{◌≡◌, ℕ, List, [], ◌∷◌, ◌++◌, Option, Some, None, refl, sym, ap, ◌∙◌, append_assoc}
 use Rattle.pg_copy.specs.Row.{Row}
-use Rattle.pg_wire.specs.declared.message.ErrorField.{ErrorField}
+use Rattle.pg_wire.specs.value.ErrorField.{ErrorField}
 use Rattle.pgpipe_files.specs.Fields.{◌>>=◌, byte_of, error_fields_of, number, numbers_of, read_at, text_at, texts_of}
 
 -- what is read so far stands in front of what is read of the rest

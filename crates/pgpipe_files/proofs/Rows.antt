@@ -5,8 +5,8 @@ use Rattle.pg_copy.specs.Reading.{Ended}
 use Rattle.pg_wire.specs.declared.session.ExecEnd.TheVariants as end
 use Rattle.pg_wire.specs.declared.session.Request.TheVariants as request
 use Rattle.pg_wire.specs.declared.session.Step.TheVariants as step
-use Rattle.pg_wire.specs.declared.message.Target.TheVariants as target
-use Rattle.pg_wire.specs.declared.message.Status.TheVariants as status
+use Rattle.pg_wire.specs.value.Target.TheVariants as target
+use Rattle.pg_wire.specs.value.Status.TheVariants as status
 use Rattle.pg_backend.specs.declared.script.Auth.TheVariants as auth
 use Rattle.pg_backend.specs.declared.script.Script.{Script}
 use Rattle.pg_backend.specs.declared.script.ScriptPart.TheVariants as part

@@ -1,8 +1,8 @@
 -- What the lines of SCRIPT are read as that stand in an answer.
 use Rattle.std.specs.Prelude.{ℕ, pos, negsuc, List, [], ◌∷◌, ◌++◌, map, Option, Some, None}
 use Rattle.pg_copy.specs.Row.{Row}
-use Rattle.pg_wire.specs.declared.message.Column.{Column}
-use Rattle.pg_wire.specs.declared.message.Status.{Status}
+use Rattle.pg_wire.specs.value.Column.{Column}
+use Rattle.pg_wire.specs.value.Status.{Status}
 use Rattle.pg_wire.specs.declared.session.Aside.{Aside}
 use Rattle.pg_wire.specs.declared.session.Aside.TheVariants as aside
 use Rattle.pg_wire.specs.declared.session.ExecEnd.{ExecEnd}

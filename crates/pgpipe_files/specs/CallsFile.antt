@@ -3,7 +3,7 @@ use Rattle.std.specs.Prelude.{ℕ, Bool, true, false, if◌then◌else◌, List,
 use Rattle.std.specs.Str.{bytes_eq, is_utf8}
 use Rattle.pg_copy.specs.Row.{Row}
 use Rattle.pg_client.specs.declared.settings.Settings.{Settings}
-use Rattle.pg_wire.specs.declared.message.Target.{Target}
+use Rattle.pg_wire.specs.value.Target.{Target}
 use Rattle.pg_wire.specs.declared.session.Step.{Step}
 use Rattle.pg_wire.specs.declared.session.Step.TheVariants as step
 use Rattle.pg_wire.specs.declared.session.Request.TheVariants as request

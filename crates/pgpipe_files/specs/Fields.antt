@@ -4,8 +4,8 @@ use Rattle.std.specs.Prelude.{ℕ, ℤ, pos, neg_ℤ, nat_le, true, false, if◌
 use Rattle.std.specs.Str.{all_ascii_digits}
 use Rattle.std.specs.Str.Parse.{digits_value, starts_with_minus}
 use Rattle.pg_copy.specs.Row.{Row}
-use Rattle.pg_wire.specs.declared.message.CopyHead.{CopyHead}
-use Rattle.pg_wire.specs.declared.message.ErrorField.{ErrorField}
+use Rattle.pg_wire.specs.value.CopyHead.{CopyHead}
+use Rattle.pg_wire.specs.value.ErrorField.{ErrorField}
 use Rattle.pgpipe_files.specs.declared.verb.CopyFormat.{CopyFormat}
 use Rattle.pgpipe_files.specs.declared.verb.CopyFormat.TheVariants as format
 use Rattle.pgpipe_files.specs.Verbs.{format_of}

@@ -4,8 +4,8 @@ use Rattle.std.specs.Result.{result_ok}
 use Rattle.std.specs.Str.{bytes_eq}
 use Rattle.hex.specs.Hex.{decode_sized}
 use Rattle.pg_copy.specs.Row.{Row}
-use Rattle.pg_wire.specs.declared.message.Status.{Status}
-use Rattle.pg_wire.specs.declared.message.Status.TheVariants as status
+use Rattle.pg_wire.specs.value.Status.{Status}
+use Rattle.pg_wire.specs.value.Status.TheVariants as status
 use Rattle.pg_backend.specs.declared.script.Answer.{Answer}
 use Rattle.pg_backend.specs.declared.script.Auth.{Auth}
 use Rattle.pg_backend.specs.declared.script.Auth.TheVariants as auth

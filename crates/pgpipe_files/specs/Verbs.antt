@@ -15,8 +15,8 @@ use Rattle.pgpipe_files.specs.declared.verb.EndWay.{EndWay}
 use Rattle.pgpipe_files.specs.declared.verb.EndWay.TheVariants as end
 use Rattle.pgpipe_files.specs.declared.verb.StepVerb.{StepVerb}
 use Rattle.pgpipe_files.specs.declared.verb.StepVerb.TheVariants as step
-use Rattle.pg_wire.specs.declared.message.Target.{Target}
-use Rattle.pg_wire.specs.declared.message.Target.TheVariants as target
+use Rattle.pg_wire.specs.value.Target.{Target}
+use Rattle.pg_wire.specs.value.Target.TheVariants as target
 use Rattle.pgpipe_files.specs.declared.verb.ScriptVerb.{ScriptVerb}
 use Rattle.pgpipe_files.specs.declared.verb.ScriptVerb.TheVariants as script
 

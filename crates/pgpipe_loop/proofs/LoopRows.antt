@@ -3,7 +3,7 @@ use Rattle.std.proofs.Common.{◌≡◌, ℕ, false, List, [], ◌∷◌, ◌++�
 use Rattle.std.specs.Prelude.{pos, negsuc}
 use Rattle.std.proofs.lemmas.Fmt.{decimal_digit}
 use Rattle.pg_wire.specs.declared.fault.WireFault.TheVariants.{BadBody}
-use Rattle.pg_wire.specs.declared.message.Status.TheVariants as status
+use Rattle.pg_wire.specs.value.Status.TheVariants as status
 use Rattle.pg_wire.specs.declared.session.Aside.TheVariants.{Notice}
 use Rattle.pg_wire.specs.declared.session.Part.TheVariants as part
 use Rattle.pg_wire.specs.declared.session.Request.TheVariants.{Query}

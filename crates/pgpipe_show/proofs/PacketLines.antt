@@ -4,12 +4,12 @@ use Rattle.std.specs.List.{flat_map}
 use Rattle.std.proofs.lemmas.Bool.{ltb-false}
 use Rattle.std.proofs.lemmas.Grind.{flat_map-append}
 use Rattle.std.proofs.lemmas.Option.{none-some}
-use Rattle.pg_wire.specs.declared.fault.EncodeFault.{EncodeFault}
-use Rattle.pg_wire.specs.declared.fault.EncodeFault.TheVariants as faults
+use Rattle.pg_wire.specs.fault.EncodeFault.{EncodeFault}
+use Rattle.pg_wire.specs.fault.EncodeFault.TheVariants as faults
 use Rattle.pg_wire.specs.declared.fault.WireFault.{WireFault}
 use Rattle.pg_wire.specs.declared.fault.WireFault.TheVariants as wire
-use Rattle.pg_wire.specs.declared.message.First.{First}
-use Rattle.pg_wire.specs.declared.message.First.TheVariants as first
+use Rattle.pg_wire.specs.message.First.{First}
+use Rattle.pg_wire.specs.message.First.TheVariants as first
 use Rattle.pg_wire.specs.First.{packet, longest_packet, packet_length, packet_has_zero, packet_has_no_name, packet_fault, IsPacket, is_last, EndsIn, IsBeginning, IsFaultyPacket, IsOpenPacket, BeginsNoPacket}
 use Rattle.pg_wire.specs.FirstDecoder.{FirstState, FirstTakes, NoMorePackets}
 use Rattle.pgpipe_show.specs.declared.halt.Halt.{Halt}

@@ -4,14 +4,14 @@ use Rattle.std.specs.Prelude.{pos, negsuc}
 use Rattle.std.specs.Fmt.{decimal}
 use Rattle.std.proofs.lemmas.Fmt.{decimal_digit, decimal_step}
 use Rattle.std.proofs.lemmas.Int.{ints}
-use Rattle.pg_wire.specs.declared.backend.kind.BackKind.TheVariants as kinds
+use Rattle.pg_wire.proofs.kind.BackKind.TheVariants as kinds
 use Rattle.pg_wire.specs.declared.fault.WireFault.TheVariants as wire
-use Rattle.pg_wire.specs.declared.message.First.{First}
-use Rattle.pg_wire.specs.declared.message.FrontMessage.{FrontMessage}
-use Rattle.pg_wire.specs.declared.message.Status.TheVariants.{Idle}
-use Rattle.pg_wire.specs.declared.message.BackMessage.TheVariants.{AuthOk, Ready, RowDescription, DataRow, CommandComplete, CopyDone}
-use Rattle.pg_wire.specs.declared.message.FrontMessage.TheVariants.{Query}
-use Rattle.pg_wire.specs.declared.message.First.TheVariants as first
+use Rattle.pg_wire.specs.message.First.{First}
+use Rattle.pg_wire.specs.message.FrontMessage.{FrontMessage}
+use Rattle.pg_wire.specs.value.Status.TheVariants.{Idle}
+use Rattle.pg_wire.specs.message.BackMessage.TheVariants.{AuthOk, Ready, RowDescription, DataRow, CommandComplete, CopyDone}
+use Rattle.pg_wire.specs.message.FrontMessage.TheVariants.{Query}
+use Rattle.pg_wire.specs.message.First.TheVariants as first
 use Rattle.pg_wire.specs.Backend.{backend}
 use Rattle.pg_wire.specs.Direction.{spelling}
 use Rattle.pg_wire.specs.First.{packet}

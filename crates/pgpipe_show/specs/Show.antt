@@ -1,8 +1,8 @@
 -- What is shown of a backend's stream, and of what a client sends.
 use Rattle.std.specs.Prelude.{ℕ, ◌≡◌, ◌<◌, ◌≤◌, ◌+◌, ◌++◌, ◌∷◌, ◌⊎◌, Bool, true, false, List, [], length, Result, Ok, Err}
 use Rattle.pg_wire.specs.declared.fault.WireFault.{WireFault}
-use Rattle.pg_wire.specs.declared.message.First.{First}
-use Rattle.pg_wire.specs.declared.message.First.TheVariants as first
+use Rattle.pg_wire.specs.message.First.{First}
+use Rattle.pg_wire.specs.message.First.TheVariants as first
 use Rattle.pg_wire.specs.Backend.{backend}
 use Rattle.pg_wire.specs.Direction.{Direction, longest}
 use Rattle.pg_wire.specs.First.{IsBeginning, IsOpenPacket, IsFaultyPacket}

@@ -3,10 +3,10 @@ use Rattle.std.specs.Prelude.{ℕ, ◌≡◌, ◌≢◌, Bool, true, false, List
 use Rattle.std.specs.List.{flat_map, AllByRecursion}
 use Rattle.pg_wire.specs.declared.fault.WireFault.{WireFault}
 use Rattle.pg_wire.specs.declared.fault.WireFault.TheVariants as wire
-use Rattle.pg_wire.specs.declared.message.BackMessage.TheVariants as back
-use Rattle.pg_wire.specs.declared.message.First.{First}
-use Rattle.pg_wire.specs.declared.message.First.TheVariants as first
-use Rattle.pg_wire.specs.declared.message.FrontMessage.{FrontMessage}
+use Rattle.pg_wire.specs.message.BackMessage.TheVariants as back
+use Rattle.pg_wire.specs.message.First.{First}
+use Rattle.pg_wire.specs.message.First.TheVariants as first
+use Rattle.pg_wire.specs.message.FrontMessage.{FrontMessage}
 use Rattle.pg_wire.specs.Decoder.{DecoderState}
 use Rattle.pg_wire.specs.Decoder as decoder
 use Rattle.pg_wire.specs.FirstDecoder.{FirstState, HasBegun, FirstTakes}

@@ -1,9 +1,9 @@
 -- What is done for one request.
 use Rattle.std.specs.Prelude.{ℕ, ◌≡◌, List, [], ◌∷◌, ◌++◌, map, Some, None, Result, Ok, Err}
-use Rattle.pg_wire.specs.declared.message.BackMessage.{BackMessage}
-use Rattle.pg_wire.specs.declared.message.BackMessage.TheVariants as back
-use Rattle.pg_wire.specs.declared.message.CopyHead.{CopyHead}
-use Rattle.pg_wire.specs.declared.message.ErrorField.{ErrorField}
+use Rattle.pg_wire.specs.message.BackMessage.{BackMessage}
+use Rattle.pg_wire.specs.message.BackMessage.TheVariants as back
+use Rattle.pg_wire.specs.value.CopyHead.{CopyHead}
+use Rattle.pg_wire.specs.value.ErrorField.{ErrorField}
 use Rattle.pg_wire.specs.declared.session.Request.{Request}
 use Rattle.pg_backend.specs.declared.answering.Opened.{Opened}
 use Rattle.pg_backend.specs.declared.answering.Opened.TheVariants as opened

@@ -1,9 +1,9 @@
 -- Several messages written as one.
 use Rattle.std.specs.Prelude.{ℕ, ◌≡◌, ◌++◌, List, None, Result, Ok, Err}
 use Rattle.std.specs.List.{flat_map, AllByRecursion}
-use Rattle.pg_wire.specs.declared.fault.EncodeFault.{EncodeFault}
-use Rattle.pg_wire.specs.declared.fault.EncodeFault.TheVariants as faults
-use Rattle.pg_wire.specs.declared.message.BackMessage.{BackMessage}
+use Rattle.pg_wire.specs.fault.EncodeFault.{EncodeFault}
+use Rattle.pg_wire.specs.fault.EncodeFault.TheVariants as faults
+use Rattle.pg_wire.specs.message.BackMessage.{BackMessage}
 use Rattle.pg_backend.specs.declared.fault.ScriptFault.{ScriptFault}
 use Rattle.pg_backend.specs.declared.fault.ScriptFault.TheVariants as scripts
 use Rattle.pg_wire.specs.Backend.{backend}

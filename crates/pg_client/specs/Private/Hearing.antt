@@ -1,11 +1,11 @@
 -- One message: its kind, and what it does to where the client stands.
 use Rattle.std.specs.Prelude.{◌≡◌, Bool, true, false, List, [], Option, Some, None, is_some, Result, Ok, Err}
 use Rattle.std.specs.declared.alloc.AllocError.{AllocError}
-use Rattle.pg_wire.specs.declared.message.BackMessage.{BackMessage}
-use Rattle.pg_wire.specs.declared.message.BackMessage.TheVariants.{AuthCleartext, AuthMd5, AuthOther, Ready, ErrorResponse}
+use Rattle.pg_wire.specs.message.BackMessage.{BackMessage}
+use Rattle.pg_wire.specs.message.BackMessage.TheVariants.{AuthCleartext, AuthMd5, AuthOther, Ready, ErrorResponse}
 use Rattle.pg_wire.specs.declared.session.Part.{Part}
 use Rattle.pg_wire.specs.declared.session.Request.{Request}
-use Rattle.pg_wire.specs.declared.message.Status.{Status}
+use Rattle.pg_wire.specs.value.Status.{Status}
 use Rattle.pg_wire.specs.Backend.{tag}
 use Rattle.pg_wire.specs.Segment.{error_of, Fields, asked, aside_of, status_of}
 use Rattle.pg_client.specs.declared.fault.FeedFault.{FeedFault}

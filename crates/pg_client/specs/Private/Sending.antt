@@ -1,9 +1,9 @@
 -- What a call puts out.
 use Rattle.std.specs.Prelude.{◌≡◌, ℕ, List, ◌++◌, Bool, true, false, Option, Some, None, Result, Ok, Err}
 use Rattle.std.specs.List.{flat_map, AllByRecursion}
-use Rattle.pg_wire.specs.declared.fault.EncodeFault.{EncodeFault}
-use Rattle.pg_wire.specs.declared.fault.EncodeFault.TheVariants as encoding
-use Rattle.pg_wire.specs.declared.message.FrontMessage.{FrontMessage}
+use Rattle.pg_wire.specs.fault.EncodeFault.{EncodeFault}
+use Rattle.pg_wire.specs.fault.EncodeFault.TheVariants as encoding
+use Rattle.pg_wire.specs.message.FrontMessage.{FrontMessage}
 use Rattle.pg_wire.specs.Direction.{spelling, HasSpelling}
 use Rattle.pg_wire.specs.Frontend.{frontend}
 use Rattle.pg_wire.specs.Password.{md5_text}

@@ -2,9 +2,9 @@
 
 ghost use Rattle.std.specs.Prelude.{◌≡◌, ◌<◌, false, length, None, OnOk};
 ghost use Rattle.std.specs.VecDeque.{deque_capacity};
-ghost use Rattle.pg_wire.specs.declared.message.BackMessage.{BackMessage};
-ghost use Rattle.pg_wire.specs.declared.message.BackMessage.TheVariants.{ParameterStatus};
-ghost use Rattle.pg_wire.specs.declared.message.Status.{Status};
+ghost use Rattle.pg_wire.specs.message.BackMessage.{BackMessage};
+ghost use Rattle.pg_wire.specs.message.BackMessage.TheVariants.{ParameterStatus};
+ghost use Rattle.pg_wire.specs.value.Status.{Status};
 ghost use Rattle.pg_client.specs.Session.{is_question};
 ghost use Rattle.pg_client.specs.Client.{Feeds};
 ghost use Rattle.pg_client.specs.Private.Feeding.{HearsAll, HearsMessage, HearsNext, IsNews, Knows, Notes, PutsAnswer, question, says_value};

@@ -1,6 +1,6 @@
 -- What the laws of both ends say.
 use Rattle.std.specs.Prelude.{◌≡◌, ℕ, Bool, List, [], ◌∷◌, ◌++◌}
-use Rattle.pg_wire.specs.declared.message.BackMessage.{BackMessage}
+use Rattle.pg_wire.specs.message.BackMessage.{BackMessage}
 use Rattle.pg_wire.specs.Backend.{backend}
 use Rattle.pg_wire.specs.Frontend.{frontend}
 use Rattle.pg_wire.specs.Laws.{OneSpelling, OnePacket, OneOutcome, FaultyBeginsNone, FaultyBeginsNoPacket}

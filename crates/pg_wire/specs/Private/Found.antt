@@ -4,7 +4,7 @@ use Rattle.pg_wire.specs.declared.fault.WireFault.{WireFault}
 use Rattle.pg_wire.specs.declared.fault.WireFault.TheVariants as wire
 use Rattle.pg_wire.specs.declared.decoder.Judged.{Judged}
 use Rattle.pg_wire.specs.declared.decoder.Judged.TheVariants as judged
-use Rattle.pg_wire.specs.Direction.{Direction, spelling}
+use Rattle.pg_message.specs.Direction.{Direction, spelling}
 use Rattle.pg_wire.specs.Stream.{IsWithin, IsWhole, IsFaulty, IsOpen}
 use Rattle.pg_wire.specs.Decoder.{WantsMemory}
 

@@ -1,5 +1,5 @@
 use Rattle.pg_backend.proofs.Tellings.{last}
-use Rattle.pg_wire.specs.declared.message.BackMessage.TheVariants as back
+use Rattle.pg_wire.specs.message.BackMessage.TheVariants as back
 use Rattle.pg_backend.specs.Replies.{error_sent}
 use Rattle.pg_backend.proofs.answering.tell_end.Goals as goal
 

@@ -1,5 +1,5 @@
 use Rattle.std.proofs.Common.{◌++◌, [], ◌∷◌, map}
-use Rattle.pg_wire.specs.declared.message.BackMessage.TheVariants as back
+use Rattle.pg_wire.specs.message.BackMessage.TheVariants as back
 use Rattle.pg_backend.specs.Replies.{aside_message, parts_sent, end_sent}
 use Rattle.pg_backend.proofs.CopyComes.{joined}
 use Rattle.pg_backend.proofs.Tellings.{both}

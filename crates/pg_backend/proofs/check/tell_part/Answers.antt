@@ -1,5 +1,5 @@
 use Rattle.std.proofs.Common.{sym, [], ◌∷◌}
-use Rattle.pg_wire.specs.declared.message.BackMessage.TheVariants as back
+use Rattle.pg_wire.specs.message.BackMessage.TheVariants as back
 use Rattle.pg_backend.proofs.Tellings.{first, one}
 use Rattle.pg_backend.proofs.check.tell_part.Goals as goal
 

@@ -1,6 +1,6 @@
 use Rattle.pg_backend.proofs.Tellings.{first, one}
 use Rattle.std.proofs.Common.{[], ◌∷◌}
-use Rattle.pg_wire.specs.declared.message.BackMessage.TheVariants as back
+use Rattle.pg_wire.specs.message.BackMessage.TheVariants as back
 use Rattle.pg_backend.proofs.telling.tell_copy_in.Goals as goal
 
 pub returns : goal.returns

@@ -1,7 +1,7 @@
 use Rattle.pg_backend.proofs.Tellings.{both, each_told}
 use Rattle.std.proofs.Common.{[], ◌∷◌, map}
 use Rattle.pg_wire.specs.Segment.{end_sent}
-use Rattle.pg_wire.specs.declared.message.BackMessage.TheVariants as back
+use Rattle.pg_wire.specs.message.BackMessage.TheVariants as back
 use Rattle.pg_backend.proofs.telling.tell_executed.Goals as goal
 
 pub returns : goal.returns

@@ -1,5 +1,5 @@
 use Rattle.pg_backend.proofs.Tellings.{around}
-use Rattle.pg_wire.specs.declared.message.BackMessage.TheVariants as back
+use Rattle.pg_wire.specs.message.BackMessage.TheVariants as back
 use Rattle.pg_backend.proofs.telling.tell_rows.Goals as goal
 
 pub returns : goal.returns

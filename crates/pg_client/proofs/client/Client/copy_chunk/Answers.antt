@@ -1,5 +1,5 @@
 use Rattle.std.proofs.Common.{rules, ◌≡◌, refl}
-use Rattle.pg_wire.specs.declared.message.FrontMessage.TheVariants.{CopyData}
+use Rattle.pg_wire.specs.message.FrontMessage.TheVariants.{CopyData}
 use Rattle.pg_client.specs.Client.{phase_of}
 use Rattle.pg_client.specs.declared.phase.Phase.TheVariants as phase
 use Rattle.pg_client.proofs.Encoded.{encoded}

@@ -1,5 +1,5 @@
 use Rattle.std.proofs.Common.{rules, ◌≡◌}
-use Rattle.pg_wire.specs.declared.message.FrontMessage.TheVariants.{CopyDone}
+use Rattle.pg_wire.specs.message.FrontMessage.TheVariants.{CopyDone}
 use Rattle.pg_client.specs.Client.{phase_of}
 use Rattle.pg_client.specs.declared.phase.Phase.TheVariants as phase
 use Rattle.pg_client.specs.contracts.client.Client.{the_view}

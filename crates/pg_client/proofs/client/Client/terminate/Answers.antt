@@ -1,5 +1,5 @@
 use Rattle.std.proofs.Common.{rules}
-use Rattle.pg_wire.specs.declared.message.FrontMessage.TheVariants.{Terminate}
+use Rattle.pg_wire.specs.message.FrontMessage.TheVariants.{Terminate}
 use Rattle.pg_client.specs.Client.{phase_of, IsOpenPhase}
 use Rattle.pg_client.specs.contracts.client.Client.{the_view}
 use Rattle.pg_client.proofs.Encoded.{encoded}

@@ -1,0 +1,263 @@
+//! Fields that stand in lists: how each is judged, written and read.
+
+ghost use Rattle.std.specs.Prelude.{◌≡◌, ◌<◌, ◌^◌, ◌++◌, Bool, false, ℕ, List, length, Option, OnOk};
+ghost use Rattle.std.specs.Int.{w16, w32};
+ghost use Rattle.std.specs.Int.RustNames.{FitsSigned};
+ghost use Rattle.pg_layout.specs.Field.{contains_zero, value, int16, oid};
+ghost use Rattle.pg_layout.specs.Value.{column, ColumnIsOfType, error_field, field_has_zero, parameter, parameter_has_zero};
+ghost use Rattle.pg_layout.specs.Private.Writer.{LeavesRoom};
+ghost use Rattle.pg_layout.specs.Private.Reader.{Gives, number_at, signed_at, value_at, column_at, error_field_at, parameter_at};
+
+use crate::appender::Appender;
+use crate::fault::BodyFault;
+use crate::reader::{copy_of, i16_at, i32_at, name_at, nonzero_at, text_at, u32_at};
+use crate::value::{Column, ErrorField};
+use crate::writer::{room_after_bytes, room_after_text, text_has_zero, write_text};
+use pg_seq::Seq;
+use std::alloc::{AllocError, Global};
+
+/// A field of a message that may stand many times.
+pub trait Field: Drop {
+    // the bytes of a field
+    ghost spelling: { Self → List ℕ };
+
+    // its numbers are of their types
+    ghost of_type: { Self → Type 0 };
+
+    // a String of it has a zero byte
+    ghost zero: { Self → Bool };
+
+    // how reading goes: the value and the bytes behind it
+    ghost reading: { List ℕ → Option (Self × List ℕ) };
+
+    /// Whether a String of the field has a zero byte.
+    fn has_zero(&self) -> bool
+        ensures { result ≡ zero self.now };
+
+    /// The room that is left behind the field.
+    fn room_after(&self, room: u32) -> Option<u32>
+        ensures { LeavesRoom room (length (spelling self.now)) result };
+
+    /// Appends the field.
+    fn write(&self, out: &mut Appender) -> Result<(), AllocError>
+        requires { length (spelling self.now) < 2 ^ 32 }
+        ensures before { out.new.before ≡ out.old.before }
+        ensures added { OnOk result (out.new.added ≡ out.old.added ++ spelling self.now) }
+        ensures of_type { OnOk result (of_type self.now) };
+
+    /// The field at the beginning of the bytes, and the bytes behind it.
+    fn read(alloc: Global, bytes: &[u8]) -> Result<(Self, &[u8]), BodyFault>
+    where
+        Self: Sized,
+        ensures { Gives (λ x. (x.0, x.1.now)) result (reading bytes.now) };
+}
+
+impl Field for i16 {
+    ghost spelling = { int16 };
+
+    ghost of_type = { FitsSigned w16 };
+
+    ghost zero = { λ _. false };
+
+    ghost reading = { signed_at w16 };
+
+    fn has_zero(&self) -> bool {
+        false
+    }
+
+    fn room_after(&self, room: u32) -> Option<u32> {
+        room.checked_sub(2)
+    }
+
+    fn write(&self, out: &mut Appender) -> Result<(), AllocError> {
+        out.put(&self.to_be_bytes())
+    }
+
+    fn read(_alloc: Global, bytes: &[u8]) -> Result<(i16, &[u8]), BodyFault> {
+        i16_at(bytes)
+    }
+}
+
+impl Field for u32 {
+    ghost spelling = { oid };
+
+    ghost of_type = { λ n. n < 2 ^ 32 };
+
+    ghost zero = { λ _. false };
+
+    ghost reading = { number_at w32 };
+
+    fn has_zero(&self) -> bool {
+        false
+    }
+
+    fn room_after(&self, room: u32) -> Option<u32> {
+        room.checked_sub(4)
+    }
+
+    fn write(&self, out: &mut Appender) -> Result<(), AllocError> {
+        out.put(&self.to_be_bytes())
+    }
+
+    fn read(_alloc: Global, bytes: &[u8]) -> Result<(u32, &[u8]), BodyFault> {
+        u32_at(bytes)
+    }
+}
+
+impl Field for Option<Seq<u8>> {
+    ghost spelling = { value };
+
+    ghost of_type = { λ _. Unit {0} };
+
+    ghost zero = { λ _. false };
+
+    ghost reading = { value_at };
+
+    fn has_zero(&self) -> bool {
+        false
+    }
+
+    fn room_after(&self, room: u32) -> Option<u32> {
+        let room = room.checked_sub(4)?;
+        match self {
+            None => Some(room),
+            Some(bytes) => room_after_bytes(bytes.as_slice(), room),
+        }
+    }
+
+    fn write(&self, out: &mut Appender) -> Result<(), AllocError> {
+        match self {
+            None => out.put(&[255, 255, 255, 255]),
+            Some(bytes) => {
+                let bytes = bytes.as_slice();
+                out.put(&(bytes.len() as u32).to_be_bytes())?;
+                out.put(bytes)
+            }
+        }
+    }
+
+    #[tactic(auto, unfolding(crate::specs::Private::Reader::value_at))]
+    fn read(alloc: Global, bytes: &[u8]) -> Result<(Option<Seq<u8>>, &[u8]), BodyFault> {
+        let (len, rest) = u32_at(bytes)?;
+        // the length -1
+        if len == u32::MAX {
+            return Ok((None, rest));
+        }
+        if len > i32::MAX as u32 || rest.len() < len as usize {
+            return Err(BodyFault::Bad);
+        }
+        let (bytes, rest) = rest.split_at(len as usize);
+        Ok((Some(copy_of(alloc, bytes)?), rest))
+    }
+}
+
+impl Field for Column {
+    ghost spelling = { column };
+
+    ghost of_type = { ColumnIsOfType };
+
+    ghost zero = { λ c. contains_zero c.name };
+
+    ghost reading = { column_at };
+
+    fn has_zero(&self) -> bool {
+        text_has_zero(self.name.as_slice())
+    }
+
+    fn room_after(&self, room: u32) -> Option<u32> {
+        room_after_text(self.name.as_slice(), room)?.checked_sub(18)
+    }
+
+    fn write(&self, out: &mut Appender) -> Result<(), AllocError> {
+        write_text(self.name.as_slice(), out)?;
+        out.put(&self.table_oid.to_be_bytes())?;
+        out.put(&self.attribute.to_be_bytes())?;
+        out.put(&self.type_oid.to_be_bytes())?;
+        out.put(&self.size.to_be_bytes())?;
+        out.put(&self.modifier.to_be_bytes())?;
+        out.put(&self.format.to_be_bytes())
+    }
+
+    #[tactic(auto, unfolding(crate::specs::Private::Reader::column_at))]
+    fn read(alloc: Global, bytes: &[u8]) -> Result<(Column, &[u8]), BodyFault> {
+        let (name, rest) = text_at(alloc, bytes)?;
+        let (table_oid, rest) = u32_at(rest)?;
+        let (attribute, rest) = i16_at(rest)?;
+        let (type_oid, rest) = u32_at(rest)?;
+        let (size, rest) = i16_at(rest)?;
+        let (modifier, rest) = i32_at(rest)?;
+        let (format, rest) = i16_at(rest)?;
+        let column = Column {
+            name,
+            table_oid,
+            attribute,
+            type_oid,
+            size,
+            modifier,
+            format,
+        };
+        Ok((column, rest))
+    }
+}
+
+/// A parameter of a startup packet: its name, which isn't empty, and its value.
+impl Field for (Seq<u8>, Seq<u8>) {
+    ghost spelling = { parameter };
+
+    ghost of_type = { λ _. Unit {0} };
+
+    ghost zero = { parameter_has_zero };
+
+    ghost reading = { parameter_at };
+
+    fn has_zero(&self) -> bool {
+        text_has_zero(self.0.as_slice()) || text_has_zero(self.1.as_slice())
+    }
+
+    fn room_after(&self, room: u32) -> Option<u32> {
+        let room = room_after_text(self.0.as_slice(), room)?;
+        room_after_text(self.1.as_slice(), room)
+    }
+
+    fn write(&self, out: &mut Appender) -> Result<(), AllocError> {
+        write_text(self.0.as_slice(), out)?;
+        write_text(self.1.as_slice(), out)
+    }
+
+    #[tactic(auto, unfolding(crate::specs::Private::Reader::parameter_at))]
+    fn read(alloc: Global, bytes: &[u8]) -> Result<((Seq<u8>, Seq<u8>), &[u8]), BodyFault> {
+        let (name, rest) = name_at(alloc, bytes)?;
+        let (value, rest) = text_at(alloc, rest)?;
+        Ok(((name, value), rest))
+    }
+}
+
+impl Field for ErrorField {
+    ghost spelling = { error_field };
+
+    ghost of_type = { λ _. Unit {0} };
+
+    ghost zero = { field_has_zero };
+
+    ghost reading = { error_field_at };
+
+    fn has_zero(&self) -> bool {
+        self.code == 0 || text_has_zero(self.value.as_slice())
+    }
+
+    fn room_after(&self, room: u32) -> Option<u32> {
+        room_after_text(self.value.as_slice(), room)?.checked_sub(1)
+    }
+
+    fn write(&self, out: &mut Appender) -> Result<(), AllocError> {
+        out.put(&[self.code])?;
+        write_text(self.value.as_slice(), out)
+    }
+
+    #[tactic(auto, unfolding(crate::specs::Private::Reader::error_field_at))]
+    fn read(alloc: Global, bytes: &[u8]) -> Result<(ErrorField, &[u8]), BodyFault> {
+        let (code, rest) = nonzero_at(bytes)?;
+        let (value, rest) = text_at(alloc, rest)?;
+        Ok((ErrorField { code, value }, rest))
+    }
+}

@@ -1,0 +1,23 @@
+//! What the bodies of messages are made of: fields and parts, each judged, written and read; the values that messages carry; and
+//! why a message was not written or not read.
+//!
+//! It is the lowest layer of `pg_wire`. Users name `pg_wire`, which passes on what they need of it.
+#![tactic(auto)]
+
+mod appender;
+mod fault;
+mod field;
+mod part;
+mod reader;
+mod value;
+mod writer;
+
+pub use appender::Appender;
+pub use fault::{BodyFault, EncodeFault};
+pub use field::Field;
+pub use part::{
+    Byte, Bytes, Counted, Int32, LONGEST, LONGEST_PACKET, Pair, Part, Salt, Terminated, Text,
+    append, append_packet,
+};
+pub use reader::{copy_head_at, copy_of, counted, ended, i32_at, status_at, terminated, text_at};
+pub use value::{Column, CopyHead, ErrorField, Fields, Status, Target, Values};

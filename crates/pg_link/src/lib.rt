@@ -1,0 +1,138 @@
+//! Where bytes come from and go to: a [`Source`] gives them, a [`Sink`] takes them, and [`Over`] makes a source of a reader and a
+//! sink of a writer.
+#![tactic(auto)]
+
+ghost use Rattle.std.specs.Prelude.{◌≡◌, ◌<◌, ◌≤◌, ℕ, List, [], length, Ok, IfOk};
+ghost use Rattle.std.specs.Io.KnownBytes.{Appends, Consumes, IsAtEnd};
+ghost use Rattle.pg_link.specs.Link.{Counts, HasRisen, passed_on};
+
+use std::io::{Read, Write};
+use std::marker::Model;
+use thiserror::Error;
+
+/// A link took or gave nothing, since the device behind it failed.
+#[derive(Clone, Copy, Debug, PartialEq, Eq, Error)]
+#[error("the link failed")]
+pub struct LinkFault;
+
+/// Gives bytes.
+pub trait Source {
+    // How many calls have failed.
+    ghost failures: { Self → ℕ };
+
+    // A call may give these bytes and leave the source so. At the end, without room and where it fails it gives none.
+    ghost gives: { Self → List ℕ → Self → Type 0 };
+
+    // The last call found the end.
+    ghost has_ended: { Self → Type 0 };
+
+    /// Puts bytes at the beginning of `into`, and answers how many, at most as many as there is room for. 0 is the end,
+    /// where there was room. A fault gives nothing and is counted; the source may be asked again.
+    fn receive(&mut self, into: &mut [u8]) -> Result<usize, LinkFault>
+        ensures bound { IfOk result (λ n. n ≤ length into.new) }
+        ensures bytes { gives self.old (passed_on result into.new) self.new }
+        ensures end { result ≡ Ok 0 → 0 < length into.new → has_ended self.new }
+        ensures counted { Counts (failures self.old) result (failures self.new) };
+}
+
+/// Takes bytes.
+pub trait Sink {
+    // How many calls have failed.
+    ghost failures: { Self → ℕ };
+
+    // A call may take these bytes and leave the sink so. Where it fails it takes none.
+    ghost takes: { Self → List ℕ → Self → Type 0 };
+
+    /// Takes bytes from the beginning of `piece`, and answers how many: at most its length, and at least 1 unless it is
+    /// empty. A fault takes nothing and is counted; the sink may be asked again.
+    fn send(&mut self, piece: &[u8]) -> Result<usize, LinkFault>
+        ensures bound { IfOk result (λ n. n ≤ length piece.now) }
+        ensures some { IfOk result (λ n. 0 < length piece.now → 0 < n) }
+        ensures bytes { takes self.old (passed_on result piece.now) self.new }
+        ensures counted { Counts (failures self.old) result (failures self.new) };
+}
+
+/// Makes a source of a reader and a sink of a writer: one read for each `receive`, one write for each `send`. Each
+/// error is a fault, and so is a write that takes nothing of a piece that isn't empty.
+#[derive(Debug, Drop)]
+pub struct Over<T> {
+    inner: T,
+    failures: u64,
+}
+
+impl<T> Model for Over<T> {
+    ghost use Rattle.pg_link.specs.Link.{Counted};
+
+    ghost Value = { Counted T };
+
+    ghost view = { λ o. record { inner = o.inner; failures = o.failures } };
+}
+
+impl<T> Over<T> {
+    /// No call has failed yet.
+    pub fn new(inner: T) -> Over<T>
+        ensures { result ≡ record { inner = inner; failures = 0 } }
+    {
+        Over { inner, failures: 0 }
+    }
+
+    /// The reader or writer.
+    pub fn get_ref(&self) -> &T
+        ensures { result.now ≡ self.now.inner }
+    {
+        &self.inner
+    }
+
+    /// Gives the reader or writer back.
+    pub fn into_inner(self) -> T
+        ensures { result ≡ self.inner }
+    {
+        let Over { inner, failures: _ } = self;
+        inner
+    }
+
+    /// The count of failures: it rises with each failed call, up to 2^64 - 1.
+    pub fn failures(&self) -> u64
+        ensures { result ≡ self.now.failures }
+    {
+        self.failures
+    }
+
+    // Counts a failure.
+    fn fail(&mut self) -> LinkFault
+        ensures inner { self.new.inner ≡ self.old.inner }
+        ensures counted { HasRisen self.old.failures self.new.failures }
+    {
+        let Over { failures, .. } = self;
+        *failures = failures.saturating_add(1);
+        LinkFault
+    }
+}
+
+impl<R: Read> Source for Over<R> {
+    ghost failures = { λ o. o.failures };
+
+    ghost gives = { λ o bytes p. Consumes (R.remaining o.inner) (R.remaining p.inner) bytes };
+
+    ghost has_ended = { λ o. IsAtEnd (R.remaining o.inner) };
+
+    fn receive(&mut self, into: &mut [u8]) -> Result<usize, LinkFault> {
+        match self.inner.read(into) {
+            Ok(n) => Ok(n),
+            Err(_) => Err(self.fail()),
+        }
+    }
+}
+
+impl<W: Write> Sink for Over<W> {
+    ghost failures = { λ o. o.failures };
+
+    ghost takes = { λ o bytes p. Appends (W.contents o.inner) (W.contents p.inner) bytes };
+
+    fn send(&mut self, piece: &[u8]) -> Result<usize, LinkFault> {
+        match self.inner.write(piece) {
+            Ok(n) if n > 0 || piece.is_empty() => Ok(n),
+            _ => Err(self.fail()),
+        }
+    }
+}

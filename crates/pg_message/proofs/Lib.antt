@@ -1,0 +1,5 @@
+pub mod Bodies
+pub mod BackMessages
+pub mod FrontMessages
+pub mod Encoding
+pub mod Startups

@@ -1,0 +1,5 @@
+use Rattle.pg_message.proofs.BackMessages.{one_to_one}
+use Rattle.pg_message.proofs.backend.BackMessageMessage.one_to_one.Goals as goal
+
+pub returns : goal.returns
+returns c = one_to_one

@@ -1,0 +1,5 @@
+use Rattle.pg_message.proofs.FrontMessages.{tells_tag}
+use Rattle.pg_message.proofs.frontend.FrontMessageMessage.is_tag.Goals as goal
+
+pub returns : goal.returns
+returns c = rw c.is_some.ensures (tells_tag c.args.tag c.of.result c.of.ensures.value c.of.ensures.byte)

@@ -1,0 +1,36 @@
+-- A direction of the protocol: a tagged message as bytes, and which messages have no spelling
+-- (Frontend/Backend Protocol, "Message Formats").
+use Rattle.std.specs.Prelude.{ℕ, ◌≡◌, ◌≤◌, ◌+◌, Bool, List, length, Option, None}
+use Rattle.pg_layout.specs.declared.fault.EncodeFault.{EncodeFault}
+pub use Rattle.pg_layout.specs.Part.{longest, tagged, fault_of}
+
+-- What the messages of a direction are made of: the first byte, what stands behind the length field, whether the numbers
+-- are of their types (as all numbers of a program are), and the tests that a message with a spelling doesn't meet.
+pub record Direction (M : Type 0) : Type 1 where
+  pub tag : M → ℕ
+  pub body : M → List ℕ
+  pub IsOfType : M → Type 0
+  pub has_zero : M → Bool
+  pub has_too_many : M → Bool
+  pub has_reserved_code : M → Bool
+
+-- the length field: it counts itself and the body
+abbrev pub length_field : {M : Type 0} → Direction M → M → ℕ
+length_field d m = 4 + length (d.body m)
+
+-- What a decoder's limit may be.
+abbrev pub IsLimit : ℕ → Type 0
+IsLimit n = (64 ≤ n) × (n ≤ longest)
+
+-- a message as bytes
+abbrev pub spelling : {M : Type 0} → Direction M → M → List ℕ
+spelling d m = tagged (d.tag m) (d.body m)
+
+-- why a message has no spelling, if it has none
+abbrev pub encode_fault : {M : Type 0} → Direction M → M → Option EncodeFault
+encode_fault d m = fault_of (d.has_zero m) (d.has_too_many m) (d.has_reserved_code m) (length (d.body m))
+
+-- What has a spelling.
+pub record HasSpelling {M : Type 0} (d : Direction M) (m : M) : Type 0 where
+  pub of_type : d.IsOfType m
+  pub no_fault : encode_fault d m ≡ None

@@ -1,0 +1,72 @@
+-- First packets, which have no tag (Frontend/Backend Protocol, "Message Formats": StartupMessage, CancelRequest, SSLRequest,
+-- GSSENCRequest).
+use Rattle.std.specs.Prelude.{ℕ, ◌≡◌, ◌+◌, ◌==◌, Bool, false, List, [], ◌∷◌, ◌++◌, length, codes, Option, Some, None}
+use Rattle.std.specs.List.{flat_map, list_any}
+use Rattle.std.specs.Int.{w32, to_be_bytes}
+use Rattle.std.specs.Int.RustNames.{FitsSigned}
+use Rattle.pg_layout.specs.declared.fault.EncodeFault.{EncodeFault}
+use Rattle.pg_message.specs.declared.message.First.{First}
+use Rattle.pg_message.specs.declared.message.First.TheVariants as first
+use Rattle.pg_layout.specs.Field.{int32}
+pub use Rattle.pg_layout.specs.Value.{parameter, parameter_has_zero}
+pub use Rattle.pg_layout.specs.Part.{longest_packet, packet_fault_of}
+
+-- ---- a packet as bytes
+
+-- the number behind the length: the version 3.0, or a number that stands for a request
+abbrev pub code : First → ℕ
+code (first.Startup pairs) = 196608
+code (first.Cancel process secret) = 80877102
+code first.Ssl = 80877103
+code first.Gss = 80877104
+
+-- what stands behind the code
+abbrev pub content : First → List ℕ
+content (first.Startup pairs) = flat_map parameter pairs ++ 0 ∷ []
+content (first.Cancel process secret) = int32 process ++ int32 secret
+content first.Ssl = []
+content first.Gss = []
+
+-- the length, which counts itself, the code and what stands behind it
+abbrev pub packet_length : First → ℕ
+packet_length p = 8 + length (content p)
+
+-- a packet as bytes: its length, its code, its content
+abbrev pub packet : First → List ℕ
+packet p = to_be_bytes w32 (packet_length p) ++ to_be_bytes w32 (code p) ++ content p
+
+-- ---- which packets have a spelling
+
+abbrev pub has_no_name : List ℕ × List ℕ → Bool
+has_no_name p = length p.0 == 0
+
+abbrev pub packet_has_zero : First → Bool
+packet_has_zero (first.Startup pairs) = list_any parameter_has_zero pairs
+packet_has_zero _ = false
+
+abbrev pub packet_has_no_name : First → Bool
+packet_has_no_name (first.Startup pairs) = list_any has_no_name pairs
+packet_has_no_name _ = false
+
+abbrev pub packet_fault : First → Option EncodeFault
+packet_fault p = packet_fault_of (packet_has_zero p) (packet_has_no_name p) (packet_length p)
+
+-- The numbers are of their types.
+abbrev pub PacketIsOfType : First → Type 0
+PacketIsOfType (first.Cancel process secret) = FitsSigned w32 process × FitsSigned w32 secret
+PacketIsOfType _ = Unit {0}
+
+-- What has a spelling.
+pub record IsPacket (p : First) : Type 0 where
+  pub of_type : PacketIsOfType p
+  pub no_fault : packet_fault p ≡ None
+
+-- ---- the parameters of a startup ("Start-up")
+
+abbrev pub database_pair : Option (List ℕ) → List (List ℕ × List ℕ)
+database_pair None = []
+database_pair (Some name) = (codes "database", name) ∷ []
+
+-- the user, the database if one is named, and further parameters
+abbrev pub startup_parameters : List ℕ → Option (List ℕ) → List (List ℕ × List ℕ) → List (List ℕ × List ℕ)
+startup_parameters user database pairs = (codes "user", user) ∷ database_pair database ++ pairs

@@ -1,0 +1,3 @@
+-- Words of how bodies are read. No contract that pg_wire gives out cites them.
+pub mod BackReader
+pub mod FrontReader

@@ -1,0 +1,255 @@
+//! The backend's messages: written by [`encode`], read by a `BackDecoder` of `pg_wire`.
+//!
+//! A message that holds bytes or lists has a function of its own too, which is lent them. Each appends the one spelling of a message
+//! ("Message Formats", those marked B) to `buf`, and copies each byte once. A fault is the first that holds of those that a function
+//! names, in their order: Memory, for a buffer that could not grow, is answered only where there is no other. After a fault `buf` is
+//! as it was.
+
+mod kind;
+mod reading;
+
+ghost use Rattle.std.specs.Prelude.{◌≡◌, ◌++◌, false, length};
+ghost use Rattle.std.specs.List.{AllByRecursion};
+ghost use Rattle.std.specs.Int.{w16, w32};
+ghost use Rattle.std.specs.Int.RustNames.{FitsSigned};
+ghost use Rattle.pg_message.specs.declared.message.BackMessage.TheVariants.{ParameterStatus, RowDescription, DataRow, CommandComplete, ParameterDescription, ErrorResponse, NoticeResponse, Notification, CopyIn, CopyOut, CopyData};
+ghost use Rattle.pg_layout.specs.Field.{int32, exceeds_count};
+ghost use Rattle.pg_message.specs.Direction.{tagged, fault_of};
+ghost use Rattle.pg_message.specs.Backend.{backend, tag, status_byte, format_byte, copy_head, is_reserved};
+ghost use Rattle.pg_message.specs.Encoder.{EncodesAs, Encodes};
+
+use crate::direction::Message;
+use crate::message::BackMessage;
+use kind::BackKind;
+use pg_layout::{
+    BodyFault, Byte, Bytes, Column, CopyHead, Counted, EncodeFault, ErrorField, Int32, Pair, Salt,
+    Status, Terminated, Text, append,
+};
+use pg_seq::Seq;
+use reading::back_message;
+use std::alloc::Global;
+
+fn status_byte(status: Status) -> u8
+    ensures { result ≡ status_byte status }
+{
+    match status {
+        Status::Idle => b'I',
+        Status::InBlock => b'T',
+        Status::Failed => b'E',
+    }
+}
+
+fn format_byte(binary: bool) -> u8
+    ensures { result ≡ format_byte binary }
+{
+    if binary { 1 } else { 0 }
+}
+
+/// Whether a message of its own has this code.
+fn is_reserved(code: i32) -> bool
+    ensures { result ≡ is_reserved code }
+{
+    code == 0 || code == 3 || code == 5
+}
+
+/// An authentication request that has no message of its own.
+fn encode_other(code: i32, rest: &[u8], buf: &mut Vec<u8>) -> Result<(), EncodeFault>
+    ensures { EncodesAs (FitsSigned w32 code) (fault_of false false (is_reserved code) (length (int32 code ++ rest.now))) (tagged 82 (int32 code ++ rest.now)) buf.old.items result buf.new.items }
+{
+    if is_reserved(code) {
+        return Err(EncodeFault::ReservedCode);
+    }
+    append(b'R', &Pair(Int32(&code), Bytes(rest)), buf)
+}
+
+/// A CopyIn or a CopyOut, by its tag.
+fn encode_copy_head(tag: u8, head: &CopyHead, buf: &mut Vec<u8>) -> Result<(), EncodeFault>
+    ensures { EncodesAs (AllByRecursion (FitsSigned w16) head.now.formats) (fault_of false (exceeds_count head.now.formats) false (length (copy_head head.now))) (tagged tag (copy_head head.now)) buf.old.items result buf.new.items }
+{
+    let format = Byte(format_byte(head.binary));
+    append(tag, &Pair(format, Counted(head.formats.as_slice())), buf)
+}
+
+/// Appends a ParameterStatus: the value of a run-time parameter. Its faults are HasZero, TooLong and Memory.
+pub fn parameter_status(name: &[u8], value: &[u8], buf: &mut Vec<u8>) -> Result<(), EncodeFault>
+    ensures { Encodes backend (ParameterStatus name.now value.now) buf.old.items result buf.new.items }
+{
+    append(b'S', &Pair(Text(name), Text(value)), buf)
+}
+
+/// Appends a RowDescription of these columns. Its faults are HasZero, TooMany, TooLong and Memory.
+pub fn row_description(columns: &[Column], buf: &mut Vec<u8>) -> Result<(), EncodeFault>
+    ensures { Encodes backend (RowDescription columns.now) buf.old.items result buf.new.items }
+{
+    append(b'T', &Counted(columns), buf)
+}
+
+/// Appends a DataRow of these values. Its faults are TooMany, TooLong and Memory.
+pub fn data_row(values: &[Option<Seq<u8>>], buf: &mut Vec<u8>) -> Result<(), EncodeFault>
+    ensures { Encodes backend (DataRow values.now) buf.old.items result buf.new.items }
+{
+    append(b'D', &Counted(values), buf)
+}
+
+/// Appends a CommandComplete with this tag. Its faults are HasZero, TooLong and Memory.
+pub fn command_complete(tag: &[u8], buf: &mut Vec<u8>) -> Result<(), EncodeFault>
+    ensures { Encodes backend (CommandComplete tag.now) buf.old.items result buf.new.items }
+{
+    append(b'C', &Text(tag), buf)
+}
+
+/// Appends a ParameterDescription: the object ids of the types of a statement's parameters. Its faults are TooMany, TooLong and
+/// Memory.
+pub fn parameter_description(types: &[u32], buf: &mut Vec<u8>) -> Result<(), EncodeFault>
+    ensures { Encodes backend (ParameterDescription types.now) buf.old.items result buf.new.items }
+{
+    append(b't', &Counted(types), buf)
+}
+
+/// Appends an ErrorResponse with these fields. Its faults are HasZero (also for a code 0), TooLong and Memory.
+pub fn error_response(fields: &[ErrorField], buf: &mut Vec<u8>) -> Result<(), EncodeFault>
+    ensures { Encodes backend (ErrorResponse fields.now) buf.old.items result buf.new.items }
+{
+    append(b'E', &Terminated(fields), buf)
+}
+
+/// Appends a NoticeResponse with these fields. Its faults are HasZero (also for a code 0), TooLong and Memory.
+pub fn notice_response(fields: &[ErrorField], buf: &mut Vec<u8>) -> Result<(), EncodeFault>
+    ensures { Encodes backend (NoticeResponse fields.now) buf.old.items result buf.new.items }
+{
+    append(b'N', &Terminated(fields), buf)
+}
+
+/// Appends a NotificationResponse from the backend with this process id. Its faults are HasZero, TooLong and Memory.
+pub fn notification(
+    process: i32,
+    channel: &[u8],
+    payload: &[u8],
+    buf: &mut Vec<u8>,
+) -> Result<(), EncodeFault>
+    ensures { Encodes backend (Notification process channel.now payload.now) buf.old.items result buf.new.items }
+{
+    let names = Pair(Int32(&process), Text(channel));
+    append(b'A', &Pair(names, Text(payload)), buf)
+}
+
+/// Appends a CopyInResponse with these formats. Its faults are TooMany, TooLong and Memory.
+pub fn copy_in(head: &CopyHead, buf: &mut Vec<u8>) -> Result<(), EncodeFault>
+    ensures { Encodes backend (CopyIn head.now) buf.old.items result buf.new.items }
+{
+    encode_copy_head(b'G', head, buf)
+}
+
+/// Appends a CopyOutResponse with these formats. Its faults are TooMany, TooLong and Memory.
+pub fn copy_out(head: &CopyHead, buf: &mut Vec<u8>) -> Result<(), EncodeFault>
+    ensures { Encodes backend (CopyOut head.now) buf.old.items result buf.new.items }
+{
+    encode_copy_head(b'H', head, buf)
+}
+
+/// Appends a CopyData. Its faults are TooLong and Memory.
+pub fn copy_data(bytes: &[u8], buf: &mut Vec<u8>) -> Result<(), EncodeFault>
+    ensures { Encodes backend (CopyData bytes.now) buf.old.items result buf.new.items }
+{
+    append(b'd', &Bytes(bytes), buf)
+}
+
+/// Appends the one spelling of a message: its tag, its length field, its body ("Message Formats").
+///
+/// The fault is the first that holds of HasZero, TooMany, ReservedCode, TooLong and, where there is none of these, Memory
+/// for a buffer that could not grow. After a fault `buf` is as it was.
+pub fn encode(message: &BackMessage, buf: &mut Vec<u8>) -> Result<(), EncodeFault>
+    ensures { Encodes backend message.now buf.old.items result buf.new.items }
+{
+    match message {
+        BackMessage::AuthOk => append(b'R', &Int32(&0), buf),
+        BackMessage::AuthCleartext => append(b'R', &Int32(&3), buf),
+        BackMessage::AuthMd5(salt) => append(b'R', &Pair(Int32(&5), Salt(*salt)), buf),
+        BackMessage::AuthOther { code, rest } => encode_other(*code, rest.as_slice(), buf),
+        BackMessage::KeyData { process, secret } => append(
+            b'K',
+            &Pair(Int32(process), Int32(secret)),
+            buf,
+        ),
+        BackMessage::ParameterStatus { name, value } => {
+            parameter_status(name.as_slice(), value.as_slice(), buf)
+        }
+        BackMessage::Ready(status) => append(b'Z', &Byte(status_byte(*status)), buf),
+        BackMessage::RowDescription(columns) => row_description(columns.as_slice(), buf),
+        BackMessage::DataRow(values) => data_row(values.as_slice(), buf),
+        BackMessage::CommandComplete(tag) => command_complete(tag.as_slice(), buf),
+        BackMessage::EmptyQuery => append(b'I', &Bytes(&[]), buf),
+        BackMessage::ParseComplete => append(b'1', &Bytes(&[]), buf),
+        BackMessage::BindComplete => append(b'2', &Bytes(&[]), buf),
+        BackMessage::CloseComplete => append(b'3', &Bytes(&[]), buf),
+        BackMessage::NoData => append(b'n', &Bytes(&[]), buf),
+        BackMessage::PortalSuspended => append(b's', &Bytes(&[]), buf),
+        BackMessage::ParameterDescription(types) => parameter_description(types.as_slice(), buf),
+        BackMessage::ErrorResponse(fields) => error_response(fields.as_slice(), buf),
+        BackMessage::NoticeResponse(fields) => notice_response(fields.as_slice(), buf),
+        BackMessage::Notification {
+            process,
+            channel,
+            payload,
+        } => notification(*process, channel.as_slice(), payload.as_slice(), buf),
+        BackMessage::CopyIn(head) => copy_in(head, buf),
+        BackMessage::CopyOut(head) => copy_out(head, buf),
+        BackMessage::CopyData(bytes) => copy_data(bytes.as_slice(), buf),
+        BackMessage::CopyDone => append(b'c', &Bytes(&[]), buf),
+    }
+}
+
+impl BackMessage {
+    /// The message's tag, which is the first byte of its spelling.
+    pub fn tag(&self) -> u8
+        ensures { result ≡ tag self.now }
+    {
+        match self {
+            BackMessage::AuthOk
+            | BackMessage::AuthCleartext
+            | BackMessage::AuthMd5(_)
+            | BackMessage::AuthOther { .. } => b'R',
+            BackMessage::KeyData { .. } => b'K',
+            BackMessage::ParameterStatus { .. } => b'S',
+            BackMessage::Ready(_) => b'Z',
+            BackMessage::RowDescription(_) => b'T',
+            BackMessage::DataRow(_) => b'D',
+            BackMessage::CommandComplete(_) => b'C',
+            BackMessage::EmptyQuery => b'I',
+            BackMessage::ParseComplete => b'1',
+            BackMessage::BindComplete => b'2',
+            BackMessage::CloseComplete => b'3',
+            BackMessage::NoData => b'n',
+            BackMessage::PortalSuspended => b's',
+            BackMessage::ParameterDescription(_) => b't',
+            BackMessage::ErrorResponse(_) => b'E',
+            BackMessage::NoticeResponse(_) => b'N',
+            BackMessage::Notification { .. } => b'A',
+            BackMessage::CopyIn(_) => b'G',
+            BackMessage::CopyOut(_) => b'H',
+            BackMessage::CopyData(_) => b'd',
+            BackMessage::CopyDone => b'c',
+        }
+    }
+}
+
+impl Message for BackMessage {
+    ghost direction = { backend };
+
+    fn is_tag(tag: u8) -> bool {
+        BackKind::of(tag).is_some()
+    }
+
+    fn encode(&self, buf: &mut Vec<u8>) -> Result<(), EncodeFault> {
+        encode(self, buf)
+    }
+
+    fn of_body(alloc: Global, tag: u8, body: &[u8]) -> Result<BackMessage, BodyFault> {
+        match BackKind::of(tag) {
+            None => Err(BodyFault::Bad),
+            Some(kind) => back_message(alloc, kind, body),
+        }
+    }
+
+    fn one_to_one() {}
+}

@@ -1,0 +1,106 @@
+//! Reading the bodies of the backend's messages.
+
+ghost use Rattle.std.specs.Prelude.{◌≡◌};
+ghost use Rattle.pg_layout.specs.Private.Reader.{Gives};
+ghost use Rattle.pg_message.specs.Private.BackReader.{auth_at, back_message_of};
+
+use super::kind::BackKind;
+use crate::message::BackMessage;
+use pg_layout::{
+    BodyFault, copy_head_at, copy_of, counted, ended, i32_at, status_at, terminated, text_at,
+};
+use std::alloc::Global;
+
+/// An authentication request, whose code says which.
+fn auth(alloc: Global, bytes: &[u8]) -> Result<BackMessage, BodyFault>
+    ensures { Gives (λ m. m) result (auth_at bytes.now) }
+{
+    let (code, rest) = i32_at(bytes)?;
+    match code {
+        0 => ended(BackMessage::AuthOk, rest),
+        3 => ended(BackMessage::AuthCleartext, rest),
+        5 => match rest {
+            [a, b, c, d] => Ok(BackMessage::AuthMd5([*a, *b, *c, *d])),
+            _ => Err(BodyFault::Bad),
+        },
+        _ => Ok(BackMessage::AuthOther {
+            code,
+            rest: copy_of(alloc, rest)?,
+        }),
+    }
+}
+
+/// The message of this kind and this body.
+#[tactic(auto, unfolding(crate::specs::Private::BackReader::back_message_of))]
+pub fn back_message(alloc: Global, kind: BackKind, body: &[u8]) -> Result<BackMessage, BodyFault>
+    ensures { Gives (λ m. m) result (back_message_of kind body.now) }
+{
+    match kind {
+        BackKind::Auth => auth(alloc, body),
+        BackKind::KeyData => {
+            let (process, rest) = i32_at(body)?;
+            let (secret, rest) = i32_at(rest)?;
+            ended(BackMessage::KeyData { process, secret }, rest)
+        }
+        BackKind::ParameterStatus => {
+            let (name, rest) = text_at(alloc, body)?;
+            let (value, rest) = text_at(alloc, rest)?;
+            ended(BackMessage::ParameterStatus { name, value }, rest)
+        }
+        BackKind::Ready => {
+            let (status, rest) = status_at(body)?;
+            ended(BackMessage::Ready(status), rest)
+        }
+        BackKind::RowDescription => {
+            let (columns, rest) = counted(alloc, body)?;
+            ended(BackMessage::RowDescription(columns), rest)
+        }
+        BackKind::DataRow => {
+            let (values, rest) = counted(alloc, body)?;
+            ended(BackMessage::DataRow(values), rest)
+        }
+        BackKind::CommandComplete => {
+            let (text, rest) = text_at(alloc, body)?;
+            ended(BackMessage::CommandComplete(text), rest)
+        }
+        BackKind::EmptyQuery => ended(BackMessage::EmptyQuery, body),
+        BackKind::ParseComplete => ended(BackMessage::ParseComplete, body),
+        BackKind::BindComplete => ended(BackMessage::BindComplete, body),
+        BackKind::CloseComplete => ended(BackMessage::CloseComplete, body),
+        BackKind::NoData => ended(BackMessage::NoData, body),
+        BackKind::PortalSuspended => ended(BackMessage::PortalSuspended, body),
+        BackKind::ParameterDescription => {
+            let (types, rest) = counted(alloc, body)?;
+            ended(BackMessage::ParameterDescription(types), rest)
+        }
+        BackKind::ErrorResponse => {
+            let (fields, rest) = terminated(alloc, body)?;
+            ended(BackMessage::ErrorResponse(fields), rest)
+        }
+        BackKind::NoticeResponse => {
+            let (fields, rest) = terminated(alloc, body)?;
+            ended(BackMessage::NoticeResponse(fields), rest)
+        }
+        BackKind::Notification => {
+            let (process, rest) = i32_at(body)?;
+            let (channel, rest) = text_at(alloc, rest)?;
+            let (payload, rest) = text_at(alloc, rest)?;
+            let message = BackMessage::Notification {
+                process,
+                channel,
+                payload,
+            };
+            ended(message, rest)
+        }
+        BackKind::CopyIn => {
+            let (head, rest) = copy_head_at(alloc, body)?;
+            ended(BackMessage::CopyIn(head), rest)
+        }
+        BackKind::CopyOut => {
+            let (head, rest) = copy_head_at(alloc, body)?;
+            ended(BackMessage::CopyOut(head), rest)
+        }
+        BackKind::CopyData => Ok(BackMessage::CopyData(copy_of(alloc, body)?)),
+        BackKind::CopyDone => ended(BackMessage::CopyDone, body),
+    }
+}

@@ -1,0 +1,290 @@
+//! The frontend's messages: written by the functions here, read by a `FrontDecoder` of `pg_wire`.
+//!
+//! The first packets of a connection come from [`startup`], [`startup_message`], [`cancel_request`], [`ssl_request`] and
+//! [`gss_request`], or from [`encode_first`]. Each other function appends the one spelling of a message ("Message Formats", those
+//! marked F) to `buf`, and copies each byte once. A fault is the first that holds of those that a function names, in their order:
+//! Memory, for a buffer that could not grow, is answered only where there is no other. After a fault `buf` is as it was.
+
+mod kind;
+mod reading;
+
+ghost use Rattle.std.specs.Prelude.{◌≡◌, ◌+◌, ◌++◌, false, length, option_copied};
+ghost use Rattle.pg_message.specs.declared.message.FrontMessage.TheVariants.{Query, Parse, Bind, Describe, Close, Execute, Sync, Flush, Terminate, CopyData, CopyDone, CopyFail, Password};
+ghost use Rattle.std.specs.List.{list_any};
+ghost use Rattle.std.specs.Int.{w32, to_be_bytes};
+ghost use Rattle.pg_message.specs.declared.message.First.TheVariants.{Startup, Cancel, Ssl, Gss};
+ghost use Rattle.pg_message.specs.Frontend.{frontend, target_byte};
+ghost use Rattle.pg_message.specs.First.{has_no_name, packet_fault_of, startup_parameters};
+ghost use Rattle.pg_message.specs.Encoder.{Encodes, EncodesAs, EncodesPacket};
+
+use crate::direction::Message;
+use crate::message::{First, FrontMessage};
+use kind::FrontKind;
+use pg_layout::{
+    BodyFault, Byte, Bytes, Counted, EncodeFault, Int32, Pair, Part, Target, Terminated, Text,
+    append, append_packet,
+};
+use pg_seq::Seq;
+use reading::front_message;
+use std::alloc::Global;
+
+fn target_byte(target: Target) -> u8
+    ensures { result ≡ target_byte target }
+{
+    match target {
+        Target::Statement => b'S',
+        Target::Portal => b'P',
+    }
+}
+
+/// Whether a name is empty.
+fn any_has_no_name(pairs: &[(Seq<u8>, Seq<u8>)]) -> bool
+    ensures { result ≡ list_any has_no_name pairs.now }
+{
+    pairs.iter().any(|pair| pair.0.as_slice().is_empty())
+}
+
+/// Appends the first packet of the protocol's version 3.0.
+fn append_startup<P: Part>(
+    has_no_name: bool,
+    content: &P,
+    buf: &mut Vec<u8>,
+) -> Result<(), EncodeFault>
+    requires { P.too_many content.now ≡ false }
+    ensures { EncodesAs (P.of_type content.now) (packet_fault_of (P.zero content.now) has_no_name (8 + length (P.spelling content.now))) (to_be_bytes w32 (8 + length (P.spelling content.now)) ++ to_be_bytes w32 196608 ++ P.spelling content.now) buf.old.items result buf.new.items }
+{
+    append_packet(196_608, has_no_name, content, buf)
+}
+
+/// Appends the startup packet of protocol 3.0 with these parameters, names and values ("Message Formats", StartupMessage). The
+/// fault is the first that holds of HasZero, EmptyName, TooLong (the packet would pass 10,000 bytes) and Memory.
+pub fn startup_message(pairs: &[(Seq<u8>, Seq<u8>)], buf: &mut Vec<u8>) -> Result<(), EncodeFault>
+    ensures { EncodesPacket (Startup pairs.now) buf.old.items result buf.new.items }
+{
+    append_startup(any_has_no_name(pairs), &Terminated(pairs), buf)
+}
+
+/// Appends the startup packet with `user`, `database` if one is given, and then these further parameters ("Start-up"). It makes no
+/// copy of them. The fault is as that of [`startup_message`].
+pub fn startup(
+    user: &[u8],
+    database: Option<&[u8]>,
+    pairs: &[(Seq<u8>, Seq<u8>)],
+    buf: &mut Vec<u8>,
+) -> Result<(), EncodeFault>
+    ensures { EncodesPacket (Startup (startup_parameters user.now (option_copied database.entry) pairs.now)) buf.old.items result buf.new.items }
+{
+    let no_name = any_has_no_name(pairs);
+    let first = Pair(Text(b"user"), Text(user));
+    match database {
+        None => append_startup(no_name, &Pair(first, Terminated(pairs)), buf),
+        Some(name) => {
+            let second = Pair(Text(b"database"), Text(name));
+            let rest = Pair(second, Terminated(pairs));
+            append_startup(no_name, &Pair(first, rest), buf)
+        }
+    }
+}
+
+/// Appends a CancelRequest with the process id and the secret key of a backend ("Canceling Requests in Progress"). Its only
+/// fault is Memory.
+pub fn cancel_request(process: i32, secret: i32, buf: &mut Vec<u8>) -> Result<(), EncodeFault>
+    ensures { EncodesPacket (Cancel process secret) buf.old.items result buf.new.items }
+{
+    append_packet(
+        80_877_102,
+        false,
+        &Pair(Int32(&process), Int32(&secret)),
+        buf,
+    )
+}
+
+/// Appends an SSLRequest ("SSL Session Encryption"). Its only fault is Memory.
+pub fn ssl_request(buf: &mut Vec<u8>) -> Result<(), EncodeFault>
+    ensures { EncodesPacket Ssl buf.old.items result buf.new.items }
+{
+    append_packet(80_877_103, false, &Bytes(&[]), buf)
+}
+
+/// Appends a GSSENCRequest ("GSSAPI Session Encryption"). Its only fault is Memory.
+pub fn gss_request(buf: &mut Vec<u8>) -> Result<(), EncodeFault>
+    ensures { EncodesPacket Gss buf.old.items result buf.new.items }
+{
+    append_packet(80_877_104, false, &Bytes(&[]), buf)
+}
+
+/// Appends a first packet as the function of its name does, with its faults.
+pub fn encode_first(packet: &First, buf: &mut Vec<u8>) -> Result<(), EncodeFault>
+    ensures { EncodesPacket packet.now buf.old.items result buf.new.items }
+{
+    match packet {
+        First::Startup(pairs) => startup_message(pairs.as_slice(), buf),
+        First::Cancel { process, secret } => cancel_request(*process, *secret, buf),
+        First::Ssl => ssl_request(buf),
+        First::Gss => gss_request(buf),
+    }
+}
+
+/// Appends a Query with this text. Its faults are HasZero, TooLong and Memory.
+pub fn query(text: &[u8], buf: &mut Vec<u8>) -> Result<(), EncodeFault>
+    ensures { Encodes frontend (Query text.now) buf.old.items result buf.new.items }
+{
+    append(b'Q', &Text(text), buf)
+}
+
+/// Appends a Parse that makes the statement `name` (empty for the unnamed one) of a query. `types` has the object ids of the
+/// types of the first parameters; 0 leaves one open. Its faults are HasZero, TooMany, TooLong and Memory.
+pub fn parse(name: &[u8], text: &[u8], types: &[u32], buf: &mut Vec<u8>) -> Result<(), EncodeFault>
+    ensures { Encodes frontend (Parse name.now text.now types.now) buf.old.items result buf.new.items }
+{
+    append(
+        b'P',
+        &Pair(Pair(Text(name), Text(text)), Counted(types)),
+        buf,
+    )
+}
+
+/// Appends a Bind that makes a portal of a statement (empty names for the unnamed ones). The format codes are none, one for
+/// all, or one each. Its faults are HasZero, TooMany, TooLong and Memory.
+pub fn bind(
+    portal: &[u8],
+    statement: &[u8],
+    formats: &[i16],
+    values: &[Option<Seq<u8>>],
+    result_formats: &[i16],
+    buf: &mut Vec<u8>,
+) -> Result<(), EncodeFault>
+    ensures { Encodes frontend (Bind portal.now statement.now formats.now values.now result_formats.now) buf.old.items result buf.new.items }
+{
+    let names = Pair(Text(portal), Text(statement));
+    let given = Pair(Pair(names, Counted(formats)), Counted(values));
+    append(b'B', &Pair(given, Counted(result_formats)), buf)
+}
+
+/// Appends a Describe of a statement or a portal. Its faults are HasZero, TooLong and Memory.
+pub fn describe(target: Target, name: &[u8], buf: &mut Vec<u8>) -> Result<(), EncodeFault>
+    ensures { Encodes frontend (Describe target name.now) buf.old.items result buf.new.items }
+{
+    append(b'D', &Pair(Byte(target_byte(target)), Text(name)), buf)
+}
+
+/// Appends a Close of a statement or a portal. Its faults are HasZero, TooLong and Memory.
+pub fn close(target: Target, name: &[u8], buf: &mut Vec<u8>) -> Result<(), EncodeFault>
+    ensures { Encodes frontend (Close target name.now) buf.old.items result buf.new.items }
+{
+    append(b'C', &Pair(Byte(target_byte(target)), Text(name)), buf)
+}
+
+/// Appends an Execute of a portal, which is to return at most `max_rows` rows; 0 is no limit. Its faults are HasZero, TooLong and
+/// Memory.
+pub fn execute(portal: &[u8], max_rows: i32, buf: &mut Vec<u8>) -> Result<(), EncodeFault>
+    ensures { Encodes frontend (Execute portal.now max_rows) buf.old.items result buf.new.items }
+{
+    append(b'E', &Pair(Text(portal), Int32(&max_rows)), buf)
+}
+
+/// Appends a Sync. Its only fault is Memory.
+pub fn sync(buf: &mut Vec<u8>) -> Result<(), EncodeFault>
+    ensures { Encodes frontend Sync buf.old.items result buf.new.items }
+{
+    append(b'S', &Bytes(&[]), buf)
+}
+
+/// Appends a Flush. Its only fault is Memory.
+pub fn flush(buf: &mut Vec<u8>) -> Result<(), EncodeFault>
+    ensures { Encodes frontend Flush buf.old.items result buf.new.items }
+{
+    append(b'H', &Bytes(&[]), buf)
+}
+
+/// Appends a Terminate. Its only fault is Memory.
+pub fn terminate(buf: &mut Vec<u8>) -> Result<(), EncodeFault>
+    ensures { Encodes frontend Terminate buf.old.items result buf.new.items }
+{
+    append(b'X', &Bytes(&[]), buf)
+}
+
+/// Appends a CopyData. Its faults are TooLong and Memory.
+pub fn copy_data(bytes: &[u8], buf: &mut Vec<u8>) -> Result<(), EncodeFault>
+    ensures { Encodes frontend (CopyData bytes.now) buf.old.items result buf.new.items }
+{
+    append(b'd', &Bytes(bytes), buf)
+}
+
+/// Appends a CopyDone. Its only fault is Memory.
+pub fn copy_done(buf: &mut Vec<u8>) -> Result<(), EncodeFault>
+    ensures { Encodes frontend CopyDone buf.old.items result buf.new.items }
+{
+    append(b'c', &Bytes(&[]), buf)
+}
+
+/// Appends a CopyFail, for this reason. Its faults are HasZero, TooLong and Memory.
+pub fn copy_fail(reason: &[u8], buf: &mut Vec<u8>) -> Result<(), EncodeFault>
+    ensures { Encodes frontend (CopyFail reason.now) buf.old.items result buf.new.items }
+{
+    append(b'f', &Text(reason), buf)
+}
+
+/// Appends a PasswordMessage: the password, or the text of an MD5 answer. Its faults are HasZero, TooLong and Memory.
+pub fn password_message(password: &[u8], buf: &mut Vec<u8>) -> Result<(), EncodeFault>
+    ensures { Encodes frontend (Password password.now) buf.old.items result buf.new.items }
+{
+    append(b'p', &Text(password), buf)
+}
+
+/// Appends a message as the function of its name does, with its faults.
+pub fn encode(message: &FrontMessage, buf: &mut Vec<u8>) -> Result<(), EncodeFault>
+    ensures { Encodes frontend message.now buf.old.items result buf.new.items }
+{
+    match message {
+        FrontMessage::Query(text) => query(text.as_slice(), buf),
+        FrontMessage::Parse { name, text, types } => {
+            parse(name.as_slice(), text.as_slice(), types.as_slice(), buf)
+        }
+        FrontMessage::Bind {
+            portal,
+            statement,
+            formats,
+            values,
+            result_formats,
+        } => bind(
+            portal.as_slice(),
+            statement.as_slice(),
+            formats.as_slice(),
+            values.as_slice(),
+            result_formats.as_slice(),
+            buf,
+        ),
+        FrontMessage::Describe { target, name } => describe(*target, name.as_slice(), buf),
+        FrontMessage::Close { target, name } => close(*target, name.as_slice(), buf),
+        FrontMessage::Execute { portal, max_rows } => execute(portal.as_slice(), *max_rows, buf),
+        FrontMessage::Sync => sync(buf),
+        FrontMessage::Flush => flush(buf),
+        FrontMessage::Terminate => terminate(buf),
+        FrontMessage::CopyData(bytes) => copy_data(bytes.as_slice(), buf),
+        FrontMessage::CopyDone => copy_done(buf),
+        FrontMessage::CopyFail(reason) => copy_fail(reason.as_slice(), buf),
+        FrontMessage::Password(password) => password_message(password.as_slice(), buf),
+    }
+}
+
+impl Message for FrontMessage {
+    ghost direction = { frontend };
+
+    fn is_tag(tag: u8) -> bool {
+        FrontKind::of(tag).is_some()
+    }
+
+    fn encode(&self, buf: &mut Vec<u8>) -> Result<(), EncodeFault> {
+        encode(self, buf)
+    }
+
+    fn of_body(alloc: Global, tag: u8, body: &[u8]) -> Result<FrontMessage, BodyFault> {
+        match FrontKind::of(tag) {
+            None => Err(BodyFault::Bad),
+            Some(kind) => front_message(alloc, kind, body),
+        }
+    }
+
+    fn one_to_one() {}
+}

@@ -1,0 +1,81 @@
+//! Reading the bodies of the frontend's messages.
+
+ghost use Rattle.pg_layout.specs.Private.Reader.{Gives, choice_at};
+ghost use Rattle.pg_message.specs.Private.FrontReader.{front_message_of, target_of_byte};
+
+use super::kind::FrontKind;
+use crate::message::FrontMessage;
+use pg_layout::{BodyFault, Target, copy_of, counted, ended, i32_at, text_at};
+use std::alloc::Global;
+
+fn target_at(bytes: &[u8]) -> Result<(Target, &[u8]), BodyFault>
+    ensures { Gives (λ x. (x.0, x.1.now)) result (choice_at target_of_byte bytes.now) }
+{
+    match bytes {
+        [b'S', rest @ ..] => Ok((Target::Statement, rest)),
+        [b'P', rest @ ..] => Ok((Target::Portal, rest)),
+        _ => Err(BodyFault::Bad),
+    }
+}
+
+/// The message of this kind and this body.
+#[tactic(auto, unfolding(crate::specs::Private::FrontReader::front_message_of))]
+pub fn front_message(alloc: Global, kind: FrontKind, body: &[u8]) -> Result<FrontMessage, BodyFault>
+    ensures { Gives (λ m. m) result (front_message_of kind body.now) }
+{
+    match kind {
+        FrontKind::Query => {
+            let (text, rest) = text_at(alloc, body)?;
+            ended(FrontMessage::Query(text), rest)
+        }
+        FrontKind::Parse => {
+            let (name, rest) = text_at(alloc, body)?;
+            let (text, rest) = text_at(alloc, rest)?;
+            let (types, rest) = counted(alloc, rest)?;
+            ended(FrontMessage::Parse { name, text, types }, rest)
+        }
+        FrontKind::Bind => {
+            let (portal, rest) = text_at(alloc, body)?;
+            let (statement, rest) = text_at(alloc, rest)?;
+            let (formats, rest) = counted(alloc, rest)?;
+            let (values, rest) = counted(alloc, rest)?;
+            let (result_formats, rest) = counted(alloc, rest)?;
+            let message = FrontMessage::Bind {
+                portal,
+                statement,
+                formats,
+                values,
+                result_formats,
+            };
+            ended(message, rest)
+        }
+        FrontKind::Describe => {
+            let (target, rest) = target_at(body)?;
+            let (name, rest) = text_at(alloc, rest)?;
+            ended(FrontMessage::Describe { target, name }, rest)
+        }
+        FrontKind::Close => {
+            let (target, rest) = target_at(body)?;
+            let (name, rest) = text_at(alloc, rest)?;
+            ended(FrontMessage::Close { target, name }, rest)
+        }
+        FrontKind::Execute => {
+            let (portal, rest) = text_at(alloc, body)?;
+            let (max_rows, rest) = i32_at(rest)?;
+            ended(FrontMessage::Execute { portal, max_rows }, rest)
+        }
+        FrontKind::Sync => ended(FrontMessage::Sync, body),
+        FrontKind::Flush => ended(FrontMessage::Flush, body),
+        FrontKind::Terminate => ended(FrontMessage::Terminate, body),
+        FrontKind::CopyData => Ok(FrontMessage::CopyData(copy_of(alloc, body)?)),
+        FrontKind::CopyDone => ended(FrontMessage::CopyDone, body),
+        FrontKind::CopyFail => {
+            let (reason, rest) = text_at(alloc, body)?;
+            ended(FrontMessage::CopyFail(reason), rest)
+        }
+        FrontKind::Password => {
+            let (password, rest) = text_at(alloc, body)?;
+            ended(FrontMessage::Password(password), rest)
+        }
+    }
+}
