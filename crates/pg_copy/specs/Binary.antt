@@ -70,6 +70,7 @@ pub record IsOpenRest (columns limit : ℕ) (rest : List ℕ) : Type 0 where
   pub no_trailer : (more : List ℕ) → rest ≡ trailer ++ more → ⊥
   pub no_fault : (f : BinaryFault) → IsFaultyRest columns limit rest f → ⊥
 
+-- What stands behind the rows, by the ending that it means: an open rest, the trailer, or a fault.
 abbrev pub IsRest : ℕ → ℕ → List ℕ → Ending BinaryFault → Type 0
 IsRest columns limit rest (Open kept) = (kept ≡ rest) × IsOpenRest columns limit rest
 IsRest columns limit rest Done = rest ≡ trailer
@@ -78,6 +79,8 @@ IsRest columns limit rest (Bad f) = IsFaultyRest columns limit rest f
 
 -- ---- what stands in the place of a head that isn't whole
 
+-- The bytes begin no head, for this fault: the signature, the flags or the length of the extension
+-- is wrong.
 pub data IsFaultyHead : List ℕ → BinaryFault → Type 0 where
   signature_differs : (bytes : List ℕ) → 11 ≤ length bytes → (take 11 bytes ≡ signature → ⊥) → IsFaultyHead bytes Signature
   flag_set : (n : ℕ) (more : List ℕ) → 65536 ≤ n → n < 2 ^ 32 → IsFaultyHead (signature ++ (to_be_bytes w32 n ++ more)) (Flags n)
@@ -93,6 +96,8 @@ pub record IsOpenHead (bytes : List ℕ) : Type 0 where
 abbrev pub open_head : List ℕ → List ℕ
 open_head bytes = if nat_lt (length bytes) 19 then bytes else []
 
+-- What stands in the place of a head, by the ending that it means: the beginning of one, or a
+-- fault.
 abbrev pub IsHeadRest : List ℕ → Ending BinaryFault → Type 0
 IsHeadRest bytes (Open kept) = (kept ≡ open_head bytes) × IsOpenHead bytes
 IsHeadRest bytes Done = ⊥

@@ -25,10 +25,11 @@ stage_reading stages.Rows columns limit bytes = body_reading columns limit bytes
 stage_reading stages.Closed columns limit bytes = trailer_reading bytes
 stage_reading (stages.Failed fault) columns limit bytes = record { rows = []; ending = Bad fault }
 
--- what is still to come, if more bytes are pushed, and if none are
+-- what is still to come, if these bytes are pushed too
 abbrev pub left : BinaryState → List ℕ → Reading BinaryFault
 left s more = stage_reading s.stage s.columns s.limit (s.kept ++ more)
 
+-- what is still to come, if no more bytes are pushed
 abbrev pub last : BinaryState → Reading BinaryFault
 last s = at_end (left s [])
 
@@ -71,6 +72,7 @@ stage_behind stages.Closed [] = stages.Closed
 stage_behind stages.Closed (b ∷ bs) = stages.Failed AfterTrailer
 stage_behind (stages.Failed fault) piece = stages.Failed fault
 
+-- the reader behind a piece that it took
 abbrev pub pushed_after : BinaryState → List ℕ → BinaryState
 pushed_after s piece = record s { kept = s.kept ++ kept_of s.stage piece; stage = stage_behind s.stage piece }
 

@@ -20,6 +20,7 @@ abbrev pub ◌>>=◌ : {A B : Type 0} → Result A NoPart → (A → Result B No
 (Ok x) >>= f = f x
 (Err e) >>= f = Err e
 
+-- a number of this width, the highest byte first
 abbrev pub number_at : Width → List ℕ → Result (ℕ × List ℕ) NoPart
 number_at w bytes = if nat_lt (length bytes) (byte_len w) then Err Incomplete else Ok (from_be_bytes w (take (byte_len w) bytes), drop (byte_len w) bytes)
 
@@ -27,6 +28,7 @@ number_at w bytes = if nat_lt (length bytes) (byte_len w) then Err Incomplete el
 abbrev pub bytes_at : ℕ → List ℕ → Result (List ℕ × List ℕ) NoPart
 bytes_at n bytes = if nat_lt (length bytes) n then Err Incomplete else Ok (take n bytes, drop n bytes)
 
+-- the signature, with which each file begins
 unfoldable pub signature_at : List ℕ → Result (List ℕ × List ℕ) NoPart
 signature_at bytes = do
   s ← bytes_at 11 bytes
@@ -57,11 +59,14 @@ head_at bytes = do
   n ← fixed_at bytes
   bytes_at n.0 n.1
 
+-- a value behind its length; the length -1 is null and has no bytes, and a length above the limit
+-- is a fault
 unfoldable pub value_at : ℕ → List ℕ → Result (Option (List ℕ) × List ℕ) NoPart
 value_at limit bytes = do
   n ← number_at w32 bytes
   if n.0 == 4294967295 then Ok (None, n.1) else if nat_le n.0 limit then (bytes_at n.0 n.1 >>= λ v. Ok (Some v.0, v.1)) else Err (Faulty (FieldLength (cast_signed w32 n.0)))
 
+-- so many values
 unfoldable pub values_at : ℕ → ℕ → List ℕ → Result (Row × List ℕ) NoPart
 values_at limit zero bytes = Ok ([], bytes)
 values_at limit (suc n) bytes = do
@@ -82,14 +87,17 @@ abbrev pub trailer_reading : List ℕ → Reading BinaryFault
 trailer_reading [] = record { rows = []; ending = Done }
 trailer_reading (b ∷ bs) = record { rows = []; ending = Bad AfterTrailer }
 
+-- a reading that gives no further row: these bytes are open, or the fault ends it
 abbrev pub stop_reading : NoPart → List ℕ → Reading BinaryFault
 stop_reading Incomplete bytes = record { rows = []; ending = Open bytes }
 stop_reading (Faulty fault) bytes = record { rows = []; ending = Bad fault }
 
+-- a row stands before the reading of what comes after it, and with the trailer the rows end
 abbrev pub row_reading : Option Row → List ℕ → (List ℕ → Reading BinaryFault) → Reading BinaryFault
 row_reading None rest next = trailer_reading rest
 row_reading (Some row) rest next = after_rows (row ∷ []) (next rest)
 
+-- what comes of the row or the trailer at the front of these bytes, if there is one
 abbrev pub part_reading : List ℕ → Result (Option Row × List ℕ) NoPart → (List ℕ → Reading BinaryFault) → Reading BinaryFault
 part_reading bytes (Ok part) next = row_reading part.0 part.1 next
 part_reading bytes (Err stop) next = stop_reading stop bytes
@@ -119,6 +127,7 @@ last_ending Done = Done
 last_ending Ended = Ended
 last_ending (Bad fault) = Bad fault
 
+-- a reading whose input has ended, so that what is open was cut off
 abbrev pub at_end : Reading BinaryFault → Reading BinaryFault
 at_end r = record { rows = r.rows; ending = last_ending r.ending }
 

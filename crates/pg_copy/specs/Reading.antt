@@ -10,6 +10,7 @@ pub data Ending (F : Type 0) : Type 0 where
   Ended : Ending F
   Bad : F → Ending F
 
+-- What bytes are read as: these rows, and what stands behind them.
 pub record Reading (F : Type 0) : Type 0 where
   pub rows : List Row
   pub ending : Ending F

@@ -50,6 +50,8 @@ parts_from false mark (b ∷ bs) =
     if b == mark then [] ∷ parts_from false mark bs
     else onto_first b (parts_from (b == backslash) mark bs)
 
+-- the parts of a text that units of the byte mark alone keep apart: fields by the delimiter, lines
+-- by the newline
 abbrev pub parts : ℕ → List ℕ → List (List ℕ)
 parts mark bytes = parts_from false mark bytes
 
@@ -83,15 +85,19 @@ digits_at base most bytes = take_while (λ c. nat_lt (digit_value c) base) (take
 abbrev pub octal_escape : List ℕ → ℕ × ℕ
 octal_escape digits = (digits_value 8 digits % 256, length digits)
 
+-- x and these digits; an x with no digit after it stands for itself
 abbrev pub hex_escape : List ℕ → ℕ × ℕ
 hex_escape [] = (120, 1)
 hex_escape (d ∷ ds) = (digits_value 16 (d ∷ ds), 1 + length (d ∷ ds))
 
+-- the escape after whose backslash stand these octal digits and these bytes; with nothing after it,
+-- the backslash stands for itself
 abbrev pub escape_by : List ℕ → List ℕ → ℕ × ℕ
 escape_by (d ∷ ds) bytes = octal_escape (d ∷ ds)
 escape_by [] [] = (backslash, 0)
 escape_by [] (c ∷ bs) = if c == 120 then hex_escape (digits_at 16 2 bs) else (letter_value c, 1)
 
+-- the escape after whose backslash these bytes stand
 abbrev pub escape_at : List ℕ → ℕ × ℕ
 escape_at bytes = escape_by (digits_at 8 3 bytes) bytes
 
@@ -129,6 +135,7 @@ line_row columns line =
 
 -- ---- files
 
+-- a row stands before what comes after it, and a bad line ends the reading with its fault
 abbrev pub row_or_fault : Result Row TextFault → Reading TextFault → Reading TextFault
 row_or_fault (Ok row) after = after_rows (row ∷ []) after
 row_or_fault (Err fault) after = record { rows = []; ending = Bad fault }
@@ -157,6 +164,7 @@ last_reading columns Done = record { rows = []; ending = Done }
 last_reading columns Ended = record { rows = []; ending = Ended }
 last_reading columns (Bad fault) = record { rows = []; ending = Bad fault }
 
+-- a reading whose input has ended, so that what was open is closed
 abbrev pub at_end : Option ℕ → Reading TextFault → Reading TextFault
 at_end columns r = after_rows r.rows (last_reading columns r.ending)
 
@@ -178,19 +186,24 @@ letter_for b =
     else if b == backslash then Some backslash
     else None
 
+-- a byte that has a letter is written as a backslash and the letter, and another as itself
 abbrev pub with_letter : Option ℕ → ℕ → List ℕ
 with_letter None b = b ∷ []
 with_letter (Some letter) b = backslash ∷ letter ∷ []
 
+-- a byte of a text as it is written
 abbrev pub written_byte : ℕ → List ℕ
 written_byte b = with_letter (letter_for b) b
 
+-- a field as it is written: the null mark, or its bytes one by one
 abbrev pub written_field : Option (List ℕ) → List ℕ
 written_field None = null_mark
 written_field (Some text) = flat_map written_byte text
 
+-- the fields of a row as they are written, with a delimiter between any two
 abbrev pub written_fields : Row → List ℕ
 written_fields row = join_with_byte delimiter (map written_field row)
 
+-- the canonical line of a row: its fields and a newline
 abbrev pub written_row : Row → List ℕ
 written_row row = written_fields row ++ newline ∷ []

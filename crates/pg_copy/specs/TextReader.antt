@@ -21,10 +21,11 @@ stage_reading stages.Lines columns bytes = reading columns bytes
 stage_reading stages.Marked columns bytes = record { rows = []; ending = Done }
 stage_reading (stages.Failed fault) columns bytes = record { rows = []; ending = Bad fault }
 
--- what is still to come, if more bytes are pushed, and if none are
+-- what is still to come, if these bytes are pushed too
 abbrev pub left : TextState → List ℕ → Reading TextFault
 left s more = stage_reading s.stage s.columns (s.kept ++ more)
 
+-- what is still to come, if no more bytes are pushed
 abbrev pub last : TextState → Reading TextFault
 last s = at_end s.columns (left s [])
 
@@ -33,12 +34,13 @@ pub record HasRead (s : TextState) (pushed : List ℕ) (given : List Row) : Type
   pub so_far : s.ended ≡ false → (more : List ℕ) → reading s.columns (pushed ++ more) ≡ after_rows given (left s more)
   pub in_all : file_reading s.columns pushed ≡ after_rows given (last s)
 
--- the ending at which a reader stands, and at which it stands once the input has ended
+-- the ending at which a reader stands
 abbrev pub ending_at : TextStage → List ℕ → Ending TextFault
 ending_at stages.Lines kept = Open kept
 ending_at stages.Marked kept = Done
 ending_at (stages.Failed fault) kept = Bad fault
 
+-- the ending at which a reader stands once the input has ended
 abbrev pub last_ending_at : TextStage → Ending TextFault
 last_ending_at stages.Lines = Ended
 last_ending_at stages.Marked = Done
@@ -50,6 +52,7 @@ kept_at stages.Lines s piece = record s { kept = s.kept ++ piece }
 kept_at stages.Marked s piece = s
 kept_at (stages.Failed fault) s piece = s
 
+-- the reader behind a piece that it took
 abbrev pub kept_after : TextState → List ℕ → TextState
 kept_after s piece = kept_at s.stage s piece
 

@@ -3,10 +3,11 @@ use Rattle.std.specs.Prelude.{ℕ, ℤ, ◌==◌, Bool, nat_lt, List, [], ◌∷
 use Rattle.std.specs.List.{flat_map, list_any}
 use Rattle.std.specs.Int.{w16, w32, to_be_bytes, cast_unsigned}
 
--- Int16 and Int32: two or four bytes, the highest first
+-- Int16: two bytes, the highest first
 abbrev pub int16 : ℤ → List ℕ
 int16 n = to_be_bytes w16 (cast_unsigned w16 n)
 
+-- Int32: four bytes, the highest first
 abbrev pub int32 : ℤ → List ℕ
 int32 n = to_be_bytes w32 (cast_unsigned w32 n)
 

@@ -37,17 +37,21 @@ packet p = to_be_bytes w32 (packet_length p) ++ to_be_bytes w32 (code p) ++ cont
 
 -- ---- which packets have a spelling
 
+-- the name of a parameter is empty
 abbrev pub has_no_name : List ℕ × List ℕ → Bool
 has_no_name p = length p.0 == 0
 
+-- a name or a value of a parameter has a zero byte
 abbrev pub packet_has_zero : First → Bool
 packet_has_zero (first.Startup pairs) = list_any parameter_has_zero pairs
 packet_has_zero _ = false
 
+-- the name of one of its parameters is empty
 abbrev pub packet_has_no_name : First → Bool
 packet_has_no_name (first.Startup pairs) = list_any has_no_name pairs
 packet_has_no_name _ = false
 
+-- why a packet has no spelling, if it has none
 abbrev pub packet_fault : First → Option EncodeFault
 packet_fault p = packet_fault_of (packet_has_zero p) (packet_has_no_name p) (packet_length p)
 
@@ -63,6 +67,7 @@ pub record IsPacket (p : First) : Type 0 where
 
 -- ---- the parameters of a startup ("Start-up")
 
+-- the parameter that names the database, where one is named
 abbrev pub database_pair : Option (List ℕ) → List (List ℕ × List ℕ)
 database_pair None = []
 database_pair (Some name) = (codes "database", name) ∷ []

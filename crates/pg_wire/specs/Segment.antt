@@ -22,11 +22,13 @@ use Rattle.pg_wire.specs.declared.session.Request.TheVariants.{Query, Group}
 use Rattle.pg_wire.specs.declared.session.Step.{Step}
 use Rattle.pg_wire.specs.declared.session.Step.TheVariants as step
 
+-- the fields of an error or a notice
 abbrev pub Fields : Type 0
 Fields = List ErrorField
 
 -- ---- what a request is sent as ("Simple Query", "Extended Query")
 
+-- a step as the message of its name
 abbrev pub step_message : Step → FrontMessage
 step_message (step.Parse name text types) = front.Parse name text types
 step_message (step.Bind portal statement formats values result_formats) = front.Bind portal statement formats values result_formats
@@ -34,6 +36,7 @@ step_message (step.Describe target name) = front.Describe target name
 step_message (step.Execute portal max_rows) = front.Execute portal max_rows
 step_message (step.Close target name) = front.Close target name
 
+-- a query as one message; the steps of a group as theirs, and a Sync
 abbrev pub request_messages : Request → List FrontMessage
 request_messages (Query text) = front.Query text ∷ []
 request_messages (Group steps) = map step_message steps ++ front.Sync ∷ []
@@ -57,14 +60,17 @@ without_asides ms = filter (λ m. is_none (aside_of m)) ms
 
 -- ---- results and answers ("Simple Query", "Extended Query", "COPY Operations")
 
+-- the message that describes a statement's parameters; of a portal there is none
 abbrev pub parameters_sent : Option (List ℕ) → List BackMessage
 parameters_sent None = []
 parameters_sent (Some types) = ParameterDescription types ∷ []
 
+-- the message that describes the rows, or says that there are none
 abbrev pub columns_sent : Option (List Column) → BackMessage
 columns_sent None = NoData
 columns_sent (Some columns) = RowDescription columns
 
+-- the message with which an Execute ends
 abbrev pub end_sent : ExecEnd → BackMessage
 end_sent (ends.Complete tag) = CommandComplete tag
 end_sent ends.Empty = EmptyQuery
@@ -109,6 +115,7 @@ pub data Asked : Type 0 where
   Results : Asked
   Steps : List Step → Asked
 
+-- what a request asks for: a query any number of results, a group an answer to each step
 abbrev pub asked : Request → Asked
 asked (Query text) = Results
 asked (Group steps) = Steps steps
@@ -173,6 +180,7 @@ put_before (Some status) m whole rest = record { whole = (m ∷ []) ∷ whole; r
 put_before None m [] rest = record { whole = []; rest = m ∷ rest }
 put_before None m (s ∷ ss) rest = record { whole = (m ∷ s) ∷ ss; rest = rest }
 
+-- the messages cut after each ReadyForQuery
 abbrev pub segments : List BackMessage → Segments
 segments [] = record { whole = []; rest = [] }
 segments (m ∷ ms) = let s = segments ms in put_before (status_of m) m s.whole s.rest

@@ -7,6 +7,7 @@ use Rattle.std.specs.Fmt.{decimal, digit_glyph}
 abbrev pub hexadecimal_byte : ℕ → List ℕ
 hexadecimal_byte b = digit_glyph false (b / 16) ∷ digit_glyph false (b % 16) ∷ []
 
+-- two digits for each byte, with nothing between
 abbrev pub hexadecimal : List ℕ → List ℕ
 hexadecimal bytes = flat_map hexadecimal_byte bytes
 

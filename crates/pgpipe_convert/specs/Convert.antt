@@ -19,13 +19,14 @@ use Rattle.pgpipe_base.specs.Receiving.{longest_piece}
 
 -- ---- the file that is read
 
--- a reading whose fault is the answer for it
+-- an ending whose fault is the answer for it
 abbrev pub answered_ending : {F : Type 0} → (F → Converted) → Ending F → Ending Converted
 answered_ending answer (Open rest) = Open rest
 answered_ending answer Done = Done
 answered_ending answer Ended = Ended
 answered_ending answer (Bad f) = Bad (answer f)
 
+-- a reading whose fault is the answer for it
 abbrev pub answered : {F : Type 0} → (F → Converted) → Reading F → Reading Converted
 answered answer r = record { rows = r.rows; ending = answered_ending answer r.ending }
 
@@ -33,10 +34,12 @@ answered answer r = record { rows = r.rows; ending = answered_ending answer r.en
 abbrev pub FileReading : Type 0
 FileReading = Bool → List ℕ → Reading Converted
 
+-- a file of text, with so many columns or with any number of them
 abbrev pub text_file : Option ℕ → FileReading
 text_file columns false bytes = answered converted.Text (text.reading columns bytes)
 text_file columns true bytes = answered converted.Text (text.file_reading columns bytes)
 
+-- a binary file with so many columns, and values of at most so many bytes
 abbrev pub binary_file : ℕ → ℕ → FileReading
 binary_file columns most false bytes = answered converted.Binary (binary.binary_reading columns most bytes)
 binary_file columns most true bytes = answered converted.Binary (binary.file_reading columns most bytes)
@@ -68,18 +71,21 @@ abbrev pub row_fault : Format → Row → Option RowFault
 row_fault format.Text row = text_fault row
 row_fault format.Binary row = binary_fault row
 
+-- The row has a place in a file of this format.
 abbrev pub IsWritable : Format → Row → Type 0
 IsWritable to row = row_fault to row ≡ None
 
--- what is written for a row, before the rows, and behind them
+-- what is written for a row
 abbrev pub row_of : Format → Row → List ℕ
 row_of format.Text row = text.written_row row
 row_of format.Binary row = binary_row row
 
+-- what stands before the rows: in text nothing
 abbrev pub head_of : Format → List ℕ
 head_of format.Text = []
 head_of format.Binary = written_head
 
+-- what stands behind the rows: in text nothing
 abbrev pub trailer_of : Format → List ℕ
 trailer_of format.Text = []
 trailer_of format.Binary = trailer

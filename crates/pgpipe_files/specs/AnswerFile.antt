@@ -26,6 +26,7 @@ use Rattle.pgpipe_files.specs.Fields.{◌>>=◌, text_at, read_at, copy_head_at,
 -- ---- an answer of which lines are read: what it is without its last part, that part, and the types of the parameters of the
 -- `described` in the next line
 
+-- an answer with this status and nothing else
 abbrev pub new_answer : Status → Open
 new_answer status = record { answer = record { before = []; parts = []; error = None; status = status }; last = None; types = None }
 
@@ -71,6 +72,7 @@ load_by loads.Accept fields = text_of fields >>= λ tag. Some (load.Accept tag)
 load_by loads.Refuse fields =
     read_at number fields >>= λ n. error_fields_of n.1 >>= λ errors. Some (load.Refuse n.0 errors)
 
+-- what becomes of a copy from the client, the word for it first
 abbrev pub load_of : Row → Option Load
 load_of fields = read_at load_way fields >>= λ w. load_by w.0 w.1
 
@@ -80,21 +82,24 @@ end_by ends.Complete fields = text_of fields >>= λ tag. Some (end.Complete tag)
 end_by ends.Empty fields = nothing_of fields >>= λ _. Some end.Empty
 end_by ends.Suspended fields = nothing_of fields >>= λ _. Some end.Suspended
 
+-- how a run ended, the word for it first
 abbrev pub end_of : Row → Option ExecEnd
 end_of fields = read_at end_way fields >>= λ w. end_by w.0 w.1
 
 -- ---- lines
 
--- the last part with one row more, or with one chunk more
+-- the last part with one row more; only rows and a run have rows
 abbrev pub with_values : Option ScriptPart → Row → Option ScriptPart
 with_values (Some (part.Rows columns rows tag)) values = Some (part.Rows columns (rows ++ values ∷ []) tag)
 with_values (Some (part.Executed rows end)) values = Some (part.Executed (rows ++ values ∷ []) end)
 with_values _ values = None
 
+-- the last part with one chunk more; only a copy to the client has chunks
 abbrev pub with_chunk : Option ScriptPart → List ℕ → Option ScriptPart
 with_chunk (Some (part.CopyOut head chunks tag)) bytes = Some (part.CopyOut head (chunks ++ bytes ∷ []) tag)
 with_chunk _ bytes = None
 
+-- the answer with its last part grown to this, where the line could be read so
 abbrev pub grows : Open → Option ScriptPart → Option Open
 grows o read = read >>= λ p. Some (record o { last = Some p })
 
@@ -107,6 +112,7 @@ abbrev pub if_none : {A : Type 0} → Option A → Option Unit
 if_none None = Some tt
 if_none (Some x) = None
 
+-- what a Describe is answered, with these types of parameters where they were told
 abbrev pub described : Open → Option (List ℕ) → Row → Option Open
 described o parameters fields =
     text_columns fields >>= λ columns. Some (begins o (part.Described parameters (if_any columns)))
@@ -144,6 +150,7 @@ line_behind None o n v fields = part_line o n v fields
 line_behind (Some types) o n verb.Described fields = described o (Some types.types) fields
 line_behind (Some types) o n v fields = None
 
+-- a line in the row of this number, in its place; a `paramtypes` waits for the next line alone
 unfoldable pub answer_line : Open → ℕ → AnswerVerb → Row → Option Open
 answer_line o n v fields = line_behind o.types (record o { types = None }) n v fields
 

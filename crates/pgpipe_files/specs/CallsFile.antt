@@ -46,9 +46,11 @@ pub record CallsSoFar : Type 0 where
 abbrev pub if_before_start : CallsSoFar → Option Unit
 if_before_start s = if s.started then None else Some tt
 
+-- a setting, where its fields can be read and `start` was not
 abbrev pub set : {A : Type 0} → CallsSoFar → Option A → (A → Settings) → Option CallsSoFar
 set s read make = if_before_start s >>= λ _. read >>= λ x. Some (record s { settings = make x })
 
+-- with one thing more that happens
 abbrev pub says : CallsSoFar → Said → CallsSoFar
 says s said = record s { lines = s.lines ++ said ∷ [] }
 
@@ -56,6 +58,7 @@ says s said = record s { lines = s.lines ++ said ∷ [] }
 abbrev pub said : {A : Type 0} → CallsSoFar → Option A → (A → Said) → Option CallsSoFar
 said s read make = read >>= λ x. Some (says s (make x))
 
+-- a line that says this event, where its fields can be read
 abbrev pub called : {A : Type 0} → CallsSoFar → Option A → (A → Event) → Option CallsSoFar
 called s read make = said s read (λ x. Happens (make x))
 
@@ -108,6 +111,7 @@ step_of step_line.Close fields = named_of fields >>= λ named. Some (step.Close 
 abbrev pub sync_said : CallsSoFar → Group → Row → Option CallsSoFar
 sync_said s group fields = called s (nothing_of fields) (λ _. event.Call (call.Request (request.Group group.steps)))
 
+-- a line in a group: a step, or the `sync` that ends it
 abbrev pub step_or_sync : CallsSoFar → Group → Option StepVerb → List ℕ → Row → Option CallsSoFar
 step_or_sync s group (Some v) word fields =
     step_of v fields >>= λ st. Some (record s { group = Some (record group { steps = group.steps ++ st ∷ [] }) })
@@ -123,6 +127,7 @@ in_group s group word fields = step_or_sync s group (step_verb word) word fields
 abbrev pub in_no_group : CallsSoFar → ℕ → List ℕ → Row → Option CallsSoFar
 in_no_group s n word fields = call_verb word >>= λ v. call_line s n v fields
 
+-- a line by where it stands: in a group or in none
 abbrev pub line_by : Option Group → CallsSoFar → ℕ → List ℕ → Row → Option CallsSoFar
 line_by (Some group) s n word fields = in_group s group word fields
 line_by None s n word fields = in_no_group s n word fields
@@ -140,6 +145,7 @@ no_calls = record {
   group = None;
 }
 
+-- what CALLS says in the end, unless a group is open
 abbrev pub closed_calls : CallsSoFar → Option Group → Result CallsSaid ℕ
 closed_calls s None = Ok (record { settings = s.settings; lines = s.lines })
 closed_calls s (Some group) = Err group.row
@@ -154,10 +160,12 @@ calls_of bytes = in_the_end (with_file calls_line no_calls bytes) calls_said
 
 -- ---- what was read, as the program has it
 
+-- what a line of the program says
 abbrev pub line_said : CallLine → Said
 line_said (line.Event e) = Happens e
 line_said line.Flow = Flows
 line_said (line.File path) = HandsOver (string_bytes path)
 
+-- what the calls of the program say
 abbrev pub what_is_said : Calls → CallsSaid
 what_is_said calls = record { settings = calls.settings; lines = map line_said calls.lines }

@@ -25,10 +25,11 @@ digits_up_to most (d ∷ ds) =
     (if nat_le (digits_value 10 (d ∷ ds)) most then Some (digits_value 10 (d ∷ ds)) else None)
     else None
 
--- a number of 16 bits, and one of 32
+-- a number of 16 bits
 abbrev pub short_number : List ℕ → Option ℕ
 short_number text = digits_up_to 65535 text
 
+-- a number of 32 bits
 abbrev pub number : List ℕ → Option ℕ
 number text = digits_up_to 4294967295 text
 
@@ -40,6 +41,7 @@ signed_number text =
 
 -- ---- the next field
 
+-- one text
 abbrev pub text_at : Row → Option (List ℕ × Row)
 text_at (Some text ∷ fields) = Some (text, fields)
 text_at _ = None
@@ -73,13 +75,15 @@ if_all x (_ ∷ _) = None
 abbrev pub nothing_of : Row → Option Unit
 nothing_of fields = if_all tt fields
 
--- one text, two texts, one number
+-- one text
 abbrev pub text_of : Row → Option (List ℕ)
 text_of fields = text_at fields >>= λ t. if_all t.0 t.1
 
+-- two texts
 abbrev pub pair_of : Row → Option (List ℕ × List ℕ)
 pair_of fields = pair_at fields >>= λ p. if_all p.0 p.1
 
+-- one number of 32 bits
 abbrev pub number_of : Row → Option ℕ
 number_of fields = read_at number fields >>= λ n. if_all n.0 n.1
 
@@ -95,6 +99,7 @@ numbers_of [] = Some []
 numbers_of (None ∷ fields) = None
 numbers_of (Some text ∷ fields) = number text >>= λ n. numbers_of fields >>= λ ns. Some (n ∷ ns)
 
+-- a text of one byte, as that byte
 abbrev pub byte_of : List ℕ → Option ℕ
 byte_of (b ∷ []) = Some b
 byte_of _ = None

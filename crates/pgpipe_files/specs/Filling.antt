@@ -22,6 +22,7 @@ files (_ ∷ lines) = files lines
 abbrev pub chunk_size : ℕ
 chunk_size = 4096
 
+-- the line that hands these bytes over as a chunk of a copy
 abbrev pub chunk_line : List ℕ → CallLine
 chunk_line bytes = line.Event (event.Call (call.Chunk bytes))
 

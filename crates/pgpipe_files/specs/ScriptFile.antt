@@ -42,9 +42,11 @@ auth_by way.Trust fields = nothing_of fields >>= λ _. Some auth.Trust
 auth_by way.Cleartext fields = text_of fields >>= λ password. Some (auth.Cleartext password)
 auth_by way.Md5 fields = pair_of fields >>= λ p. salt_of p.1 >>= λ salt. Some (auth.Md5 p.0 salt)
 
+-- the way in which a client is let in, with its password and its salt where it has them
 abbrev pub auth_of : Row → Option Auth
 auth_of fields = read_at auth_way fields >>= λ w. auth_by w.0 w.1
 
+-- the process and the secret of a BackendKeyData
 abbrev pub key_of : Row → Option Key
 key_of fields =
     read_at signed_number fields >>= λ p. read_at signed_number p.1
@@ -66,6 +68,7 @@ closed_by None s = Some s
 closed_by (Some o) s =
     whole_answer o o.types >>= λ a. Some (record s { answers = s.answers ++ a ∷ []; begun = None })
 
+-- the answer that lines are read of is whole, and stands behind the others
 abbrev pub closed : ScriptSoFar → Option ScriptSoFar
 closed s = closed_by s.begun s
 
@@ -87,6 +90,7 @@ in_answer s None n word fields = None
 in_answer s (Some o) n word fields =
     answer_verb word >>= λ v. answer_line o n v fields >>= λ next. Some (record s { begun = Some next })
 
+-- a line whose word is one of those that stand in no answer, or another one
 abbrev pub line_by : Option ScriptVerb → ScriptSoFar → ℕ → List ℕ → Row → Option ScriptSoFar
 line_by (Some v) s n word fields = own_line s v fields
 line_by None s n word fields = in_answer s s.begun n word fields
@@ -97,6 +101,7 @@ script_line s n word fields = line_by (script_verb word) s n word fields
 
 -- ---- the file
 
+-- nothing was read
 abbrev pub no_script : ScriptSoFar
 no_script = record { auth = None; pairs = []; key = None; answers = []; begun = None }
 
@@ -104,10 +109,12 @@ no_script = record { auth = None; pairs = []; key = None; answers = []; begun = 
 abbrev pub script_with : ScriptSoFar → List Answer → Script
 script_with s answers = record { auth = unwrap_or s.auth auth.Trust; pairs = s.pairs; key = s.key; answers = answers }
 
+-- the script with its last answer; a line `paramtypes` that still waits is refused
 abbrev pub answer_said : ScriptSoFar → Open → Option Types → Result Script ℕ
 answer_said s o None = Ok (script_with s (s.answers ++ with_part o.last o.answer ∷ []))
 answer_said s o (Some types) = Err types.row
 
+-- the script with the answer that lines were read of last, if there is one
 abbrev pub said_by : Option Open → ScriptSoFar → Result Script ℕ
 said_by None s = Ok (script_with s s.answers)
 said_by (Some o) s = answer_said s o o.types

@@ -42,6 +42,7 @@ most_times = 2 ^ 64 - 1
 abbrev pub flow_once : ℕ → List Doing
 flow_once cut = times most_times (event.ToBackend cut) ++ times most_times event.Step ++ times most_times (event.ToClient cut)
 
+-- what happens for a line of CALLS: its event once, or for a flow what waits, twice over
 abbrev pub line_doings : ℕ → CallLine → List Doing
 line_doings cut (line.Event e) = times 1 e
 line_doings cut line.Flow = flow_once cut ++ flow_once cut
@@ -54,6 +55,7 @@ doings cut lines = flat_map (line_doings cut) lines
 
 -- ---- what happens
 
+-- the event did nothing
 abbrev pub is_nothing : Applied → Bool
 is_nothing applied.Nothing = true
 is_nothing _ = false
@@ -117,6 +119,7 @@ pub record IsWhole {C : Type 0} (carries : Carries C) (begun : PairView C) (all 
 abbrev pub IsPart : {C : Type 0} → Carries C → PairView C → List Doing → List ℕ → Type 0
 IsPart carries begun all text = (whole : List ℕ) × Begins text whole × (IsSoFar carries begun all whole ⊎ ((failed : Bool) × IsWhole carries begun all failed whole))
 
+-- the answer says that the carrier failed
 abbrev pub has_failed : Ran → Bool
 has_failed ran.Whole = false
 has_failed ran.CarrierFailed = true

@@ -18,12 +18,15 @@ front = record (new_rule (codes "front")) { long = Some (codes "front"); action 
 abbrev pub option : Text → ValueParser → Rule
 option name values = record (new_rule name) { long = Some name; value_names = 1; parser = Some values }
 
+-- an argument that has to be given
 abbrev pub required : Rule → Rule
 required rule = record rule { required = true }
 
+-- `show`, with `--front` or without
 abbrev pub show : Shape
 show = (with_rule (new_app (codes "show")) front).top
 
+-- `convert`, with both formats and the number of columns, 1 to 32,767
 abbrev pub convert : ValueParser → Shape
 convert formats = (with_rule (with_rule (with_rule (new_app (codes "convert"))
     (required (option (codes "from") formats)))
@@ -37,5 +40,6 @@ loop = (with_rule (with_rule (with_rule (new_app (codes "loop"))
     (required (new_rule (codes "SCRIPT"))))
     (required (new_rule (codes "CALLS")))).top
 
+-- the whole command line: `pgpipe` with its three subcommands
 abbrev pub command_line : ValueParser → App
 command_line formats = with_subcommand (with_subcommand (with_subcommand (new_app (codes "pgpipe")) show) (convert formats)) loop

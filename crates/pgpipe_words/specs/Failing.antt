@@ -33,7 +33,7 @@ status_of (failure.Check f) = 2
 status_of failure.Device = 3
 status_of failure.Memory = 4
 
--- what an answer means for the program
+-- what the answer of show means for the program
 abbrev pub Results : Result Shown ToolFault → Result Unit Failure → Type 0
 Results (Ok shown.Whole) r = r ≡ Ok tt
 Results (Ok (shown.Rest n)) r = r ≡ Err (failure.Rest n)
@@ -41,6 +41,7 @@ Results (Ok (shown.Fault f)) r = r ≡ Err (failure.Fault f)
 Results (Err fault.Device) r = r ≡ Err failure.Device
 Results (Err fault.Memory) r = r ≡ Err failure.Memory
 
+-- what the answer of a conversion means for the program
 abbrev pub ConversionResults : Result Converted ToolFault → Result Unit Failure → Type 0
 ConversionResults (Ok converted.Whole) r = r ≡ Ok tt
 ConversionResults (Ok (converted.Text f)) r = r ≡ Err (failure.Text f)
@@ -49,19 +50,22 @@ ConversionResults (Ok (converted.Row f)) r = r ≡ Err (failure.Row f)
 ConversionResults (Err fault.Device) r = r ≡ Err failure.Device
 ConversionResults (Err fault.Memory) r = r ≡ Err failure.Memory
 
--- what a fault of a loop's files and what the answer of a loop mean for the program
+-- what a fault of SCRIPT means for the program
 abbrev pub script_failure : LineFault → Failure
 script_failure (line.Line n) = failure.Script n
 script_failure line.Memory = failure.Memory
 
+-- what a fault of CALLS means for the program
 abbrev pub calls_failure : LineFault → Failure
 calls_failure (line.Line n) = failure.Calls n
 calls_failure line.Memory = failure.Memory
 
+-- what a fault of the script, once it is read, means for the program
 abbrev pub check_failure : ScriptFault → Failure
 check_failure check.Memory = failure.Memory
 check_failure f = failure.Check f
 
+-- what the answer of a loop means for the program
 abbrev pub LoopResults : Result Ran ToolFault → Result Unit Failure → Type 0
 LoopResults (Ok ran.Whole) r = r ≡ Ok tt
 LoopResults (Ok ran.CarrierFailed) r = r ≡ Err failure.Device
