@@ -15,7 +15,8 @@ signature = 0x50 ∷ 0x47 ∷ 0x43 ∷ 0x4F ∷ 0x50 ∷ 0x59 ∷ 0x0A ∷ 0xFF 
 
 -- the signature, the flags, and an extension behind its length
 abbrev pub head : ℕ → List ℕ → List ℕ
-head flags extension = signature ++ to_be_bytes w32 flags ++ to_be_bytes w32 (length extension) ++ extension
+head flags extension = signature ++ to_be_bytes w32 flags ++ to_be_bytes w32 (length extension)
+    ++ extension
 
 -- a value behind its length, which is -1 for a null
 abbrev pub value : Option (List ℕ) → List ℕ
@@ -39,7 +40,8 @@ written_head = head 0 []
 -- Bits 16 to 31 of the flags must be 0, and the extension's length isn't negative.
 abbrev pub IsHead : List ℕ → Type 0
 IsHead bytes =
-    (flags : ℕ) × (extension : List ℕ) × (flags < 65536) × (length extension < 2 ^ 31) × (bytes ≡ head flags extension)
+    (flags : ℕ) × (extension : List ℕ) × (flags < 65536) × (length extension < 2 ^ 31)
+    × (bytes ≡ head flags extension)
 
 -- a value is at most so long
 abbrev pub FitsValue : ℕ → Option (List ℕ) → Type 0
@@ -58,15 +60,19 @@ pub record FitsBinary (columns limit : ℕ) (row : Row) : Type 0 where
 pub data IsFaultyRest (columns limit : ℕ) : List ℕ → BinaryFault → Type 0 where
   field_count : (n : ℕ) (more : List ℕ) → n < 2 ^ 16 → (n ≡ 65535 → ⊥) → (n ≡ columns → ⊥)
       → IsFaultyRest columns limit (to_be_bytes w16 n ++ more) (FieldCount (cast_signed w16 n))
-  field_length : (values : Row) (n : ℕ) (more : List ℕ) → AllByRecursion (FitsValue limit) values → length values < columns
+  field_length : (values : Row) (n : ℕ) (more : List ℕ) → AllByRecursion (FitsValue limit) values
+      → length values < columns
       → n < 2 ^ 32 → (n ≡ 4294967295 → ⊥) → limit < n
-      → IsFaultyRest columns limit (to_be_bytes w16 columns ++ (flat_map value values ++ (to_be_bytes w32 n ++ more)))
+      → IsFaultyRest columns limit (to_be_bytes w16 columns
+      ++ (flat_map value values ++ (to_be_bytes w32 n ++ more)))
       (FieldLength (cast_signed w32 n))
-  after_trailer : (b : ℕ) (more : List ℕ) → IsFaultyRest columns limit (trailer ++ b ∷ more) AfterTrailer
+  after_trailer : (b : ℕ) (more : List ℕ)
+      → IsFaultyRest columns limit (trailer ++ b ∷ more) AfterTrailer
 
 -- The rest begins with no row and no trailer, and isn't faulty: more bytes are to come.
 pub record IsOpenRest (columns limit : ℕ) (rest : List ℕ) : Type 0 where
-  pub no_row : (row : Row) (more : List ℕ) → FitsBinary columns limit row → rest ≡ binary_row row ++ more → ⊥
+  pub no_row : (row : Row) (more : List ℕ) → FitsBinary columns limit row
+      → rest ≡ binary_row row ++ more → ⊥
   pub no_trailer : (more : List ℕ) → rest ≡ trailer ++ more → ⊥
   pub no_fault : (f : BinaryFault) → IsFaultyRest columns limit rest f → ⊥
 
@@ -82,10 +88,13 @@ IsRest columns limit rest (Bad f) = IsFaultyRest columns limit rest f
 -- The bytes begin no head, for this fault: the signature, the flags or the length of the extension
 -- is wrong.
 pub data IsFaultyHead : List ℕ → BinaryFault → Type 0 where
-  signature_differs : (bytes : List ℕ) → 11 ≤ length bytes → (take 11 bytes ≡ signature → ⊥) → IsFaultyHead bytes Signature
-  flag_set : (n : ℕ) (more : List ℕ) → 65536 ≤ n → n < 2 ^ 32 → IsFaultyHead (signature ++ (to_be_bytes w32 n ++ more)) (Flags n)
+  signature_differs : (bytes : List ℕ) → 11 ≤ length bytes → (take 11 bytes ≡ signature → ⊥)
+      → IsFaultyHead bytes Signature
+  flag_set : (n : ℕ) (more : List ℕ) → 65536 ≤ n → n < 2 ^ 32
+      → IsFaultyHead (signature ++ (to_be_bytes w32 n ++ more)) (Flags n)
   extension_negative : (flags n : ℕ) (more : List ℕ) → flags < 65536 → 2 ^ 31 ≤ n → n < 2 ^ 32
-      → IsFaultyHead (signature ++ (to_be_bytes w32 flags ++ (to_be_bytes w32 n ++ more))) (Extension (cast_signed w32 n))
+      → IsFaultyHead (signature
+      ++ (to_be_bytes w32 flags ++ (to_be_bytes w32 n ++ more))) (Extension (cast_signed w32 n))
 
 -- No head stands at the beginning, and it isn't faulty: more bytes are to come.
 pub record IsOpenHead (bytes : List ℕ) : Type 0 where
@@ -111,7 +120,8 @@ abbrev pub IsBytes : List ℕ → Type 0
 IsBytes bytes = (i : ℕ) → slice_index bytes i < 256
 
 -- The bytes are a head, these rows, and what stands behind them; or no whole head, and no rows.
-pub data IsBinaryFile (columns limit : ℕ) (bytes : List ℕ) (rows : List Row) (ending : Ending BinaryFault) : Type 0 where
+pub data IsBinaryFile (columns limit : ℕ) (bytes : List ℕ) (rows : List Row)
+    (ending : Ending BinaryFault) : Type 0 where
   whole : (h rest : List ℕ) → IsHead h → AllByRecursion (FitsBinary columns limit) rows
       → bytes ≡ h ++ flat_map binary_row rows ++ rest → IsRest columns limit rest ending
       → IsBinaryFile columns limit bytes rows ending

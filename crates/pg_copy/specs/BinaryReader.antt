@@ -35,7 +35,8 @@ last s = at_end (left s [])
 
 -- The reader was given these bytes, and has given these rows: what is left is what is left of the file.
 pub record HasReadBinary (s : BinaryState) (pushed : List ℕ) (given : List Row) : Type 0 where
-  pub so_far : s.ended ≡ false → (more : List ℕ) → binary_reading s.columns s.limit (pushed ++ more) ≡ after_rows given (left s more)
+  pub so_far : s.ended ≡ false → (more : List ℕ)
+      → binary_reading s.columns s.limit (pushed ++ more) ≡ after_rows given (left s more)
   pub in_all : file_reading s.columns s.limit pushed ≡ after_rows given (last s)
 
 -- the ending at which a reader stands, where it has looked for a row
@@ -66,7 +67,8 @@ kept_of (stages.Failed fault) piece = []
 -- where the reader stands behind a piece: an extension may end in it, and behind the trailer a byte is a fault
 abbrev pub stage_behind : BinaryStage → List ℕ → BinaryStage
 stage_behind stages.Head piece = stages.Head
-stage_behind (stages.Extension n) piece = if nat_lt (length piece) n then stages.Extension (n - length piece) else stages.Rows
+stage_behind (stages.Extension n) piece = if nat_lt (length piece) n
+    then stages.Extension (n - length piece) else stages.Rows
 stage_behind stages.Rows piece = stages.Rows
 stage_behind stages.Closed [] = stages.Closed
 stage_behind stages.Closed (b ∷ bs) = stages.Failed AfterTrailer
@@ -87,5 +89,7 @@ IsReading (stages.Failed fault) = ⊥
 -- A push is refused with the fault that was found, or for want of memory, which a piece of which nothing is to be kept never
 -- meets: one without bytes, one within the extension, or one behind the trailer. Then nothing changes.
 abbrev pub PushesBinary : BinaryState → List ℕ → Result Unit BinaryFault → BinaryState → Type 0
-PushesBinary old piece (Ok x) new = ((f : BinaryFault) → old.stage ≡ stages.Failed f → ⊥) × (new ≡ pushed_after old piece)
-PushesBinary old piece (Err f) new = ((old.stage ≡ stages.Failed f) ⊎ ((f ≡ Memory) × IsReading old.stage × (0 < length (kept_of old.stage piece)))) × (new ≡ old)
+PushesBinary old piece (Ok x) new = ((f : BinaryFault) → old.stage ≡ stages.Failed f → ⊥)
+    × (new ≡ pushed_after old piece)
+PushesBinary old piece (Err f) new = ((old.stage ≡ stages.Failed f)
+    ⊎ ((f ≡ Memory) × IsReading old.stage × (0 < length (kept_of old.stage piece)))) × (new ≡ old)

@@ -22,11 +22,13 @@ abbrev pub ◌>>=◌ : {A B : Type 0} → Result A NoPart → (A → Result B No
 
 -- a number of this width, the highest byte first
 abbrev pub number_at : Width → List ℕ → Result (ℕ × List ℕ) NoPart
-number_at w bytes = if nat_lt (length bytes) (byte_len w) then Err Incomplete else Ok (from_be_bytes w (take (byte_len w) bytes), drop (byte_len w) bytes)
+number_at w bytes = if nat_lt (length bytes) (byte_len w) then Err Incomplete
+    else Ok (from_be_bytes w (take (byte_len w) bytes), drop (byte_len w) bytes)
 
 -- so many bytes
 abbrev pub bytes_at : ℕ → List ℕ → Result (List ℕ × List ℕ) NoPart
-bytes_at n bytes = if nat_lt (length bytes) n then Err Incomplete else Ok (take n bytes, drop n bytes)
+bytes_at n bytes = if nat_lt (length bytes) n then Err Incomplete
+    else Ok (take n bytes, drop n bytes)
 
 -- the signature, with which each file begins
 unfoldable pub signature_at : List ℕ → Result (List ℕ × List ℕ) NoPart
@@ -64,7 +66,9 @@ head_at bytes = do
 unfoldable pub value_at : ℕ → List ℕ → Result (Option (List ℕ) × List ℕ) NoPart
 value_at limit bytes = do
   n ← number_at w32 bytes
-  if n.0 == 4294967295 then Ok (None, n.1) else if nat_le n.0 limit then (bytes_at n.0 n.1 >>= λ v. Ok (Some v.0, v.1)) else Err (Faulty (FieldLength (cast_signed w32 n.0)))
+  if n.0 == 4294967295 then Ok (None, n.1) else if nat_le n.0 limit
+      then (bytes_at n.0 n.1 >>= λ v. Ok (Some v.0, v.1))
+      else Err (Faulty (FieldLength (cast_signed w32 n.0)))
 
 -- so many values
 unfoldable pub values_at : ℕ → ℕ → List ℕ → Result (Row × List ℕ) NoPart
@@ -78,7 +82,9 @@ values_at limit (suc n) bytes = do
 unfoldable pub row_at : ℕ → ℕ → List ℕ → Result (Option Row × List ℕ) NoPart
 row_at columns limit bytes = do
   n ← number_at w16 bytes
-  if n.0 == 65535 then Ok (None, n.1) else if n.0 == columns then (values_at limit columns n.1 >>= λ r. Ok (Some r.0, r.1)) else Err (Faulty (FieldCount (cast_signed w16 n.0)))
+  if n.0 == 65535 then Ok (None, n.1) else if n.0 == columns
+      then (values_at limit columns n.1 >>= λ r. Ok (Some r.0, r.1))
+      else Err (Faulty (FieldCount (cast_signed w16 n.0)))
 
 -- ---- files
 
@@ -98,7 +104,8 @@ row_reading None rest next = trailer_reading rest
 row_reading (Some row) rest next = after_rows (row ∷ []) (next rest)
 
 -- what comes of the row or the trailer at the front of these bytes, if there is one
-abbrev pub part_reading : List ℕ → Result (Option Row × List ℕ) NoPart → (List ℕ → Reading BinaryFault) → Reading BinaryFault
+abbrev pub part_reading : List ℕ → Result (Option Row × List ℕ) NoPart
+    → (List ℕ → Reading BinaryFault) → Reading BinaryFault
 part_reading bytes (Ok part) next = row_reading part.0 part.1 next
 part_reading bytes (Err stop) next = stop_reading stop bytes
 
@@ -112,7 +119,8 @@ abbrev pub body_reading : ℕ → ℕ → List ℕ → Reading BinaryFault
 body_reading columns limit bytes = rows_reading (suc (length bytes)) columns limit bytes
 
 -- what stands behind a head, or an extension; where it isn't whole, these bytes of it are kept
-abbrev pub head_reading : List ℕ → Result (List ℕ × List ℕ) NoPart → (List ℕ → Reading BinaryFault) → Reading BinaryFault
+abbrev pub head_reading : List ℕ → Result (List ℕ × List ℕ) NoPart → (List ℕ → Reading BinaryFault)
+    → Reading BinaryFault
 head_reading kept (Ok h) next = next h.1
 head_reading kept (Err stop) next = stop_reading stop kept
 

@@ -18,16 +18,21 @@ pub record IsNumeral (base most : ℕ) (digits rest : List ℕ) : Type 0 where
 
 -- These bytes behind a backslash stand for a byte, where the rest comes behind them.
 pub data IsEscape : List ℕ → List ℕ → ℕ → Type 0 where
-  octal : (digits rest : List ℕ) → IsNumeral 8 3 digits rest → IsEscape digits rest (digits_value 8 digits % 256)
-  hexadecimal : (digits rest : List ℕ) → IsNumeral 16 2 digits rest → IsEscape (120 ∷ digits) rest (digits_value 16 digits)
+  octal : (digits rest : List ℕ) → IsNumeral 8 3 digits rest
+      → IsEscape digits rest (digits_value 8 digits % 256)
+  hexadecimal : (digits rest : List ℕ) → IsNumeral 16 2 digits rest
+      → IsEscape (120 ∷ digits) rest (digits_value 16 digits)
   bare_x : (rest : List ℕ) → NoDigit 16 rest → IsEscape (120 ∷ []) rest 120
-  letter : (c : ℕ) (rest : List ℕ) → 8 ≤ digit_value c → (c ≡ 120 → ⊥) → IsEscape (c ∷ []) rest (letter_value c)
+  letter : (c : ℕ) (rest : List ℕ) → 8 ≤ digit_value c → (c ≡ 120 → ⊥)
+      → IsEscape (c ∷ []) rest (letter_value c)
 
 -- The bytes spell the text: each is itself, or an escape stands there.
 pub data IsText : List ℕ → List ℕ → Type 0 where
   nothing : IsText [] []
-  plain : (b : ℕ) (bs text : List ℕ) → (b ≡ backslash → ⊥) → IsText bs text → IsText (b ∷ bs) (b ∷ text)
-  escaped : (escape bs : List ℕ) (b : ℕ) (text : List ℕ) → IsEscape escape bs b → IsText bs text → IsText (backslash ∷ (escape ++ bs)) (b ∷ text)
+  plain : (b : ℕ) (bs text : List ℕ) → (b ≡ backslash → ⊥) → IsText bs text
+      → IsText (b ∷ bs) (b ∷ text)
+  escaped : (escape bs : List ℕ) (b : ℕ) (text : List ℕ) → IsEscape escape bs b → IsText bs text
+      → IsText (backslash ∷ (escape ++ bs)) (b ∷ text)
 
 -- The bytes spell the field. Null is looked at before any escape.
 abbrev pub IsField : List ℕ → Option (List ℕ) → Type 0

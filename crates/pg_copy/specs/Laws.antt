@@ -16,22 +16,26 @@ use Rattle.pg_copy.specs.BinaryReading as binary
 -- The lines of a file that are read, and the fields of a line, are what the bytes are by their units, and the bytes are no
 -- other parts.
 pub record OneSplit : Type 0 where
-  pub there : (mark : ℕ) (bytes : List ℕ) → (mark ≡ backslash → ⊥) → AreParts mark bytes (parts mark bytes)
-  pub one : (mark : ℕ) (bytes : List ℕ) (ps qs : List (List ℕ)) → (mark ≡ backslash → ⊥) → AreParts mark bytes ps → AreParts mark bytes qs
+  pub there : (mark : ℕ) (bytes : List ℕ) → (mark ≡ backslash → ⊥)
+      → AreParts mark bytes (parts mark bytes)
+  pub one : (mark : ℕ) (bytes : List ℕ) (ps qs : List (List ℕ)) → (mark ≡ backslash → ⊥)
+      → AreParts mark bytes ps → AreParts mark bytes qs
       → ps ≡ qs
 
 -- The value that a reader gives to a field is what the field spells, and a field spells one value at most. A field of a line is
 -- closed, where the line is: no backslash that begins an escape stands last. So the row of a line has the values that the
 -- line's fields spell.
 pub record OneValue : Type 0 where
-  pub there : (bytes : List ℕ) → ends_escaped false bytes ≡ false → IsField bytes (field_value bytes)
+  pub there : (bytes : List ℕ) → ends_escaped false bytes ≡ false
+      → IsField bytes (field_value bytes)
   pub one : (bytes : List ℕ) (v w : Option (List ℕ)) → IsField bytes v → IsField bytes w → v ≡ w
   pub of_line : (columns : Option ℕ) (line : List ℕ) (row : Row) → line_row columns line ≡ Ok row
       → AreFields (parts delimiter line) row
 
 -- The canonical lines of rows of a reader's width are read as those rows: in front of any bytes, and as a whole file.
 pub record TextRoundTrip : Type 0 where
-  pub before : (columns : Option ℕ) (rows : List Row) (rest : List ℕ) → AllByRecursion (FitsReader columns) rows
+  pub before : (columns : Option ℕ) (rows : List Row) (rest : List ℕ)
+      → AllByRecursion (FitsReader columns) rows
       → reading columns (flat_map written_row rows ++ rest) ≡ after_rows rows (reading columns rest)
   pub whole : (columns : Option ℕ) (rows : List Row) → AllByRecursion (FitsReader columns) rows
       → file_reading columns (flat_map written_row rows) ≡ record { rows = rows; ending = Ended }
@@ -47,16 +51,21 @@ pub record AreBounds (columns limit : ℕ) : Type 0 where
 pub record OneFile : Type 0 where
   pub there : (columns limit : ℕ) (bytes : List ℕ) → AreBounds columns limit → IsBytes bytes
       → IsBinaryFile columns limit bytes (binary_reading columns limit bytes).rows (binary_reading columns limit bytes).ending
-  pub one : (columns limit : ℕ) (bytes : List ℕ) (rows : List Row) (ending : Ending BinaryFault) → AreBounds columns limit
+  pub one : (columns limit : ℕ) (bytes : List ℕ) (rows : List Row) (ending : Ending BinaryFault)
+      → AreBounds columns limit
       → IsBytes bytes → IsBinaryFile columns limit bytes rows ending
       → binary_reading columns limit bytes ≡ record { rows = rows; ending = ending }
 
 -- A head and rows of a reader's width, with values within its limit, are read as those rows: in front of any bytes, and as a
 -- whole file with its trailer. The head may have any low flags and any extension.
 pub record BinaryRoundTrip : Type 0 where
-  pub before : (columns limit : ℕ) (h : List ℕ) (rows : List Row) (rest : List ℕ) → AreBounds columns limit → IsHead h
+  pub before : (columns limit : ℕ) (h : List ℕ) (rows : List Row) (rest : List ℕ)
+      → AreBounds columns limit → IsHead h
       → AllByRecursion (FitsBinary columns limit) rows
-      → binary_reading columns limit (h ++ flat_map binary_row rows ++ rest) ≡ after_rows rows (body_reading columns limit rest)
-  pub whole : (columns limit : ℕ) (h : List ℕ) (rows : List Row) → AreBounds columns limit → IsHead h
+      → binary_reading columns limit (h ++ flat_map binary_row rows ++ rest)
+      ≡ after_rows rows (body_reading columns limit rest)
+  pub whole : (columns limit : ℕ) (h : List ℕ) (rows : List Row) → AreBounds columns limit
+      → IsHead h
       → AllByRecursion (FitsBinary columns limit) rows
-      → binary.file_reading columns limit (h ++ flat_map binary_row rows ++ trailer) ≡ record { rows = rows; ending = Done }
+      → binary.file_reading columns limit (h ++ flat_map binary_row rows ++ trailer)
+      ≡ record { rows = rows; ending = Done }

@@ -36,7 +36,10 @@ IsGood ending = Unit {0}
 
 -- What a call answers that looks for the next row, where the bytes are read as this file, these rows were given before, and
 -- the reader then stands at this ending. None is answered only where the file has no more rows, and a fault only in its place.
-abbrev pub Gives : {F : Type 0} → F → Reading F → List Row → Ending F → Result (Option Row) F → Type 0
+abbrev pub Gives : {F : Type 0} → F → Reading F → List Row → Ending F → Result (Option Row) F
+    → Type 0
 Gives memory file given ending (Ok (Some row)) = Unit {0}
-Gives memory file given ending (Ok None) = IsGood ending × (file ≡ record { rows = given; ending = ending })
-Gives memory file given ending (Err f) = (f ≡ memory) ⊎ ((ending ≡ Bad f) × (file ≡ record { rows = given; ending = Bad f }))
+Gives memory file given ending (Ok None) = IsGood ending
+    × (file ≡ record { rows = given; ending = ending })
+Gives memory file given ending (Err f) = (f ≡ memory)
+    ⊎ ((ending ≡ Bad f) × (file ≡ record { rows = given; ending = Bad f }))

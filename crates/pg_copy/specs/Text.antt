@@ -130,7 +130,8 @@ abbrev pub line_row : Option ℕ → List ℕ → Result Row TextFault
 line_row columns line =
     if has_unit carriage_return line then Err RawReturn
     else if ends_escaped false line then Err LoneBackslash
-    else if fits_width columns (length (parts delimiter line)) then Ok (map field_value (parts delimiter line))
+    else if fits_width columns (length (parts delimiter line))
+    then Ok (map field_value (parts delimiter line))
     else Err (Columns (length (parts delimiter line)))
 
 -- ---- files

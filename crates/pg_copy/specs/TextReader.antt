@@ -31,7 +31,8 @@ last s = at_end s.columns (left s [])
 
 -- The reader was given these bytes, and has given these rows: what is left is what is left of the file.
 pub record HasRead (s : TextState) (pushed : List ℕ) (given : List Row) : Type 0 where
-  pub so_far : s.ended ≡ false → (more : List ℕ) → reading s.columns (pushed ++ more) ≡ after_rows given (left s more)
+  pub so_far : s.ended ≡ false → (more : List ℕ)
+      → reading s.columns (pushed ++ more) ≡ after_rows given (left s more)
   pub in_all : file_reading s.columns pushed ≡ after_rows given (last s)
 
 -- the ending at which a reader stands
@@ -59,5 +60,7 @@ kept_after s piece = kept_at s.stage s piece
 -- A push is refused with the fault that was found, or for want of memory, which a piece without bytes never meets, nor one
 -- that is dropped. Then nothing changes.
 abbrev pub Pushes : TextState → List ℕ → Result Unit TextFault → TextState → Type 0
-Pushes old piece (Ok x) new = ((f : TextFault) → old.stage ≡ stages.Failed f → ⊥) × (new ≡ kept_after old piece)
-Pushes old piece (Err f) new = ((old.stage ≡ stages.Failed f) ⊎ ((f ≡ Memory) × (old.stage ≡ stages.Lines) × (0 < length piece))) × (new ≡ old)
+Pushes old piece (Ok x) new = ((f : TextFault) → old.stage ≡ stages.Failed f → ⊥)
+    × (new ≡ kept_after old piece)
+Pushes old piece (Err f) new = ((old.stage ≡ stages.Failed f)
+    ⊎ ((f ≡ Memory) × (old.stage ≡ stages.Lines) × (0 < length piece))) × (new ≡ old)

@@ -248,7 +248,8 @@ impl Look {
 
 /// Where the row begins in the bytes: behind the head, where it is still to be read.
 fn row_start(in_head: bool, bytes: &[u8], start: usize) -> Result<usize, NoPart>
-    requires found { (in_head ≡ false) ⊎ (0 < start) → IsBehindHead in_head bytes.now (drop start bytes.now) }
+    requires found { (in_head ≡ false) ⊎ (0 < start)
+        → IsBehindHead in_head bytes.now (drop start bytes.now) }
     requires in_range { start ≤ length bytes.now }
     ensures { StartsRow in_head bytes.now start result }
 {
@@ -293,7 +294,8 @@ pub fn values_of(
     count: u16,
     bytes: &[u8],
 ) -> Result<Vec<Option<Seq<u8>>>, AllocError>
-    ensures { IfOk result (λ values. IfOk (values_at limit count bytes.now) (λ x. values.items ≡ x.0)) }
+    ensures { IfOk result (λ values. IfOk (values_at limit count bytes.now) (λ x. values.items
+        ≡ x.0)) }
 {
     let mut values = Vec::with_capacity(alloc, usize::from(count))?;
     let mut rest = bytes;

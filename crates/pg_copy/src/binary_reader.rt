@@ -68,7 +68,8 @@ impl BinaryReader {
     pub fn new(alloc: Global, columns: u16, limit: u32) -> Self
         requires columns { (0 < columns) × (columns ≤ 32767) }
         requires limit { (0 < limit) × (limit ≤ 2147483647) }
-        ensures state { result ≡ record { columns = columns; limit = limit; kept = []; stage = Head; ended = false } }
+        ensures state { result
+            ≡ record { columns = columns; limit = limit; kept = []; stage = Head; ended = false } }
         ensures read { HasReadBinary result [] [] }
     {
         BinaryReader {
@@ -104,7 +105,9 @@ impl BinaryReader {
     pub fn push(&mut self, piece: &[u8]) -> Result<(), BinaryFault>
         requires { self.old.ended ≡ false }
         ensures call { PushesBinary self.old piece.now result self.new }
-        ensures read { OnOk result ((pushed : List ℕ) (given : List Row) → HasReadBinary self.old pushed given → HasReadBinary self.new (pushed ++ piece.now) given) }
+        ensures read { OnOk result ((pushed : List ℕ) (given : List Row)
+            → HasReadBinary self.old pushed given
+            → HasReadBinary self.new (pushed ++ piece.now) given) }
     {
         match self.stage {
             BinaryStage::Failed(fault) => Err(fault),
@@ -128,13 +131,17 @@ impl BinaryReader {
     /// "Binary Format").
     pub fn next(&mut self) -> Result<Option<Row>, BinaryFault>
         requires { self.old.ended ≡ false }
-        ensures read { (pushed : List ℕ) (given : List Row) → HasReadBinary self.old pushed given → HasReadBinary self.new pushed (given ++ given_by result) }
-        ensures gives { (pushed : List ℕ) (given : List Row) → HasReadBinary self.old pushed given → Gives Memory (binary_reading self.new.columns self.new.limit pushed) given (binary_ending self.new.stage self.new.kept) result }
+        ensures read { (pushed : List ℕ) (given : List Row) → HasReadBinary self.old pushed given
+            → HasReadBinary self.new pushed (given ++ given_by result) }
+        ensures gives { (pushed : List ℕ) (given : List Row) → HasReadBinary self.old pushed given
+            → Gives Memory (binary_reading self.new.columns self.new.limit pushed) given
+            (binary_ending self.new.stage self.new.kept) result }
         ensures same { (self.new.columns ≡ self.old.columns) × (self.new.limit ≡ self.old.limit) }
         ensures ended { self.new.ended ≡ false }
         ensures row { (row : Row) → result ≡ Ok (Some row) → self.new.stage ≡ Rows }
         ensures waits { result ≡ Ok None → WaitsWith self.new.stage self.new.kept }
-        ensures failed { (fault : BinaryFault) → self.old.stage ≡ Failed fault → (result ≡ Err fault) × (self.new ≡ self.old) }
+        ensures failed { (fault : BinaryFault) → self.old.stage ≡ Failed fault
+            → (result ≡ Err fault) × (self.new ≡ self.old) }
         ensures closed { self.old.stage ≡ Closed → (result ≡ Ok None) × (self.new ≡ self.old) }
         ensures memory { result ≡ Err Memory → (self.new ≡ self.old) × RowWaits (left self.old []) }
     {
@@ -154,13 +161,18 @@ impl BinaryReader {
     /// Truncated is answered where it was not. It is to be called until it answers None. Memory is answered only where a row is
     /// left, and leaves the reader unchanged (PostgreSQL documentation, page COPY, "Binary Format").
     pub fn finish(&mut self) -> Result<Option<Row>, BinaryFault>
-        ensures read { (pushed : List ℕ) (given : List Row) → HasReadBinary self.old pushed given → HasReadBinary self.new pushed (given ++ given_by result) }
-        ensures gives { (pushed : List ℕ) (given : List Row) → HasReadBinary self.old pushed given → Gives Memory (file_reading self.new.columns self.new.limit pushed) given (binary_ending self.new.stage self.new.kept) result }
+        ensures read { (pushed : List ℕ) (given : List Row) → HasReadBinary self.old pushed given
+            → HasReadBinary self.new pushed (given ++ given_by result) }
+        ensures gives { (pushed : List ℕ) (given : List Row) → HasReadBinary self.old pushed given
+            → Gives Memory (file_reading self.new.columns self.new.limit pushed) given
+            (binary_ending self.new.stage self.new.kept) result }
         ensures same { (self.new.columns ≡ self.old.columns) × (self.new.limit ≡ self.old.limit) }
         ensures ended { result ≡ Err Memory ⊎ self.new.ended ≡ true }
         ensures row { (row : Row) → result ≡ Ok (Some row) → self.new.stage ≡ Rows }
-        ensures failed { (fault : BinaryFault) → self.old.stage ≡ Failed fault → (result ≡ Err fault) × (self.new ≡ record self.old { ended = true }) }
-        ensures closed { self.old.stage ≡ Closed → (result ≡ Ok None) × (self.new ≡ record self.old { ended = true }) }
+        ensures failed { (fault : BinaryFault) → self.old.stage ≡ Failed fault
+            → (result ≡ Err fault) × (self.new ≡ record self.old { ended = true }) }
+        ensures closed { self.old.stage ≡ Closed
+            → (result ≡ Ok None) × (self.new ≡ record self.old { ended = true }) }
         ensures trailer { result ≡ Ok None → self.new.stage ≡ Closed }
         ensures memory { result ≡ Err Memory → (self.new ≡ self.old) × RowWaits (left self.old []) }
     {

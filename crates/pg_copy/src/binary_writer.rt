@@ -100,7 +100,8 @@ fn put_values(fields: &[Option<Seq<u8>>], buf: &mut Vec<u8>) -> Result<(), Alloc
 /// where a value has more than 2,147,483,647 bytes, and Memory where it has neither fault and the buffer could not grow. A
 /// refusal leaves `buf` as it was.
 pub fn write_binary_row(row: &Row, buf: &mut Vec<u8>) -> Result<(), RowFault>
-    ensures { Writes (binary_fault row.now) (binary_row row.now) buf.old.items result buf.new.items }
+    ensures { Writes (binary_fault row.now)
+        (binary_row row.now) buf.old.items result buf.new.items }
 {
     let fields = row.as_slice();
     if is_misfit(fields) {

@@ -18,7 +18,8 @@ pub fn is_plain(byte: u8) -> bool
 /// Whether the bytes of a block are plain. All are looked at, which a processor does at once.
 fn is_plain_block(bytes: &[u8], from: usize) -> bool
     requires { from + 8 ≤ length bytes.now }
-    ensures { result ≡ true → (i : ℕ) → from ≤ i → i < from + 8 → IsPlain (slice_index bytes.now i) }
+    ensures { result ≡ true → (i : ℕ) → from ≤ i → i < from + 8
+        → IsPlain (slice_index bytes.now i) }
 {
     let mut plain = true;
     for i in from..from + BLOCK {

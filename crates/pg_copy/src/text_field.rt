@@ -27,7 +27,8 @@ fn letter_value(letter: u8) -> u8
 fn leading_digit(bytes: &[u8], base: u32) -> Option<u32>
     requires low { 2 ≤ base }
     requires high { base ≤ 36 }
-    ensures { MatchOption result ((n : ℕ) → digits_at base n bytes.now ≡ []) (LeadsWith base bytes.now) }
+    ensures { MatchOption result ((n : ℕ)
+        → digits_at base n bytes.now ≡ []) (LeadsWith base bytes.now) }
 {
     match bytes {
         [] => None,

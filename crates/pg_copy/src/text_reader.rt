@@ -62,7 +62,8 @@ impl TextReader {
     /// A reader of rows of so many columns, 1 to 32,767; or of any number up to 32,767, where None is given.
     pub fn new(alloc: Global, columns: Option<u16>) -> Self
         requires { IfSome columns (λ n. (0 < n) × (n ≤ 32767)) }
-        ensures state { result ≡ record { columns = columns; kept = []; stage = Lines; ended = false } }
+        ensures state { result
+            ≡ record { columns = columns; kept = []; stage = Lines; ended = false } }
         ensures read { HasRead result [] [] }
     {
         TextReader {
@@ -95,7 +96,8 @@ impl TextReader {
     pub fn push(&mut self, piece: &[u8]) -> Result<(), TextFault>
         requires { self.old.ended ≡ false }
         ensures call { Pushes self.old piece.now result self.new }
-        ensures read { OnOk result ((pushed : List ℕ) (given : List Row) → HasRead self.old pushed given → HasRead self.new (pushed ++ piece.now) given) }
+        ensures read { OnOk result ((pushed : List ℕ) (given : List Row)
+            → HasRead self.old pushed given → HasRead self.new (pushed ++ piece.now) given) }
     {
         match self.stage {
             TextStage::Failed(fault) => Err(fault),
@@ -112,12 +114,16 @@ impl TextReader {
     /// (PostgreSQL documentation, page COPY, "Text Format").
     pub fn next(&mut self) -> Result<Option<Row>, TextFault>
         requires { self.old.ended ≡ false }
-        ensures read { (pushed : List ℕ) (given : List Row) → HasRead self.old pushed given → HasRead self.new pushed (given ++ given_by result) }
-        ensures gives { (pushed : List ℕ) (given : List Row) → HasRead self.old pushed given → Gives Memory (reading self.new.columns pushed) given (ending_at self.new.stage self.new.kept) result }
+        ensures read { (pushed : List ℕ) (given : List Row) → HasRead self.old pushed given
+            → HasRead self.new pushed (given ++ given_by result) }
+        ensures gives { (pushed : List ℕ) (given : List Row) → HasRead self.old pushed given
+            → Gives Memory (reading self.new.columns pushed) given
+            (ending_at self.new.stage self.new.kept) result }
         ensures columns { self.new.columns ≡ self.old.columns }
         ensures ended { self.new.ended ≡ false }
         ensures row { (row : Row) → result ≡ Ok (Some row) → self.new.stage ≡ Lines }
-        ensures failed { (fault : TextFault) → self.old.stage ≡ Failed fault → (result ≡ Err fault) × (self.new ≡ self.old) }
+        ensures failed { (fault : TextFault) → self.old.stage ≡ Failed fault
+            → (result ≡ Err fault) × (self.new ≡ self.old) }
         ensures marked { self.old.stage ≡ Marked → (result ≡ Ok None) × (self.new ≡ self.old) }
         ensures memory { result ≡ Err Memory → (self.new ≡ self.old) × RowWaits (left self.old []) }
     {
@@ -139,13 +145,18 @@ impl TextReader {
     /// closed, and no line stands there where it is empty. It is to be called until it answers None. Memory is answered only
     /// where a row is left, and leaves the reader unchanged (PostgreSQL documentation, page COPY, "Text Format").
     pub fn finish(&mut self) -> Result<Option<Row>, TextFault>
-        ensures read { (pushed : List ℕ) (given : List Row) → HasRead self.old pushed given → HasRead self.new pushed (given ++ given_by result) }
-        ensures gives { (pushed : List ℕ) (given : List Row) → HasRead self.old pushed given → Gives Memory (file_reading self.new.columns pushed) given (last_ending_at self.new.stage) result }
+        ensures read { (pushed : List ℕ) (given : List Row) → HasRead self.old pushed given
+            → HasRead self.new pushed (given ++ given_by result) }
+        ensures gives { (pushed : List ℕ) (given : List Row) → HasRead self.old pushed given
+            → Gives Memory (file_reading self.new.columns pushed) given
+            (last_ending_at self.new.stage) result }
         ensures columns { self.new.columns ≡ self.old.columns }
         ensures ended { result ≡ Err Memory ⊎ self.new.ended ≡ true }
         ensures row { (row : Row) → result ≡ Ok (Some row) → self.new.stage ≡ Lines }
-        ensures failed { (fault : TextFault) → self.old.stage ≡ Failed fault → (result ≡ Err fault) × (self.new ≡ record self.old { ended = true }) }
-        ensures marked { self.old.stage ≡ Marked → (result ≡ Ok None) × (self.new ≡ record self.old { ended = true }) }
+        ensures failed { (fault : TextFault) → self.old.stage ≡ Failed fault
+            → (result ≡ Err fault) × (self.new ≡ record self.old { ended = true }) }
+        ensures marked { self.old.stage ≡ Marked
+            → (result ≡ Ok None) × (self.new ≡ record self.old { ended = true }) }
         ensures memory { result ≡ Err Memory → (self.new ≡ self.old) × RowWaits (last self.old) }
     {
         match self.stage {

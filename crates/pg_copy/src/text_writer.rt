@@ -76,7 +76,8 @@ fn put_row(fields: &[Option<Seq<u8>>], buf: &mut Vec<u8>) -> Result<(), AllocErr
 /// fields and a newline behind the last (PostgreSQL documentation, page COPY, "Text Format"). Memory is answered where the buffer
 /// could not grow, and leaves `buf` as it was.
 pub fn write_text_field(field: Option<&[u8]>, buf: &mut Vec<u8>) -> Result<(), RowFault>
-    ensures { Writes None (written_field (option_copied field.entry)) buf.old.items result buf.new.items }
+    ensures { Writes None
+        (written_field (option_copied field.entry)) buf.old.items result buf.new.items }
 {
     let before = buf.len();
     let written = match field {

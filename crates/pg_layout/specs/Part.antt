@@ -42,7 +42,8 @@ packet_fault_of zero no_name size =
 
 -- What has no fault is appended, and its numbers are of their types; what has one is refused with it; and memory may be
 -- refused where there is no fault. A refusal leaves the buffer as it was.
-abbrev pub EncodesAs : Type 0 → Option EncodeFault → List ℕ → List ℕ → Result Unit EncodeFault → List ℕ → Type 0
+abbrev pub EncodesAs : Type 0 → Option EncodeFault → List ℕ → List ℕ → Result Unit EncodeFault
+    → List ℕ → Type 0
 EncodesAs OfType fault spelled old (Ok x) new = OfType × (fault ≡ None) × (new ≡ old ++ spelled)
 EncodesAs OfType fault spelled old (Err faults.Memory) new = (fault ≡ None) × (new ≡ old)
 EncodesAs OfType fault spelled old (Err f) new = (fault ≡ Some f) × (new ≡ old)

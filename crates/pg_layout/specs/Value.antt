@@ -18,7 +18,8 @@ status_byte Failed = 69  -- E
 
 -- a column of RowDescription
 abbrev pub column : Column → List ℕ
-column c = string c.name ++ oid c.table_oid ++ int16 c.attribute ++ oid c.type_oid ++ int16 c.size ++ int32 c.modifier ++ int16 c.format
+column c = string c.name ++ oid c.table_oid ++ int16 c.attribute ++ oid c.type_oid ++ int16 c.size
+    ++ int32 c.modifier ++ int16 c.format
 
 -- a field of an error or a notice ("Error and Notice Message Fields")
 abbrev pub error_field : ErrorField → List ℕ

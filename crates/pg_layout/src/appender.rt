@@ -73,7 +73,9 @@ pub fn settle(
     out: Appender,
     written: Result<(), AllocError>,
 ) -> Result<(), EncodeFault>
-    ensures { MatchResult written (λ _. (result ≡ Ok record {}) × (buf.new.items ≡ out.before ++ out.added)) (λ _. (result ≡ Err EncodeFault.Memory) × (buf.new.items ≡ out.before)) }
+    ensures { MatchResult written (λ _. (result ≡ Ok record {})
+        × (buf.new.items ≡ out.before ++ out.added)) (λ _. (result ≡ Err EncodeFault.Memory)
+        × (buf.new.items ≡ out.before)) }
 {
     match written {
         Ok(()) => {

@@ -302,7 +302,10 @@ impl<A: Part, B: Part> Part for Pair<A, B> {
 
 /// The length field of a message with this body, or why it has no spelling.
 fn judge<P: Part>(body: &P) -> Result<u32, EncodeFault>
-    ensures fault { MatchResult result (λ n. fault_of (P.zero body.now) (P.too_many body.now) false (length (P.spelling body.now)) ≡ None) (λ f. fault_of (P.zero body.now) (P.too_many body.now) false (length (P.spelling body.now)) ≡ Some f) }
+    ensures fault { MatchResult result
+        (λ n. fault_of (P.zero body.now) (P.too_many body.now) false (length (P.spelling body.now))
+        ≡ None) (λ f. fault_of (P.zero body.now) (P.too_many body.now) false
+        (length (P.spelling body.now)) ≡ Some f) }
     ensures count { OnOk result (P.too_many body.now ≡ false) }
     ensures length { IfOk result (λ n. n ≡ 4 + length (P.spelling body.now)) }
 {
@@ -328,7 +331,8 @@ fn write_message<P: Part>(
     requires count { P.too_many body.now ≡ false }
     requires size { size ≡ 4 + length (P.spelling body.now) }
     ensures before { out.new.before ≡ out.old.before }
-    ensures added { OnOk result (out.new.added ≡ out.old.added ++ tagged tag (P.spelling body.now)) }
+    ensures added { OnOk result (out.new.added
+        ≡ out.old.added ++ tagged tag (P.spelling body.now)) }
     ensures of_type { OnOk result (P.of_type body.now) }
 {
     out.put(&[tag])?;
@@ -338,7 +342,9 @@ fn write_message<P: Part>(
 
 /// Appends the message of this tag and this body: the tag, the length field, the body.
 pub fn append<P: Part>(tag: u8, body: &P, buf: &mut Vec<u8>) -> Result<(), EncodeFault>
-    ensures { EncodesAs (P.of_type body.now) (fault_of (P.zero body.now) (P.too_many body.now) false (length (P.spelling body.now))) (tagged tag (P.spelling body.now)) buf.old.items result buf.new.items }
+    ensures { EncodesAs (P.of_type body.now)
+        (fault_of (P.zero body.now) (P.too_many body.now) false (length (P.spelling body.now)))
+        (tagged tag (P.spelling body.now)) buf.old.items result buf.new.items }
 {
     let length = judge(body)?;
     let mut out = begin(buf);
@@ -351,7 +357,10 @@ pub const LONGEST_PACKET: u32 = 10_000;
 
 /// The length of a first packet with this content, or why it has no spelling.
 fn judge_packet<P: Part>(has_no_name: bool, content: &P) -> Result<u32, EncodeFault>
-    ensures fault { MatchResult result (λ n. packet_fault_of (P.zero content.now) has_no_name (8 + length (P.spelling content.now)) ≡ None) (λ f. packet_fault_of (P.zero content.now) has_no_name (8 + length (P.spelling content.now)) ≡ Some f) }
+    ensures fault { MatchResult result
+        (λ n. packet_fault_of (P.zero content.now) has_no_name (8 + length (P.spelling content.now))
+        ≡ None) (λ f. packet_fault_of (P.zero content.now) has_no_name
+        (8 + length (P.spelling content.now)) ≡ Some f) }
     ensures length { IfOk result (λ n. n ≡ 8 + length (P.spelling content.now)) }
 {
     if content.has_zero() {
@@ -376,7 +385,9 @@ fn write_packet<P: Part>(
     requires count { P.too_many content.now ≡ false }
     requires size { size ≡ 8 + length (P.spelling content.now) }
     ensures before { out.new.before ≡ out.old.before }
-    ensures added { OnOk result (out.new.added ≡ out.old.added ++ to_be_bytes w32 (8 + length (P.spelling content.now)) ++ to_be_bytes w32 code ++ P.spelling content.now) }
+    ensures added { OnOk result (out.new.added
+        ≡ out.old.added ++ to_be_bytes w32 (8 + length (P.spelling content.now))
+        ++ to_be_bytes w32 code ++ P.spelling content.now) }
     ensures of_type { OnOk result (P.of_type content.now) }
 {
     out.put(&size.to_be_bytes())?;
@@ -393,7 +404,10 @@ pub fn append_packet<P: Part>(
     buf: &mut Vec<u8>,
 ) -> Result<(), EncodeFault>
     requires { P.too_many content.now ≡ false }
-    ensures { EncodesAs (P.of_type content.now) (packet_fault_of (P.zero content.now) has_no_name (8 + length (P.spelling content.now))) (to_be_bytes w32 (8 + length (P.spelling content.now)) ++ to_be_bytes w32 code ++ P.spelling content.now) buf.old.items result buf.new.items }
+    ensures { EncodesAs (P.of_type content.now)
+        (packet_fault_of (P.zero content.now) has_no_name (8 + length (P.spelling content.now)))
+        (to_be_bytes w32 (8 + length (P.spelling content.now)) ++ to_be_bytes w32 code
+        ++ P.spelling content.now) buf.old.items result buf.new.items }
 {
     let size = judge_packet(has_no_name, content)?;
     let mut out = begin(buf);

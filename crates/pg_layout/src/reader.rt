@@ -124,7 +124,8 @@ pub fn counted<T: Field>(alloc: Global, bytes: &[u8]) -> Result<(Seq<T>, &[u8]),
 
 /// What stands behind a zero byte.
 fn behind_zero(bytes: &[u8]) -> Option<&[u8]>
-    ensures { MatchOption result (behind_zero bytes.now ≡ None) (λ rest. behind_zero bytes.now ≡ Some rest.now) }
+    ensures { MatchOption result (behind_zero bytes.now ≡ None) (λ rest. behind_zero bytes.now
+        ≡ Some rest.now) }
 {
     match bytes {
         [0, rest @ ..] => Some(rest),

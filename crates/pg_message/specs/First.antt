@@ -73,5 +73,6 @@ database_pair None = []
 database_pair (Some name) = (codes "database", name) ∷ []
 
 -- the user, the database if one is named, and further parameters
-abbrev pub startup_parameters : List ℕ → Option (List ℕ) → List (List ℕ × List ℕ) → List (List ℕ × List ℕ)
+abbrev pub startup_parameters : List ℕ → Option (List ℕ) → List (List ℕ × List ℕ)
+    → List (List ℕ × List ℕ)
 startup_parameters user database pairs = (codes "user", user) ∷ database_pair database ++ pairs

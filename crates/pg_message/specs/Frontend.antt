@@ -35,7 +35,8 @@ target_byte Portal = 80  -- P
 abbrev pub body : FrontMessage → List ℕ
 body (Query text) = string text
 body (Parse name text types) = string name ++ string text ++ counted oid types
-body (Bind portal statement formats values result_formats) = string portal ++ string statement ++ counted int16 formats
+body (Bind portal statement formats values result_formats) = string portal ++ string statement
+    ++ counted int16 formats
     ++ counted value values ++ counted int16 result_formats
 body (Describe target name) = (target_byte target ∷ []) ++ string name
 body (Close target name) = (target_byte target ∷ []) ++ string name
@@ -52,7 +53,8 @@ body (Password password) = string password
 abbrev pub has_zero : FrontMessage → Bool
 has_zero (Query text) = contains_zero text
 has_zero (Parse name text types) = contains_zero name || contains_zero text
-has_zero (Bind portal statement formats values result_formats) = contains_zero portal || contains_zero statement
+has_zero (Bind portal statement formats values result_formats) = contains_zero portal
+    || contains_zero statement
 has_zero (Describe target name) = contains_zero name
 has_zero (Close target name) = contains_zero name
 has_zero (Execute portal max_rows) = contains_zero portal
@@ -63,7 +65,8 @@ has_zero _ = false
 -- a list behind a 16-bit count has more elements than the count can say
 abbrev pub has_too_many : FrontMessage → Bool
 has_too_many (Parse name text types) = exceeds_count types
-has_too_many (Bind portal statement formats values result_formats) = exceeds_count formats || exceeds_count values || exceeds_count result_formats
+has_too_many (Bind portal statement formats values result_formats) = exceeds_count formats
+    || exceeds_count values || exceeds_count result_formats
 has_too_many _ = false
 
 -- The numbers are of their types.

@@ -14,7 +14,8 @@ NoMessage {M} d t bytes = (m : M) → HasSpelling d m → d.tag m ≡ t → d.bo
 
 -- No two messages have the same tag and the same body.
 abbrev pub OneToOne : {M : Type 0} → Direction M → Type 0
-OneToOne {M} d = (m n : M) → HasSpelling d m → HasSpelling d n → d.tag m ≡ d.tag n → d.body m ≡ d.body n → m ≡ n
+OneToOne {M} d = (m n : M) → HasSpelling d m → HasSpelling d n → d.tag m ≡ d.tag n
+    → d.body m ≡ d.body n → m ≡ n
 
 -- The message has this tag and this body, and a spelling unless the body is too long for one.
 pub record IsMessage {M : Type 0} (d : Direction M) (t : ℕ) (bytes : List ℕ) (m : M) : Type 0 where

@@ -54,7 +54,9 @@ fn is_reserved(code: i32) -> bool
 
 /// An authentication request that has no message of its own.
 fn encode_other(code: i32, rest: &[u8], buf: &mut Vec<u8>) -> Result<(), EncodeFault>
-    ensures { EncodesAs (FitsSigned w32 code) (fault_of false false (is_reserved code) (length (int32 code ++ rest.now))) (tagged 82 (int32 code ++ rest.now)) buf.old.items result buf.new.items }
+    ensures { EncodesAs (FitsSigned w32 code)
+        (fault_of false false (is_reserved code) (length (int32 code
+        ++ rest.now))) (tagged 82 (int32 code ++ rest.now)) buf.old.items result buf.new.items }
 {
     if is_reserved(code) {
         return Err(EncodeFault::ReservedCode);
@@ -64,7 +66,9 @@ fn encode_other(code: i32, rest: &[u8], buf: &mut Vec<u8>) -> Result<(), EncodeF
 
 /// A CopyIn or a CopyOut, by its tag.
 fn encode_copy_head(tag: u8, head: &CopyHead, buf: &mut Vec<u8>) -> Result<(), EncodeFault>
-    ensures { EncodesAs (AllByRecursion (FitsSigned w16) head.now.formats) (fault_of false (exceeds_count head.now.formats) false (length (copy_head head.now))) (tagged tag (copy_head head.now)) buf.old.items result buf.new.items }
+    ensures { EncodesAs (AllByRecursion (FitsSigned w16) head.now.formats)
+        (fault_of false (exceeds_count head.now.formats) false (length (copy_head head.now)))
+        (tagged tag (copy_head head.now)) buf.old.items result buf.new.items }
 {
     let format = Byte(format_byte(head.binary));
     append(tag, &Pair(format, Counted(head.formats.as_slice())), buf)
@@ -72,7 +76,8 @@ fn encode_copy_head(tag: u8, head: &CopyHead, buf: &mut Vec<u8>) -> Result<(), E
 
 /// Appends a ParameterStatus: the value of a run-time parameter. Its faults are HasZero, TooLong and Memory.
 pub fn parameter_status(name: &[u8], value: &[u8], buf: &mut Vec<u8>) -> Result<(), EncodeFault>
-    ensures { Encodes backend (ParameterStatus name.now value.now) buf.old.items result buf.new.items }
+    ensures { Encodes backend
+        (ParameterStatus name.now value.now) buf.old.items result buf.new.items }
 {
     append(b'S', &Pair(Text(name), Text(value)), buf)
 }
@@ -127,7 +132,8 @@ pub fn notification(
     payload: &[u8],
     buf: &mut Vec<u8>,
 ) -> Result<(), EncodeFault>
-    ensures { Encodes backend (Notification process channel.now payload.now) buf.old.items result buf.new.items }
+    ensures { Encodes backend
+        (Notification process channel.now payload.now) buf.old.items result buf.new.items }
 {
     let names = Pair(Int32(&process), Text(channel));
     append(b'A', &Pair(names, Text(payload)), buf)

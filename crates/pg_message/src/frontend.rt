@@ -51,7 +51,10 @@ fn append_startup<P: Part>(
     buf: &mut Vec<u8>,
 ) -> Result<(), EncodeFault>
     requires { P.too_many content.now ≡ false }
-    ensures { EncodesAs (P.of_type content.now) (packet_fault_of (P.zero content.now) has_no_name (8 + length (P.spelling content.now))) (to_be_bytes w32 (8 + length (P.spelling content.now)) ++ to_be_bytes w32 196608 ++ P.spelling content.now) buf.old.items result buf.new.items }
+    ensures { EncodesAs (P.of_type content.now)
+        (packet_fault_of (P.zero content.now) has_no_name (8 + length (P.spelling content.now)))
+        (to_be_bytes w32 (8 + length (P.spelling content.now)) ++ to_be_bytes w32 196608
+        ++ P.spelling content.now) buf.old.items result buf.new.items }
 {
     append_packet(196_608, has_no_name, content, buf)
 }
@@ -72,7 +75,9 @@ pub fn startup(
     pairs: &[(Seq<u8>, Seq<u8>)],
     buf: &mut Vec<u8>,
 ) -> Result<(), EncodeFault>
-    ensures { EncodesPacket (Startup (startup_parameters user.now (option_copied database.entry) pairs.now)) buf.old.items result buf.new.items }
+    ensures { EncodesPacket
+        (Startup (startup_parameters user.now (option_copied database.entry) pairs.now))
+        buf.old.items result buf.new.items }
 {
     let no_name = any_has_no_name(pairs);
     let first = Pair(Text(b"user"), Text(user));
@@ -135,7 +140,8 @@ pub fn query(text: &[u8], buf: &mut Vec<u8>) -> Result<(), EncodeFault>
 /// Appends a Parse that makes the statement `name` (empty for the unnamed one) of a query. `types` has the object ids of the
 /// types of the first parameters; 0 leaves one open. Its faults are HasZero, TooMany, TooLong and Memory.
 pub fn parse(name: &[u8], text: &[u8], types: &[u32], buf: &mut Vec<u8>) -> Result<(), EncodeFault>
-    ensures { Encodes frontend (Parse name.now text.now types.now) buf.old.items result buf.new.items }
+    ensures { Encodes frontend
+        (Parse name.now text.now types.now) buf.old.items result buf.new.items }
 {
     append(
         b'P',
@@ -154,7 +160,9 @@ pub fn bind(
     result_formats: &[i16],
     buf: &mut Vec<u8>,
 ) -> Result<(), EncodeFault>
-    ensures { Encodes frontend (Bind portal.now statement.now formats.now values.now result_formats.now) buf.old.items result buf.new.items }
+    ensures { Encodes frontend
+        (Bind portal.now statement.now formats.now values.now result_formats.now) buf.old.items
+        result buf.new.items }
 {
     let names = Pair(Text(portal), Text(statement));
     let given = Pair(Pair(names, Counted(formats)), Counted(values));

@@ -79,7 +79,8 @@ impl<T> Seq<T> {
     /// Goes over the elements in their order.
     pub fn iter(&self) -> slice::Iter<'_, T>
         ensures rest { iter_rest result ≡ self.now }
-        ensures runs { EveryRun (iter_steps {A = T}) (λ p. ItemsMapTo p (λ x. x.now) (iter_rest p.from)) }
+        ensures runs { EveryRun (iter_steps {A = T})
+            (λ p. ItemsMapTo p (λ x. x.now) (iter_rest p.from)) }
     {
         self.items.iter()
     }

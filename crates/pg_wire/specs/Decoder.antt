@@ -23,7 +23,8 @@ FaultHolds d limit rest None = Unit {0}
 FaultHolds d limit rest (Some f) = IsFaulty d limit rest f
 
 -- The decoder was given these bytes, and has given these messages.
-pub record HasTaken {M : Type 0} (d : Direction M) (s : DecoderState) (pushed : List ℕ) (given : List M) : Type 0 where
+pub record HasTaken {M : Type 0} (d : Direction M) (s : DecoderState) (pushed : List ℕ)
+    (given : List M) : Type 0 where
   pub stream : IsStream d s.limit pushed given s.kept
   pub fault : FaultHolds d s.limit s.kept s.fault
 
@@ -39,10 +40,14 @@ abbrev pub WantsMemory : {M : Type 0} → Direction M → ℕ → List ℕ → T
 WantsMemory d limit rest = (t : ℕ) × (len : ℕ) × IsWhole d limit rest t len
 
 -- A call of next gives the message at the beginning of the rest, None where the rest is open, or the rest's fault.
-abbrev pub Takes : {M : Type 0} → Direction M → DecoderState → Result (Option M) WireFault → DecoderState → Type 0
-Takes d old (Ok None) new = (old.fault ≡ None) × (new ≡ old) × IsOpen d old.limit old.kept × (length old.kept < old.limit + 1)
-Takes d old (Ok (Some m)) new = (old.fault ≡ None) × IsWithin d old.limit m × (old.kept ≡ spelling d m ++ new.kept) × (new ≡ record old { kept = new.kept })
-Takes d old (Err wire.Memory) new = (old.fault ≡ None) × (new ≡ old) × WantsMemory d old.limit old.kept
+abbrev pub Takes : {M : Type 0} → Direction M → DecoderState → Result (Option M) WireFault
+    → DecoderState → Type 0
+Takes d old (Ok None) new = (old.fault ≡ None) × (new ≡ old) × IsOpen d old.limit old.kept
+    × (length old.kept < old.limit + 1)
+Takes d old (Ok (Some m)) new = (old.fault ≡ None) × IsWithin d old.limit m
+    × (old.kept ≡ spelling d m ++ new.kept) × (new ≡ record old { kept = new.kept })
+Takes d old (Err wire.Memory) new = (old.fault ≡ None) × (new ≡ old)
+    × WantsMemory d old.limit old.kept
 Takes d old (Err f) new = ((old.fault ≡ Some f) × (new ≡ old))
     ⊎ ((old.fault ≡ None) × (new ≡ record old { fault = Some f }) × IsFaulty d old.limit old.kept f)
 

@@ -25,7 +25,8 @@ EndsIn (p ∷ []) ended = ended ≡ is_last p
 EndsIn (p ∷ q ∷ packets) ended = (is_last p ≡ false) × EndsIn (q ∷ packets) ended
 
 -- The bytes are these packets, one after the other, and a rest, which holds no more of them where they have ended.
-pub record IsBeginning (bytes : List ℕ) (packets : List First) (ended : Bool) (rest : List ℕ) : Type 0 where
+pub record IsBeginning (bytes : List ℕ) (packets : List First) (ended : Bool)
+    (rest : List ℕ) : Type 0 where
   pub whole : bytes ≡ flat_map packet packets ++ rest
   pub each : AllByRecursion IsPacket packets
   pub last : EndsIn packets ended
@@ -69,8 +70,10 @@ abbrev pub IsFaultyPacket : List ℕ → WireFault → Type 0
 IsFaultyPacket rest (wire.UnknownTag t) = ⊥
 IsFaultyPacket rest (wire.ShortLength n) = PacketHead rest n × (n <ℤ pos 8)
 IsFaultyPacket rest (wire.LongLength n) = PacketHead rest n × (pos longest_packet <ℤ n)
-IsFaultyPacket rest (wire.BadFirst c) = (n : ℤ) × PacketHead rest n × IsPacketLength n × PacketCode rest c × (IsPacketCode c → ⊥)
-IsFaultyPacket rest (wire.BadBody t) = (t ≡ 0) × (c : ℤ) × (len : ℕ) × IsWholePacket rest c len × NoPacket (take len rest)
+IsFaultyPacket rest (wire.BadFirst c) = (n : ℤ) × PacketHead rest n × IsPacketLength n
+    × PacketCode rest c × (IsPacketCode c → ⊥)
+IsFaultyPacket rest (wire.BadBody t) = (t ≡ 0) × (c : ℤ) × (len : ℕ) × IsWholePacket rest c len
+    × NoPacket (take len rest)
 IsFaultyPacket rest wire.Memory = ⊥
 
 -- No packet stands at the beginning of the rest.

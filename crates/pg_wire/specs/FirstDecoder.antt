@@ -24,7 +24,8 @@ pub record HasBegun (s : FirstState) (pushed : List ℕ) (given : List First) : 
 -- A push keeps the whole piece, or refuses it and changes nothing: with the fault that was found, or for want of memory,
 -- which a piece without bytes never meets.
 abbrev pub FirstPushes : FirstState → List ℕ → Result Unit WireFault → FirstState → Type 0
-FirstPushes old piece (Ok x) new = (old.fault ≡ None) × (new ≡ record old { kept = old.kept ++ piece })
+FirstPushes old piece (Ok x) new = (old.fault ≡ None)
+    × (new ≡ record old { kept = old.kept ++ piece })
 FirstPushes old piece (Err wire.Memory) new = (old.fault ≡ None) × (0 < length piece) × (new ≡ old)
 FirstPushes old piece (Err f) new = (old.fault ≡ Some f) × (new ≡ old)
 
@@ -37,12 +38,14 @@ NoMorePackets false rest = IsOpenPacket rest × (length rest < longest_packet)
 -- rest's fault. Memory is wanted only for a packet that is all there by its length.
 abbrev pub FirstTakes : FirstState → Result (Option First) WireFault → FirstState → Type 0
 FirstTakes old (Ok None) new = (old.fault ≡ None) × (new ≡ old) × NoMorePackets old.ended old.kept
-FirstTakes old (Ok (Some p)) new = (old.fault ≡ None) × (old.ended ≡ false) × IsPacket p × (old.kept ≡ packet p ++ new.kept)
+FirstTakes old (Ok (Some p)) new = (old.fault ≡ None) × (old.ended ≡ false) × IsPacket p
+    × (old.kept ≡ packet p ++ new.kept)
     × (new ≡ record old { kept = new.kept; ended = is_last p })
 FirstTakes old (Err wire.Memory) new = (old.fault ≡ None) × (old.ended ≡ false) × (new ≡ old)
     × (c : ℤ) × (len : ℕ) × IsWholePacket old.kept c len
 FirstTakes old (Err f) new = ((old.fault ≡ Some f) × (new ≡ old))
-    ⊎ ((old.fault ≡ None) × (old.ended ≡ false) × (new ≡ record old { fault = Some f }) × IsFaultyPacket old.kept f)
+    ⊎ ((old.fault ≡ None) × (old.ended ≡ false) × (new ≡ record old { fault = Some f })
+    × IsFaultyPacket old.kept f)
 
 -- the packets given, after a call of next
 abbrev pub packets_after : List First → Result (Option First) WireFault → List First

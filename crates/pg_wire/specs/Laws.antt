@@ -19,7 +19,8 @@ use Rattle.pg_wire.specs.Stream.{IsWithin, IsStream, IsFaulty, BeginsNoMessage}
 
 -- No message has the bytes of another, and none begins another.
 abbrev pub OneSpelling : {M : Type 0} → Direction M → Type 0
-OneSpelling {M} d = (m n : M) (x y : List ℕ) → HasSpelling d m → HasSpelling d n → spelling d m ++ x ≡ spelling d n ++ y → (m ≡ n) × (x ≡ y)
+OneSpelling {M} d = (m n : M) (x y : List ℕ) → HasSpelling d m → HasSpelling d n
+    → spelling d m ++ x ≡ spelling d n ++ y → (m ≡ n) × (x ≡ y)
 
 -- Two readings of the same bytes differ only in how far they go: where no further message begins the rest of the second,
 -- the first is a beginning of it.
@@ -30,23 +31,27 @@ OneReading {M} d = (limit : ℕ) (bytes : List ℕ) (ms ns : List M) (x y : List
 
 -- A faulty rest begins no message.
 abbrev pub FaultyBeginsNone : {M : Type 0} → Direction M → Type 0
-FaultyBeginsNone d = (limit : ℕ) (rest : List ℕ) (f : WireFault) → IsFaulty d limit rest f → BeginsNoMessage d limit rest
+FaultyBeginsNone d = (limit : ℕ) (rest : List ℕ) (f : WireFault) → IsFaulty d limit rest f
+    → BeginsNoMessage d limit rest
 
 -- A rest is faulty for one reason at most.
 abbrev pub OneFault : {M : Type 0} → Direction M → Type 0
-OneFault d = (limit : ℕ) (rest : List ℕ) (f g : WireFault) → 64 ≤ limit → IsFaulty d limit rest f → IsFaulty d limit rest g → f ≡ g
+OneFault d = (limit : ℕ) (rest : List ℕ) (f g : WireFault) → 64 ≤ limit → IsFaulty d limit rest f
+    → IsFaulty d limit rest g → f ≡ g
 
 -- What encoders wrote is read as what was meant: of the joined spellings of messages within the limit each reading is a
 -- beginning of these messages, and what it leaves is the spellings of the others.
 abbrev pub RoundTrip : {M : Type 0} → Direction M → Type 0
-RoundTrip {M} d = (limit : ℕ) (ms given : List M) (rest : List ℕ) → AllByRecursion (IsWithin d limit) ms → IsStream d limit (flat_map (spelling d) ms) given rest
+RoundTrip {M} d = (limit : ℕ) (ms given : List M) (rest : List ℕ)
+    → AllByRecursion (IsWithin d limit) ms → IsStream d limit (flat_map (spelling d) ms) given rest
     → (later : List M) × (ms ≡ given ++ later) × (rest ≡ flat_map (spelling d) later)
 
 -- ---- first packets
 
 -- No packet has the bytes of another, and none begins another.
 abbrev pub OnePacket : Type 0
-OnePacket = (p q : First) (x y : List ℕ) → IsPacket p → IsPacket q → packet p ++ x ≡ packet q ++ y → (p ≡ q) × (x ≡ y)
+OnePacket = (p q : First) (x y : List ℕ) → IsPacket p → IsPacket q → packet p ++ x ≡ packet q ++ y
+    → (p ≡ q) × (x ≡ y)
 
 -- No more packets can be read: the last one was, or none begins the rest.
 abbrev pub ReadsNoFurther : Bool → List ℕ → Type 0
@@ -56,7 +61,8 @@ ReadsNoFurther false rest = BeginsNoPacket rest
 -- Two readings of the same bytes differ only in how far they go: where the second can't go further, the first is a beginning
 -- of it.
 abbrev pub OneBeginning : Type 0
-OneBeginning = (bytes : List ℕ) (ps qs : List First) (e f : Bool) (x y : List ℕ) → IsBeginning bytes ps e x → IsBeginning bytes qs f y → ReadsNoFurther f y
+OneBeginning = (bytes : List ℕ) (ps qs : List First) (e f : Bool) (x y : List ℕ)
+    → IsBeginning bytes ps e x → IsBeginning bytes qs f y → ReadsNoFurther f y
     → (later : List First) × (qs ≡ ps ++ later) × (x ≡ flat_map packet later ++ y)
 
 -- A faulty rest begins no packet.
@@ -65,19 +71,22 @@ FaultyBeginsNoPacket = (rest : List ℕ) (f : WireFault) → IsFaultyPacket rest
 
 -- A rest is faulty for one reason at most.
 abbrev pub OnePacketFault : Type 0
-OnePacketFault = (rest : List ℕ) (f g : WireFault) → IsFaultyPacket rest f → IsFaultyPacket rest g → f ≡ g
+OnePacketFault = (rest : List ℕ) (f g : WireFault) → IsFaultyPacket rest f → IsFaultyPacket rest g
+    → f ≡ g
 
 -- What encoders wrote is read as what was meant: of the joined packets each reading is a beginning, and what it leaves is the
 -- others.
 abbrev pub PacketsAgain : Type 0
-PacketsAgain = (ps given : List First) (e f : Bool) (rest : List ℕ) → AllByRecursion IsPacket ps → EndsIn ps f → IsBeginning (flat_map packet ps) given e rest
+PacketsAgain = (ps given : List First) (e f : Bool) (rest : List ℕ) → AllByRecursion IsPacket ps
+    → EndsIn ps f → IsBeginning (flat_map packet ps) given e rest
     → (later : List First) × (ps ≡ given ++ later) × (rest ≡ flat_map packet later)
 
 -- ---- segments
 
 -- A segment fits a request with at most one outcome.
 abbrev pub OneOutcome : Type 0
-OneOutcome = (request : Request) (segment : List BackMessage) (one other : Outcome) → Fits request segment one → Fits request segment other → one ≡ other
+OneOutcome = (request : Request) (segment : List BackMessage) (one other : Outcome)
+    → Fits request segment one → Fits request segment other → one ≡ other
 
 -- No ReadyForQuery is among the messages.
 abbrev pub NoReady : List BackMessage → Type 0
@@ -85,7 +94,8 @@ NoReady ms = AllByRecursion (λ m. status_of m ≡ None) ms
 
 -- A ReadyForQuery is the last message, and no other is one.
 abbrev pub EndsAtReady : List BackMessage → Type 0
-EndsAtReady segment = (body : List BackMessage) × (status : Status) × (segment ≡ body ++ Ready status ∷ []) × NoReady body
+EndsAtReady segment = (body : List BackMessage) × (status : Status)
+    × (segment ≡ body ++ Ready status ∷ []) × NoReady body
 
 -- The messages are cut after each ReadyForQuery, and nowhere else.
 pub record AreSegments (ms : List BackMessage) (s : Segments) : Type 0 where
@@ -95,10 +105,12 @@ pub record AreSegments (ms : List BackMessage) (s : Segments) : Type 0 where
 
 -- The segments of a session are its messages, cut after each ReadyForQuery, and there is one such cut.
 abbrev pub OneCut : Type 0
-OneCut = ((ms : List BackMessage) → AreSegments ms (segments ms)) × ((ms : List BackMessage) (s t : Segments) → AreSegments ms s → AreSegments ms t → s ≡ t)
+OneCut = ((ms : List BackMessage) → AreSegments ms (segments ms))
+    × ((ms : List BackMessage) (s t : Segments) → AreSegments ms s → AreSegments ms t → s ≡ t)
 
 -- ---- passwords
 
 -- The answer to an AuthMd5 has a spelling.
 abbrev pub AnswerIsSpelled : Type 0
-AnswerIsSpelled = (user password salt : List ℕ) → HasSpelling frontend (Password (md5_text user password salt))
+AnswerIsSpelled = (user password salt : List ℕ)
+    → HasSpelling frontend (Password (md5_text user password salt))

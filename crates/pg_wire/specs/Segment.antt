@@ -78,14 +78,17 @@ end_sent ends.Suspended = PortalSuspended
 
 -- the messages of one whole result of a query, or of the whole answer to one step
 abbrev pub messages_of : Part → List BackMessage
-messages_of (part.Rows columns rows tag) = RowDescription columns ∷ map DataRow rows ++ CommandComplete tag ∷ []
+messages_of (part.Rows columns rows tag) = RowDescription columns ∷ map DataRow rows
+    ++ CommandComplete tag ∷ []
 messages_of (part.Command tag) = CommandComplete tag ∷ []
 messages_of part.Empty = EmptyQuery ∷ []
-messages_of (part.CopyOut head chunks tag) = back.CopyOut head ∷ map CopyData chunks ++ CopyDone ∷ CommandComplete tag ∷ []
+messages_of (part.CopyOut head chunks tag) = back.CopyOut head ∷ map CopyData chunks
+    ++ CopyDone ∷ CommandComplete tag ∷ []
 messages_of (part.CopyIn head tag) = back.CopyIn head ∷ CommandComplete tag ∷ []
 messages_of part.Parsed = ParseComplete ∷ []
 messages_of part.Bound = BindComplete ∷ []
-messages_of (part.Described parameters columns) = parameters_sent parameters ++ columns_sent columns ∷ []
+messages_of (part.Described parameters columns) = parameters_sent parameters
+    ++ columns_sent columns ∷ []
 messages_of (part.Executed rows end) = map DataRow rows ++ end_sent end ∷ []
 messages_of part.Shut = CloseComplete ∷ []
 
@@ -142,9 +145,13 @@ IsCutOff a messages = (messages ≡ [])
 -- A request's messages up to its ReadyForQuery, asides left out: whole results or answers, and where an error comes, maybe the
 -- first messages of one that it cuts off, the error, and further errors, which are dropped.
 abbrev pub Reads : Asked → List BackMessage → List Part → Option Fields → Type 0
-Reads a messages parts None = (rest : Asked) × Answers a parts rest × IsDone rest × (messages ≡ flat_map messages_of parts)
-Reads a messages parts (Some fields) = (rest : Asked) × Answers a parts rest × (cut : List BackMessage) × IsCutOff rest cut
-    × (more : List Fields) × (messages ≡ flat_map messages_of parts ++ (cut ++ ErrorResponse fields ∷ map ErrorResponse more))
+Reads a messages parts None = (rest : Asked) × Answers a parts rest × IsDone rest
+    × (messages ≡ flat_map messages_of parts)
+Reads a messages parts (Some fields) = (rest : Asked) × Answers a parts rest
+    × (cut : List BackMessage) × IsCutOff rest cut
+    × (more : List Fields)
+    × (messages ≡ flat_map messages_of parts
+    ++ (cut ++ ErrorResponse fields ∷ map ErrorResponse more))
 
 -- A whole segment of messages answers the request with this outcome.
 pub record Fits (request : Request) (segment : List BackMessage) (outcome : Outcome) : Type 0 where
@@ -155,7 +162,8 @@ pub record Fits (request : Request) (segment : List BackMessage) (outcome : Outc
 
 -- The messages are the first ones of a segment that fits the request.
 abbrev pub Begins : Request → List BackMessage → Type 0
-Begins request messages = (more : List BackMessage) × (outcome : Outcome) × Fits request (messages ++ more) outcome
+Begins request messages = (more : List BackMessage) × (outcome : Outcome)
+    × Fits request (messages ++ more) outcome
 
 -- ---- the segments of a session: its messages, cut after each ReadyForQuery
 
@@ -175,7 +183,8 @@ error_of (ErrorResponse fields) = Some fields
 error_of _ = None
 
 -- the message before these segments; a ReadyForQuery is one more, of itself alone
-abbrev pub put_before : Option Status → BackMessage → List (List BackMessage) → List BackMessage → Segments
+abbrev pub put_before : Option Status → BackMessage → List (List BackMessage) → List BackMessage
+    → Segments
 put_before (Some status) m whole rest = record { whole = (m ∷ []) ∷ whole; rest = rest }
 put_before None m [] rest = record { whole = []; rest = m ∷ rest }
 put_before None m (s ∷ ss) rest = record { whole = (m ∷ s) ∷ ss; rest = rest }

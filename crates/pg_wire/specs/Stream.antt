@@ -13,7 +13,8 @@ pub record IsWithin {M : Type 0} (d : Direction M) (limit : ℕ) (m : M) : Type 
   pub limited : length_field d m ≤ limit
 
 -- The bytes are these messages, one after the other, and a rest.
-pub record IsStream {M : Type 0} (d : Direction M) (limit : ℕ) (bytes : List ℕ) (messages : List M) (rest : List ℕ) : Type 0 where
+pub record IsStream {M : Type 0} (d : Direction M) (limit : ℕ) (bytes : List ℕ) (messages : List M)
+    (rest : List ℕ) : Type 0 where
   pub whole : bytes ≡ flat_map (spelling d) messages ++ rest
   pub each : AllByRecursion (IsWithin d limit) messages
 
@@ -26,7 +27,8 @@ pub record Head (rest : List ℕ) (t : ℕ) (n : ℤ) : Type 0 where
   pub length_is : cast_signed w32 (from_be_bytes w32 (take 4 (drop 1 rest))) ≡ n
 
 -- The bytes of the next message are all there, by its length field.
-pub record IsWhole {M : Type 0} (d : Direction M) (limit : ℕ) (rest : List ℕ) (t len : ℕ) : Type 0 where
+pub record IsWhole {M : Type 0} (d : Direction M) (limit : ℕ) (rest : List ℕ)
+    (t len : ℕ) : Type 0 where
   pub head : Head rest t (pos len)
   pub known : IsTag d t
   pub not_short : 4 ≤ len
@@ -38,13 +40,15 @@ abbrev pub IsFaulty : {M : Type 0} → Direction M → ℕ → List ℕ → Wire
 IsFaulty d limit rest (wire.UnknownTag t) = (n : ℤ) × Head rest t n × (IsTag d t → ⊥)
 IsFaulty d limit rest (wire.ShortLength n) = (t : ℕ) × Head rest t n × IsTag d t × (n <ℤ pos 4)
 IsFaulty d limit rest (wire.LongLength n) = (t : ℕ) × Head rest t n × IsTag d t × (pos limit <ℤ n)
-IsFaulty d limit rest (wire.BadBody t) = (len : ℕ) × IsWhole d limit rest t len × NoMessage d t (take (len - 4) (drop 5 rest))
+IsFaulty d limit rest (wire.BadBody t) = (len : ℕ) × IsWhole d limit rest t len
+    × NoMessage d t (take (len - 4) (drop 5 rest))
 IsFaulty d limit rest (wire.BadFirst c) = ⊥
 IsFaulty d limit rest wire.Memory = ⊥
 
 -- No message stands at the beginning of the rest.
 abbrev pub BeginsNoMessage : {M : Type 0} → Direction M → ℕ → List ℕ → Type 0
-BeginsNoMessage {M} d limit rest = (m : M) (more : List ℕ) → IsWithin d limit m → rest ≡ spelling d m ++ more → ⊥
+BeginsNoMessage {M} d limit rest = (m : M) (more : List ℕ) → IsWithin d limit m
+    → rest ≡ spelling d m ++ more → ⊥
 
 -- The rest doesn't begin with one more message, and isn't faulty: more bytes are to come.
 pub record IsOpen {M : Type 0} (d : Direction M) (limit : ℕ) (rest : List ℕ) : Type 0 where

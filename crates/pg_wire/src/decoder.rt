@@ -142,7 +142,9 @@ impl<M: Message> Decoder<M> {
     /// the piece was taken and the decoder is unchanged. A piece without bytes wants no memory.
     pub fn push(&mut self, piece: &[u8]) -> Result<(), WireFault>
         ensures call { Pushes self.old piece.now result self.new }
-        ensures taken { OnOk result ((pushed : List ℕ) (given : List M) → HasTaken M.direction self.old pushed given → HasTaken M.direction self.new (pushed ++ piece.now) given) }
+        ensures taken { OnOk result ((pushed : List ℕ) (given : List M)
+            → HasTaken M.direction self.old pushed given
+            → HasTaken M.direction self.new (pushed ++ piece.now) given) }
     {
         if let Some(fault) = self.fault {
             return Err(fault);
@@ -154,7 +156,9 @@ impl<M: Message> Decoder<M> {
     /// is then answered for good. Memory is answered only for a message that is whole, and leaves the decoder unchanged.
     pub fn next(&mut self) -> Result<Option<M>, WireFault>
         ensures call { Takes M.direction self.old result self.new }
-        ensures taken { (pushed : List ℕ) (given : List M) → HasTaken M.direction self.old pushed given → HasTaken M.direction self.new pushed (given_after given result) }
+        ensures taken { (pushed : List ℕ) (given : List M)
+            → HasTaken M.direction self.old pushed given
+            → HasTaken M.direction self.new pushed (given_after given result) }
     {
         if let Some(fault) = self.fault {
             return Err(fault);

@@ -165,7 +165,8 @@ impl FirstDecoder {
     /// taken and the decoder is unchanged. A piece without bytes wants no memory.
     pub fn push(&mut self, piece: &[u8]) -> Result<(), WireFault>
         ensures call { FirstPushes self.old piece.now result self.new }
-        ensures begun { OnOk result ((pushed : List ℕ) (given : List First) → HasBegun self.old pushed given → HasBegun self.new (pushed ++ piece.now) given) }
+        ensures begun { OnOk result ((pushed : List ℕ) (given : List First)
+            → HasBegun self.old pushed given → HasBegun self.new (pushed ++ piece.now) given) }
     {
         if let Some(fault) = self.fault {
             return Err(fault);
@@ -178,7 +179,8 @@ impl FirstDecoder {
     /// the decoder unchanged.
     pub fn next(&mut self) -> Result<Option<First>, WireFault>
         ensures call { FirstTakes self.old result self.new }
-        ensures begun { (pushed : List ℕ) (given : List First) → HasBegun self.old pushed given → HasBegun self.new pushed (packets_after given result) }
+        ensures begun { (pushed : List ℕ) (given : List First) → HasBegun self.old pushed given
+            → HasBegun self.new pushed (packets_after given result) }
     {
         if let Some(fault) = self.fault {
             return Err(fault);

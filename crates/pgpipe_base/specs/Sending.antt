@@ -18,7 +18,9 @@ IsSentBut (Ok x) all sent collected = all ≡ sent ++ collected
 IsSentBut (Err fault) all sent collected = Begins sent all
 
 -- Text was put behind what was collected, and pieces were sent: from the old collected text and sink to the new.
-pub record Puts {K A : Type 0} (takes : K → List ℕ → K → Type 0) (failures : K → ℕ) (collected : List ℕ) (sink : K) (text : List ℕ) (result : Result A LinkFault) (collected' : List ℕ) (sink' : K) : Type 0 where
+pub record Puts {K A : Type 0} (takes : K → List ℕ → K → Type 0) (failures : K → ℕ)
+    (collected : List ℕ) (sink : K) (text : List ℕ) (result : Result A LinkFault)
+    (collected' : List ℕ) (sink' : K) : Type 0 where
   pub pieces : List (List ℕ)
   pub calls : FoldsTo takes sink pieces sink'
   pub sent : IsSentBut result (collected ++ text) (concat pieces) collected'
@@ -26,4 +28,5 @@ pub record Puts {K A : Type 0} (takes : K → List ℕ → K → Type 0) (failur
 
 -- No more is collected than there is room for, if that was so before.
 abbrev pub StaysWithin : List ℕ → List ℕ → Type 0
-StaysWithin collected collected' = length collected ≤ most_collected → length collected' ≤ most_collected
+StaysWithin collected collected' = length collected ≤ most_collected
+    → length collected' ≤ most_collected

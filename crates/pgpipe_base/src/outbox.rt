@@ -118,7 +118,8 @@ impl Outbox {
 
     // Puts bytes in hexadecimal, however many.
     fn put_all<K: Sink>(&mut self, bytes: &[u8], sink: &mut K) -> Result<(), LinkFault>
-        ensures { Puts K.takes K.failures self.old sink.old (hexadecimal bytes.now) result self.new sink.new }
+        ensures { Puts K.takes K.failures self.old sink.old
+            (hexadecimal bytes.now) result self.new sink.new }
     {
         let mut rest = bytes;
         while !rest.is_empty() {
@@ -132,7 +133,8 @@ impl Outbox {
 
     // Puts bytes, or a mark for none.
     fn put_body<K: Sink>(&mut self, bytes: &[u8], sink: &mut K) -> Result<(), LinkFault>
-        ensures { Puts K.takes K.failures self.old sink.old (body_text bytes.now) result self.new sink.new }
+        ensures { Puts K.takes K.failures self.old sink.old
+            (body_text bytes.now) result self.new sink.new }
     {
         if bytes.is_empty() {
             self.make_room(1, sink)?;
@@ -145,7 +147,8 @@ impl Outbox {
     // Puts what stands before the bytes: the name and the length.
     fn put_head<K: Sink>(&mut self, name: &[u8], size: u32, sink: &mut K) -> Result<(), LinkFault>
         requires { length name.now ≤ 7 }
-        ensures { Puts K.takes K.failures self.old sink.old (name.now ++ (32 ∷ []) ++ decimal size ++ (32 ∷ [])) result self.new sink.new }
+        ensures { Puts K.takes K.failures self.old sink.old (name.now ++ (32 ∷ []) ++ decimal size
+            ++ (32 ∷ [])) result self.new sink.new }
     {
         let mut digits = [0; 10];
         let start = write_decimal(size, &mut digits);
@@ -166,7 +169,8 @@ impl Outbox {
         sink: &mut K,
     ) -> Result<(), LinkFault>
         requires { length name.now ≤ 7 }
-        ensures puts { Puts K.takes K.failures self.old sink.old (line_of name.now size bytes.now) result self.new sink.new }
+        ensures puts { Puts K.takes K.failures self.old sink.old
+            (line_of name.now size bytes.now) result self.new sink.new }
         ensures within { OnOk result (length self.new ≤ most_collected) }
     {
         self.put_head(name, size, sink)?;

@@ -98,7 +98,8 @@ trailer_for to _ = []
 -- ---- how much is converted
 
 -- The text is the head and the rows of these bytes, each of which can be written, and this is left of the file.
-pub record AreConverted (file : FileReading) (to : Format) (ended : Type 0) (bytes : List ℕ) (left : Reading Converted) (text : List ℕ) : Type 0 where
+pub record AreConverted (file : FileReading) (to : Format) (ended : Type 0) (bytes : List ℕ)
+    (left : Reading Converted) (text : List ℕ) : Type 0 where
   pub rows : List Row
   pub read : IsReadAs file ended bytes (after_rows rows left)
   pub each_writable : AllByRecursion (IsWritable to) rows
@@ -107,12 +108,15 @@ pub record AreConverted (file : FileReading) (to : Format) (ended : Type 0) (byt
 -- The answer that is given where this is left of the file: Whole where nothing is; a row's fault where it stands first; and
 -- else the fault that stands in the place of a row.
 abbrev pub IsAnswerFor : Format → Reading Converted → Converted → Type 0
-IsAnswerFor to left converted.Whole = (ending : Ending Converted) × IsEnd ending × (left ≡ none_left ending)
-IsAnswerFor to left (converted.Row f) = (row : Row) × (later : Reading Converted) × (left ≡ after_rows (row ∷ []) later) × (row_fault to row ≡ Some f)
+IsAnswerFor to left converted.Whole = (ending : Ending Converted) × IsEnd ending
+    × (left ≡ none_left ending)
+IsAnswerFor to left (converted.Row f) = (row : Row) × (later : Reading Converted)
+    × (left ≡ after_rows (row ∷ []) later) × (row_fault to row ≡ Some f)
 IsAnswerFor to left c = left ≡ none_left (Bad c)
 
 -- The text is the file that is written where this is the answer.
-pub record IsOutput (file : FileReading) (to : Format) (ended : Type 0) (bytes : List ℕ) (c : Converted) (text : List ℕ) : Type 0 where
+pub record IsOutput (file : FileReading) (to : Format) (ended : Type 0) (bytes : List ℕ)
+    (c : Converted) (text : List ℕ) : Type 0 where
   pub left : Reading Converted
   pub answer : IsAnswerFor to left c
   pub before : List ℕ
@@ -126,7 +130,8 @@ pub record AreAllConverted (file : FileReading) (to : Format) (bytes text : List
   pub are_converted : AreConverted file to ⊥ bytes (none_left ending) text
 
 -- The same for these bytes but the last piece.
-pub record AreConvertedBefore (file : FileReading) (to : Format) (bytes text : List ℕ) : Type 0 where
+pub record AreConvertedBefore (file : FileReading) (to : Format)
+    (bytes text : List ℕ) : Type 0 where
   pub earlier : List ℕ
   pub last : List ℕ
   pub whole : bytes ≡ earlier ++ last
@@ -134,7 +139,8 @@ pub record AreConvertedBefore (file : FileReading) (to : Format) (bytes text : L
   pub all_converted : AreAllConverted file to earlier text
 
 -- The text is the head and rows of these bytes, and none is missing of those before the last piece.
-pub record AreMostlyConverted (file : FileReading) (to : Format) (ended : Type 0) (bytes text : List ℕ) : Type 0 where
+pub record AreMostlyConverted (file : FileReading) (to : Format) (ended : Type 0)
+    (bytes text : List ℕ) : Type 0 where
   pub before : List ℕ
   pub converted_before : AreConvertedBefore file to bytes before
   pub begins : Begins before text
@@ -143,21 +149,28 @@ pub record AreMostlyConverted (file : FileReading) (to : Format) (ended : Type 0
 
 -- The text is a beginning of what is written for these bytes.
 abbrev pub ArePartlyConverted : FileReading → Format → Type 0 → List ℕ → List ℕ → Type 0
-ArePartlyConverted file to ended bytes text = (all : List ℕ) × Begins text all × (((left : Reading Converted) × AreConverted file to ended bytes left all) ⊎ IsOutput file to ended bytes converted.Whole all)
+ArePartlyConverted file to ended bytes text = (all : List ℕ) × Begins text all
+    × (((left : Reading Converted) × AreConverted file to ended bytes left all)
+    ⊎ IsOutput file to ended bytes converted.Whole all)
 
 -- What is written for these bytes but the last piece is no more than the text and what may be collected behind it.
 abbrev pub IsConvertedAtOnce : FileReading → Format → List ℕ → List ℕ → Type 0
-IsConvertedAtOnce file to bytes text = (before : List ℕ) × AreConvertedBefore file to bytes before × (length before ≤ most_collected + length text)
+IsConvertedAtOnce file to bytes text = (before : List ℕ) × AreConvertedBefore file to bytes before
+    × (length before ≤ most_collected + length text)
 
 -- ---- the answer
 
 -- The answer for the bytes that were received, and the text that was sent. Where memory was refused, no row is missing of what
 -- came before the last piece, unless it was refused at once. Device says that the sink broke, and then a beginning was sent and
 -- little more was received, or that the source stopped, and then the head and all rows were sent.
-abbrev pub Answers : Type 0 → Type 0 → Type 0 → FileReading → Format → List ℕ → List ℕ → Result Converted ToolFault → Type 0
+abbrev pub Answers : Type 0 → Type 0 → Type 0 → FileReading → Format → List ℕ → List ℕ
+    → Result Converted ToolFault → Type 0
 Answers stopped broke ended file to bytes text (Ok c) = IsOutput file to ended bytes c text
-Answers stopped broke ended file to bytes text (Err fault.Memory) = ((bytes ≡ []) × (text ≡ [])) ⊎ AreMostlyConverted file to ended bytes text
-Answers stopped broke ended file to bytes text (Err fault.Device) = (broke × ArePartlyConverted file to ended bytes text × IsConvertedAtOnce file to bytes text) ⊎ (stopped × AreAllConverted file to bytes text)
+Answers stopped broke ended file to bytes text (Err fault.Memory) = ((bytes ≡ []) × (text ≡ []))
+    ⊎ AreMostlyConverted file to ended bytes text
+Answers stopped broke ended file to bytes text (Err fault.Device) = (broke
+    × ArePartlyConverted file to ended bytes text × IsConvertedAtOnce file to bytes text)
+    ⊎ (stopped × AreAllConverted file to bytes text)
 
 -- Where the file is whole, the source has ended.
 abbrev pub EndsWith : Type 0 → Result Converted ToolFault → Type 0

@@ -58,8 +58,15 @@ impl Work {
     fn step<S: Source, K: Sink>(&mut self, source: &mut S, sink: &mut K) -> Result<(), Stop>
         requires at { IsAtStep self.old.reader }
         ensures to { self.new.to ≡ self.old.to }
-        ensures steps { (piece : List ℕ) × (length piece ≤ longest_piece) × S.gives source.old piece source.new × ((file : FileReading) (start : K) (bytes : List ℕ) (stands : Stands K.takes K.failures file self.old.to start bytes self.old.reader self.old.out.items sink.old) → Steps K.takes K.failures file self.old.to (S.has_ended source.new) start (bytes ++ piece) stands.text result self.new.reader self.new.out.items sink.new) }
-        ensures source { StepsSource (S.has_ended source.new) (S.failures source.old) (S.failures source.new) result }
+        ensures steps { (piece : List ℕ) × (length piece ≤ longest_piece)
+            × S.gives source.old piece source.new
+            × ((file : FileReading) (start : K) (bytes : List ℕ)
+            (stands : Stands K.takes K.failures file self.old.to start bytes self.old.reader
+            self.old.out.items sink.old)
+            → Steps K.takes K.failures file self.old.to (S.has_ended source.new) start (bytes
+            ++ piece) stands.text result self.new.reader self.new.out.items sink.new) }
+        ensures source { StepsSource (S.has_ended source.new) (S.failures source.old)
+            (S.failures source.new) result }
     {
         let count = match source.receive(self.into.as_mut_slice()) {
             Ok(0) => return Err(self.end(sink)),
@@ -74,7 +81,8 @@ impl Work {
     fn end<K: Sink>(&mut self, sink: &mut K) -> Stop
         requires at { IsAtStep self.old.reader }
         ensures to { self.new.to ≡ self.old.to }
-        ensures ends { Ends K.takes K.failures self.old.to self.old.reader self.old.out.items sink.old result self.new.out.items sink.new }
+        ensures ends { Ends K.takes K.failures self.old.to self.old.reader self.old.out.items
+            sink.old result self.new.out.items sink.new }
     {
         match put_rows(&mut self.reader, true, self.to, &mut self.out, sink) {
             Ok(()) => match self.to.write_trailer(&mut self.out) {
@@ -87,8 +95,12 @@ impl Work {
 
     // Goes on until there is no more to do.
     fn run<S: Source, K: Sink>(&mut self, source: &mut S, sink: &mut K) -> Stop
-        requires { Stands K.takes K.failures (file_by self.old.reader) self.old.to sink.old [] self.old.reader self.old.out.items sink.old }
-        ensures { HasRun S.gives S.failures (S.has_ended source.new) K.takes K.failures (file_by self.old.reader) self.old.to source.old sink.old result source.new self.new.out.items sink.new }
+        requires { Stands K.takes K.failures
+            (file_by self.old.reader) self.old.to sink.old [] self.old.reader self.old.out.items
+            sink.old }
+        ensures { HasRun S.gives S.failures (S.has_ended source.new) K.takes K.failures
+            (file_by self.old.reader) self.old.to source.old sink.old result source.new
+            self.new.out.items sink.new }
     {
         for _ in 0..MOST_RECEIVES {
             if let Err(stop) = self.step(source, sink) {
@@ -100,7 +112,8 @@ impl Work {
 
     // Sends what was put, unless the sink has failed.
     fn settle<K: Sink>(&mut self, stop: Stop, sink: &mut K) -> Result<(), LinkFault>
-        ensures { Settles K.takes K.failures stop self.old.out.items sink.old result self.new.out.items sink.new }
+        ensures { Settles K.takes K.failures stop self.old.out.items sink.old result
+            self.new.out.items sink.new }
     {
         match stop {
             Stop::SinkFailed => Err(LinkFault),
@@ -125,7 +138,9 @@ fn answer_of(stop: Stop) -> Result<Converted, ToolFault>
 // What stands before the first piece.
 fn begin(alloc: Global, from: Format, to: Format, columns: u16) -> Result<Work, ToolFault>
     requires { (0 < columns) × (columns ≤ 32767) }
-    ensures begun { IfOk result (λ work. (work.to ≡ to) × (work.out.items ≡ head_of to) × (file_by work.reader ≡ file_of from columns) × HasReadBy work.reader [] [] × (ended_of work.reader ≡ false)) }
+    ensures begun { IfOk result (λ work. (work.to ≡ to) × (work.out.items ≡ head_of to)
+        × (file_by work.reader ≡ file_of from columns) × HasReadBy work.reader [] []
+        × (ended_of work.reader ≡ false)) }
     ensures refused { (fault : ToolFault) → result ≡ Err fault → fault ≡ ToolFault.Memory }
 {
     let mut out = Vec::new(alloc);
@@ -167,7 +182,8 @@ pub fn convert<S: Source, K: Sink>(
 ) -> Result<Converted, ToolFault>
     requires { (0 < columns) × (columns ≤ 32767) }
     // what was received, what was sent, and the answer for them, where the source may have stopped and the sink broken
-    ensures converted { (received sent : List (List ℕ)) × FoldsTo S.gives source.old received source.new
+    ensures converted { (received sent : List (List ℕ))
+        × FoldsTo S.gives source.old received source.new
         × FoldsTo K.takes sink.old sent sink.new × Answers
         (HasStopped (S.failures source.old) (S.failures source.new) received)
         (HasRisen (K.failures sink.old) (K.failures sink.new)) (S.has_ended source.new)

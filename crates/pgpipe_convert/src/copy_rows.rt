@@ -122,7 +122,8 @@ fn binary_row(answer: Result<Option<Row>, BinaryFault>) -> Result<Option<Row>, S
 
 // Puts a row, and sends what was put where it is much.
 fn put_row<K: Sink>(to: Format, row: &Row, out: &mut Vec<u8>, sink: &mut K) -> Result<(), Stop>
-    ensures { PutsRow K.takes K.failures to row.now out.old.items sink.old result out.new.items sink.new }
+    ensures { PutsRow K.takes K.failures to row.now out.old.items sink.old result out.new.items
+        sink.new }
 {
     match to.write_row(row, out) {
         Ok(()) => {}
@@ -148,7 +149,8 @@ pub fn put_rows<K: Sink>(
 ) -> Result<(), Stop>
     requires begun { at_end ≡ false → ended_of reader.old ≡ false }
     requires read { (bytes : List ℕ) × (given : List Row) × HasReadBy reader.old bytes given }
-    ensures { PutsRows K.takes K.failures at_end to reader.old out.old.items sink.old result reader.new out.new.items sink.new }
+    ensures { PutsRows K.takes K.failures at_end to reader.old out.old.items sink.old result
+        reader.new out.new.items sink.new }
 {
     loop {
         match reader.next(at_end)? {

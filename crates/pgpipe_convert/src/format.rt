@@ -28,7 +28,8 @@ impl Format {
 
     /// Appends a row. A refusal leaves `buf` as it was.
     pub fn write_row(self, row: &Row, buf: &mut Vec<u8>) -> Result<(), RowFault>
-        ensures { Writes (row_fault self row.now) (row_of self row.now) buf.old.items result buf.new.items }
+        ensures { Writes (row_fault self row.now)
+            (row_of self row.now) buf.old.items result buf.new.items }
     {
         match self {
             Format::Text => write_text_row(row, buf),

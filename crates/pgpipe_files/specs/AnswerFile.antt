@@ -90,13 +90,15 @@ end_of fields = read_at end_way fields >>= λ w. end_by w.0 w.1
 
 -- the last part with one row more; only rows and a run have rows
 abbrev pub with_values : Option ScriptPart → Row → Option ScriptPart
-with_values (Some (part.Rows columns rows tag)) values = Some (part.Rows columns (rows ++ values ∷ []) tag)
+with_values (Some (part.Rows columns rows tag)) values = Some (part.Rows columns (rows
+    ++ values ∷ []) tag)
 with_values (Some (part.Executed rows end)) values = Some (part.Executed (rows ++ values ∷ []) end)
 with_values _ values = None
 
 -- the last part with one chunk more; only a copy to the client has chunks
 abbrev pub with_chunk : Option ScriptPart → List ℕ → Option ScriptPart
-with_chunk (Some (part.CopyOut head chunks tag)) bytes = Some (part.CopyOut head (chunks ++ bytes ∷ []) tag)
+with_chunk (Some (part.CopyOut head chunks tag)) bytes = Some (part.CopyOut head (chunks
+    ++ bytes ∷ []) tag)
 with_chunk _ bytes = None
 
 -- the answer with its last part grown to this, where the line could be read so
@@ -119,17 +121,22 @@ described o parameters fields =
 
 -- a line in the row of this number, where no `paramtypes` stands in the line before
 abbrev pub part_line : Open → ℕ → AnswerVerb → Row → Option Open
-part_line o n verb.Notice fields = error_fields_of fields >>= λ f. Some (says_before o (aside.Notice f))
-part_line o n verb.Set fields = pair_of fields >>= λ p. Some (says_before o (aside.Parameter p.0 p.1))
+part_line o n verb.Notice fields = error_fields_of fields
+    >>= λ f. Some (says_before o (aside.Notice f))
+part_line o n verb.Set fields = pair_of fields
+    >>= λ p. Some (says_before o (aside.Parameter p.0 p.1))
 part_line o n verb.Notify fields =
-    read_at signed_number fields >>= λ i. pair_of i.1 >>= λ p. Some (says_before o (aside.Notification i.0 p.0 p.1))
+    read_at signed_number fields >>= λ i. pair_of i.1
+    >>= λ p. Some (says_before o (aside.Notification i.0 p.0 p.1))
 part_line o n verb.Rows fields =
-    text_at fields >>= λ t. text_columns t.1 >>= λ columns. Some (begins o (part.Rows columns [] t.0))
+    text_at fields >>= λ t. text_columns t.1
+    >>= λ columns. Some (begins o (part.Rows columns [] t.0))
 part_line o n verb.Row fields = grows o (with_values o.last fields)
 part_line o n verb.Command fields = text_of fields >>= λ tag. Some (begins o (part.Command tag))
 part_line o n verb.Empty fields = begins_alone o fields part.Empty
 part_line o n verb.CopyOut fields =
-    text_at fields >>= λ t. copy_head_at t.1 >>= λ h. if_all h.0 h.1 >>= λ head. Some (begins o (part.CopyOut head [] t.0))
+    text_at fields >>= λ t. copy_head_at t.1 >>= λ h. if_all h.0 h.1
+    >>= λ head. Some (begins o (part.CopyOut head [] t.0))
 part_line o n verb.Chunk fields = grows o (text_of fields >>= λ bytes. with_chunk o.last bytes)
 part_line o n verb.CopyIn fields =
     copy_head_at fields >>= λ h. load_of h.1 >>= λ l. Some (begins o (part.CopyIn h.0 l))

@@ -102,7 +102,8 @@ abbrev pub step_of : StepVerb → Row → Option Step
 step_of step_line.Parse fields =
     pair_at fields >>= λ p. numbers_of p.1 >>= λ types. Some (step.Parse p.0.0 p.0.1 types)
 step_of step_line.Bind fields = pair_at fields >>= λ p. Some (step.Bind p.0.0 p.0.1 [] p.1 [])
-step_of step_line.Describe fields = named_of fields >>= λ named. Some (step.Describe named.0 named.1)
+step_of step_line.Describe fields = named_of fields
+    >>= λ named. Some (step.Describe named.0 named.1)
 step_of step_line.Execute fields =
     text_at fields >>= λ t. read_at signed_number t.1 >>= λ n. if_all (step.Execute t.0 n.0) n.1
 step_of step_line.Close fields = named_of fields >>= λ named. Some (step.Close named.0 named.1)

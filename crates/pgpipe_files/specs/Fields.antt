@@ -36,7 +36,8 @@ number text = digits_up_to 4294967295 text
 -- a number of 32 bits with a sign: a `-` stands before one that is negative
 abbrev pub signed_number : List ℕ → Option ℤ
 signed_number text =
-    if starts_with_minus text then option_map (λ n. neg_ℤ (pos n)) (digits_up_to 2147483648 (drop 1 text))
+    if starts_with_minus text
+    then option_map (λ n. neg_ℤ (pos n)) (digits_up_to 2147483648 (drop 1 text))
     else option_map pos (digits_up_to 2147483647 text)
 
 -- ---- the next field
@@ -62,7 +63,8 @@ copy_head format.Binary columns = record { binary = true; formats = replicate co
 -- a format, and the number of its columns
 abbrev pub copy_head_at : Row → Option (CopyHead × Row)
 copy_head_at fields =
-    read_at format_of fields >>= λ f. read_at short_number f.1 >>= λ n. Some (copy_head f.0 n.0, n.1)
+    read_at format_of fields >>= λ f. read_at short_number f.1
+    >>= λ n. Some (copy_head f.0 n.0, n.1)
 
 -- ---- all the fields
 

@@ -25,7 +25,8 @@ or_refused n (Some so_far) more = more so_far
 
 -- What rows from this number on are read as, or the number of the first that is refused. A fault of the text format stands in the
 -- place of a row.
-unfoldable pub with_rows : {S : Type 0} → (S → ℕ → List ℕ → Row → Option S) → S → ℕ → List Row → Ending TextFault
+unfoldable pub with_rows : {S : Type 0} → (S → ℕ → List ℕ → Row → Option S) → S → ℕ → List Row
+    → Ending TextFault
     → Result S ℕ
 with_rows line so_far n [] (Bad fault) = Err n
 with_rows line so_far n [] ending = Ok so_far

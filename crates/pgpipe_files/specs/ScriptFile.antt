@@ -75,11 +75,13 @@ closed s = closed_by s.begun s
 -- a line that stands in no answer, or begins one
 abbrev pub own_line : ScriptSoFar → ScriptVerb → Row → Option ScriptSoFar
 own_line s verb.Auth fields =
-    if_none s.begun >>= λ _. auth_of fields >>= λ a. if_none s.auth >>= λ _. Some (record s { auth = Some a })
+    if_none s.begun >>= λ _. auth_of fields >>= λ a. if_none s.auth
+    >>= λ _. Some (record s { auth = Some a })
 own_line s verb.Pair fields =
     if_none s.begun >>= λ _. pair_of fields >>= λ p. Some (record s { pairs = s.pairs ++ p ∷ [] })
 own_line s verb.Key fields =
-    if_none s.begun >>= λ _. key_of fields >>= λ k. if_none s.key >>= λ _. Some (record s { key = Some k })
+    if_none s.begun >>= λ _. key_of fields >>= λ k. if_none s.key
+    >>= λ _. Some (record s { key = Some k })
 own_line s verb.Answer fields =
     text_of fields >>= λ letter. status_of letter >>= λ st. closed s
     >>= λ next. Some (record next { begun = Some (new_answer st) })
@@ -88,7 +90,8 @@ own_line s verb.Answer fields =
 abbrev pub in_answer : ScriptSoFar → Option Open → ℕ → List ℕ → Row → Option ScriptSoFar
 in_answer s None n word fields = None
 in_answer s (Some o) n word fields =
-    answer_verb word >>= λ v. answer_line o n v fields >>= λ next. Some (record s { begun = Some next })
+    answer_verb word >>= λ v. answer_line o n v fields
+    >>= λ next. Some (record s { begun = Some next })
 
 -- a line whose word is one of those that stand in no answer, or another one
 abbrev pub line_by : Option ScriptVerb → ScriptSoFar → ℕ → List ℕ → Row → Option ScriptSoFar

@@ -59,7 +59,9 @@ impl Open {
 
     // Ends the last part.
     fn close(&mut self) -> Result<(), Refusal>
-        ensures { Leaves result self.new (Some (record self.old { answer = with_part self.old.last self.old.answer; last = None })) }
+        ensures { Leaves result self.new
+            (Some (record self.old
+            { answer = with_part self.old.last self.old.answer; last = None })) }
     {
         if let Some(part) = self.last.take() {
             self.answer.parts.push(part)?;

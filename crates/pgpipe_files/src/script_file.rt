@@ -120,7 +120,8 @@ impl Draft {
 
     // Takes a line that stands in an answer.
     fn take_open(&mut self, row: usize, verb: &str, arguments: Arguments) -> Result<(), Refusal>
-        ensures { Leaves result self.new (in_answer self.old self.old.begun row verb.now arguments) }
+        ensures { Leaves result self.new
+            (in_answer self.old self.old.begun row verb.now arguments) }
     {
         let Some(open) = &mut self.begun else {
             return Err(Refusal::Wrong);

@@ -139,7 +139,8 @@ part_rows (part.CopyOut head chunks tag) = copy_out_row head tag ∷ map chunk_r
 part_rows (part.CopyIn head tag) = copy_in_row head tag ∷ []
 part_rows part.Parsed = (Some (codes "parsed") ∷ []) ∷ []
 part_rows part.Bound = (Some (codes "bound") ∷ []) ∷ []
-part_rows (part.Described parameters columns) = parameter_rows parameters ++ described_row columns ∷ []
+part_rows (part.Described parameters columns) = parameter_rows parameters
+    ++ described_row columns ∷ []
 part_rows (part.Executed rows end) = executed_row end ∷ map value_row rows
 part_rows part.Shut = (Some (codes "shut") ∷ []) ∷ []
 
@@ -156,7 +157,8 @@ status_row s = Some (codes "status") ∷ Some (status_letter s) ∷ []
 abbrev pub settled_rows : Settled → List Row
 settled_rows s =
     (Some (codes "settled") ∷ request_fields s.request) ∷ map aside_row s.outcome.asides
-    ++ flat_map part_rows s.outcome.parts ++ outcome_error_rows s.outcome.error ++ status_row s.outcome.status ∷ []
+    ++ flat_map part_rows s.outcome.parts ++ outcome_error_rows s.outcome.error
+    ++ status_row s.outcome.status ∷ []
 
 -- ---- refused calls and faults
 
@@ -233,7 +235,8 @@ loss_rows (Some loss) = lost_row loss ∷ []
 
 -- the lines of an event
 abbrev pub event_rows : List Settled → Applied → Option Loss → List Row
-event_rows settled answer loss = flat_map settled_rows settled ++ answer_rows answer ++ loss_rows loss
+event_rows settled answer loss = flat_map settled_rows settled ++ answer_rows answer
+    ++ loss_rows loss
 
 -- ---- the end
 
@@ -255,7 +258,8 @@ loaded_rows_of (suc n) k (c ∷ cs) =
 -- for the requests from number k on
 abbrev pub loaded_rows : ℕ → List Logged → List Row
 loaded_rows k [] = []
-loaded_rows k (entry ∷ entries) = loaded_rows_of (length entry.loaded) k entry.loaded ++ loaded_rows (k + 1) entries
+loaded_rows k (entry ∷ entries) = loaded_rows_of (length entry.loaded) k entry.loaded
+    ++ loaded_rows (k + 1) entries
 
 -- the word for where the client stands
 abbrev pub client_word : Phase → List ℕ

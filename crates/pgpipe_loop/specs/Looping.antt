@@ -40,7 +40,8 @@ most_times = 2 ^ 64 - 1
 
 -- all that waits is delivered to the backend, it steps while something whole waits, and all that waits is delivered to the client
 abbrev pub flow_once : ℕ → List Doing
-flow_once cut = times most_times (event.ToBackend cut) ++ times most_times event.Step ++ times most_times (event.ToClient cut)
+flow_once cut = times most_times (event.ToBackend cut) ++ times most_times event.Step
+    ++ times most_times (event.ToClient cut)
 
 -- what happens for a line of CALLS: its event once, or for a flow what waits, twice over
 abbrev pub line_doings : ℕ → CallLine → List Doing
@@ -91,16 +92,20 @@ Carries C = C → Way → List ℕ → Result (List ℕ) CarryFault → C → Ty
 
 -- Of all that is to happen the first events have happened, one after the other, and this is left. Their rows are these, and the
 -- carrier has failed at one of them or not.
-pub data Happened {C : Type 0} (carries : Carries C) (begun : PairView C) (all : List Doing) : PairView C → List Doing → List Row → Bool → Type 0 where
+pub data Happened {C : Type 0} (carries : Carries C) (begun : PairView C)
+    (all : List Doing) : PairView C → List Doing → List Row → Bool → Type 0 where
   nothing : Happened carries begun all begun all [] false
   one_more : (p q : PairView C) (d : Doing) (left : List Doing) (rows : List Row) (failed : Bool) (answer : Applied)
-      → Happened carries begun all p (d ∷ left) rows failed → Applies carries d.event p (Ok answer) q
-      → Happened carries begun all q (left_of (came_to_nothing d.event p answer q) d ++ left) (rows ++ rows_between p answer q) (failed || is_carrier answer)
+      → Happened carries begun all p (d ∷ left) rows failed
+      → Applies carries d.event p (Ok answer) q
+      → Happened carries begun all q (left_of (came_to_nothing d.event p answer q) d ++ left) (rows
+      ++ rows_between p answer q) (failed || is_carrier answer)
 
 -- ---- what is sent
 
 -- The text is the lines of the events that have happened.
-pub record IsSoFar {C : Type 0} (carries : Carries C) (begun : PairView C) (all : List Doing) (text : List ℕ) : Type 0 where
+pub record IsSoFar {C : Type 0} (carries : Carries C) (begun : PairView C) (all : List Doing)
+    (text : List ℕ) : Type 0 where
   pub pair : PairView C
   pub left : List Doing
   pub rows : List Row
@@ -109,7 +114,8 @@ pub record IsSoFar {C : Type 0} (carries : Carries C) (begun : PairView C) (all 
   pub text_is : text ≡ text_lines rows
 
 -- All has happened, and the text is the lines of the events, and then the closing lines.
-pub record IsWhole {C : Type 0} (carries : Carries C) (begun : PairView C) (all : List Doing) (failed : Bool) (text : List ℕ) : Type 0 where
+pub record IsWhole {C : Type 0} (carries : Carries C) (begun : PairView C) (all : List Doing)
+    (failed : Bool) (text : List ℕ) : Type 0 where
   pub pair : PairView C
   pub rows : List Row
   pub happened : Happened carries begun all pair [] rows failed
@@ -117,7 +123,8 @@ pub record IsWhole {C : Type 0} (carries : Carries C) (begun : PairView C) (all 
 
 -- The text is a beginning of these.
 abbrev pub IsPart : {C : Type 0} → Carries C → PairView C → List Doing → List ℕ → Type 0
-IsPart carries begun all text = (whole : List ℕ) × Begins text whole × (IsSoFar carries begun all whole ⊎ ((failed : Bool) × IsWhole carries begun all failed whole))
+IsPart carries begun all text = (whole : List ℕ) × Begins text whole
+    × (IsSoFar carries begun all whole ⊎ ((failed : Bool) × IsWhole carries begun all failed whole))
 
 -- the answer says that the carrier failed
 abbrev pub has_failed : Ran → Bool
@@ -125,7 +132,8 @@ has_failed ran.Whole = false
 has_failed ran.CarrierFailed = true
 
 -- The answer for what has happened, and the text that was sent. Where memory was refused, no line of that event was sent.
-abbrev pub Answers : {C : Type 0} → Type 0 → Carries C → PairView C → List Doing → List ℕ → Result Ran ToolFault → Type 0
+abbrev pub Answers : {C : Type 0} → Type 0 → Carries C → PairView C → List Doing → List ℕ
+    → Result Ran ToolFault → Type 0
 Answers broke carries begun all text (Ok r) = IsWhole carries begun all (has_failed r) text
 Answers broke carries begun all text (Err fault.Memory) = IsSoFar carries begun all text
 Answers broke carries begun all text (Err fault.Device) = broke × IsPart carries begun all text

@@ -23,7 +23,8 @@ pub fn event_lines(
     answer: &Applied,
     loss: Option<&Loss>,
 ) -> Result<Vec<u8>, AllocError>
-    ensures { IfOk result (λ text. text.items ≡ text_lines (event_rows settled.now answer.now (option_copied loss.entry))) }
+    ensures { IfOk result (λ text. text.items
+        ≡ text_lines (event_rows settled.now answer.now (option_copied loss.entry))) }
 {
     let mut lines = LineBuffer::new(alloc);
     put_all_lines(settled, &mut lines)?;
@@ -195,7 +196,8 @@ fn put_loaded(log: &[Logged], lines: &mut LineBuffer) -> Result<(), AllocError>
 
 // Puts the chunks that the request of this number loaded.
 fn put_chunks(number: usize, chunks: &[Seq<u8>], lines: &mut LineBuffer) -> Result<(), AllocError>
-    ensures { OnOk result (lines.new ≡ with_rows lines.old (loaded_rows_of (length chunks.now) number chunks.now)) }
+    ensures { OnOk result (lines.new
+        ≡ with_rows lines.old (loaded_rows_of (length chunks.now) number chunks.now)) }
 {
     let mut rest = chunks;
     while !rest.is_empty() {

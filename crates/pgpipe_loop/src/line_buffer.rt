@@ -24,7 +24,8 @@ fn put_separator(fields: usize, text: &mut Vec<u8>) -> Result<(), AllocError>
 }
 
 fn put_value(field: Option<&[u8]>, text: &mut Vec<u8>) -> Result<(), AllocError>
-    ensures { OnOk result (text.new.items ≡ text.old.items ++ written_field (option_copied field.entry)) }
+    ensures { OnOk result (text.new.items
+        ≡ text.old.items ++ written_field (option_copied field.entry)) }
 {
     match write_text_field(field, text) {
         Ok(()) => Ok(()),

@@ -73,7 +73,9 @@ struct Work<C: Carry> {
 impl<C: Carry> Work<C> {
     // Applies an event, and sends its lines.
     fn apply<K: Sink>(&mut self, event: Event, sink: &mut K) -> Result<Applied, Stop>
-        ensures { Prints C.carries K.takes K.failures event (at self.old.pair self.old.carrier_failed sink.old) result (at self.new.pair self.new.carrier_failed sink.new) }
+        ensures { Prints C.carries K.takes K.failures event
+            (at self.old.pair self.old.carrier_failed sink.old) result
+            (at self.new.pair self.new.carrier_failed sink.new) }
     {
         let settled = self.pair.settled().len();
         let lost = self.pair.loss().is_some();
@@ -92,7 +94,9 @@ impl<C: Carry> Work<C> {
         answer: &Applied,
     ) -> Result<Vec<u8>, AllocError>
         requires { settled ≤ length self.now.pair.settled }
-        ensures { IfOk result (λ text. text.items ≡ text_lines (event_rows (drop settled self.now.pair.settled) answer.now (cond lost None self.now.pair.loss))) }
+        ensures { IfOk result (λ text. text.items
+            ≡ text_lines (event_rows (drop settled self.now.pair.settled) answer.now
+            (cond lost None self.now.pair.loss))) }
     {
         let (_, new) = self.pair.settled().split_at(settled);
         let loss = if lost { None } else { self.pair.loss() };
@@ -101,7 +105,9 @@ impl<C: Carry> Work<C> {
 
     // Delivers at most so many bytes, and answers whether no byte was moved.
     fn deliver_once<K: Sink>(&mut self, way: Way, count: u32, sink: &mut K) -> Result<bool, Stop>
-        ensures { DoesOnce C.carries K.takes K.failures (delivery way count) (at self.old.pair self.old.carrier_failed sink.old) result (at self.new.pair self.new.carrier_failed sink.new) }
+        ensures { DoesOnce C.carries K.takes K.failures (delivery way count)
+            (at self.old.pair self.old.carrier_failed sink.old) result
+            (at self.new.pair self.new.carrier_failed sink.new) }
     {
         let before = self.pair.reached(way);
         self.apply(delivery(way, count), sink)?;
@@ -110,7 +116,9 @@ impl<C: Carry> Work<C> {
 
     // Makes a step, and answers whether nothing whole waited.
     fn step_once<K: Sink>(&mut self, sink: &mut K) -> Result<bool, Stop>
-        ensures { DoesOnce C.carries K.takes K.failures event.Step (at self.old.pair self.old.carrier_failed sink.old) result (at self.new.pair self.new.carrier_failed sink.new) }
+        ensures { DoesOnce C.carries K.takes K.failures event.Step
+            (at self.old.pair self.old.carrier_failed sink.old) result
+            (at self.new.pair self.new.carrier_failed sink.new) }
     {
         let answer = self.apply(Event::Step, sink)?;
         Ok(is_nothing(&answer))
@@ -118,7 +126,9 @@ impl<C: Carry> Work<C> {
 
     // Delivers so many bytes at a time, until none is moved.
     fn deliver<K: Sink>(&mut self, way: Way, count: u32, sink: &mut K) -> Result<(), Stop>
-        ensures { DoesAll C.carries K.takes K.failures (times most_times (delivery way count)) (at self.old.pair self.old.carrier_failed sink.old) result (at self.new.pair self.new.carrier_failed sink.new) }
+        ensures { DoesAll C.carries K.takes K.failures (times most_times (delivery way count))
+            (at self.old.pair self.old.carrier_failed sink.old) result
+            (at self.new.pair self.new.carrier_failed sink.new) }
     {
         for _ in 0..MOST_TIMES {
             if self.deliver_once(way, count, sink)? {
@@ -130,7 +140,9 @@ impl<C: Carry> Work<C> {
 
     // Has the backend step, until nothing whole waits.
     fn step<K: Sink>(&mut self, sink: &mut K) -> Result<(), Stop>
-        ensures { DoesAll C.carries K.takes K.failures (times most_times event.Step) (at self.old.pair self.old.carrier_failed sink.old) result (at self.new.pair self.new.carrier_failed sink.new) }
+        ensures { DoesAll C.carries K.takes K.failures (times most_times event.Step)
+            (at self.old.pair self.old.carrier_failed sink.old) result
+            (at self.new.pair self.new.carrier_failed sink.new) }
     {
         for _ in 0..MOST_TIMES {
             if self.step_once(sink)? {
@@ -142,7 +154,9 @@ impl<C: Carry> Work<C> {
 
     // All that waits goes to the backend, it steps, and all that waits goes to the client.
     fn flow_once<K: Sink>(&mut self, cut: u32, sink: &mut K) -> Result<(), Stop>
-        ensures { DoesAll C.carries K.takes K.failures (flow_once cut) (at self.old.pair self.old.carrier_failed sink.old) result (at self.new.pair self.new.carrier_failed sink.new) }
+        ensures { DoesAll C.carries K.takes K.failures (flow_once cut)
+            (at self.old.pair self.old.carrier_failed sink.old) result
+            (at self.new.pair self.new.carrier_failed sink.new) }
     {
         self.deliver(Way::ToBackend, cut, sink)?;
         self.step(sink)?;
@@ -151,7 +165,9 @@ impl<C: Carry> Work<C> {
 
     // Does a line of the calls.
     fn line<K: Sink>(&mut self, line: CallLine, cut: u32, sink: &mut K) -> Result<(), Stop>
-        ensures { DoesAll C.carries K.takes K.failures (line_doings cut line) (at self.old.pair self.old.carrier_failed sink.old) result (at self.new.pair self.new.carrier_failed sink.new) }
+        ensures { DoesAll C.carries K.takes K.failures (line_doings cut line)
+            (at self.old.pair self.old.carrier_failed sink.old) result
+            (at self.new.pair self.new.carrier_failed sink.new) }
     {
         match line {
             CallLine::Event(event) => {
@@ -169,7 +185,9 @@ impl<C: Carry> Work<C> {
 
     // Does the lines, one after the other.
     fn lines<K: Sink>(&mut self, lines: Seq<CallLine>, cut: u32, sink: &mut K) -> Result<(), Stop>
-        ensures { DoesAll C.carries K.takes K.failures (doings cut lines) (at self.old.pair self.old.carrier_failed sink.old) result (at self.new.pair self.new.carrier_failed sink.new) }
+        ensures { DoesAll C.carries K.takes K.failures (doings cut lines)
+            (at self.old.pair self.old.carrier_failed sink.old) result
+            (at self.new.pair self.new.carrier_failed sink.new) }
     {
         for line in lines {
             self.line(line, cut, sink)?;
@@ -188,7 +206,10 @@ impl<C: Carry> Work<C> {
 
     // Does the lines, and sends the closing ones.
     fn run<K: Sink>(&mut self, lines: Seq<CallLine>, cut: u32, sink: &mut K) -> Result<Ran, Stop>
-        ensures { (start : K) (begun : PairView C) (all : List Doing) → Stands C.carries K.takes K.failures start begun all (at self.old.pair self.old.carrier_failed sink.old) (doings cut lines) → Ends C.carries K.takes K.failures start begun all result sink.new }
+        ensures { (start : K) (begun : PairView C) (all : List Doing)
+            → Stands C.carries K.takes K.failures start begun all
+            (at self.old.pair self.old.carrier_failed sink.old) (doings cut lines)
+            → Ends C.carries K.takes K.failures start begun all result sink.new }
     {
         self.lines(lines, cut, sink)?;
         self.close(sink)?;
@@ -257,7 +278,8 @@ pub fn run_loop<C: Carry, K: Sink>(
     requires checked { IsChecked script }
     requires filled { next_file calls.lines ≡ None }
     // the pair as it begins, what was sent, and the answer for what has happened
-    ensures ran { (begun : PairView C) × (sent : List (List ℕ)) × IsBegun calls.settings script carrier begun × FoldsTo K.takes sink.old sent sink.new
+    ensures ran { (begun : PairView C) × (sent : List (List ℕ))
+        × IsBegun calls.settings script carrier begun × FoldsTo K.takes sink.old sent sink.new
         × Answers (HasRisen (K.failures sink.old) (K.failures sink.new)) C.carries begun (doings cut calls.lines) (concat sent) result }
     // where the answer isn't Device, the sink didn't fail
     ensures sink { CountsNoFailure (K.failures sink.old) result (K.failures sink.new) }

@@ -92,7 +92,8 @@ fn status_letter(status: Status) -> &'static [u8]
 }
 
 fn put_parameter(name: &Seq<u8>, value: &Seq<u8>, lines: &mut LineBuffer) -> Result<(), AllocError>
-    ensures { OnOk result (lines.new ≡ with_row lines.old (aside_row (Aside.Parameter name.now value.now))) }
+    ensures { OnOk result (lines.new
+        ≡ with_row lines.old (aside_row (Aside.Parameter name.now value.now))) }
 {
     lines.put_text(b"set")?;
     lines.put_text(name.as_slice())?;
@@ -106,7 +107,8 @@ fn put_notification(
     payload: &Seq<u8>,
     lines: &mut LineBuffer,
 ) -> Result<(), AllocError>
-    ensures { OnOk result (lines.new ≡ with_row lines.old (aside_row (Aside.Notification process channel.now payload.now))) }
+    ensures { OnOk result (lines.new
+        ≡ with_row lines.old (aside_row (Aside.Notification process channel.now payload.now))) }
 {
     lines.put_text(b"notify")?;
     lines.put_signed(process)?;
@@ -121,7 +123,8 @@ fn put_rows(
     tag: &Seq<u8>,
     lines: &mut LineBuffer,
 ) -> Result<(), AllocError>
-    ensures { OnOk result (lines.new ≡ with_rows lines.old (rows_row columns.now tag.now ∷ map value_row rows.now)) }
+    ensures { OnOk result (lines.new
+        ≡ with_rows lines.old (rows_row columns.now tag.now ∷ map value_row rows.now)) }
 {
     lines.put_text(b"rows")?;
     lines.put_text(tag.as_slice())?;
@@ -136,7 +139,8 @@ fn put_copy_out(
     tag: &Seq<u8>,
     lines: &mut LineBuffer,
 ) -> Result<(), AllocError>
-    ensures { OnOk result (lines.new ≡ with_rows lines.old (copy_out_row head.now tag.now ∷ map chunk_row chunks.now)) }
+    ensures { OnOk result (lines.new
+        ≡ with_rows lines.old (copy_out_row head.now tag.now ∷ map chunk_row chunks.now)) }
 {
     lines.put_text(b"copyout")?;
     lines.put_text(tag.as_slice())?;
@@ -178,7 +182,8 @@ fn put_description(
     columns: &Option<Seq<Column>>,
     lines: &mut LineBuffer,
 ) -> Result<(), AllocError>
-    ensures { OnOk result (lines.new ≡ with_rows lines.old (part_rows (Part.Described parameters.now columns.now))) }
+    ensures { OnOk result (lines.new
+        ≡ with_rows lines.old (part_rows (Part.Described parameters.now columns.now))) }
 {
     put_parameters(parameters, lines)?;
     put_columns(columns, lines)
@@ -196,7 +201,8 @@ fn put_end(end: &ExecEnd, lines: &mut LineBuffer) -> Result<(), AllocError>
 }
 
 fn put_executed(rows: &Seq<Values>, end: &ExecEnd, lines: &mut LineBuffer) -> Result<(), AllocError>
-    ensures { OnOk result (lines.new ≡ with_rows lines.old (executed_row end.now ∷ map value_row rows.now)) }
+    ensures { OnOk result (lines.new
+        ≡ with_rows lines.old (executed_row end.now ∷ map value_row rows.now)) }
 {
     put_end(end, lines)?;
     put_each_line(rows.as_slice(), lines)

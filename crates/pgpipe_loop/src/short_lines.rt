@@ -107,7 +107,8 @@ pub fn put_error_line(
     fields: &[ErrorField],
     lines: &mut LineBuffer,
 ) -> Result<(), AllocError>
-    ensures { OnOk result (lines.new ≡ with_row lines.old (Some word.now ∷ error_fields fields.now)) }
+    ensures { OnOk result (lines.new
+        ≡ with_row lines.old (Some word.now ∷ error_fields fields.now)) }
 {
     lines.put_text(word)?;
     put_error_fields(fields, lines)?;
@@ -120,7 +121,8 @@ pub fn put_request_line(
     request: &Request,
     lines: &mut LineBuffer,
 ) -> Result<(), AllocError>
-    ensures { OnOk result (lines.new ≡ with_row lines.old (Some word.now ∷ request_fields request.now)) }
+    ensures { OnOk result (lines.new
+        ≡ with_row lines.old (Some word.now ∷ request_fields request.now)) }
 {
     lines.put_text(word)?;
     put_request(request, lines)?;

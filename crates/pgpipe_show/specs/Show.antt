@@ -115,11 +115,13 @@ pub record AreMostlyShown (front : Bool) (bytes text : List ℕ) : Type 0 where
 
 -- The text is a beginning of the lines for these bytes.
 abbrev pub ArePartlyShown : Bool → List ℕ → List ℕ → Type 0
-ArePartlyShown front bytes text = (all rest : List ℕ) × (n : Next) × AreShown front bytes all n rest × Begins text all
+ArePartlyShown front bytes text = (all rest : List ℕ) × (n : Next) × AreShown front bytes all n rest
+    × Begins text all
 
 -- The lines for all of these bytes but the last piece are no more than the text and what may be collected behind it.
 abbrev pub IsShownAtOnce : Bool → List ℕ → List ℕ → Type 0
-IsShownAtOnce front bytes text = (before : List ℕ) × AreShownBefore front bytes before × (length before ≤ most_collected + length text)
+IsShownAtOnce front bytes text = (before : List ℕ) × AreShownBefore front bytes before
+    × (length before ≤ most_collected + length text)
 
 -- ---- the answer
 
@@ -127,11 +129,15 @@ IsShownAtOnce front bytes text = (before : List ℕ) × AreShownBefore front byt
 -- refused, no line is missing for what came before the last piece. Device says that the sink broke, and then a beginning of the
 -- lines was sent and little more was received, or that the source stopped, and then all of them were sent.
 abbrev pub Answers : Type 0 → Type 0 → Bool → List ℕ → List ℕ → Result Shown ToolFault → Type 0
-Answers stopped broke front bytes text (Ok shown.Whole) = (n : Next) × AreShown front bytes text n []
-Answers stopped broke front bytes text (Ok (shown.Rest size)) = (n : Next) × (rest : List ℕ) × AreShown front bytes text n rest × IsOpenFor front n rest × (size ≡ length rest) × (0 < size)
-Answers stopped broke front bytes text (Ok (shown.Fault f)) = (n : Next) × (rest : List ℕ) × AreShown front bytes text n rest × IsFaultyFor front n rest f
+Answers stopped broke front bytes text (Ok shown.Whole) = (n : Next)
+    × AreShown front bytes text n []
+Answers stopped broke front bytes text (Ok (shown.Rest size)) = (n : Next) × (rest : List ℕ)
+    × AreShown front bytes text n rest × IsOpenFor front n rest × (size ≡ length rest) × (0 < size)
+Answers stopped broke front bytes text (Ok (shown.Fault f)) = (n : Next) × (rest : List ℕ)
+    × AreShown front bytes text n rest × IsFaultyFor front n rest f
 Answers stopped broke front bytes text (Err fault.Memory) = AreMostlyShown front bytes text
-Answers stopped broke front bytes text (Err fault.Device) = (broke × ArePartlyShown front bytes text × IsShownAtOnce front bytes text) ⊎ (stopped × AreAllShown front bytes text)
+Answers stopped broke front bytes text (Err fault.Device) = (broke × ArePartlyShown front bytes text
+    × IsShownAtOnce front bytes text) ⊎ (stopped × AreAllShown front bytes text)
 
 -- Where the stream is whole or has an open rest, the source has ended.
 abbrev pub EndsWith : Type 0 → Result Shown ToolFault → Type 0

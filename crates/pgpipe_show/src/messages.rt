@@ -23,7 +23,9 @@ fn spell<M: Message>(message: M, spelled: &mut Vec<u8>) -> Result<(), EncodeFaul
 // Puts the line of a message that is spelled so.
 fn put_spelled<K: Sink>(spelled: &[u8], outbox: &mut Outbox, sink: &mut K) -> Result<(), Halt>
     requires { (5 ≤ length spelled.now) × (length spelled.now ≤ 2 ^ 32) }
-    ensures { PutsLine K.takes K.failures outbox.old sink.old (line_of (slice_index spelled.now 0 ∷ []) (length spelled.now - 1) (drop 5 spelled.now)) result outbox.new sink.new }
+    ensures { PutsLine K.takes K.failures outbox.old sink.old
+        (line_of (slice_index spelled.now 0 ∷ []) (length spelled.now - 1) (drop 5 spelled.now))
+        result outbox.new sink.new }
 {
     let size = (spelled.len() - 1) as u32;
     match outbox.put_line(&[spelled[0]], size, spelled.split_at(5).1, sink) {
@@ -40,7 +42,8 @@ fn put_message<M: Message, K: Sink>(
     sink: &mut K,
 ) -> Result<(), Halt>
     requires { IsWithin M.direction limit message }
-    ensures { PutsLine K.takes K.failures outbox.old sink.old (line M.direction message) result outbox.new sink.new }
+    ensures { PutsLine K.takes K.failures outbox.old sink.old
+        (line M.direction message) result outbox.new sink.new }
 {
     match spell(message, spelled) {
         Ok(()) => put_spelled(spelled.as_slice(), outbox, sink),
@@ -56,7 +59,8 @@ pub fn put_messages<M: Message, K: Sink>(
     sink: &mut K,
 ) -> Result<Decoder<M>, Halt>
     requires { IsSound decoder }
-    ensures puts { PutsMessages K.takes K.failures M.direction outbox.old sink.old decoder.kept result outbox.new sink.new }
+    ensures puts { PutsMessages K.takes K.failures M.direction outbox.old sink.old decoder.kept
+        result outbox.new sink.new }
     ensures source { LeavesSource result }
 {
     let mut reader = decoder;
@@ -78,7 +82,8 @@ pub fn take_messages<M: Message, K: Sink>(
     sink: &mut K,
 ) -> Result<Decoder<M>, Halt>
     requires { IsSound decoder }
-    ensures puts { PutsMessages K.takes K.failures M.direction outbox.old sink.old (decoder.kept ++ piece.now) result outbox.new sink.new }
+    ensures puts { PutsMessages K.takes K.failures M.direction outbox.old sink.old (decoder.kept
+        ++ piece.now) result outbox.new sink.new }
     ensures source { LeavesSource result }
 {
     let mut reader = decoder;

@@ -65,7 +65,8 @@ fn put_spelled<K: Sink>(
 ) -> Result<(), Halt>
     requires word { length word.now ≤ 7 }
     requires spelled { (4 ≤ length spelled.now) × (length spelled.now ≤ 10000) }
-    ensures { PutsLine K.takes K.failures outbox.old sink.old (line_of word.now (length spelled.now) (drop 4 spelled.now)) result outbox.new sink.new }
+    ensures { PutsLine K.takes K.failures outbox.old sink.old
+        (line_of word.now (length spelled.now) (drop 4 spelled.now)) result outbox.new sink.new }
 {
     match outbox.put_line(word, spelled.len() as u32, spelled.split_at(4).1, sink) {
         Ok(()) => Ok(()),
@@ -81,7 +82,8 @@ fn put_packet<K: Sink>(
     sink: &mut K,
 ) -> Result<(), Halt>
     requires { IsPacket packet }
-    ensures { PutsLine K.takes K.failures outbox.old sink.old (packet_line packet) result outbox.new sink.new }
+    ensures { PutsLine K.takes K.failures outbox.old sink.old
+        (packet_line packet) result outbox.new sink.new }
 {
     match spell(&packet, spelled) {
         Ok(()) => put_spelled(word(&packet), spelled.as_slice(), outbox, sink),
@@ -97,7 +99,8 @@ pub fn put_packets<K: Sink>(
     sink: &mut K,
 ) -> Result<Next, Halt>
     requires { (first.old.ended ≡ false) × (first.old.fault ≡ None) }
-    ensures puts { PutsPackets K.takes K.failures outbox.old sink.old first.old.kept result first.new outbox.new sink.new }
+    ensures puts { PutsPackets K.takes K.failures outbox.old sink.old first.old.kept result
+        first.new outbox.new sink.new }
     ensures source { LeavesSource result }
 {
     loop {

@@ -47,8 +47,14 @@ impl Work {
     ) -> Result<Stage, Halt>
         requires sound { IsSoundAt stage }
         requires room { kept_of stage + longest_piece < 2 ^ 64 }
-        ensures steps { (piece : List ℕ) × (length piece ≤ longest_piece) × S.gives source.old piece source.new × ((start : K) (bytes : List ℕ) (stands : Stands K.takes K.failures start bytes stage self.old.outbox sink.old) → Steps K.takes K.failures (is_front stage) start (bytes ++ piece) stands.text result self.new.outbox sink.new) }
-        ensures source { StepsSource (S.has_ended source.new) (S.failures source.old) (S.failures source.new) result }
+        ensures steps { (piece : List ℕ) × (length piece ≤ longest_piece)
+            × S.gives source.old piece source.new
+            × ((start : K) (bytes : List ℕ)
+            (stands : Stands K.takes K.failures start bytes stage self.old.outbox sink.old)
+            → Steps K.takes K.failures (is_front stage) start (bytes
+            ++ piece) stands.text result self.new.outbox sink.new) }
+        ensures source { StepsSource (S.has_ended source.new) (S.failures source.old)
+            (S.failures source.new) result }
     {
         let count = match source.receive(self.into.as_mut_slice()) {
             Ok(0) => return Err(Halt::Ended(stage.kept())),
@@ -66,7 +72,8 @@ impl Work {
     // Goes on until there is no more to do.
     fn run<S: Source, K: Sink>(&mut self, stage: Stage, source: &mut S, sink: &mut K) -> Halt
         requires { Stands K.takes K.failures sink.old [] stage self.old.outbox sink.old }
-        ensures { HasRun S.gives S.failures (S.has_ended source.new) K.takes K.failures (is_front stage) source.old sink.old result source.new self.new.outbox sink.new }
+        ensures { HasRun S.gives S.failures (S.has_ended source.new) K.takes K.failures
+            (is_front stage) source.old sink.old result source.new self.new.outbox sink.new }
     {
         let mut stage = stage;
         for _ in 0..MOST_RECEIVES {
@@ -80,7 +87,8 @@ impl Work {
 
     // Sends what is collected, unless the sink has failed.
     fn settle<K: Sink>(&mut self, halt: Halt, sink: &mut K) -> Result<(), LinkFault>
-        ensures { Settles K.takes K.failures halt self.old.outbox sink.old result self.new.outbox sink.new }
+        ensures { Settles K.takes K.failures halt self.old.outbox sink.old result self.new.outbox
+            sink.new }
     {
         match halt {
             Halt::SinkFailed => Err(LinkFault),

@@ -33,7 +33,10 @@ fn take_packets<K: Sink>(
     sink: &mut K,
 ) -> Result<Stage, Halt>
     requires { (decoder.ended ≡ false) × (decoder.fault ≡ None) }
-    ensures steps { (start : K) (bytes : List ℕ) (stands : Stands K.takes K.failures start bytes (First decoder) outbox.old sink.old) → Steps K.takes K.failures true start (bytes ++ piece.now) stands.text result outbox.new sink.new }
+    ensures steps { (start : K) (bytes : List ℕ)
+        (stands : Stands K.takes K.failures start bytes (First decoder) outbox.old sink.old)
+        → Steps K.takes K.failures true start (bytes
+        ++ piece.now) stands.text result outbox.new sink.new }
     ensures source { LeavesSource result }
 {
     let mut first = decoder;
@@ -85,7 +88,10 @@ impl Stage {
     ) -> Result<Stage, Halt>
         requires sound { IsSoundAt self }
         requires room { kept_of self + length piece.now < 2 ^ 64 }
-        ensures steps { (start : K) (bytes : List ℕ) (stands : Stands K.takes K.failures start bytes self outbox.old sink.old) → Steps K.takes K.failures (is_front self) start (bytes ++ piece.now) stands.text result outbox.new sink.new }
+        ensures steps { (start : K) (bytes : List ℕ)
+            (stands : Stands K.takes K.failures start bytes self outbox.old sink.old)
+            → Steps K.takes K.failures (is_front self) start (bytes
+            ++ piece.now) stands.text result outbox.new sink.new }
         ensures source { LeavesSource result }
     {
         match self {

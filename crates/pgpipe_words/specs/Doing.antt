@@ -26,7 +26,10 @@ use Rattle.pgpipe_words.specs.Reading.{ReadsScript, ReadsCalls}
 -- ---- what the work of a task comes to
 
 -- A stream was shown with this answer, from the one source to the other and from the one sink to the other.
-pub record Shows {S K : Type 0} (gives : S → List ℕ → S → Type 0) (source_failures : S → ℕ) (has_ended : S → Type 0) (takes : K → List ℕ → K → Type 0) (failures : K → ℕ) (front : Bool) (source : S) (sink : K) (answer : Result Shown ToolFault) (source' : S) (sink' : K) : Type 0 where
+pub record Shows {S K : Type 0} (gives : S → List ℕ → S → Type 0) (source_failures : S → ℕ)
+    (has_ended : S → Type 0) (takes : K → List ℕ → K → Type 0) (failures : K → ℕ) (front : Bool)
+    (source : S) (sink : K) (answer : Result Shown ToolFault) (source' : S)
+    (sink' : K) : Type 0 where
   pub received : List (List ℕ)
   pub sent : List (List ℕ)
   pub was_received : FoldsTo gives source received source'
@@ -37,7 +40,10 @@ pub record Shows {S K : Type 0} (gives : S → List ℕ → S → Type 0) (sourc
   pub sink_counts : CountsNoFailure (failures sink) answer (failures sink')
 
 -- A file of the one format was converted to the other.
-pub record Converts {S K : Type 0} (gives : S → List ℕ → S → Type 0) (source_failures : S → ℕ) (has_ended : S → Type 0) (takes : K → List ℕ → K → Type 0) (failures : K → ℕ) (from to : Format) (columns : ℕ) (source : S) (sink : K) (answer : Result Converted ToolFault) (source' : S) (sink' : K) : Type 0 where
+pub record Converts {S K : Type 0} (gives : S → List ℕ → S → Type 0) (source_failures : S → ℕ)
+    (has_ended : S → Type 0) (takes : K → List ℕ → K → Type 0) (failures : K → ℕ) (from to : Format)
+    (columns : ℕ) (source : S) (sink : K) (answer : Result Converted ToolFault) (source' : S)
+    (sink' : K) : Type 0 where
   pub received : List (List ℕ)
   pub sent : List (List ℕ)
   pub was_received : FoldsTo gives source received source'
@@ -48,7 +54,9 @@ pub record Converts {S K : Type 0} (gives : S → List ℕ → S → Type 0) (so
   pub sink_counts : CountsNoFailure (failures sink) answer (failures sink')
 
 -- A loop of this script and these calls was run.
-pub record Runs {C K : Type 0} (carries : loop.Carries C) (takes : K → List ℕ → K → Type 0) (failures : K → ℕ) (cut : ℕ) (script : Script) (calls : Calls) (carrier : C) (sink : K) (answer : Result Ran ToolFault) (sink' : K) : Type 0 where
+pub record Runs {C K : Type 0} (carries : loop.Carries C) (takes : K → List ℕ → K → Type 0)
+    (failures : K → ℕ) (cut : ℕ) (script : Script) (calls : Calls) (carrier : C) (sink : K)
+    (answer : Result Ran ToolFault) (sink' : K) : Type 0 where
   pub begun : PairView C
   pub sent : List (List ℕ)
   pub is_begun : IsBegun calls.settings script carrier begun
@@ -58,39 +66,50 @@ pub record Runs {C K : Type 0} (carries : loop.Carries C) (takes : K → List �
 
 -- ---- a loop of two files: SCRIPT is read, then CALLS with the files that it names, and then the script is judged; what fails
 -- first is the result, and nothing is sent
-module _ {C K : Type 0} (carries : loop.Carries C) (takes : K → List ℕ → K → Type 0) (failures : K → ℕ) (carrier : C) (cut : ℕ) (sink : K) (result : Result Unit Failure) (sink' : K) where
+module _ {C K : Type 0} (carries : loop.Carries C) (takes : K → List ℕ → K → Type 0) (failures : K
+    → ℕ) (carrier : C) (cut : ℕ) (sink : K) (result : Result Unit Failure) (sink' : K) where
   abbrev pub FailsBy : Failure → Type 0
   FailsBy f = (result ≡ Err f) × (sink' ≡ sink)
 
   abbrev pub RunsJudged : Script → Calls → Result Unit ScriptFault → Type 0
-  RunsJudged script calls (Ok x) = (answer : Result Ran ToolFault) × Runs carries takes failures cut script calls carrier sink answer sink' × LoopResults answer result
+  RunsJudged script calls (Ok x) = (answer : Result Ran ToolFault)
+      × Runs carries takes failures cut script calls carrier sink answer sink'
+      × LoopResults answer result
   RunsJudged script calls (Err fault) = FailsBy (check_failure fault)
 
   abbrev pub RunsCalls : Script → Result Calls Failure → Type 0
-  RunsCalls script (Ok calls) = (judged : Result Unit ScriptFault) × Checks script judged × RunsJudged script calls judged
+  RunsCalls script (Ok calls) = (judged : Result Unit ScriptFault) × Checks script judged
+      × RunsJudged script calls judged
   RunsCalls script (Err f) = FailsBy f
 
   module _ (holds : List ℕ → List ℕ → Type 0) (fails : List ℕ → Failure → Type 0) where
     abbrev pub RunsScript : List ℕ → Result Script Failure → Type 0
-    RunsScript calls_path (Ok script) = (calls : Result Calls Failure) × ReadsCalls holds fails calls_path calls × RunsCalls script calls
+    RunsScript calls_path (Ok script) = (calls : Result Calls Failure)
+        × ReadsCalls holds fails calls_path calls × RunsCalls script calls
     RunsScript calls_path (Err f) = FailsBy f
 
     abbrev pub RunsFiles : List ℕ → List ℕ → Type 0
-    RunsFiles script_path calls_path = (script : Result Script Failure) × ReadsScript holds fails script_path script × RunsScript calls_path script
+    RunsFiles script_path calls_path = (script : Result Script Failure)
+        × ReadsScript holds fails script_path script × RunsScript calls_path script
 
 -- ---- a task
 
-module _ {S K : Type 0} (gives : S → List ℕ → S → Type 0) (source_failures : S → ℕ) (has_ended : S → Type 0) (takes : K → List ℕ → K → Type 0) (failures : K → ℕ) where
+module _ {S K : Type 0} (gives : S → List ℕ → S → Type 0) (source_failures : S → ℕ) (has_ended : S
+    → Type 0) (takes : K → List ℕ → K → Type 0) (failures : K → ℕ) where
   -- A stream was shown, and the result is what the answer means.
   abbrev pub DoesShow : Bool → S → K → Result Unit Failure → S → K → Type 0
-  DoesShow front source sink result source' sink' = (answer : Result Shown ToolFault) × Shows gives source_failures has_ended takes failures front source sink answer source' sink' × Results answer result
+  DoesShow front source sink result source' sink' = (answer : Result Shown ToolFault)
+      × Shows gives source_failures has_ended takes failures front source sink answer source' sink'
+      × Results answer result
 
   -- A file was converted, and the result is what the answer means.
   abbrev pub DoesConvert : Format → Format → ℕ → S → K → Result Unit Failure → S → K → Type 0
   DoesConvert from to columns source sink result source' sink' = (answer : Result Converted ToolFault) × Converts gives source_failures has_ended takes failures from to columns source sink answer source' sink' × ConversionResults answer result
 
 -- The task is done.
-abbrev pub Does : {C S K : Type 0} → (List ℕ → List ℕ → Type 0) → (List ℕ → Failure → Type 0) → loop.Carries C → (S → List ℕ → S → Type 0) → (S → ℕ) → (S → Type 0) → (K → List ℕ → K → Type 0) → (K → ℕ) → C → Task → S → K → Result Unit Failure → S → K → Type 0
+abbrev pub Does : {C S K : Type 0} → (List ℕ → List ℕ → Type 0) → (List ℕ → Failure → Type 0)
+    → loop.Carries C → (S → List ℕ → S → Type 0) → (S → ℕ) → (S → Type 0)
+    → (K → List ℕ → K → Type 0) → (K → ℕ) → C → Task → S → K → Result Unit Failure → S → K → Type 0
 Does holds fails carries gives source_failures has_ended takes failures carrier (task.Show front) source sink result source' sink' =
     DoesShow gives source_failures has_ended takes failures front source sink result source' sink'
 Does holds fails carries gives source_failures has_ended takes failures carrier (task.Convert from to columns) source sink result source' sink' =

@@ -78,7 +78,8 @@ IsHelp k = (k ≡ kind.DisplayHelp) ⊎ (k ≡ kind.DisplayVersion)
 
 -- Help ends with status 0, and a mistake in the words with 1; the text may not be printed, and want of memory is told as such.
 abbrev pub Explains : ErrorKind → Result ExitCode Failure → Type 0
-Explains k (Ok code) = (k ≢ kind.OutOfMemory) × (IsHelp k → exit_status code ≡ 0) × ((IsHelp k → ⊥) → exit_status code ≡ 1)
+Explains k (Ok code) = (k ≢ kind.OutOfMemory) × (IsHelp k → exit_status code ≡ 0)
+    × ((IsHelp k → ⊥) → exit_status code ≡ 1)
 Explains k (Err failure.Memory) = k ≡ kind.OutOfMemory
 Explains k (Err failure.Device) = k ≢ kind.OutOfMemory
 Explains k (Err _) = ⊥

@@ -30,7 +30,8 @@ module _ (holds : List ℕ → List ℕ → Type 0) (fails : List ℕ → Failur
   -- Of the files that these calls name the first are read, each from its path, and their chunks stand in their places.
   pub data Fills (read : Calls) : Calls → Type 0 where
     nothing : Fills read read
-    one_more : (calls : Calls) (path bytes : List ℕ) → Fills read calls → next_file calls.lines ≡ Some path → holds path bytes → Fills read (filled bytes calls)
+    one_more : (calls : Calls) (path bytes : List ℕ) → Fills read calls
+        → next_file calls.lines ≡ Some path → holds path bytes → Fills read (filled bytes calls)
 
   -- All of them are read.
   abbrev pub FillsAll : Calls → Calls → Type 0
@@ -52,7 +53,8 @@ module _ (holds : List ℕ → List ℕ → Type 0) (fails : List ℕ → Failur
   -- fault, or one that it names can't be had.
   abbrev pub ReadsCalls : List ℕ → Result Calls Failure → Type 0
   ReadsCalls path (Ok calls) = (bytes : List ℕ) × holds path bytes × (read : Calls)
-      × (calls_of bytes ≡ Ok (what_is_said read)) × (read.settings.limit ≡ calls_limit) × FillsAll read calls
+      × (calls_of bytes ≡ Ok (what_is_said read)) × (read.settings.limit ≡ calls_limit)
+      × FillsAll read calls
   ReadsCalls path (Err f) = fails path f
       ⊎ ((bytes : List ℕ) × holds path bytes
       × (((fault : LineFault) × (f ≡ calls_failure fault) × IsAt fault (calls_of bytes))

@@ -27,7 +27,8 @@ format_named (Some name) = if bytes_eq name (codes "binary") then format.Binary 
 -- The text is this number in decimal digits, where a plus may stand first.
 abbrev pub IsNumber : Option Text → ℕ → Type 0
 IsNumber None n = ⊥
-IsNumber (Some text) n = IsNumeral 10 (without_leading_plus text) × (digits_value 10 (without_leading_plus text) ≡ n)
+IsNumber (Some text) n = IsNumeral 10 (without_leading_plus text)
+    × (digits_value 10 (without_leading_plus text) ≡ n)
 
 -- A flag was given or not.
 pub record IsFlag (found : Option Text) (given : Bool) : Type 0 where
@@ -75,5 +76,6 @@ IsAskedFor (Some subcommand) t = IsNamed subcommand.0 subcommand.1 t
 pub record IsReadOf (words : List Text) (result : Result Task Error) : Type 0 where
   pub formats : ValueParser
   pub are_formats : IsFormats formats
-  pub asked_for : IfOk result (λ t. IsTask t × IsAskedFor (subcommand_of (command_line formats) words) t)
+  pub asked_for : IfOk result (λ t. IsTask t
+      × IsAskedFor (subcommand_of (command_line formats) words) t)
   pub taken : FailsBy (fault_of (command_line formats) words) result

@@ -27,7 +27,8 @@ fn do_show<S: Source, K: Sink>(
     source: &mut S,
     sink: &mut K,
 ) -> Result<(), Failure>
-    ensures { DoesShow S.gives S.failures S.has_ended K.takes K.failures front source.old sink.old result source.new sink.new }
+    ensures { DoesShow S.gives S.failures S.has_ended K.takes K.failures front source.old sink.old
+        result source.new sink.new }
 {
     result_of(show(alloc, front, source, sink))
 }
@@ -42,7 +43,8 @@ fn do_convert<S: Source, K: Sink>(
     sink: &mut K,
 ) -> Result<(), Failure>
     requires { (0 < columns) × (columns ≤ 32767) }
-    ensures { DoesConvert S.gives S.failures S.has_ended K.takes K.failures from to columns source.old sink.old result source.new sink.new }
+    ensures { DoesConvert S.gives S.failures S.has_ended K.takes K.failures from to columns
+        source.old sink.old result source.new sink.new }
 {
     conversion_result_of(convert(alloc, from, to, columns, source, sink))
 }
@@ -57,7 +59,9 @@ pub fn do_task<F: FileStore, C: Carry, S: Source, K: Sink>(
     sink: &mut K,
 ) -> Result<(), Failure>
     requires { IsTask task }
-    ensures { Does (F.holds files.now) (F.fails files.now) C.carries S.gives S.failures S.has_ended K.takes K.failures carrier task source.old sink.old result source.new sink.new }
+    ensures { Does (F.holds files.now)
+        (F.fails files.now) C.carries S.gives S.failures S.has_ended K.takes K.failures carrier task
+        source.old sink.old result source.new sink.new }
 {
     match task {
         Task::Show { front } => do_show(alloc, front, source, sink),
@@ -91,7 +95,8 @@ pub fn explain<R: Print + Eprint>(rt: &R, error: &clap::Error) -> Result<ExitCod
 
 /// The status that the program ends with.
 pub fn exit_code(ended: &Result<ExitCode, Failure>) -> ExitCode
-    ensures { MatchResult ended.now (λ code. result ≡ code) (λ failure. exit_status result ≡ status_of failure) }
+    ensures { MatchResult ended.now (λ code. result ≡ code) (λ failure. exit_status result
+        ≡ status_of failure) }
 {
     match ended {
         Ok(code) => *code,

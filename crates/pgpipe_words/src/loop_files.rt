@@ -56,7 +56,8 @@ fn run_judged<C: Carry, K: Sink>(
 ) -> Result<(), Failure>
     requires limit { calls.settings.limit ≡ calls_limit }
     requires filled { next_file calls.lines ≡ None }
-    ensures { RunsCalls C.carries K.takes K.failures carrier cut sink.old result sink.new script (Ok calls) }
+    ensures { RunsCalls C.carries K.takes K.failures carrier cut sink.old result sink.new script
+        (Ok calls) }
 {
     script.check(alloc).map_err(check_failure)?;
     loop_result_of(run_loop(alloc, script, calls, cut, carrier, sink))
@@ -72,7 +73,8 @@ pub fn run_files<F: FileStore, C: Carry, K: Sink>(
     carrier: C,
     sink: &mut K,
 ) -> Result<(), Failure>
-    ensures { RunsFiles C.carries K.takes K.failures carrier cut sink.old result sink.new (F.holds files.now) (F.fails files.now) script.now calls.now }
+    ensures { RunsFiles C.carries K.takes K.failures carrier cut sink.old result sink.new
+        (F.holds files.now) (F.fails files.now) script.now calls.now }
 {
     let script = script_at(alloc, files, script)?;
     let calls = calls_at(alloc, files, calls)?;

@@ -46,7 +46,8 @@ IsWalked columns limit bytes w = 0 < w.at → IsBegun columns limit bytes w
 
 abbrev pub Finds : ℕ → ℕ → List ℕ → Result Part Stop → Walk → Type 0
 Finds columns limit bytes (Ok parts.Row) w = (0 < w.at) × (w.left ≡ 0)
-Finds columns limit bytes (Ok parts.Trailer) w = row_at columns limit bytes ≡ Ok (None, drop 2 bytes)
+Finds columns limit bytes (Ok parts.Trailer) w = row_at columns limit bytes
+    ≡ Ok (None, drop 2 bytes)
 Finds columns limit bytes (Err stop) w = row_at columns limit bytes ≡ Err (no_part stop)
 
 -- ---- the next part of a file, by what was read before
@@ -55,14 +56,16 @@ abbrev pub closed_at : List ℕ → Result ((Option Row × BinaryStage) × List 
 closed_at [] = Ok ((None, Closed), [])
 closed_at (b ∷ bs) = Err (Faulty AfterTrailer)
 
-abbrev pub row_or_trailer : Option Row → List ℕ → Result ((Option Row × BinaryStage) × List ℕ) NoPart
+abbrev pub row_or_trailer : Option Row → List ℕ
+    → Result ((Option Row × BinaryStage) × List ℕ) NoPart
 row_or_trailer None rest = closed_at rest
 row_or_trailer (Some row) rest = Ok ((Some row, Rows), rest)
 
 unfoldable pub body_at : ℕ → ℕ → List ℕ → Result ((Option Row × BinaryStage) × List ℕ) NoPart
 body_at columns limit bytes = row_at columns limit bytes >>= λ r. row_or_trailer r.0 r.1
 
-unfoldable pub part_at : BinaryStage → ℕ → ℕ → List ℕ → Result ((Option Row × BinaryStage) × List ℕ) NoPart
+unfoldable pub part_at : BinaryStage → ℕ → ℕ → List ℕ
+    → Result ((Option Row × BinaryStage) × List ℕ) NoPart
 part_at Head columns limit bytes = head_at bytes >>= λ h. body_at columns limit h.1
 part_at (Extension n) columns limit bytes = bytes_at n bytes >>= λ h. body_at columns limit h.1
 part_at Rows columns limit bytes = body_at columns limit bytes
@@ -77,8 +80,12 @@ IsBehindHead true bytes rest = rest_of (head_at bytes) ≡ Ok rest
 IsBehindHead false bytes rest = bytes ≡ rest
 
 abbrev pub StartsRow : Bool → List ℕ → ℕ → Result ℕ Stop → Type 0
-StartsRow in_head bytes start (Ok n) = (n ≤ length bytes) × IsBehindHead in_head bytes (drop n bytes) × ((((in_head ≡ false) ⊎ (0 < start)) × (n ≡ start)) ⊎ ((in_head ≡ true) × (start ≡ 0) × (0 < n)))
-StartsRow in_head bytes start (Err stop) = (in_head ≡ true) × (start ≡ 0) × (head_at bytes ≡ Err (no_part stop))
+StartsRow in_head bytes start (Ok n) = (n ≤ length bytes)
+    × IsBehindHead in_head bytes (drop n bytes)
+    × ((((in_head ≡ false) ⊎ (0 < start)) × (n ≡ start))
+    ⊎ ((in_head ≡ true) × (start ≡ 0) × (0 < n)))
+StartsRow in_head bytes start (Err stop) = (in_head ≡ true) × (start ≡ 0)
+    × (head_at bytes ≡ Err (no_part stop))
 
 pub record IsLooked (in_head : Bool) (columns limit : ℕ) (bytes : List ℕ) (l : Look) : Type 0 where
   pub in_range : l.start ≤ length bytes
@@ -92,9 +99,11 @@ stage_of true = Head
 stage_of false = Rows
 
 abbrev pub FindsPart : Bool → ℕ → ℕ → List ℕ → Result Part Stop → Look → Type 0
-FindsPart in_head columns limit bytes (Ok parts.Row) l = (0 < l.walk.at) × (l.walk.left ≡ 0) × IsBehindHead in_head bytes (drop l.start bytes)
+FindsPart in_head columns limit bytes (Ok parts.Row) l = (0 < l.walk.at) × (l.walk.left ≡ 0)
+    × IsBehindHead in_head bytes (drop l.start bytes)
 FindsPart in_head columns limit bytes (Ok parts.Trailer) l = part_at (stage_of in_head) columns limit bytes ≡ Ok ((None, Closed), [])
-FindsPart in_head columns limit bytes (Err stop) l = (part_at (stage_of in_head) columns limit bytes ≡ Err (no_part stop)) × (in_head ≡ true → l.start ≡ 0 → head_at bytes ≡ Err (no_part stop))
+FindsPart in_head columns limit bytes (Err stop) l = (part_at (stage_of in_head) columns limit bytes
+    ≡ Err (no_part stop)) × (in_head ≡ true → l.start ≡ 0 → head_at bytes ≡ Err (no_part stop))
 
 -- ---- a reader
 
@@ -106,7 +115,8 @@ is_head Closed = false
 is_head (Failed fault) = false
 
 -- what is kept of a reader
-pub record IsReader (columns limit : ℕ) (kept : List ℕ) (look : Look) (stage : BinaryStage) : Type 0 where
+pub record IsReader (columns limit : ℕ) (kept : List ℕ) (look : Look)
+    (stage : BinaryStage) : Type 0 where
   pub columns_few : columns ≤ 32767
   pub looked : IsLooked (is_head stage) columns limit kept look
   pub not_memory : stage ≡ Failed Memory → ⊥
@@ -140,7 +150,8 @@ waiting s = waiting_at s.stage s
 
 -- the next part is taken, or it is waited for, or a fault is found in its place and nothing changes
 abbrev pub FindsNext : Result (Option Row) NoRow → BinaryState → BinaryState → Type 0
-FindsNext (Ok row) old new = (part_at old.stage old.columns old.limit old.kept ≡ Ok ((row, new.stage), new.kept)) × (new ≡ record old { kept = new.kept; stage = new.stage })
+FindsNext (Ok row) old new = (part_at old.stage old.columns old.limit old.kept
+    ≡ Ok ((row, new.stage), new.kept)) × (new ≡ record old { kept = new.kept; stage = new.stage })
 FindsNext (Err no_row.Memory) old new = (new ≡ old) × RowWaits (left old [])
 FindsNext (Err (no_row.NoPart stops.Incomplete)) old new = (part_at old.stage old.columns old.limit old.kept ≡ Err Incomplete) × (new ≡ waiting old)
 FindsNext (Err (no_row.NoPart (stops.Faulty fault))) old new = (part_at old.stage old.columns old.limit old.kept ≡ Err (Faulty fault)) × (new ≡ old)
@@ -150,4 +161,6 @@ abbrev pub TakesPart : Result (Option Row) NoRow → BinaryState → BinaryState
 TakesPart (Ok row) old new = FindsNext (Ok row) old new
 TakesPart (Err no_row.Memory) old new = FindsNext (Err no_row.Memory) old new
 TakesPart (Err (no_row.NoPart stops.Incomplete)) old new = FindsNext (Err (no_row.NoPart stops.Incomplete)) old new
-TakesPart (Err (no_row.NoPart (stops.Faulty fault))) old new = (fault ≡ Memory → ⊥) × (part_at old.stage old.columns old.limit old.kept ≡ Err (Faulty fault)) × (new ≡ record old { kept = []; stage = Failed fault })
+TakesPart (Err (no_row.NoPart (stops.Faulty fault))) old new = (fault ≡ Memory → ⊥)
+    × (part_at old.stage old.columns old.limit old.kept ≡ Err (Faulty fault))
+    × (new ≡ record old { kept = []; stage = Failed fault })

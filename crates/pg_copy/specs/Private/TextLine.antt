@@ -15,34 +15,42 @@ use Rattle.pg_copy.specs.Private.Units.{IsScanned}
 
 -- what a line is read as, whatever comes after it
 abbrev pub LineGives : Option ℕ → List ℕ → Row → Type 0
-LineGives columns line row = (after : Reading TextFault) → line_reading columns line after ≡ after_rows (row ∷ []) after
+LineGives columns line row = (after : Reading TextFault)
+    → line_reading columns line after ≡ after_rows (row ∷ []) after
 
 abbrev pub LineEnds : Option ℕ → List ℕ → Type 0
-LineEnds columns line = (after : Reading TextFault) → line_reading columns line after ≡ record { rows = []; ending = Done }
+LineEnds columns line = (after : Reading TextFault)
+    → line_reading columns line after ≡ record { rows = []; ending = Done }
 
 -- a fault of the line, which isn't want of memory
 pub record LineFails (columns : Option ℕ) (line : List ℕ) (fault : TextFault) : Type 0 where
-  pub is : (after : Reading TextFault) → line_reading columns line after ≡ record { rows = []; ending = Bad fault }
+  pub is : (after : Reading TextFault)
+      → line_reading columns line after ≡ record { rows = []; ending = Bad fault }
   pub not_memory : fault ≡ Memory → ⊥
 
 abbrev pub IsJudged : Option ℕ → List ℕ → Judged → Type 0
 IsJudged columns line judged.EndMark = LineEnds columns line
-IsJudged columns line (judged.Row n) = (n ≡ length (parts delimiter line)) × LineGives columns line (map field_value (parts delimiter line))
+IsJudged columns line (judged.Row n) = (n ≡ length (parts delimiter line))
+    × LineGives columns line (map field_value (parts delimiter line))
 IsJudged columns line (judged.Faulty fault) = LineFails columns line fault
 
 -- A line of so many bytes is taken off, with what ends it; or the reader stops at the end mark or at the line's fault; or memory
 -- for its row is refused, and nothing changes.
 abbrev pub TakesLine : ℕ → ℕ → TextState → Result (Option Row) TextFault → TextState → Type 0
-TakesLine len taken old (Ok (Some row)) new = LineGives old.columns (take len old.kept) row × (new ≡ record old { kept = drop taken old.kept })
-TakesLine len taken old (Ok None) new = LineEnds old.columns (take len old.kept) × (new ≡ record old { kept = []; stage = stages.Marked })
+TakesLine len taken old (Ok (Some row)) new = LineGives old.columns (take len old.kept) row
+    × (new ≡ record old { kept = drop taken old.kept })
+TakesLine len taken old (Ok None) new = LineEnds old.columns (take len old.kept)
+    × (new ≡ record old { kept = []; stage = stages.Marked })
 TakesLine len taken old (Err fault) new =
     ((fault ≡ Memory) × (new ≡ old) × (row : Row) × LineGives old.columns (take len old.kept) row)
-    ⊎ (LineFails old.columns (take len old.kept) fault × (new ≡ record old { kept = []; stage = stages.Failed fault }))
+    ⊎ (LineFails old.columns (take len old.kept) fault
+    × (new ≡ record old { kept = []; stage = stages.Failed fault }))
 
 -- the reader after an answer of finish: the input has ended, unless memory was refused
 abbrev pub Ends : Result (Option Row) TextFault → TextState → TextState → Type 0
 Ends (Ok row) mid new = new ≡ record mid { ended = true }
-Ends (Err fault) mid new = ((fault ≡ Memory) × (new ≡ mid)) ⊎ ((fault ≡ Memory → ⊥) × (new ≡ record mid { ended = true }))
+Ends (Err fault) mid new = ((fault ≡ Memory) × (new ≡ mid))
+    ⊎ ((fault ≡ Memory → ⊥) × (new ≡ record mid { ended = true }))
 
 -- what is kept of a reader: the first line is walked over so far, and no fault is want of memory
 pub record IsReader (kept : List ℕ) (scan : Scan) (stage : TextStage) : Type 0 where
@@ -52,8 +60,11 @@ pub record IsReader (kept : List ℕ) (scan : Scan) (stage : TextStage) : Type 0
 -- What a call answers at the end of the input, and how it leaves the reader: it gives the first row that is left, or what stands
 -- in its place, and memory is refused only where a row is left.
 abbrev pub TakesLast : TextState → Result (Option Row) TextFault → TextState → Type 0
-TakesLast old (Ok (Some row)) new = (last old ≡ after_rows (row ∷ []) (last new)) × (new ≡ record old { kept = new.kept })
-TakesLast old (Ok None) new = (last old ≡ record { rows = []; ending = last_ending_at new.stage }) × IsGood (last_ending_at new.stage) × (new ≡ record old { kept = []; stage = new.stage })
+TakesLast old (Ok (Some row)) new = (last old ≡ after_rows (row ∷ []) (last new))
+    × (new ≡ record old { kept = new.kept })
+TakesLast old (Ok None) new = (last old ≡ record { rows = []; ending = last_ending_at new.stage })
+    × IsGood (last_ending_at new.stage) × (new ≡ record old { kept = []; stage = new.stage })
 TakesLast old (Err fault) new =
     ((fault ≡ Memory) × (new ≡ old) × RowWaits (last old))
-    ⊎ ((fault ≡ Memory → ⊥) × (last old ≡ record { rows = []; ending = Bad fault }) × (new ≡ record old { kept = []; stage = stages.Failed fault }))
+    ⊎ ((fault ≡ Memory → ⊥) × (last old ≡ record { rows = []; ending = Bad fault })
+    × (new ≡ record old { kept = []; stage = stages.Failed fault }))

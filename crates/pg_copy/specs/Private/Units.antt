@@ -47,7 +47,8 @@ pub record IsUnitAt (mark : ℕ) (bytes : List ℕ) (n : ℕ) : Type 0 where
 pub record LeadsWith (base : ℕ) (bytes : List ℕ) (d : ℕ) : Type 0 where
   pub below : d < base
   pub some : 0 < length bytes
-  pub digits : (n : ℕ) → digits_at base (suc n) bytes ≡ slice_index bytes 0 ∷ digits_at base n (drop 1 bytes)
+  pub digits : (n : ℕ) → digits_at base (suc n) bytes
+      ≡ slice_index bytes 0 ∷ digits_at base n (drop 1 bytes)
   pub value : digit_value (slice_index bytes 0) ≡ d
 
 -- no byte is a backslash

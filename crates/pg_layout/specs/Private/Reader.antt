@@ -26,15 +26,19 @@ Gives view (Err e) read = Fails e read
 
 -- ---- ways to put readers together
 
-abbrev pub pair_at : {A B : Type 0} → (List ℕ → Option (A × List ℕ)) → (List ℕ → Option (B × List ℕ)) → List ℕ → Option ((A × B) × List ℕ)
+abbrev pub pair_at : {A B : Type 0} → (List ℕ → Option (A × List ℕ))
+    → (List ℕ → Option (B × List ℕ)) → List ℕ → Option ((A × B) × List ℕ)
 pair_at first second bytes = first bytes >>= λ a. second a.1 >>= λ b. Some ((a.0, b.0), b.1)
 
-abbrev pub mapped_at : {A B : Type 0} → (A → B) → (List ℕ → Option (A × List ℕ)) → List ℕ → Option (B × List ℕ)
+abbrev pub mapped_at : {A B : Type 0} → (A → B) → (List ℕ → Option (A × List ℕ)) → List ℕ
+    → Option (B × List ℕ)
 mapped_at f read bytes = read bytes >>= λ a. Some (f a.0, a.1)
 
-unfoldable pub times_at : {A : Type 0} → (List ℕ → Option (A × List ℕ)) → ℕ → List ℕ → Option (List A × List ℕ)
+unfoldable pub times_at : {A : Type 0} → (List ℕ → Option (A × List ℕ)) → ℕ → List ℕ
+    → Option (List A × List ℕ)
 times_at read zero bytes = Some ([], bytes)
-times_at read (suc n) bytes = read bytes >>= λ first. times_at read n first.1 >>= λ others. Some (first.0 ∷ others.0, others.1)
+times_at read (suc n) bytes = read bytes >>= λ first. times_at read n first.1
+    >>= λ others. Some (first.0 ∷ others.0, others.1)
 
 -- what stands behind a zero byte
 abbrev pub behind_zero : List ℕ → Option (List ℕ)
@@ -47,13 +51,16 @@ or_else (Some x) other = Some x
 or_else None other = other
 
 -- a list up to a zero byte, of at most so many elements
-unfoldable pub up_to_zero_at : {A : Type 0} → (List ℕ → Option (A × List ℕ)) → ℕ → List ℕ → Option (List A × List ℕ)
+unfoldable pub up_to_zero_at : {A : Type 0} → (List ℕ → Option (A × List ℕ)) → ℕ → List ℕ
+    → Option (List A × List ℕ)
 up_to_zero_at read zero bytes = None
 up_to_zero_at read (suc n) bytes = or_else
     (behind_zero bytes >>= λ rest. Some ([], rest))
-    (read bytes >>= λ first. up_to_zero_at read n first.1 >>= λ others. Some (first.0 ∷ others.0, others.1))
+    (read bytes >>= λ first. up_to_zero_at read n first.1
+    >>= λ others. Some (first.0 ∷ others.0, others.1))
 
-unfoldable pub terminated_at : {A : Type 0} → (List ℕ → Option (A × List ℕ)) → List ℕ → Option (List A × List ℕ)
+unfoldable pub terminated_at : {A : Type 0} → (List ℕ → Option (A × List ℕ)) → List ℕ
+    → Option (List A × List ℕ)
 terminated_at read bytes = up_to_zero_at read (length bytes) bytes
 
 -- all the bytes
@@ -63,7 +70,8 @@ whole make read = read >>= λ x. if length x.1 == 0 then Some (make x.0) else No
 -- ---- fields
 
 abbrev pub number_at : Width → List ℕ → Option (ℕ × List ℕ)
-number_at w bytes = if nat_lt (length bytes) (byte_len w) then None else Some (from_be_bytes w (take (byte_len w) bytes), drop (byte_len w) bytes)
+number_at w bytes = if nat_lt (length bytes) (byte_len w) then None
+    else Some (from_be_bytes w (take (byte_len w) bytes), drop (byte_len w) bytes)
 
 abbrev pub signed_at : Width → List ℕ → Option (ℤ × List ℕ)
 signed_at w bytes = mapped_at (cast_signed w) (number_at w) bytes
@@ -87,12 +95,15 @@ null_length = 4294967295
 
 -- the bytes of a value, whose length was read
 abbrev pub value_of_length : ℕ → List ℕ → Option (Option (List ℕ) × List ℕ)
-value_of_length n bytes = if n == null_length then Some (None, bytes) else if nat_lt 2147483647 n then None else if nat_lt (length bytes) n then None else Some (Some (take n bytes), drop n bytes)
+value_of_length n bytes = if n == null_length then Some (None, bytes) else if nat_lt 2147483647 n
+    then None else if nat_lt (length bytes) n then None
+    else Some (Some (take n bytes), drop n bytes)
 
 unfoldable pub value_at : List ℕ → Option (Option (List ℕ) × List ℕ)
 value_at bytes = number_at w32 bytes >>= λ n. value_of_length n.0 n.1
 
-unfoldable pub counted_at : {A : Type 0} → (List ℕ → Option (A × List ℕ)) → List ℕ → Option (List A × List ℕ)
+unfoldable pub counted_at : {A : Type 0} → (List ℕ → Option (A × List ℕ)) → List ℕ
+    → Option (List A × List ℕ)
 counted_at read bytes = number_at w16 bytes >>= λ n. times_at read n.0 n.1
 
 -- the fields of a column, in the order in which they are spelled
@@ -108,14 +119,16 @@ column_at bytes = mapped_at column_of_parts
     (pair_at (pair_at (pair_at (pair_at (pair_at (pair_at string_at (number_at w32)) (signed_at w16)) (number_at w32)) (signed_at w16)) (signed_at w32)) (signed_at w16)) bytes
 
 unfoldable pub error_field_at : List ℕ → Option (ErrorField × List ℕ)
-error_field_at bytes = mapped_at (λ (f : ℕ × List ℕ). record { code = f.0; value = f.1 }) (pair_at nonzero_at string_at) bytes
+error_field_at bytes = mapped_at (λ (f : ℕ
+    × List ℕ). record { code = f.0; value = f.1 }) (pair_at nonzero_at string_at) bytes
 
 -- a byte that stands for one of a few values
 abbrev pub choice_at : {A : Type 0} → (ℕ → Option A) → List ℕ → Option (A × List ℕ)
 choice_at choose bytes = byte_at bytes >>= λ b. choose b.0 >>= λ a. Some (a, b.1)
 
 abbrev pub status_of_byte : ℕ → Option Status
-status_of_byte b = if b == 73 then Some Idle else if b == 84 then Some InBlock else if b == 69 then Some Failed else None
+status_of_byte b = if b == 73 then Some Idle else if b == 84 then Some InBlock else if b == 69
+    then Some Failed else None
 
 abbrev pub binary_of_byte : ℕ → Option Bool
 binary_of_byte b = if b == 0 then Some false else if b == 1 then Some true else None

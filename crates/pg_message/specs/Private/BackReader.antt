@@ -70,8 +70,10 @@ auth_at bytes = signed_at w32 bytes >>= λ code. auth_of_code code.0 code.1
 
 unfoldable pub back_message_of : BackKind → List ℕ → Option BackMessage
 back_message_of kinds.Auth bytes = auth_at bytes
-back_message_of kinds.KeyData bytes = whole (λ (p : ℤ × ℤ). KeyData p.0 p.1) (pair_at (signed_at w32) (signed_at w32) bytes)
-back_message_of kinds.ParameterStatus bytes = whole (λ (p : List ℕ × List ℕ). ParameterStatus p.0 p.1) (pair_at string_at string_at bytes)
+back_message_of kinds.KeyData bytes = whole (λ (p : ℤ
+    × ℤ). KeyData p.0 p.1) (pair_at (signed_at w32) (signed_at w32) bytes)
+back_message_of kinds.ParameterStatus bytes = whole (λ (p : List ℕ
+    × List ℕ). ParameterStatus p.0 p.1) (pair_at string_at string_at bytes)
 back_message_of kinds.Ready bytes = whole Ready (choice_at status_of_byte bytes)
 back_message_of kinds.RowDescription bytes = whole RowDescription (counted_at column_at bytes)
 back_message_of kinds.DataRow bytes = whole DataRow (counted_at value_at bytes)
@@ -81,7 +83,8 @@ back_message_of kinds.ParseComplete bytes = if length bytes == 0 then Some Parse
 back_message_of kinds.BindComplete bytes = if length bytes == 0 then Some BindComplete else None
 back_message_of kinds.CloseComplete bytes = if length bytes == 0 then Some CloseComplete else None
 back_message_of kinds.NoData bytes = if length bytes == 0 then Some NoData else None
-back_message_of kinds.PortalSuspended bytes = if length bytes == 0 then Some PortalSuspended else None
+back_message_of kinds.PortalSuspended bytes = if length bytes == 0 then Some PortalSuspended
+    else None
 back_message_of kinds.ParameterDescription bytes = whole ParameterDescription (counted_at (number_at w32) bytes)
 back_message_of kinds.ErrorResponse bytes = whole ErrorResponse (terminated_at error_field_at bytes)
 back_message_of kinds.NoticeResponse bytes = whole NoticeResponse (terminated_at error_field_at bytes)

@@ -46,16 +46,20 @@ abbrev pub target_of_byte : ℕ → Option Target
 target_of_byte b = if b == 83 then Some Statement else if b == 80 then Some Portal else None
 
 -- a Bind of what stands in its body
-abbrev pub bind_of_parts : (((List ℕ × List ℕ) × List ℤ) × List (Option (List ℕ))) × List ℤ → FrontMessage
+abbrev pub bind_of_parts : (((List ℕ × List ℕ) × List ℤ) × List (Option (List ℕ))) × List ℤ
+    → FrontMessage
 bind_of_parts ((((portal, statement), formats), values), result_formats) = Bind portal statement formats values result_formats
 
 unfoldable pub front_message_of : FrontKind → List ℕ → Option FrontMessage
 front_message_of kinds.Query bytes = whole Query (string_at bytes)
 front_message_of kinds.Parse bytes = whole (λ (p : (List ℕ × List ℕ) × List ℕ). Parse p.0.0 p.0.1 p.1) (pair_at (pair_at string_at string_at) (counted_at (number_at w32)) bytes)
 front_message_of kinds.Bind bytes = whole bind_of_parts (pair_at (pair_at (pair_at (pair_at string_at string_at) (counted_at (signed_at w16))) (counted_at value_at)) (counted_at (signed_at w16)) bytes)
-front_message_of kinds.Describe bytes = whole (λ (p : Target × List ℕ). Describe p.0 p.1) (pair_at (choice_at target_of_byte) string_at bytes)
-front_message_of kinds.Close bytes = whole (λ (p : Target × List ℕ). Close p.0 p.1) (pair_at (choice_at target_of_byte) string_at bytes)
-front_message_of kinds.Execute bytes = whole (λ (p : List ℕ × ℤ). Execute p.0 p.1) (pair_at string_at (signed_at w32) bytes)
+front_message_of kinds.Describe bytes = whole (λ (p : Target
+    × List ℕ). Describe p.0 p.1) (pair_at (choice_at target_of_byte) string_at bytes)
+front_message_of kinds.Close bytes = whole (λ (p : Target
+    × List ℕ). Close p.0 p.1) (pair_at (choice_at target_of_byte) string_at bytes)
+front_message_of kinds.Execute bytes = whole (λ (p : List ℕ
+    × ℤ). Execute p.0 p.1) (pair_at string_at (signed_at w32) bytes)
 front_message_of kinds.Sync bytes = if length bytes == 0 then Some Sync else None
 front_message_of kinds.Flush bytes = if length bytes == 0 then Some Flush else None
 front_message_of kinds.Terminate bytes = if length bytes == 0 then Some Terminate else None

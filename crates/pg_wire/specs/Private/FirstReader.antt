@@ -30,7 +30,8 @@ first_kind_of c =
 
 abbrev pub first_of : FirstKind → List ℕ → Option First
 first_of kinds.Startup bytes = whole first.Startup (terminated_at parameter_at bytes)
-first_of kinds.Cancel bytes = whole (λ (p : ℤ × ℤ). first.Cancel p.0 p.1) (pair_at (signed_at w32) (signed_at w32) bytes)
+first_of kinds.Cancel bytes = whole (λ (p : ℤ
+    × ℤ). first.Cancel p.0 p.1) (pair_at (signed_at w32) (signed_at w32) bytes)
 first_of kinds.Ssl bytes = if length bytes == 0 then Some first.Ssl else None
 first_of kinds.Gss bytes = if length bytes == 0 then Some first.Gss else None
 
@@ -43,6 +44,7 @@ JudgesPacket rest (judged.Whole kind len) = IsWholePacket rest (pos (first_code 
 -- the next packet, and how many bytes it takes
 abbrev pub FindsPacket : List ℕ → Result (Option (First × ℕ)) WireFault → Type 0
 FindsPacket rest (Ok None) = IsOpenPacket rest × (length rest < longest_packet)
-FindsPacket rest (Ok (Some x)) = (x.1 ≤ length rest) × IsPacket x.0 × (rest ≡ packet x.0 ++ drop x.1 rest)
+FindsPacket rest (Ok (Some x)) = (x.1 ≤ length rest) × IsPacket x.0
+    × (rest ≡ packet x.0 ++ drop x.1 rest)
 FindsPacket rest (Err wire.Memory) = (c : ℤ) × (len : ℕ) × IsWholePacket rest c len
 FindsPacket rest (Err f) = IsFaultyPacket rest f

@@ -19,7 +19,9 @@ Refuses d limit rest wire.Memory = WantsMemory d limit rest
 Refuses d limit rest f = IsFaulty d limit rest f
 
 -- the next message, and how many bytes it takes
-abbrev pub Finds : {M : Type 0} → Direction M → ℕ → List ℕ → Result (Option (M × ℕ)) WireFault → Type 0
+abbrev pub Finds : {M : Type 0} → Direction M → ℕ → List ℕ → Result (Option (M × ℕ)) WireFault
+    → Type 0
 Finds d limit rest (Ok None) = IsOpen d limit rest × (length rest < limit + 1)
-Finds d limit rest (Ok (Some x)) = (x.1 ≤ length rest) × IsWithin d limit x.0 × (rest ≡ spelling d x.0 ++ drop x.1 rest)
+Finds d limit rest (Ok (Some x)) = (x.1 ≤ length rest) × IsWithin d limit x.0
+    × (rest ≡ spelling d x.0 ++ drop x.1 rest)
 Finds d limit rest (Err f) = Refuses d limit rest f

@@ -66,13 +66,15 @@ HasReadBy (reader.Binary s) bytes given = HasReadBinary s bytes given
 
 -- Whatever it was given and has given before: these rows come next in the file, and this is left of it then.
 abbrev pub ComeNext : Bool → RowReader → List Row → Reading Converted → Type 0
-ComeNext at_end r rows left = (bytes : List ℕ) (given : List Row) → HasReadBy r bytes given → file_by r at_end bytes ≡ after_rows (given ++ rows) left
+ComeNext at_end r rows left = (bytes : List ℕ) (given : List Row) → HasReadBy r bytes given
+    → file_by r at_end bytes ≡ after_rows (given ++ rows) left
 
 -- It has given these rows, and goes on.
 pub record GoesOn (at_end : Bool) (r : RowReader) (rows : List Row) (r' : RowReader) : Type 0 where
   pub same : file_by r' ≡ file_by r
   pub may_go_on : at_end ≡ false → ended_of r' ≡ false
-  pub read : (bytes : List ℕ) (given : List Row) → HasReadBy r bytes given → HasReadBy r' bytes (given ++ rows)
+  pub read : (bytes : List ℕ) (given : List Row) → HasReadBy r bytes given
+      → HasReadBy r' bytes (given ++ rows)
 
 -- no row is left: in what came so far, or in the whole file
 abbrev pub EndsAs : Bool → Ending Converted → Type 0
@@ -81,17 +83,22 @@ EndsAs true ending = IsEnd ending
 
 -- A piece is taken, or stands behind a fault, or memory was refused.
 abbrev pub TakesPiece : RowReader → List ℕ → Result Unit Stop → RowReader → Type 0
-TakesPiece r piece (Ok x) r' = (file_by r' ≡ file_by r) × (ended_of r' ≡ ended_of r) × ((bytes : List ℕ) (given : List Row) → HasReadBy r bytes given → HasReadBy r' (bytes ++ piece) given)
+TakesPiece r piece (Ok x) r' = (file_by r' ≡ file_by r) × (ended_of r' ≡ ended_of r)
+    × ((bytes : List ℕ) (given : List Row) → HasReadBy r bytes given
+    → HasReadBy r' (bytes ++ piece) given)
 TakesPiece r piece (Err (stop.Answer converted.Whole)) r' = ⊥
 TakesPiece r piece (Err (stop.Answer (converted.Row f))) r' = ⊥
-TakesPiece r piece (Err (stop.Answer c)) r' = (bytes : List ℕ) (given : List Row) → HasReadBy r bytes given → file_by r false (bytes ++ piece) ≡ after_rows given (none_left (Bad c))
+TakesPiece r piece (Err (stop.Answer c)) r' = (bytes : List ℕ) (given : List Row)
+    → HasReadBy r bytes given
+    → file_by r false (bytes ++ piece) ≡ after_rows given (none_left (Bad c))
 TakesPiece r piece (Err stop.Memory) r' = r' ≡ r
 TakesPiece r piece (Err _) r' = ⊥
 
 -- The next row is given, or what stands in its place.
 abbrev pub GivesRow : Bool → RowReader → Result (Option Row) Stop → RowReader → Type 0
 GivesRow at_end r (Ok (Some row)) r' = GoesOn at_end r (row ∷ []) r'
-GivesRow at_end r (Ok None) r' = GoesOn at_end r [] r' × (ending : Ending Converted) × EndsAs at_end ending × ComeNext at_end r [] (none_left ending)
+GivesRow at_end r (Ok None) r' = GoesOn at_end r [] r' × (ending : Ending Converted)
+    × EndsAs at_end ending × ComeNext at_end r [] (none_left ending)
 GivesRow at_end r (Err (stop.Answer converted.Whole)) r' = ⊥
 GivesRow at_end r (Err (stop.Answer (converted.Row f))) r' = ⊥
 GivesRow at_end r (Err (stop.Answer c)) r' = ComeNext at_end r [] (none_left (Bad c))
@@ -102,15 +109,24 @@ GivesRow at_end r (Err _) r' = ⊥
 
 -- A row is put, and no more is collected than there is room for; or it can't be written, or memory for it was refused, and then
 -- nothing was put; or the sink failed.
-abbrev pub PutsRow : {K : Type 0} → (K → List ℕ → K → Type 0) → (K → ℕ) → Format → Row → List ℕ → K → Result Unit Stop → List ℕ → K → Type 0
-PutsRow takes failures to row out sink (Ok x) out' sink' = IsWritable to row × Puts {A = Unit {0}} takes failures out sink (row_of to row) (Ok tt) out' sink' × (length out' ≤ most_collected)
+abbrev pub PutsRow : {K : Type 0} → (K → List ℕ → K → Type 0) → (K → ℕ) → Format → Row → List ℕ → K
+    → Result Unit Stop → List ℕ → K → Type 0
+PutsRow takes failures to row out sink (Ok x) out' sink' = IsWritable to row
+    × Puts {A = Unit {0}} takes failures out sink (row_of to row) (Ok tt) out' sink'
+    × (length out' ≤ most_collected)
 PutsRow takes failures to row out sink (Err (stop.Answer (converted.Row f))) out' sink' = (row_fault to row ≡ Some f) × (out' ≡ out) × (sink' ≡ sink)
-PutsRow takes failures to row out sink (Err stop.Memory) out' sink' = IsWritable to row × (out' ≡ out) × (sink' ≡ sink)
-PutsRow takes failures to row out sink (Err stop.SinkFailed) out' sink' = IsWritable to row × (fault : LinkFault) × Puts {A = Unit {0}} takes failures out sink (row_of to row) (Err fault) out' sink'
+PutsRow takes failures to row out sink (Err stop.Memory) out' sink' = IsWritable to row
+    × (out' ≡ out) × (sink' ≡ sink)
+PutsRow takes failures to row out sink (Err stop.SinkFailed) out' sink' = IsWritable to row
+    × (fault : LinkFault)
+    × Puts {A = Unit {0}} takes failures out sink (row_of to row) (Err fault) out' sink'
 PutsRow takes failures to row out sink (Err _) out' sink' = ⊥
 
 -- The rows that come next were put, so far as the result says, and this is left of the file.
-pub record RowsArePut {K A : Type 0} (takes : K → List ℕ → K → Type 0) (failures : K → ℕ) (at_end : Bool) (to : Format) (r : RowReader) (out : List ℕ) (sink : K) (left : Reading Converted) (result : Result A LinkFault) (out' : List ℕ) (sink' : K) : Type 0 where
+pub record RowsArePut {K A : Type 0} (takes : K → List ℕ → K → Type 0) (failures : K → ℕ)
+    (at_end : Bool) (to : Format) (r : RowReader) (out : List ℕ) (sink : K)
+    (left : Reading Converted) (result : Result A LinkFault) (out' : List ℕ)
+    (sink' : K) : Type 0 where
   pub rows : List Row
   pub each_writable : AllByRecursion (IsWritable to) rows
   pub come_next : ComeNext at_end r rows left
@@ -118,7 +134,8 @@ pub record RowsArePut {K A : Type 0} (takes : K → List ℕ → K → Type 0) (
   pub within : OnOk result (StaysWithin out out')
 
 -- All the rows that wait are put, or those before what stopped the work.
-abbrev pub PutsRows : {K : Type 0} → (K → List ℕ → K → Type 0) → (K → ℕ) → Bool → Format → RowReader → List ℕ → K → Result Unit Stop → RowReader → List ℕ → K → Type 0
+abbrev pub PutsRows : {K : Type 0} → (K → List ℕ → K → Type 0) → (K → ℕ) → Bool → Format → RowReader
+    → List ℕ → K → Result Unit Stop → RowReader → List ℕ → K → Type 0
 PutsRows takes failures at_end to r out sink (Ok x) r' out' sink' = (ending : Ending Converted) × EndsAs at_end ending × (put : RowsArePut {A = Unit {0}} takes failures at_end to r out sink (none_left ending) (Ok tt) out' sink') × GoesOn at_end r put.rows r'
 PutsRows takes failures at_end to r out sink (Err (stop.Answer converted.Whole)) r' out' sink' = ⊥
 PutsRows takes failures at_end to r out sink (Err (stop.Answer c)) r' out' sink' = (left : Reading Converted) × IsAnswerFor to left c × RowsArePut {A = Unit {0}} takes failures at_end to r out sink left (Ok tt) out' sink'
@@ -127,10 +144,17 @@ PutsRows takes failures at_end to r out sink (Err stop.SinkFailed) r' out' sink'
 PutsRows takes failures at_end to r out sink (Err _) r' out' sink' = ⊥
 
 -- All the rows that are left were put, and the trailer behind them; or those before what stopped the work.
-abbrev pub Ends : {K : Type 0} → (K → List ℕ → K → Type 0) → (K → ℕ) → Format → RowReader → List ℕ → K → Stop → List ℕ → K → Type 0
-Ends takes failures to r out sink (stop.Answer c) out' sink' = (left : Reading Converted) × IsAnswerFor to left c × (rows_out : List ℕ) × RowsArePut {A = Unit {0}} takes failures true to r out sink left (Ok tt) rows_out sink' × (out' ≡ rows_out ++ trailer_for to c)
-Ends takes failures to r out sink stop.Memory out' sink' = (left : Reading Converted) × RowsArePut {A = Unit {0}} takes failures true to r out sink left (Ok tt) out' sink'
-Ends takes failures to r out sink stop.SinkFailed out' sink' = (left : Reading Converted) × (fault : LinkFault) × RowsArePut {A = Unit {0}} takes failures true to r out sink left (Err fault) out' sink'
+abbrev pub Ends : {K : Type 0} → (K → List ℕ → K → Type 0) → (K → ℕ) → Format → RowReader → List ℕ
+    → K → Stop → List ℕ → K → Type 0
+Ends takes failures to r out sink (stop.Answer c) out' sink' = (left : Reading Converted)
+    × IsAnswerFor to left c × (rows_out : List ℕ)
+    × RowsArePut {A = Unit {0}} takes failures true to r out sink left (Ok tt) rows_out sink'
+    × (out' ≡ rows_out ++ trailer_for to c)
+Ends takes failures to r out sink stop.Memory out' sink' = (left : Reading Converted)
+    × RowsArePut {A = Unit {0}} takes failures true to r out sink left (Ok tt) out' sink'
+Ends takes failures to r out sink stop.SinkFailed out' sink' = (left : Reading Converted)
+    × (fault : LinkFault)
+    × RowsArePut {A = Unit {0}} takes failures true to r out sink left (Err fault) out' sink'
 Ends takes failures to r out sink _ out' sink' = ⊥
 
 -- ---- the work
@@ -140,7 +164,9 @@ abbrev pub IsAtStep : RowReader → Type 0
 IsAtStep r = (ended_of r ≡ false) × (bytes : List ℕ) × (given : List Row) × HasReadBy r bytes given
 
 -- The head and all rows of the bytes received are put, and the reader keeps what is left.
-pub record Stands {K : Type 0} (takes : K → List ℕ → K → Type 0) (failures : K → ℕ) (file : FileReading) (to : Format) (start : K) (bytes : List ℕ) (r : RowReader) (out : List ℕ) (sink : K) : Type 0 where
+pub record Stands {K : Type 0} (takes : K → List ℕ → K → Type 0) (failures : K → ℕ)
+    (file : FileReading) (to : Format) (start : K) (bytes : List ℕ) (r : RowReader) (out : List ℕ)
+    (sink : K) : Type 0 where
   pub rows : List Row
   pub text : List ℕ
   pub is_file : file_by r ≡ file
@@ -156,21 +182,26 @@ pub record Stands {K : Type 0} (takes : K → List ℕ → K → Type 0) (failur
 
 -- The head and rows of the bytes received were put, so far as the result says, with more behind them, and what was put before is
 -- no more than what was sent and what may be collected.
-pub record ArePut {K A : Type 0} (takes : K → List ℕ → K → Type 0) (failures : K → ℕ) (file : FileReading) (to : Format) (ended : Type 0) (start : K) (bytes before : List ℕ) (left : Reading Converted) (more : List ℕ) (result : Result A LinkFault) (out : List ℕ) (sink : K) : Type 0 where
+pub record ArePut {K A : Type 0} (takes : K → List ℕ → K → Type 0) (failures : K → ℕ)
+    (file : FileReading) (to : Format) (ended : Type 0) (start : K) (bytes before : List ℕ)
+    (left : Reading Converted) (more : List ℕ) (result : Result A LinkFault) (out : List ℕ)
+    (sink : K) : Type 0 where
   pub text : List ℕ
   pub are_converted : AreConverted file to ended bytes left text
   pub put : Puts takes failures [] start (text ++ more) result out sink
   pub at_once : length before ≤ most_collected + length (concat put.pieces)
 
 -- What stands where the work stops, in a step before which this text was put.
-abbrev pub Halts : {K : Type 0} → (K → List ℕ → K → Type 0) → (K → ℕ) → FileReading → Format → Type 0 → K → List ℕ → List ℕ → Stop → List ℕ → K → Type 0
+abbrev pub Halts : {K : Type 0} → (K → List ℕ → K → Type 0) → (K → ℕ) → FileReading → Format
+    → Type 0 → K → List ℕ → List ℕ → Stop → List ℕ → K → Type 0
 Halts takes failures file to ended start bytes before (stop.Answer c) out sink = (left : Reading Converted) × IsAnswerFor to left c × ArePut {A = Unit {0}} takes failures file to ended start bytes before left (trailer_for to c) (Ok tt) out sink
 Halts takes failures file to ended start bytes before stop.Memory out sink = (left : Reading Converted) × (put : ArePut {A = Unit {0}} takes failures file to ended start bytes before left [] (Ok tt) out sink) × Begins before put.text
 Halts takes failures file to ended start bytes before stop.SinkFailed out sink = (left : Reading Converted) × (fault : LinkFault) × ArePut {A = Unit {0}} takes failures file to ended start bytes before left [] (Err fault) out sink
 Halts takes failures file to ended start bytes before _ out sink = (ending : Ending Converted) × IsGood ending × ArePut {A = Unit {0}} takes failures file to ⊥ start bytes before (none_left ending) [] (Ok tt) out sink
 
 -- Where a step of the work leads, before which this text was put.
-abbrev pub Steps : {K : Type 0} → (K → List ℕ → K → Type 0) → (K → ℕ) → FileReading → Format → Type 0 → K → List ℕ → List ℕ → Result Unit Stop → RowReader → List ℕ → K → Type 0
+abbrev pub Steps : {K : Type 0} → (K → List ℕ → K → Type 0) → (K → ℕ) → FileReading → Format
+    → Type 0 → K → List ℕ → List ℕ → Result Unit Stop → RowReader → List ℕ → K → Type 0
 Steps takes failures file to ended start bytes before (Ok x) r out sink = Stands takes failures file to start bytes r out sink
 Steps takes failures file to ended start bytes before (Err s) r out sink = Halts takes failures file to ended start bytes before s out sink
 
@@ -189,7 +220,10 @@ HaltsSource ended old new pieces stop.Endless = length pieces ≡ most_receives
 HaltsSource ended old new pieces _ = new ≡ old
 
 -- Pieces were received until the work stopped, and this is what stands then.
-pub record HasRun {S K : Type 0} (gives : S → List ℕ → S → Type 0) (source_failures : S → ℕ) (ended : Type 0) (takes : K → List ℕ → K → Type 0) (failures : K → ℕ) (file : FileReading) (to : Format) (source : S) (start : K) (s : Stop) (source' : S) (out : List ℕ) (sink : K) : Type 0 where
+pub record HasRun {S K : Type 0} (gives : S → List ℕ → S → Type 0) (source_failures : S → ℕ)
+    (ended : Type 0) (takes : K → List ℕ → K → Type 0) (failures : K → ℕ) (file : FileReading)
+    (to : Format) (source : S) (start : K) (s : Stop) (source' : S) (out : List ℕ)
+    (sink : K) : Type 0 where
   pub pieces : List (List ℕ)
   pub received : FoldsTo gives source pieces source'
   pub before : List ℕ
@@ -198,7 +232,8 @@ pub record HasRun {S K : Type 0} (gives : S → List ℕ → S → Type 0) (sour
   pub halts_source : HaltsSource ended (source_failures source) (source_failures source') pieces s
 
 -- What was put is sent, unless the sink has failed.
-abbrev pub Settles : {K : Type 0} → (K → List ℕ → K → Type 0) → (K → ℕ) → Stop → List ℕ → K → Result Unit LinkFault → List ℕ → K → Type 0
+abbrev pub Settles : {K : Type 0} → (K → List ℕ → K → Type 0) → (K → ℕ) → Stop → List ℕ → K
+    → Result Unit LinkFault → List ℕ → K → Type 0
 Settles takes failures stop.SinkFailed out sink result out' sink' = IsErr result × (sink' ≡ sink)
 Settles takes failures _ out sink result out' sink' = Puts {A = Unit {0}} takes failures out sink [] result out' sink' × OnOk result (out' ≡ [])
 

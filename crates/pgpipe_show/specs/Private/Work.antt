@@ -35,9 +35,11 @@ halt_of f = halt.Faulty f
 
 -- A line is put, and no more is collected than there is room for; or memory was refused, and then nothing was put; or the sink
 -- failed.
-abbrev pub PutsLine : {K : Type 0} → (K → List ℕ → K → Type 0) → (K → ℕ) → List ℕ → K → List ℕ → Result Unit Halt → List ℕ → K → Type 0
+abbrev pub PutsLine : {K : Type 0} → (K → List ℕ → K → Type 0) → (K → ℕ) → List ℕ → K → List ℕ
+    → Result Unit Halt → List ℕ → K → Type 0
 PutsLine takes failures collected sink text (Ok x) collected' sink' = Puts {A = Unit {0}} takes failures collected sink text (Ok tt) collected' sink' × (length collected' ≤ most_collected)
-PutsLine takes failures collected sink text (Err halt.Memory) collected' sink' = (collected' ≡ collected) × (sink' ≡ sink)
+PutsLine takes failures collected sink text (Err halt.Memory) collected' sink' = (collected'
+    ≡ collected) × (sink' ≡ sink)
 PutsLine takes failures collected sink text (Err halt.SinkFailed) collected' sink' = (fault : LinkFault) × Puts {A = Unit {0}} takes failures collected sink text (Err fault) collected' sink'
 PutsLine takes failures collected sink text (Err _) collected' sink' = ⊥
 
@@ -49,14 +51,18 @@ pub record IsSound (decoder : DecoderState) : Type 0 where
   pub no_fault : decoder.fault ≡ None
 
 -- Of these bytes the messages are put, but for those that begin the rest.
-pub record HasPut {K M : Type 0} (takes : K → List ℕ → K → Type 0) (failures : K → ℕ) (d : Direction M) (collected : List ℕ) (sink : K) (bytes rest collected' : List ℕ) (sink' : K) : Type 0 where
+pub record HasPut {K M : Type 0} (takes : K → List ℕ → K → Type 0) (failures : K → ℕ)
+    (d : Direction M) (collected : List ℕ) (sink : K) (bytes rest collected' : List ℕ)
+    (sink' : K) : Type 0 where
   pub messages : List M
   pub stream : IsStream d limit bytes messages rest
   pub put : Puts {A = Unit {0}} takes failures collected sink (lines d messages) (Ok tt) collected' sink'
   pub within : StaysWithin collected collected'
 
 -- The sink failed in the midst of the messages' lines.
-pub record Breaks {K M : Type 0} (takes : K → List ℕ → K → Type 0) (failures : K → ℕ) (d : Direction M) (collected : List ℕ) (sink : K) (bytes collected' : List ℕ) (sink' : K) : Type 0 where
+pub record Breaks {K M : Type 0} (takes : K → List ℕ → K → Type 0) (failures : K → ℕ)
+    (d : Direction M) (collected : List ℕ) (sink : K) (bytes collected' : List ℕ)
+    (sink' : K) : Type 0 where
   pub fault : LinkFault
   pub messages : List M
   pub rest : List ℕ
@@ -64,8 +70,11 @@ pub record Breaks {K M : Type 0} (takes : K → List ℕ → K → Type 0) (fail
   pub put : Puts {A = Unit {0}} takes failures collected sink (lines d messages) (Err fault) collected' sink'
 
 -- The messages in these bytes are put, as far as may be.
-abbrev pub PutsMessages : {K M : Type 0} → (K → List ℕ → K → Type 0) → (K → ℕ) → Direction M → List ℕ → K → List ℕ → Result DecoderState Halt → List ℕ → K → Type 0
-PutsMessages takes failures d collected sink bytes (Ok new) collected' sink' = IsSound new × HasPut takes failures d collected sink bytes new.kept collected' sink' × IsOpen d limit new.kept
+abbrev pub PutsMessages : {K M : Type 0} → (K → List ℕ → K → Type 0) → (K → ℕ) → Direction M
+    → List ℕ → K → List ℕ → Result DecoderState Halt → List ℕ → K → Type 0
+PutsMessages takes failures d collected sink bytes (Ok new) collected' sink' = IsSound new
+    × HasPut takes failures d collected sink bytes new.kept collected' sink'
+    × IsOpen d limit new.kept
 PutsMessages takes failures d collected sink bytes (Err (halt.Faulty f)) collected' sink' = (rest : List ℕ) × HasPut takes failures d collected sink bytes rest collected' sink' × IsFaulty d limit rest f
 PutsMessages takes failures d collected sink bytes (Err halt.Memory) collected' sink' = (rest : List ℕ) × HasPut takes failures d collected sink bytes rest collected' sink'
 PutsMessages takes failures d collected sink bytes (Err halt.SinkFailed) collected' sink' = Breaks takes failures d collected sink bytes collected' sink'
@@ -74,7 +83,9 @@ PutsMessages takes failures d collected sink bytes (Err _) collected' sink' = �
 -- ---- the packets that a decoder keeps
 
 -- Of these bytes the packets are put, but for those that begin the rest.
-pub record HasPutPackets {K : Type 0} (takes : K → List ℕ → K → Type 0) (failures : K → ℕ) (collected : List ℕ) (sink : K) (bytes : List ℕ) (n : Next) (rest collected' : List ℕ) (sink' : K) : Type 0 where
+pub record HasPutPackets {K : Type 0} (takes : K → List ℕ → K → Type 0) (failures : K → ℕ)
+    (collected : List ℕ) (sink : K) (bytes : List ℕ) (n : Next) (rest collected' : List ℕ)
+    (sink' : K) : Type 0 where
   pub packets : List First
   pub beginning : IsBeginning bytes packets (have_ended n) rest
   pub next_is : next_after packets ≡ n
@@ -82,7 +93,8 @@ pub record HasPutPackets {K : Type 0} (takes : K → List ℕ → K → Type 0) 
   pub within : StaysWithin collected collected'
 
 -- The sink failed in the midst of the packets' lines.
-pub record BreaksPackets {K : Type 0} (takes : K → List ℕ → K → Type 0) (failures : K → ℕ) (collected : List ℕ) (sink : K) (bytes collected' : List ℕ) (sink' : K) : Type 0 where
+pub record BreaksPackets {K : Type 0} (takes : K → List ℕ → K → Type 0) (failures : K → ℕ)
+    (collected : List ℕ) (sink : K) (bytes collected' : List ℕ) (sink' : K) : Type 0 where
   pub fault : LinkFault
   pub packets : List First
   pub rest : List ℕ
@@ -90,9 +102,14 @@ pub record BreaksPackets {K : Type 0} (takes : K → List ℕ → K → Type 0) 
   pub put : Puts {A = Unit {0}} takes failures collected sink (packet_lines packets) (Err fault) collected' sink'
 
 -- The packets in these bytes are put, as far as may be.
-abbrev pub PutsPackets : {K : Type 0} → (K → List ℕ → K → Type 0) → (K → ℕ) → List ℕ → K → List ℕ → Result Next Halt → FirstState → List ℕ → K → Type 0
-PutsPackets takes failures collected sink bytes (Ok next.Packet) new collected' sink' = (new.ended ≡ false) × (new.fault ≡ None) × HasPutPackets takes failures collected sink bytes next.Packet new.kept collected' sink' × IsOpenPacket new.kept
-PutsPackets takes failures collected sink bytes (Ok n) new collected' sink' = (new.fault ≡ None) × HasPutPackets takes failures collected sink bytes n new.kept collected' sink'
+abbrev pub PutsPackets : {K : Type 0} → (K → List ℕ → K → Type 0) → (K → ℕ) → List ℕ → K → List ℕ
+    → Result Next Halt → FirstState → List ℕ → K → Type 0
+PutsPackets takes failures collected sink bytes (Ok next.Packet) new collected' sink' = (new.ended
+    ≡ false) × (new.fault ≡ None)
+    × HasPutPackets takes failures collected sink bytes next.Packet new.kept collected' sink'
+    × IsOpenPacket new.kept
+PutsPackets takes failures collected sink bytes (Ok n) new collected' sink' = (new.fault ≡ None)
+    × HasPutPackets takes failures collected sink bytes n new.kept collected' sink'
 PutsPackets takes failures collected sink bytes (Err (halt.Faulty f)) new collected' sink' = (rest : List ℕ) × HasPutPackets takes failures collected sink bytes next.Packet rest collected' sink' × IsFaultyPacket rest f
 PutsPackets takes failures collected sink bytes (Err halt.Memory) new collected' sink' = (rest : List ℕ) × HasPutPackets takes failures collected sink bytes next.Packet rest collected' sink'
 PutsPackets takes failures collected sink bytes (Err halt.SinkFailed) new collected' sink' = BreaksPackets takes failures collected sink bytes collected' sink'
@@ -121,20 +138,27 @@ IsSoundAt (stage.Over size) = Unit {0}
 
 -- The stage keeps the open rest of these bytes, and the text is the lines for the others.
 abbrev pub AreAt : List ℕ → List ℕ → Stage → Type 0
-AreAt bytes text (stage.Back d) = IsSound d × AreMessages backend bytes text d.kept × IsOpen backend limit d.kept
-AreAt bytes text (stage.First s) = (s.ended ≡ false) × (s.fault ≡ None) × IsClientSide bytes text next.Packet s.kept × IsOpenPacket s.kept
-AreAt bytes text (stage.Front d) = IsSound d × IsClientSide bytes text next.Message d.kept × IsOpen frontend limit d.kept
-AreAt bytes text (stage.Over size) = (rest : List ℕ) × IsClientSide bytes text next.Nothing rest × (size ≡ length rest)
+AreAt bytes text (stage.Back d) = IsSound d × AreMessages backend bytes text d.kept
+    × IsOpen backend limit d.kept
+AreAt bytes text (stage.First s) = (s.ended ≡ false) × (s.fault ≡ None)
+    × IsClientSide bytes text next.Packet s.kept × IsOpenPacket s.kept
+AreAt bytes text (stage.Front d) = IsSound d × IsClientSide bytes text next.Message d.kept
+    × IsOpen frontend limit d.kept
+AreAt bytes text (stage.Over size) = (rest : List ℕ) × IsClientSide bytes text next.Nothing rest
+    × (size ≡ length rest)
 
 -- The lines for the bytes received are put, and the stage keeps the open rest.
-pub record Stands {K : Type 0} (takes : K → List ℕ → K → Type 0) (failures : K → ℕ) (start : K) (bytes : List ℕ) (at : Stage) (collected : List ℕ) (sink : K) : Type 0 where
+pub record Stands {K : Type 0} (takes : K → List ℕ → K → Type 0) (failures : K → ℕ) (start : K)
+    (bytes : List ℕ) (at : Stage) (collected : List ℕ) (sink : K) : Type 0 where
   pub text : List ℕ
   pub are_at : AreAt bytes text at
   pub put : Puts {A = Unit {0}} takes failures [] start text (Ok tt) collected sink
   pub within : length collected ≤ most_collected
 
 -- The lines for the bytes received are put, but for this rest, and this text is a beginning of them.
-pub record ArePut {K : Type 0} (takes : K → List ℕ → K → Type 0) (failures : K → ℕ) (front : Bool) (start : K) (bytes before : List ℕ) (n : Next) (rest collected : List ℕ) (sink : K) : Type 0 where
+pub record ArePut {K : Type 0} (takes : K → List ℕ → K → Type 0) (failures : K → ℕ) (front : Bool)
+    (start : K) (bytes before : List ℕ) (n : Next) (rest collected : List ℕ)
+    (sink : K) : Type 0 where
   pub text : List ℕ
   pub begins : Begins before text
   pub shown : AreShown front bytes text n rest
@@ -142,7 +166,8 @@ pub record ArePut {K : Type 0} (takes : K → List ℕ → K → Type 0) (failur
   pub within : length collected ≤ most_collected
 
 -- The sink failed in the midst of the lines, and this text is no more than what was sent and what may be collected.
-pub record IsBroken {K : Type 0} (takes : K → List ℕ → K → Type 0) (failures : K → ℕ) (front : Bool) (start : K) (bytes before collected : List ℕ) (sink : K) : Type 0 where
+pub record IsBroken {K : Type 0} (takes : K → List ℕ → K → Type 0) (failures : K → ℕ) (front : Bool)
+    (start : K) (bytes before collected : List ℕ) (sink : K) : Type 0 where
   pub fault : LinkFault
   pub text : List ℕ
   pub n : Next
@@ -152,16 +177,25 @@ pub record IsBroken {K : Type 0} (takes : K → List ℕ → K → Type 0) (fail
   pub at_once : length before ≤ most_collected + length (concat put.pieces)
 
 -- What stands where the work halts, in a step before which this text was shown.
-abbrev pub Halts : {K : Type 0} → (K → List ℕ → K → Type 0) → (K → ℕ) → Bool → K → List ℕ → List ℕ → Halt → List ℕ → K → Type 0
-Halts takes failures front start bytes before (halt.Ended size) collected sink = (n : Next) × (rest : List ℕ) × ArePut takes failures front start bytes before n rest collected sink × IsOpenFor front n rest × (size ≡ length rest)
-Halts takes failures front start bytes before (halt.Faulty f) collected sink = (n : Next) × (rest : List ℕ) × ArePut takes failures front start bytes before n rest collected sink × IsFaultyFor front n rest f
-Halts takes failures front start bytes before halt.Memory collected sink = (n : Next) × (rest : List ℕ) × ArePut takes failures front start bytes before n rest collected sink
+abbrev pub Halts : {K : Type 0} → (K → List ℕ → K → Type 0) → (K → ℕ) → Bool → K → List ℕ → List ℕ
+    → Halt → List ℕ → K → Type 0
+Halts takes failures front start bytes before (halt.Ended size) collected sink = (n : Next)
+    × (rest : List ℕ) × ArePut takes failures front start bytes before n rest collected sink
+    × IsOpenFor front n rest × (size ≡ length rest)
+Halts takes failures front start bytes before (halt.Faulty f) collected sink = (n : Next)
+    × (rest : List ℕ) × ArePut takes failures front start bytes before n rest collected sink
+    × IsFaultyFor front n rest f
+Halts takes failures front start bytes before halt.Memory collected sink = (n : Next)
+    × (rest : List ℕ) × ArePut takes failures front start bytes before n rest collected sink
 Halts takes failures front start bytes before halt.SinkFailed collected sink = IsBroken takes failures front start bytes before collected sink
-Halts takes failures front start bytes before _ collected sink = (n : Next) × (rest : List ℕ) × ArePut takes failures front start bytes before n rest collected sink × IsOpenFor front n rest
+Halts takes failures front start bytes before _ collected sink = (n : Next) × (rest : List ℕ)
+    × ArePut takes failures front start bytes before n rest collected sink × IsOpenFor front n rest
 
 -- Where a step of the work leads, before which this text was shown.
-abbrev pub Steps : {K : Type 0} → (K → List ℕ → K → Type 0) → (K → ℕ) → Bool → K → List ℕ → List ℕ → Result Stage Halt → List ℕ → K → Type 0
-Steps takes failures front start bytes before (Ok s) collected sink = (is_front s ≡ front) × Stands takes failures start bytes s collected sink
+abbrev pub Steps : {K : Type 0} → (K → List ℕ → K → Type 0) → (K → ℕ) → Bool → K → List ℕ → List ℕ
+    → Result Stage Halt → List ℕ → K → Type 0
+Steps takes failures front start bytes before (Ok s) collected sink = (is_front s ≡ front)
+    × Stands takes failures start bytes s collected sink
 Steps takes failures front start bytes before (Err h) collected sink = Halts takes failures front start bytes before h collected sink
 
 -- What a halt says of the source: it has ended, it failed in these calls, it gave no end in so many, or it didn't fail.
@@ -172,7 +206,10 @@ HaltsSource ended old new pieces halt.Endless = length pieces ≡ most_receives
 HaltsSource ended old new pieces _ = new ≡ old
 
 -- Pieces were received until the work halted, and this is what stands then.
-pub record HasRun {S K : Type 0} (gives : S → List ℕ → S → Type 0) (source_failures : S → ℕ) (ended : Type 0) (takes : K → List ℕ → K → Type 0) (failures : K → ℕ) (front : Bool) (source : S) (start : K) (halt : Halt) (source' : S) (collected : List ℕ) (sink : K) : Type 0 where
+pub record HasRun {S K : Type 0} (gives : S → List ℕ → S → Type 0) (source_failures : S → ℕ)
+    (ended : Type 0) (takes : K → List ℕ → K → Type 0) (failures : K → ℕ) (front : Bool)
+    (source : S) (start : K) (halt : Halt) (source' : S) (collected : List ℕ)
+    (sink : K) : Type 0 where
   pub pieces : List (List ℕ)
   pub received : FoldsTo gives source pieces source'
   pub before : List ℕ
@@ -193,8 +230,10 @@ abbrev pub LeavesSource : {A : Type 0} → Result A Halt → Type 0
 LeavesSource result = StepsSource ⊥ 0 0 result
 
 -- What is collected is sent, unless the sink has failed.
-abbrev pub Settles : {K : Type 0} → (K → List ℕ → K → Type 0) → (K → ℕ) → Halt → List ℕ → K → Result Unit LinkFault → List ℕ → K → Type 0
-Settles takes failures halt.SinkFailed collected sink result collected' sink' = IsErr result × (sink' ≡ sink)
+abbrev pub Settles : {K : Type 0} → (K → List ℕ → K → Type 0) → (K → ℕ) → Halt → List ℕ → K
+    → Result Unit LinkFault → List ℕ → K → Type 0
+Settles takes failures halt.SinkFailed collected sink result collected' sink' = IsErr result
+    × (sink' ≡ sink)
 Settles takes failures _ collected sink result collected' sink' = Puts {A = Unit {0}} takes failures collected sink [] result collected' sink' × OnOk result (collected' ≡ [])
 
 -- the answer where the work halted so, and all was sent
