@@ -14,7 +14,7 @@ use Rattle.pg_client.specs.Session.{Call, Start, Ask, Chunk, CopyEnd, CopyFail, 
 use Rattle.pg_client.proofs.History.{all_front, requests_in-more}
 use Rattle.pg_client.proofs.OneMessage.{put_after, segments-more}
 use Rattle.pg_client.proofs.Outcomes.{kept_with, without_asides-append}
-use Rattle.pg_client.proofs.Stories.{messages_in-append}
+use Rattle.pg_client.proofs.Ordering.{messages_in-append}
 
 -- ---- one more happening
 

@@ -22,7 +22,7 @@ use Rattle.pg_client.proofs.Beginnings.{segments_did, segments_came, requests_ca
 use Rattle.pg_client.proofs.History.{requests_in-more, IsStarted-more, copy_answer_from-more}
 use Rattle.pg_client.proofs.OneMessage.{put_after}
 use Rattle.pg_client.proofs.Said.{IsCopyAwaited, copy_awaited}
-use Rattle.pg_client.proofs.Stories.{messages_in-append, calls_in-append, turns_more}
+use Rattle.pg_client.proofs.Ordering.{messages_in-append, calls_in-append, turns_more}
 
 -- ---- since the last CopyInResponse
 

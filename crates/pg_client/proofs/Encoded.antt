@@ -12,7 +12,8 @@ use Rattle.pg_wire.specs.Frontend.{frontend}
 use Rattle.pg_wire.specs.Segment.{step_message}
 use Rattle.pg_wire.specs.message.FrontMessage.TheVariants.{Sync}
 use Rattle.pg_wire.specs.declared.session.Step.{Step}
-use Rattle.pg_client.specs.Client.{first_fault, or_else}
+use Rattle.pg_client.specs.Client.{or_else}
+use Rattle.pg_client.specs.Sent.{first_fault}
 use Rattle.pg_client.specs.Private.Sending.{Puts, ArePut, Lengthens, starved_after}
 
 -- one message was encoded

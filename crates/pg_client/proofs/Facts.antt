@@ -1,4 +1,4 @@
--- What a run's history means.
+-- What a history means.
 use Rattle.std.proofs.Common.{◌≡◌, ℕ, List, ◌++◌, Bool, true, false, Option, Some, None, refl, sym, subst, ◌∙◌}
 use Rattle.std.specs.Prelude.{◌↔◌}
 use Rattle.pg_wire.specs.message.BackMessage.{BackMessage}
@@ -13,8 +13,9 @@ use Rattle.pg_client.specs.declared.place.Stage.TheVariants.{Within}
 use Rattle.pg_client.specs.declared.place.Stand.{Stand}
 use Rattle.pg_client.specs.declared.place.Stand.TheVariants.{New, Starting, Idle, Busy}
 use Rattle.pg_client.specs.declared.settled.Settled.{Settled}
-use Rattle.pg_client.specs.Session.{Run, Happening, IsStarted, IsStarting, IsReady, IsCopyingIn}
-use Rattle.pg_client.specs.Client.{ClientView, story, stand_phase, busy_phase_of, phase_with, Shows, IsRunOf}
+use Rattle.pg_client.specs.Session.{Happening, IsStarted, IsStarting, IsReady, IsCopyingIn}
+use Rattle.pg_client.specs.Client.{ClientView, stand_phase, busy_phase_of, phase_with, Shows}
+use Rattle.pg_client.specs.History.{happenings, IsHistoryOf, History}
 use Rattle.pg_client.specs.Facts.{IsPhase, Facts}
 use Rattle.pg_client.proofs.Agreeing.{answer_is_said}
 use Rattle.pg_client.proofs.FactsHold.{StandFacts, stand_facts}
@@ -65,11 +66,11 @@ phase_by hs was now None true settled same f shows p = absurd shows
 phase_by hs was now None false settled same f shows p =
     subst (λ (s : Stand). (stand_phase s ≡ p) ↔ IsPhase hs None p) (sym shows) (open_phase hs (stand_phase was) f.new f.starting f.ready (λ e. copying_in hs same (f.copying.0 e), λ k. f.copying.1 (copy_awaited hs same k)) (never_closed was) p)
 
-pub run_facts : (run : Run) (fed : List ℕ) (heard : List BackMessage) (rest : List ℕ) (given : List Settled) (sent : List ℕ) (handed_back : Bool) (client : ClientView) → IsRunOf run fed heard rest given sent handed_back client → Facts (story run heard) (given ++ client.settled) client
-run_facts run fed heard rest given sent handed_back client r =
-    let f = stand_facts (story run heard) r.was (given ++ client.settled) r.stands in
+pub history_facts : (h : History) (client : ClientView) → IsHistoryOf h client → Facts (happenings h) (h.given ++ client.settled) client
+history_facts h client r =
+    let f = stand_facts (happenings h) r.was (h.given ++ client.settled) r.stands in
     record {
       expected = r.expected;
       in_order = f.in_order;
-      phase = phase_by (story run heard) r.was client.stand client.closed handed_back (given ++ client.settled) (answer_is_said (story run heard) r.expected.after r.allowed) f r.shows;
+      phase = phase_by (happenings h) r.was client.stand client.closed h.handed_back (h.given ++ client.settled) (answer_is_said (happenings h) r.expected.after r.allowed) f r.shows;
     }

@@ -25,10 +25,11 @@ use Rattle.pg_client.specs.declared.settled.Settled.{Settled}
 use Rattle.pg_client.specs.declared.phase.Phase.{Phase}
 use Rattle.pg_client.specs.declared.phase.Phase.TheVariants as phase
 use Rattle.pg_client.specs.Place.{left, Place, read, read_by, read_from, after_progress, progress}
-use Rattle.pg_client.specs.Session.{Happening, requests_in, rest_in, IsStarted, IsStarting, IsReady, EndInCopyIn}
+use Rattle.pg_client.specs.Session.{Happening, requests_in, rest_in, IsStarted, IsStarting, IsReady, EndInCopyIn, groups_in}
+use Rattle.pg_client.specs.Client.{stand_phase, busy_phase_of, unsettled_of, has_failed, stage_failed}
+use Rattle.pg_client.specs.Lost.{has_error}
 use Rattle.pg_client.specs.Machine.{greet, greet_from, greet_all, copy_answer}
 use Rattle.pg_client.specs.Judged.{SettledAs, Stands}
-use Rattle.pg_client.specs.Client.{stand_phase, busy_phase_of, unsettled_of, has_failed, stage_failed, groups_in, has_error}
 use Rattle.pg_client.specs.Facts.{SettledInOrder}
 use Rattle.pg_client.proofs.Complete.{at}
 use Rattle.pg_client.proofs.Outcomes.{kept_with}

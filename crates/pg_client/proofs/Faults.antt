@@ -9,9 +9,9 @@ use Rattle.pg_client.specs.declared.place.Stand.TheVariants.{New, Starting, Idle
 use Rattle.pg_client.specs.declared.place.Welcome.TheVariants.{Fresh, Asked, Admitted}
 use Rattle.pg_client.specs.declared.settled.Settled.{Settled}
 use Rattle.pg_client.specs.Session.{Happening, rest_in, AsksPassword, key_data, IsStarted, IsStarting, IsReady}
+use Rattle.pg_client.specs.Closed.{IsFresh, IsError, AsksOther, HasNoName, IsFaultFor}
 use Rattle.pg_client.specs.Machine.{Rejected, hear_with}
 use Rattle.pg_client.specs.Judged.{Stands}
-use Rattle.pg_client.specs.Client.{IsFresh, IsError, AsksOther, HasNoName, IsFaultFor}
 use Rattle.pg_client.specs.Private.Hearing.{fault_at, fresh_fault, later_fault, idle_fault}
 use Rattle.pg_client.proofs.FactsHold.{stand_facts}
 use Rattle.pg_client.proofs.OneMessage.{SettledAs-length}

@@ -7,9 +7,9 @@ pub mod Said
 pub mod OneMessage
 pub mod History
 pub mod FactsHold
-pub mod Timeline
+pub mod Merging
 pub mod Encoded
-pub mod Runs
+pub mod Accepting
 pub mod Lifetime
 pub mod Messages
 pub mod Faults
@@ -17,7 +17,7 @@ pub mod Feeding
 pub mod Facts
 pub mod TurnLaws
 pub mod Passwords
-pub mod Stories
+pub mod Ordering
 pub mod Beginnings
 pub mod Agreeing
 pub mod Copying

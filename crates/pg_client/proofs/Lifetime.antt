@@ -1,4 +1,4 @@
--- How a run begins, what is taken of it, and how the connection is lost.
+-- How a history begins, what is taken of it, and how the connection is lost.
 use Rattle.std.proofs.Common.{◌≡◌, ℕ, List, [], ◌∷◌, ◌++◌, Bool, true, false, Option, Some, None, option_to_list, refl, sym, ap, subst, ◌∙◌, append_assoc, arith}
 use Rattle.std.specs.Prelude.{unwrap_or, IfSome, ◌↔◌}
 use Rattle.pg_wire.specs.declared.fault.WireFault.{WireFault}
@@ -13,10 +13,13 @@ use Rattle.pg_client.specs.declared.place.Stand.TheVariants.{New}
 use Rattle.pg_client.specs.declared.settings.Settings.{Settings}
 use Rattle.pg_client.specs.declared.settled.Loss.{Loss}
 use Rattle.pg_client.specs.declared.settled.Settled.{Settled}
-use Rattle.pg_client.specs.Session.{Run, Happening, IsTerminated, AreAllowed}
-use Rattle.pg_client.specs.Client.{ClientView, story, unsettled_of, has_failed, IsAlike, Shows, Ends, IsRunOf, Loses, first_cause}
+use Rattle.pg_client.specs.Session.{Happening, IsTerminated, AreAllowed}
+use Rattle.pg_client.specs.Client.{ClientView, unsettled_of, has_failed, IsAlike, Shows}
+use Rattle.pg_client.specs.Closed.{Ends}
+use Rattle.pg_client.specs.History.{happenings, IsHistoryOf, with_given, with_handed_back, Carries, blank}
+use Rattle.pg_client.specs.Lost.{Loses, first_cause, HandsBack}
 use Rattle.pg_client.specs.Judged.{Stands}
-use Rattle.pg_client.proofs.FactsHold.{stand_facts}
+use Rattle.pg_client.proofs.FactsHold.{StandFacts, stand_facts}
 use Rattle.pg_client.proofs.History.{expected_nothing}
 
 -- ---- the beginning
@@ -37,8 +40,8 @@ none_allowed : AreAllowed []
 none_allowed [] c later e = absurd cc
 none_allowed (b ∷ before) c later e = absurd cc
 
-pub begun_run : (v : ClientView) → v.kept ≡ [] → v.stand ≡ New → v.settled ≡ [] → v.status ≡ None → v.parameters ≡ [] → v.key ≡ None → v.closed ≡ None → IsRunOf [] [] [] [] [] [] false v
-begun_run v kept stand settled status parameters key closed = record {
+pub blank_begins : (v : ClientView) → v.kept ≡ [] → v.stand ≡ New → v.settled ≡ [] → v.status ≡ None → v.parameters ≡ [] → v.key ≡ None → v.closed ≡ None → IsHistoryOf blank v
+blank_begins v kept stand settled status parameters key closed = record {
   stream = record { whole = refl; each = tt };
   places = tt;
   ordered = tt;
@@ -59,10 +62,10 @@ begun_run v kept stand settled status parameters key closed = record {
 -- ---- a group is taken
 
 pub taken : (v old : ClientView) (o : Option Settled) (left : List Settled) → v ≡ old → v.settled ≡ option_to_list o ++ left
-    → IfSome o (λ t. (run : Run) (fed : List ℕ) (heard : List BackMessage) (rest : List ℕ) (given : List Settled) (sent : List ℕ) (handed_back : Bool) → IsRunOf run fed heard rest given sent handed_back old → IsRunOf run fed heard rest (given ++ t ∷ []) sent handed_back (record v { settled = left }))
+    → IfSome o (λ t. Carries old (record v { settled = left }) (with_given t))
 taken v old None left same e = tt
-taken v old (Some t) left same e = λ run fed heard rest given sent handed_back r0.
-    let r : IsRunOf run fed heard rest given sent handed_back v = subst (IsRunOf run fed heard rest given sent handed_back) (sym same) r0 in
+taken v old (Some t) left same e = λ h r0.
+    let r : IsHistoryOf h v = subst (IsHistoryOf h) (sym same) r0 in
     record {
       stream = r.stream;
       places = r.places;
@@ -71,7 +74,7 @@ taken v old (Some t) left same e = λ run fed heard rest given sent handed_back 
       terminated = r.terminated;
       expected = r.expected;
       was = r.was;
-      stands = subst (Stands (story run heard) r.was) (ap (λ (ts : List Settled). given ++ ts) e ∙ sym (append_assoc given (t ∷ []) left)) r.stands;
+      stands = subst (Stands (happenings h) r.was) (ap (λ (ts : List Settled). h.given ++ ts) e ∙ sym (append_assoc h.given (t ∷ []) left)) r.stands;
       shows = r.shows;
       ends = r.ends;
       status = r.status;
@@ -91,17 +94,18 @@ handed : (was now : Stand) (closed : Option Cause) → Shows was now closed true
 handed was now None h = absurd h
 handed was now (Some c) h = h
 
-pub loses : (v old : ClientView) (loss : Loss) → v ≡ old → loss.unsettled ≡ unsettled_of v.stand → loss.seen_error ≡ has_failed v.stand
-    → (run : Run) (fed : List ℕ) (heard : List BackMessage) (rest : List ℕ) (given : List Settled) (sent : List ℕ) (handed_back : Bool) → IsRunOf run fed heard rest given sent handed_back old → Loses handed_back (story run heard) loss
-loses v old loss same request error run fed heard rest given sent false r0 =
-    let r : IsRunOf run fed heard rest given sent false v = subst (IsRunOf run fed heard rest given sent false) (sym same) r0 in
-    let f = stand_facts (story run heard) r.was (given ++ v.settled) r.stands in
-    let a = alike r.was v.stand v.closed r.shows in
-    (request ∙ a.request ∙ f.unsettled, error ∙ a.error ∙ f.seen_error)
-loses v old loss same request error run fed heard rest given sent true r0 =
-    let r : IsRunOf run fed heard rest given sent true v = subst (IsRunOf run fed heard rest given sent true) (sym same) r0 in
-    let n = handed r.was v.stand v.closed r.shows in
-    (request ∙ ap unsettled_of n, error ∙ ap has_failed n)
+pub loses : (v old : ClientView) (loss : Loss) → v ≡ old → loss.unsettled ≡ unsettled_of v.stand → loss.seen_error ≡ has_failed v.stand → HandsBack old loss
+loses v old loss same request error h r0 =
+    let r : IsHistoryOf h v = subst (IsHistoryOf h) (sym same) r0 in
+    by r.was h.handed_back (stand_facts (happenings h) r.was (h.given ++ v.settled) r.stands) r.shows
+  where
+    by : (was : Stand) (handed_back : Bool) → StandFacts (happenings h) was (h.given ++ v.settled) → Shows was v.stand v.closed handed_back → Loses handed_back (happenings h) loss
+    by was false f shows =
+        let a = alike was v.stand v.closed shows in
+        (request ∙ a.request ∙ f.unsettled, error ∙ a.error ∙ f.seen_error)
+    by was true f shows =
+        let n = handed was v.stand v.closed shows in
+        (request ∙ ap unsettled_of n, error ∙ ap has_failed n)
 
 terminated_by : (hs : List Happening) (closed : Option Cause) → IsTerminated hs ↔ (closed ≡ Some cause.Terminated) → IsTerminated hs ↔ (Some (first_cause closed cause.Lost) ≡ Some cause.Terminated)
 terminated_by hs None h = (λ t. absurd (let e : None ≡ Some cause.Terminated = h.0 t in cc), λ e. absurd cc)
@@ -111,21 +115,20 @@ ends_by : (settings : Settings) (hs : List Happening) (rest kept : List ℕ) (cl
 ends_by settings hs rest kept None h = h
 ends_by settings hs rest kept (Some c) h = h
 
-pub lost_run : (v old : ClientView) (closed : Option Cause) → v ≡ old → closed ≡ Some (first_cause v.closed cause.Lost)
-    → (run : Run) (fed : List ℕ) (heard : List BackMessage) (rest : List ℕ) (given : List Settled) (sent : List ℕ) (handed_back : Bool) → IsRunOf run fed heard rest given sent handed_back old → IsRunOf run fed heard rest given sent true (record v { stand = New; closed = closed })
-lost_run v old closed same now run fed heard rest given sent handed_back r0 =
-    let r : IsRunOf run fed heard rest given sent handed_back v = subst (IsRunOf run fed heard rest given sent handed_back) (sym same) r0 in
+pub lost_carries : (v old : ClientView) (closed : Option Cause) → v ≡ old → closed ≡ Some (first_cause v.closed cause.Lost) → Carries old (record v { stand = New; closed = closed }) with_handed_back
+lost_carries v old closed same now h r0 =
+    let r : IsHistoryOf h v = subst (IsHistoryOf h) (sym same) r0 in
     record {
       stream = r.stream;
       places = r.places;
       ordered = r.ordered;
       allowed = r.allowed;
-      terminated = subst (λ (o : Option Cause). IsTerminated (story run heard) ↔ (o ≡ Some cause.Terminated)) (sym now) (terminated_by (story run heard) v.closed r.terminated);
+      terminated = subst (λ (o : Option Cause). IsTerminated (happenings h) ↔ (o ≡ Some cause.Terminated)) (sym now) (terminated_by (happenings h) v.closed r.terminated);
       expected = r.expected;
       was = r.was;
       stands = r.stands;
       shows = subst (λ (o : Option Cause). Shows r.was New o true) (sym now) refl;
-      ends = subst (Ends v.settings (story run heard) rest v.kept) (sym now) (ends_by v.settings (story run heard) rest v.kept v.closed r.ends);
+      ends = subst (Ends v.settings (happenings h) h.rest v.kept) (sym now) (ends_by v.settings (happenings h) h.rest v.kept v.closed r.ends);
       status = r.status;
       parameters = r.parameters;
       key = r.key;

@@ -16,8 +16,9 @@ use Rattle.pg_client.specs.declared.place.Stand.{Stand}
 use Rattle.pg_client.specs.declared.place.Stand.TheVariants.{New, Starting, Idle, Busy}
 use Rattle.pg_client.specs.declared.place.Welcome.TheVariants.{Fresh, Asked, Admitted}
 use Rattle.pg_client.specs.declared.settled.Settled.{Settled}
-use Rattle.pg_client.specs.Client.{ClientView, cause_of}
 use Rattle.pg_client.specs.Session.{is_question}
+use Rattle.pg_client.specs.Client.{ClientView}
+use Rattle.pg_client.specs.Closed.{cause_of}
 use Rattle.pg_client.specs.Machine.{Effect, Stays, Settles, Rejected, hear, hear_with}
 use Rattle.pg_client.specs.Private.Hearing.{Effects, HearsAs, fault_at, fresh_fault, later_fault, idle_fault}
 use Rattle.pg_client.specs.Private.Feeding.{HearsNothing, HearsMessage, HearsNext, leaving, of_wire}

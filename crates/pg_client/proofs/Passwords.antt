@@ -28,18 +28,21 @@ use Rattle.pg_client.specs.declared.place.Welcome.TheVariants.{Fresh, Asked, Adm
 use Rattle.pg_client.specs.declared.settings.Settings.{Settings}
 use Rattle.pg_client.specs.declared.settled.Settled.{Settled}
 use Rattle.pg_client.specs.Place.{Place, left, progress, begins, after_progress, read_by, read_from, read_all}
-use Rattle.pg_client.specs.Session.{Run, Call, Start, Ask, Terminate, Happening, Did, Came, messages_in, requests_in, whole_in, rest_in, AsksPassword, BeginsStartup, FitAll, IsSession, IsStarted, IsTerminated, AreAllowed, Expected}
-use Rattle.pg_client.specs.Machine.{greet, greet_from, greet_all}
-use Rattle.pg_client.specs.Client.{ClientView, password_messages, md5_messages, answer_to, sent_by, sent_in, story, Ends, IsRunOf}
+use Rattle.pg_client.specs.Session.{Call, Start, Ask, Terminate, Happening, Did, Came, messages_in, requests_in, whole_in, rest_in, AsksPassword, BeginsStartup, FitAll, IsSession, IsStarted, IsTerminated, AreAllowed, Expected}
+use Rattle.pg_client.specs.Client.{ClientView}
+use Rattle.pg_client.specs.Sent.{password_messages, md5_messages, answer_to, sent_by, sent_in}
+use Rattle.pg_client.specs.Closed.{Ends}
+use Rattle.pg_client.specs.History.{happenings, IsHistoryOf, History}
 use Rattle.pg_client.specs.Turns.{Turn, turn_messages, turns_of, calls_in, passwords, first_answer, greeting, farewell, InTurns}
+use Rattle.pg_client.specs.Machine.{greet, greet_from, greet_all}
 use Rattle.pg_client.proofs.Beginnings.{AllAfter, after_begins, segments_came, requests_came, allowed_begins, along, are_answered, expected_begins}
 use Rattle.pg_client.proofs.Complete.{at, read_from-append}
 use Rattle.pg_client.proofs.Copying.{heard_after_start}
 use Rattle.pg_client.proofs.OneMessage.{put_after, not_ready}
 use Rattle.pg_client.proofs.Outcomes.{kept_with, front_splits, without_asides-append, begins_read}
-use Rattle.pg_client.proofs.Runs.{sent_more}
+use Rattle.pg_client.proofs.Accepting.{sent_more}
 use Rattle.pg_client.proofs.Startup.{Greeted, greet_sound, greet_from-append, begins_greeted}
-use Rattle.pg_client.proofs.Stories.{messages_in-append, calls_in-append}
+use Rattle.pg_client.proofs.Ordering.{messages_in-append, calls_in-append}
 use Rattle.pg_client.proofs.TurnLaws.{IsOrderly, orderly_from, behind_first, sent_first, first_greets, turns_behind, requests_of}
 
 -- ---- a question goes on with no request's segment
@@ -374,7 +377,7 @@ module _ (settings : Settings) (hs : List Happening) (allowed : AreAllowed hs) (
         requests = requests_of hs;
       }
 
--- ---- of a run
+-- ---- of a history
 
 terminated_begins : (hs more : List Happening) → IsTerminated hs → IsTerminated (hs ++ more)
 terminated_begins [] more t = absurd t
@@ -385,11 +388,11 @@ terminated_begins (Came m ∷ hs) more t = terminated_begins hs more t
 ends_so : (settings : Settings) (hs : List Happening) (rest kept : List ℕ) (closed : Option Cause) → closed ≡ Some cause.Terminated → Ends settings hs rest kept closed → (before : List Happening) × (hs ≡ before ++ Did Terminate ∷ [])
 ends_so settings hs rest kept closed is ends = (subst (Ends settings hs rest kept) is ends).1
 
-pub run_in_turns : (run : Run) (fed : List ℕ) (heard : List BackMessage) (rest : List ℕ) (given : List Settled) (sent : List ℕ) (handed_back : Bool) (client : ClientView) → IsRunOf run fed heard rest given sent handed_back client → InTurns client.settings (story run heard) sent
-run_in_turns run fed heard rest given sent handed_back client r = in_turns client.settings (story run heard) r.allowed r.expected open_then sent r.sent_is
+pub history_in_turns : (h : History) (client : ClientView) → IsHistoryOf h client → InTurns client.settings (happenings h) h.sent
+history_in_turns h client r = in_turns client.settings (happenings h) r.allowed r.expected open_then h.sent r.sent_is
   where
-    open_then : (before : List Happening) (m : BackMessage) (later : List Happening) → story run heard ≡ before ++ Came m ∷ later → IsTerminated before → ⊥
+    open_then : (before : List Happening) (m : BackMessage) (later : List Happening) → happenings h ≡ before ++ Came m ∷ later → IsTerminated before → ⊥
     open_then before m later e t =
-        let end = ends_so client.settings (story run heard) rest client.kept client.closed (r.terminated.0 (subst IsTerminated (sym e) (terminated_begins before (Came m ∷ later) t))) r.ends in
+        let end = ends_so client.settings (happenings h) h.rest client.kept client.closed (r.terminated.0 (subst IsTerminated (sym e) (terminated_begins before (Came m ∷ later) t))) r.ends in
         let s = front_splits end.0 (Did Terminate) before (Came m) later (sym end.1 ∙ e) in
         (r.allowed end.0 Terminate [] end.1).not_terminated (subst IsTerminated (sym s.1) (terminated_begins before s.0 t))

@@ -27,6 +27,13 @@ use Rattle.pg_client.specs.declared.fault.CallFault.TheVariants as fault
 use Rattle.pg_client.specs.declared.phase.Cause.TheVariants as cause
 use Rattle.pg_client.specs.declared.phase.Phase.TheVariants as phase
 use Rattle.pg_wire.specs.value.Status.{Status}
+use Rattle.pg_client.specs.Session.{Call, Start, Ask, CopyEnd, CopyFail, Terminate, Happening, Did, Came, IsReady, IsCopyingIn, IsNoCopyIn, IsSaid, IsAfterItsCall, Chunk, AsksPassword, Expected, IsStartup, key_data, groups_in}
+use Rattle.pg_client.specs.Client.{last_said, value_said, key_said, stand_phase, ClientView}
+use Rattle.pg_client.specs.Sent.{sent_by, answer_to, call_fault, sent_in}
+use Rattle.pg_client.specs.Closed.{AsksOther, cause_of, IsFaultFor, IsFresh}
+use Rattle.pg_client.specs.History.{merged, Calls, with_ends}
+use Rattle.pg_client.specs.Calls.{Cancels, RefusesCopy, RefusesUnless}
+use Rattle.pg_client.specs.Lost.{Loses}
 use Rattle.pg_client.specs.Facts.{SettledInOrder}
 use Rattle.pg_client.specs.declared.place.CopyAnswer.TheVariants.{Awaited, Done}
 use Rattle.pg_client.specs.declared.place.Open.TheVariants as begun
@@ -34,8 +41,6 @@ use Rattle.pg_client.specs.declared.place.Stage.TheVariants.{Within}
 use Rattle.pg_client.specs.declared.place.Stand.TheVariants.{Starting, Idle, Busy}
 use Rattle.pg_client.specs.declared.place.Welcome.TheVariants.{Fresh, Asked, Admitted}
 use Rattle.pg_client.specs.declared.settings.Settings.{Settings}
-use Rattle.pg_client.specs.Session.{Call, Start, Ask, CopyEnd, CopyFail, Terminate, Happening, Did, Came, timeline, IsReady, IsCopyingIn, IsNoCopyIn, IsSaid, IsAfterItsCall, Run, Chunk, AsksPassword, Expected, IsStartup, key_data}
-use Rattle.pg_client.specs.Client.{Loses, last_said, value_said, key_said, sent_by, stand_phase, AsksOther, answer_to, call_fault, sent_in, ClientView, Cancels, cause_of, groups_in, IsFaultFor, IsFresh, RefusesCopy, RefusesUnless, story, with_ends}
 use Rattle.pg_client.specs.Machine.{Stays, Rejected, hear, hear_with}
 use Rattle.pg_client.specs.Private.Calling.{with_request}
 use Rattle.pg_client.specs.Private.Hearing.{fault_at}
@@ -81,8 +86,8 @@ unfolding busy
 one_settled = (refl, command_fits, tt)
 
 -- the places of these calls and messages in the bytes, and their order
-session_run : Run
-session_run = (Start, 0) ∷ (Ask select, 15) ∷ []
+session_calls : Calls
+session_calls = (Start, 0) ∷ (Ask select, 15) ∷ []
 
 session_heard : List BackMessage
 session_heard = AuthOk ∷ Ready status.Idle ∷ CommandComplete ok ∷ Ready status.Idle ∷ []
@@ -91,9 +96,9 @@ ends_are : with_ends 0 session_heard ≡ (AuthOk, 9) ∷ (Ready status.Idle, 15)
 unfolding session_heard ok
 ends_are = refl
 
-story_is : story session_run session_heard ≡ busy ++ Came (CommandComplete ok) ∷ Came (Ready status.Idle) ∷ []
-unfolding session_run session_heard ok busy
-story_is = refl
+happened : merged session_calls (with_ends 0 session_heard) ≡ busy ++ Came (CommandComplete ok) ∷ Came (Ready status.Idle) ∷ []
+unfolding session_calls session_heard ok busy
+happened = refl
 
 -- lost before that: the query, and no error was seen; asked again, nothing
 lost_clear : Loses false (busy ++ Came (CommandComplete ok) ∷ []) (record { unsettled = Some select; seen_error = false })
@@ -394,7 +399,7 @@ group_refuses : hear (Busy (Group (step.Parse [] [] [] ∷ [])) [] (Within begun
 group_refuses = refl
 
 -- a call stands before the message that was not whole when it was made
-in_order : timeline ((Start, 0) ∷ (CopyEnd, 12) ∷ []) ((AuthOk, 9) ∷ (Ready status.Idle, 15) ∷ []) ≡ Did Start ∷ Came AuthOk ∷ Did CopyEnd ∷ Came (Ready status.Idle) ∷ []
+in_order : merged ((Start, 0) ∷ (CopyEnd, 12) ∷ []) ((AuthOk, 9) ∷ (Ready status.Idle, 15) ∷ []) ≡ Did Start ∷ Came AuthOk ∷ Did CopyEnd ∷ Came (Ready status.Idle) ∷ []
 in_order = refl
 
 cut_after_ready : segments (AuthOk ∷ Ready status.Idle ∷ EmptyQuery ∷ []) ≡ record { whole = (AuthOk ∷ Ready status.Idle ∷ []) ∷ []; rest = EmptyQuery ∷ [] }

@@ -1,4 +1,4 @@
--- What a run sends has a spelling.
+-- What a client sends has a spelling.
 use Rattle.std.proofs.Common.{◌≡◌, List, [], ◌∷◌, ◌++◌, refl, subst}
 use Rattle.std.specs.List.{flat_map, AllByRecursion}
 use Rattle.pg_wire.specs.message.First.TheVariants.{Startup}
@@ -8,7 +8,7 @@ use Rattle.pg_wire.specs.Frontend.{frontend}
 use Rattle.pg_wire.specs.Segment.{request_messages}
 use Rattle.pg_client.specs.declared.settings.Settings.{Settings}
 use Rattle.pg_client.specs.Session.{Call, Start, Ask, Chunk, CopyEnd, CopyFail, Terminate, Happening, Did, Came, messages_in, AreAllowed}
-use Rattle.pg_client.specs.Client.{startup_pairs, answer_to, call_messages, IsSpelled, IsSpelledAt}
+use Rattle.pg_client.specs.Sent.{startup_pairs, answer_to, call_messages, IsSpelled, IsSpelledAt}
 use Rattle.pg_client.specs.Turns.{turn_messages, turns_of, calls_in, passwords, farewell}
 use Rattle.pg_client.specs.Spelled.{SendsSpelled}
 use Rattle.pg_client.proofs.TurnLaws.{IsOrderly, orderly_from, started_sent}

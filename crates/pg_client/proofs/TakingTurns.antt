@@ -9,16 +9,17 @@ use Rattle.pg_client.specs.declared.phase.Cause.{Cause}
 use Rattle.pg_client.specs.declared.phase.Cause.TheVariants as cause
 use Rattle.pg_client.specs.declared.phase.Phase.TheVariants as phase
 use Rattle.pg_client.specs.declared.settled.Settled.{Settled}
-use Rattle.pg_client.specs.Session.{Run, Call, Start, Ask, Chunk, CopyEnd, CopyFail, Terminate, Happening, Did, requests_in, whole_in, rest_in, IsReady, IsCopyingIn, IsAsked, HasPlace, AreAllowed}
-use Rattle.pg_client.specs.Client.{ClientView, story, groups_in, IsRunOf}
+use Rattle.pg_client.specs.Session.{Call, Start, Ask, Chunk, CopyEnd, CopyFail, Terminate, Happening, Did, requests_in, whole_in, rest_in, IsReady, IsCopyingIn, IsAsked, HasPlace, AreAllowed, groups_in}
+use Rattle.pg_client.specs.Client.{ClientView}
+use Rattle.pg_client.specs.History.{happenings, IsHistoryOf, History}
 use Rattle.pg_client.specs.Facts.{SettledInOrder, IsPhase}
 use Rattle.pg_client.specs.Turns.{Turn, copies_of, turns_of, calls_in}
 use Rattle.pg_client.specs.Answering.{turns_in, IsCopyMessage, IsCopyCall, IsInTurn, TakesTurns}
 use Rattle.pg_client.proofs.Beginnings.{AreAsked, AllAfter, after_begins, allowed_begins, are_asked, are_answered}
 use Rattle.pg_client.proofs.Agreeing.{no_copy_in}
 use Rattle.pg_client.proofs.Copying.{copying_since, copy_under_way}
-use Rattle.pg_client.proofs.Facts.{run_facts}
-use Rattle.pg_client.proofs.Stories.{requests_of_calls}
+use Rattle.pg_client.proofs.Facts.{history_facts}
+use Rattle.pg_client.proofs.Ordering.{requests_of_calls}
 
 -- ---- how many turns there are, and how many are answered
 
@@ -92,7 +93,7 @@ first_settled rs [] [] h = refl
 first_settled (r ∷ rs) (s ∷ ss) (t ∷ ts) h = ap (λ (x : Request). x ∷ map (λ t. t.request) ts) h.0 ∙ ap (λ (xs : List Request). r ∷ xs) (first_settled rs ss ts h.2)
 first_settled _ _ _ h = absurd h
 
--- ---- of a run
+-- ---- of a history
 
 open_ready : (hs : List Happening) (closed : Option Cause) → IsPhase hs closed phase.Ready → IsReady hs
 open_ready hs None h = h
@@ -117,19 +118,19 @@ copied_in_turn hs before c later after allowed copy e = by c copy (allowed befor
     by (CopyFail b) i p = here p.0 p.1
     by _ i p = absurd i
 
-pub takes_turns : (run : Run) (fed : List ℕ) (heard : List BackMessage) (rest : List ℕ) (given : List Settled) (sent : List ℕ) (handed_back : Bool) (client : ClientView) → IsRunOf run fed heard rest given sent handed_back client → TakesTurns (story run heard) (given ++ client.settled) client
-takes_turns run fed heard rest given sent handed_back client r =
-    let hs : List Happening = story run heard in
-    let facts = run_facts run fed heard rest given sent handed_back client r in
+pub takes_turns : (h : History) (client : ClientView) → IsHistoryOf h client → TakesTurns (happenings h) (h.given ++ client.settled) client
+takes_turns h client r =
+    let hs : List Happening = happenings h in
+    let facts = history_facts h client r in
     let after : AllAfter hs = r.expected.after in
     record {
       in_turn = λ before later e. counted before (after_begins before later (subst AllAfter e after)) (allowed_begins before later (subst AreAllowed e r.allowed));
       asked = λ before q later e. ready_counted before (r.allowed before (Ask q) later e).in_place.1;
       copied = λ before c later copy e. copied_in_turn hs before c later after r.allowed copy e;
       copies = all_copies (calls_in hs);
-      settled_all = settled_length (requests_in hs) (groups_in hs) (given ++ client.settled) facts.in_order;
-      settled_first = first_settled (requests_in hs) (groups_in hs) (given ++ client.settled) facts.in_order ∙ ap (take (length (given ++ client.settled))) (requests_of_calls hs);
-      ready = λ e. settled_length (requests_in hs) (groups_in hs) (given ++ client.settled) facts.in_order ∙ ready_counted hs (open_ready hs client.closed ((facts.phase phase.Ready).0 e));
+      settled_all = settled_length (requests_in hs) (groups_in hs) (h.given ++ client.settled) facts.in_order;
+      settled_first = first_settled (requests_in hs) (groups_in hs) (h.given ++ client.settled) facts.in_order ∙ ap (take (length (h.given ++ client.settled))) (requests_of_calls hs);
+      ready = λ e. settled_length (requests_in hs) (groups_in hs) (h.given ++ client.settled) facts.in_order ∙ ready_counted hs (open_ready hs client.closed ((facts.phase phase.Ready).0 e));
       ended = λ e. copy_under_way hs after r.allowed (open_copying hs client.closed ((facts.phase phase.CopyingIn).0 e)).1;
       copying = λ e. let o = open_copying hs client.closed ((facts.phase phase.CopyingIn).0 e) in copying_since hs after r.allowed (λ t. not_closed client.closed o.0 (r.terminated.0 t)) o.1;
     }

@@ -1,4 +1,4 @@
--- What a run sends, request by request.
+-- What a client sends, request by request.
 use Rattle.std.proofs.Common.{◌≡◌, ℕ, List, [], ◌∷◌, ◌++◌, map, refl, sym, ap, subst, ◌∙◌, append_assoc}
 use Rattle.std.specs.List.{flat_map}
 use Rattle.std.proofs.lemmas.Grind.{flat_map-append}
@@ -11,7 +11,7 @@ use Rattle.pg_wire.specs.Frontend.{frontend}
 use Rattle.pg_wire.specs.Segment.{request_messages}
 use Rattle.pg_client.specs.declared.settings.Settings.{Settings}
 use Rattle.pg_client.specs.Session.{Call, Start, Ask, Chunk, CopyEnd, CopyFail, Terminate, Happening, Did, Came, requests_in, IsStarted, IsTerminated, AreAllowed}
-use Rattle.pg_client.specs.Client.{call_messages, sent_by}
+use Rattle.pg_client.specs.Sent.{call_messages, sent_by}
 use Rattle.pg_client.specs.Turns.{turn_messages, copies_of, turns_of, calls_in, greeting, farewell}
 use Rattle.pg_client.proofs.History.{requests_in-more, IsStarted-more}
 

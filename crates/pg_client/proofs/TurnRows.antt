@@ -7,8 +7,8 @@ use Rattle.pg_wire.specs.message.FrontMessage.TheVariants as front
 use Rattle.pg_wire.specs.value.Status.TheVariants as status
 use Rattle.pg_wire.specs.declared.session.Request.{Request}
 use Rattle.pg_wire.specs.declared.session.Request.TheVariants.{Query}
-use Rattle.pg_client.specs.Session.{Run, Start, Ask, Chunk, CopyEnd, Terminate, Happening, Did, Came, rest_in}
-use Rattle.pg_client.specs.Client.{groups_in, story, with_ends}
+use Rattle.pg_client.specs.Session.{Start, Ask, Chunk, CopyEnd, Terminate, Happening, Did, Came, rest_in, groups_in}
+use Rattle.pg_client.specs.History.{Calls, with_ends, merged}
 use Rattle.pg_client.specs.Turns.{turns_of, messages_behind}
 use Rattle.pg_client.specs.Answering.{calls_of, turns_in, turns_with, last_copies, copies_ended, copies_begun, IsCopyingSince}
 
@@ -22,8 +22,8 @@ select = Query (83 ∷ [])
 abbrev begins : BackMessage
 begins = back.CopyIn (record { binary = false; formats = [] })
 
-abbrev run : Run
-run = (Start, 0) ∷ (Ask copy, 15) ∷ (Chunk (97 ∷ []), 23) ∷ (CopyEnd, 23) ∷ (Ask select, 37) ∷ (Terminate, 37) ∷ []
+abbrev calls : Calls
+calls = (Start, 0) ∷ (Ask copy, 15) ∷ (Chunk (97 ∷ []), 23) ∷ (CopyEnd, 23) ∷ (Ask select, 37) ∷ (Terminate, 37) ∷ []
 
 abbrev heard : List BackMessage
 heard = AuthOk ∷ Ready status.Idle ∷ begins ∷ CommandComplete (79 ∷ 75 ∷ []) ∷ Ready status.Idle ∷ []
@@ -33,15 +33,15 @@ ends_are : with_ends 0 heard ≡ (AuthOk, 9) ∷ (Ready status.Idle, 15) ∷ (be
 ends_are = refl
 
 -- calls stand behind the messages that were whole when they were made
-story_is : story run heard ≡ Did Start ∷ Came AuthOk ∷ Came (Ready status.Idle) ∷ Did (Ask copy) ∷ Came begins ∷ Did (Chunk (97 ∷ [])) ∷ Did CopyEnd ∷ Came (CommandComplete (79 ∷ 75 ∷ [])) ∷ Came (Ready status.Idle) ∷ Did (Ask select) ∷ Did Terminate ∷ []
-story_is = refl
+happened : merged calls (with_ends 0 heard) ≡ Did Start ∷ Came AuthOk ∷ Came (Ready status.Idle) ∷ Did (Ask copy) ∷ Came begins ∷ Did (Chunk (97 ∷ [])) ∷ Did CopyEnd ∷ Came (CommandComplete (79 ∷ 75 ∷ [])) ∷ Came (Ready status.Idle) ∷ Did (Ask select) ∷ Did Terminate ∷ []
+happened = refl
 
 -- the chunk and its end belong to the copy
-turns_are : turns_of (calls_of run) ≡ record { request = copy; copies = front.CopyData (97 ∷ []) ∷ front.CopyDone ∷ [] } ∷ record { request = select; copies = [] } ∷ []
+turns_are : turns_of (calls_of calls) ≡ record { request = copy; copies = front.CopyData (97 ∷ []) ∷ front.CopyDone ∷ [] } ∷ record { request = select; copies = [] } ∷ []
 turns_are = refl
 
 -- a password that was asked for goes before them, and the end of the session behind
-all_messages : messages_behind (record { user = 117 ∷ []; database = None; pairs = []; password = Some (112 ∷ []); limit = 64 }) (AuthCleartext ∷ heard) (calls_of run)
+all_messages : messages_behind (record { user = 117 ∷ []; database = None; pairs = []; password = Some (112 ∷ []); limit = 64 }) (AuthCleartext ∷ heard) (calls_of calls)
     ≡ front.Password (112 ∷ []) ∷ front.Query (67 ∷ []) ∷ front.CopyData (97 ∷ []) ∷ front.CopyDone ∷ front.Query (83 ∷ []) ∷ front.Terminate ∷ []
 all_messages = refl
 
@@ -74,5 +74,5 @@ chunks_since = record {
 }
 
 -- a copy that was ended is answered with its request
-both_answered : length (groups_in (story run heard)) ≡ 1
+both_answered : length (groups_in (merged calls (with_ends 0 heard))) ≡ 1
 both_answered = refl

@@ -9,25 +9,26 @@ use Rattle.pg_wire.specs.message.FrontMessage.TheVariants as front
 use Rattle.pg_wire.specs.declared.session.Request.{Request}
 use Rattle.pg_client.specs.declared.phase.Phase.TheVariants as phase
 use Rattle.pg_client.specs.declared.settled.Settled.{Settled}
-use Rattle.pg_client.specs.Session.{Run, Call, Ask, Chunk, CopyEnd, CopyFail, Happening, Did, Came, messages_in, requests_in, rest_in, IsAside}
-use Rattle.pg_client.specs.Client.{ClientView, phase_of, groups_in}
+use Rattle.pg_client.specs.Session.{Call, Ask, Chunk, CopyEnd, CopyFail, Happening, Did, Came, messages_in, requests_in, rest_in, IsAside, groups_in}
+use Rattle.pg_client.specs.Client.{ClientView, phase_of}
+use Rattle.pg_client.specs.History.{Calls, History, happenings}
 use Rattle.pg_client.specs.Turns.{Turn, turns_of, calls_in}
 
--- the calls of a run, without their places
-abbrev pub calls_of : Run → List Call
-calls_of run = map (λ c. c.0) run
+-- the calls without their places
+abbrev pub calls_of : Calls → List Call
+calls_of cs = map (λ c. c.0) cs
 
 -- the turns that were begun
 abbrev pub turns_in : List Happening → List Turn
 turns_in hs = turns_of (calls_in hs)
 
--- ---- a run
+-- ---- a history
 
--- What happened is the calls of the run and the messages that were heard, each in their order.
-pub record IsStoryOf (run : Run) (heard : List BackMessage) (hs : List Happening) : Type 0 where
-  pub calls : calls_in hs ≡ calls_of run
-  pub messages : messages_in hs ≡ heard
-  pub requests : requests_in hs ≡ map (λ t. t.request) (turns_of (calls_of run))
+-- What happened is the calls and the messages that were heard, each in their order.
+pub record KeepsOrder (h : History) : Type 0 where
+  pub calls : calls_in (happenings h) ≡ calls_of h.calls
+  pub messages : messages_in (happenings h) ≡ h.heard
+  pub requests : requests_in (happenings h) ≡ map (λ t. t.request) (turns_of (calls_of h.calls))
 
 -- ---- one call more
 
@@ -80,7 +81,7 @@ pub record IsCopyingSince (hs : List Happening) : Type 0 where
   pub since : hs ≡ before ++ Came (back.CopyIn head) ∷ later
   pub chunks : AllByRecursion IsChunkOrAside later
 
--- ---- what holds of a run
+-- ---- what holds of a history
 
 -- CopyData, CopyDone and CopyFail ("COPY Operations")
 abbrev pub IsCopyMessage : FrontMessage → Type 0

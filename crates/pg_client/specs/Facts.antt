@@ -7,8 +7,8 @@ use Rattle.pg_client.specs.declared.phase.Cause.{Cause}
 use Rattle.pg_client.specs.declared.phase.Phase.{Phase}
 use Rattle.pg_client.specs.declared.phase.Phase.TheVariants as phase
 use Rattle.pg_client.specs.declared.settled.Settled.{Settled}
-use Rattle.pg_client.specs.Session.{Happening, requests_in, Expected, IsStarted, IsStarting, IsReady, IsCopyingIn}
-use Rattle.pg_client.specs.Client.{ClientView, phase_of, groups_in}
+use Rattle.pg_client.specs.Session.{Happening, requests_in, Expected, IsStarted, IsStarting, IsReady, IsCopyingIn, groups_in}
+use Rattle.pg_client.specs.Client.{ClientView, phase_of}
 
 -- The settled groups are, for each of these segments, its request and the outcome that it fits.
 abbrev pub SettledInOrder : List Request → List (List BackMessage) → List Settled → Type 0

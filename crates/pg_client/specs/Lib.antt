@@ -1,11 +1,18 @@
--- What a reader must believe: what a client did and what came, what may come, and what holds of the client then.
+-- What a reader must believe: what a client did and what came, what may come, what a client went through, what each call does, and
+-- what holds of the client then.
 pub mod Session
 pub mod Client
+pub mod Sent
+pub mod Closed
+pub mod History
+pub mod Calls
+pub mod Feed
+pub mod Lost
 pub mod Facts
 pub mod Turns
 pub mod Answering
--- How the client's place goes on from message to message. A run's history has these words; the law facts_of_a_run says what
--- they mean in those above.
+-- How the client's place goes on from message to message. A history has these words; the law facts_of_a_run says what they mean in
+-- those above.
 pub mod Place
 pub mod Machine
 pub mod Judged

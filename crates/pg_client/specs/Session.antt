@@ -1,5 +1,5 @@
 -- What a client did and what came, in order, and what may come (Frontend/Backend Protocol, "Message Flow").
-use Rattle.std.specs.Prelude.{◌≡◌, ℕ, ℤ, suc, ◌≤◌, nat_lt, cond, Bool, true, false, List, [], ◌∷◌, ◌++◌, length, map, filter_map, Option, Some, None, IsSome, ◌⊎◌}
+use Rattle.std.specs.Prelude.{◌≡◌, ℕ, ℤ, suc, ◌≤◌, Bool, true, false, List, [], ◌∷◌, ◌++◌, length, map, drop, filter_map, Option, Some, None, IsSome, ◌⊎◌}
 use Rattle.std.specs.List.{AllByRecursion}
 use Rattle.pg_wire.specs.message.BackMessage.{BackMessage}
 use Rattle.pg_wire.specs.message.BackMessage.TheVariants.{AuthOk, AuthCleartext, AuthMd5, KeyData, Ready, CommandComplete}
@@ -25,26 +25,6 @@ pub data Happening : Type 0 where
   Did : Call → Happening
   Came : BackMessage → Happening
 
--- the calls, each with its place: how many bytes had been fed before it
-abbrev pub Run : Type 0
-Run = List (Call × ℕ)
-
--- the first calls of a run, those made before so many bytes had been fed
-abbrev pub made_before : ℕ → Run → List Happening
-made_before end [] = []
-made_before end (c ∷ cs) = cond (nat_lt c.1 end) (Did c.0 ∷ made_before end cs) []
-
--- the other calls
-abbrev pub made_since : ℕ → Run → Run
-made_since end [] = []
-made_since end (c ∷ cs) = cond (nat_lt c.1 end) (made_since end cs) (c ∷ cs)
-
--- Calls and messages in one order. A message, given with its end in the bytes, comes after the calls that were made before
--- it was whole.
-abbrev pub timeline : Run → List (BackMessage × ℕ) → List Happening
-timeline run [] = map (λ c. Did c.0) run
-timeline run (m ∷ ms) = made_before m.1 run ++ Came m.0 ∷ timeline (made_since m.1 run) ms
-
 abbrev pub message_of : Happening → Option BackMessage
 message_of (Came m) = Some m
 message_of (Did c) = None
@@ -62,6 +42,10 @@ requests_in hs = filter_map request_of hs
 -- the messages cut after each ReadyForQuery: the startup's segment, and one for each request that was answered
 abbrev pub whole_in : List Happening → List (List BackMessage)
 whole_in hs = (segments (messages_in hs)).whole
+
+-- the whole segments of the requests: all but the startup's
+abbrev pub groups_in : List Happening → List (List BackMessage)
+groups_in hs = drop 1 (whole_in hs)
 
 -- the messages of the segment that isn't whole
 abbrev pub rest_in : List Happening → List BackMessage

@@ -7,7 +7,7 @@ use Rattle.pg_wire.specs.First.{IsPacket}
 use Rattle.pg_wire.specs.Frontend.{frontend}
 use Rattle.pg_client.specs.declared.settings.Settings.{Settings}
 use Rattle.pg_client.specs.Session.{Call, Happening, messages_in}
-use Rattle.pg_client.specs.Client.{startup_pairs}
+use Rattle.pg_client.specs.Sent.{startup_pairs}
 use Rattle.pg_client.specs.Turns.{calls_in, messages_behind}
 
 -- The startup packet has one, once there is a call, and so has each message behind it.

@@ -12,7 +12,7 @@ use Rattle.pg_wire.specs.Frontend.{frontend}
 use Rattle.pg_wire.specs.Segment.{request_messages, without_asides}
 use Rattle.pg_client.specs.declared.settings.Settings.{Settings}
 use Rattle.pg_client.specs.Session.{Call, Ask, Chunk, CopyEnd, CopyFail, Terminate, Happening, Did, Came, messages_in, requests_in}
-use Rattle.pg_client.specs.Client.{startup_pairs, answer_to}
+use Rattle.pg_client.specs.Sent.{startup_pairs, answer_to}
 
 pub record Turn : Type 0 where
   pub request : Request

@@ -5,7 +5,10 @@ mod feed;
 ghost use Rattle.std.specs.Prelude.{◌≡◌, ◌≤◌, ◌∷◌, [], false, IfErr, IfNone, IfSome, None, OnErr, OnOk, option_copied, Some};
 ghost use Rattle.pg_wire.specs.Direction.{IsLimit};
 ghost use Rattle.pg_client.specs.Session.{Ask, Chunk, CopyEnd, CopyFail, Start, Terminate};
-ghost use Rattle.pg_client.specs.Client.{Accepts, busy_phase_of, Cancels, first_cause, Gives, HandsBack, has_failed, IsHandedBack, IsOpenPhase, IsRunOf, phase_of, RefusesCopy, RefusesEnd, RefusesUnless, stage_failed, unsettled_of, value_of};
+ghost use Rattle.pg_client.specs.Client.{busy_phase_of, has_failed, IsOpenPhase, phase_of, stage_failed, unsettled_of, value_of};
+ghost use Rattle.pg_client.specs.History.{blank, Carries, IsHistoryOf, with_given, with_handed_back};
+ghost use Rattle.pg_client.specs.Calls.{Accepts, Cancels, RefusesCopy, RefusesEnd, RefusesUnless};
+ghost use Rattle.pg_client.specs.Lost.{first_cause, HandsBack};
 ghost use Rattle.pg_client.specs.Private.Calling.{with_answer, with_request};
 
 use crate::fault::CallFault;
@@ -53,7 +56,7 @@ impl Client {
         requires { IsLimit settings.limit }
         ensures settings { result.settings ≡ settings }
         ensures phase { phase_of result ≡ Phase.New }
-        ensures run { IsRunOf [] [] [] [] [] [] false result }
+        ensures history { IsHistoryOf blank result }
     {
         let limit = settings.limit;
         Client {
@@ -109,7 +112,7 @@ impl Client {
     /// as they were.
     pub fn start(&mut self, out: &mut Vec<u8>) -> Result<(), CallFault>
         ensures ok { OnOk result ((phase_of self.old ≡ Phase.New) × (phase_of self.new ≡ Phase.Starting)) }
-        ensures run { OnOk result (Accepts Start self.old self.new out.old.items out.new.items) }
+        ensures history { OnOk result (Accepts Start self.old self.new out.old.items out.new.items) }
         ensures refused { IfErr result (RefusesUnless Phase.New self.old Start) }
         ensures err { OnErr result ((self.new ≡ self.old) × (out.new.items ≡ out.old.items)) }
     {
@@ -133,7 +136,7 @@ impl Client {
         out: &mut Vec<u8>,
     ) -> Result<(), (Request, CallFault)>
         ensures ok { OnOk result ((phase_of self.old ≡ Phase.Ready) × (phase_of self.new ≡ Phase.Busy)) }
-        ensures run { OnOk result (Accepts (Ask request) self.old self.new out.old.items out.new.items) }
+        ensures history { OnOk result (Accepts (Ask request) self.old self.new out.old.items out.new.items) }
         ensures refused { IfErr result (λ f. (f.0 ≡ request) × RefusesUnless Phase.Ready self.old (Ask request) f.1) }
         ensures err { OnErr result ((self.new ≡ self.old) × (out.new.items ≡ out.old.items)) }
     {
@@ -154,7 +157,7 @@ impl Client {
     /// C2 NotCopying: another phase. C3 Encode: TooLong or Memory. After a refusal the client and `out` are as they were.
     pub fn copy_chunk(&mut self, bytes: &[u8], out: &mut Vec<u8>) -> Result<(), CallFault>
         ensures ok { OnOk result ((phase_of self.old ≡ Phase.CopyingIn) × (phase_of self.new ≡ Phase.CopyingIn)) }
-        ensures run { OnOk result (Accepts (Chunk bytes.now) self.old self.new out.old.items out.new.items) }
+        ensures history { OnOk result (Accepts (Chunk bytes.now) self.old self.new out.old.items out.new.items) }
         ensures refused { IfErr result (RefusesCopy self.old (Chunk bytes.now)) }
         ensures err { OnErr result ((self.new ≡ self.old) × (out.new.items ≡ out.old.items)) }
     {
@@ -170,7 +173,7 @@ impl Client {
     /// C2 NotCopying: another phase. C3 Encode: Memory alone. After a refusal the client and `out` are as they were.
     pub fn copy_done(&mut self, out: &mut Vec<u8>) -> Result<(), CallFault>
         ensures ok { OnOk result ((phase_of self.old ≡ Phase.CopyingIn) × (phase_of self.new ≡ Phase.Busy)) }
-        ensures run { OnOk result (Accepts CopyEnd self.old self.new out.old.items out.new.items) }
+        ensures history { OnOk result (Accepts CopyEnd self.old self.new out.old.items out.new.items) }
         ensures refused { IfErr result (RefusesCopy self.old CopyEnd) }
         ensures err { OnErr result ((self.new ≡ self.old) × (out.new.items ≡ out.old.items)) }
     {
@@ -189,7 +192,7 @@ impl Client {
     /// C2 NotCopying: another phase. C3 Encode: HasZero, TooLong or Memory. After a refusal the client and `out` are as they were.
     pub fn copy_fail(&mut self, reason: &[u8], out: &mut Vec<u8>) -> Result<(), CallFault>
         ensures ok { OnOk result ((phase_of self.old ≡ Phase.CopyingIn) × (phase_of self.new ≡ Phase.Busy)) }
-        ensures run { OnOk result (Accepts (CopyFail reason.now) self.old self.new out.old.items out.new.items) }
+        ensures history { OnOk result (Accepts (CopyFail reason.now) self.old self.new out.old.items out.new.items) }
         ensures refused { IfErr result (RefusesCopy self.old (CopyFail reason.now)) }
         ensures err { OnErr result ((self.new ≡ self.old) × (out.new.items ≡ out.old.items)) }
     {
@@ -208,7 +211,7 @@ impl Client {
     /// C1 NotReady: phase New or Closed. C3 Encode: Memory alone. After a refusal the client and `out` are as they were.
     pub fn terminate(&mut self, out: &mut Vec<u8>) -> Result<(), CallFault>
         ensures ok { OnOk result (IsOpenPhase (phase_of self.old) × (phase_of self.new ≡ Phase.Closed Cause.Terminated)) }
-        ensures run { OnOk result (Accepts Terminate self.old self.new out.old.items out.new.items) }
+        ensures history { OnOk result (Accepts Terminate self.old self.new out.old.items out.new.items) }
         ensures refused { IfErr result (RefusesEnd self.old) }
         ensures err { OnErr result ((self.new ≡ self.old) × (out.new.items ≡ out.old.items)) }
     {
@@ -238,7 +241,7 @@ impl Client {
     /// were taken. It takes no memory.
     pub fn take_settled(&mut self) -> Option<Settled>
         ensures some { IfSome result (λ t. (self.old.settled ≡ t ∷ self.new.settled) × (self.new ≡ record self.old { settled = self.new.settled })) }
-        ensures run { IfSome result (λ t. Gives t self.old self.new) }
+        ensures history { IfSome result (λ t. Carries self.old self.new (with_given t)) }
         ensures none { IfNone result ((self.old.settled ≡ []) × (self.new ≡ self.old)) }
     {
         self.settled.pop_front()
@@ -252,7 +255,7 @@ impl Client {
         ensures closed { self.new.closed ≡ Some (first_cause self.old.closed Cause.Lost) }
         ensures settled { self.new.settled ≡ self.old.settled }
         ensures loss { HandsBack self.old result }
-        ensures run { IsHandedBack self.old self.new }
+        ensures history { Carries self.old self.new with_handed_back }
     {
         self.closed = Some(self.closed.unwrap_or(Cause::Lost));
         loss_of(mem::replace(&mut self.stand, Stand::New))

@@ -1,7 +1,7 @@
 //! Why a call was refused, and why bytes were.
 
 ghost use Rattle.std.specs.Prelude.{◌≡◌};
-ghost use Rattle.pg_client.specs.Client.{cause_of};
+ghost use Rattle.pg_client.specs.Closed.{cause_of};
 ghost use Rattle.pg_client.specs.Private.Feeding.{of_wire};
 ghost use Rattle.pg_client.specs.declared.fault.CallFault.TheVariants.{Encode};
 ghost use Rattle.pg_client.specs.declared.fault.FeedFault.TheVariants as feeding;

@@ -1,38 +1,36 @@
 //! Laws over the definitions: each function does nothing, and its contract is the law.
 
-ghost use Rattle.std.specs.Prelude.{◌≡◌, ◌++◌, [], ◌∷◌, Bool, ℕ, List, Option};
+ghost use Rattle.std.specs.Prelude.{◌≡◌, ◌++◌, [], ◌∷◌, ℕ, List, Option};
 ghost use Rattle.pg_wire.specs.message.BackMessage.{BackMessage};
-ghost use Rattle.pg_client.specs.declared.settled.Settled.{Settled};
-ghost use Rattle.pg_client.specs.Session.{Run, Call, Happening, Came, Expected};
-ghost use Rattle.pg_client.specs.Client.{ClientView, IsRunOf, known_loss, Loses, story};
+ghost use Rattle.pg_client.specs.Session.{Call, Happening, Came, Expected};
+ghost use Rattle.pg_client.specs.Client.{ClientView};
+ghost use Rattle.pg_client.specs.History.{Calls, happenings, History, IsHistoryOf};
+ghost use Rattle.pg_client.specs.Lost.{known_loss, Loses};
 ghost use Rattle.pg_client.specs.Facts.{Facts};
 ghost use Rattle.pg_client.specs.Turns.{InTurns, turns_of};
 ghost use Rattle.pg_client.specs.Spelled.{SendsSpelled};
-ghost use Rattle.pg_client.specs.Answering.{IsStoryOf, TakesTurns, calls_of, turns_with};
+ghost use Rattle.pg_client.specs.Answering.{KeepsOrder, TakesTurns, calls_of, turns_with};
 
 /// What the history of a client means, in the words of the protocol: what it settled, and what its phase says.
 pub fn facts_of_a_run()
-    ensures { (run : Run) (fed : List ℕ) (heard : List BackMessage) (rest : List ℕ) (given : List Settled) (sent : List ℕ) (handed_back : Bool) (client : ClientView)
-        → IsRunOf run fed heard rest given sent handed_back client → Facts (story run heard) (given ++ client.settled) client }
+    ensures { (h : History) (client : ClientView) → IsHistoryOf h client → Facts (happenings h) (h.given ++ client.settled) client }
 {}
 
 /// What a client knows of a loss at each time: the request behind those of the settled groups, and whether an error came for it.
 pub fn loss_of_a_run()
-    ensures { (run : Run) (fed : List ℕ) (heard : List BackMessage) (rest : List ℕ) (given : List Settled) (sent : List ℕ) (handed_back : Bool) (client : ClientView)
-        → IsRunOf run fed heard rest given sent handed_back client → Loses handed_back (story run heard) (known_loss client) }
+    ensures { (h : History) (client : ClientView) → IsHistoryOf h client → Loses h.handed_back (happenings h) (known_loss client) }
 {}
 
 /// What went out is the startup packet, the password if it was asked for, then each request with what was called for its copies, and
 /// the end of the session.
 pub fn turns_of_a_run()
-    ensures { (run : Run) (fed : List ℕ) (heard : List BackMessage) (rest : List ℕ) (given : List Settled) (sent : List ℕ) (handed_back : Bool) (client : ClientView)
-        → IsRunOf run fed heard rest given sent handed_back client → InTurns client.settings (story run heard) sent }
+    ensures { (h : History) (client : ClientView) → IsHistoryOf h client → InTurns client.settings (happenings h) h.sent }
 {}
 
-/// What happened is the calls of the run and what was heard. A call more is a new turn, or is the last one's.
+/// What happened is the calls and what was heard, each in their order. A call more is a new turn, or is the last one's.
 pub fn story_of_a_run()
-    ensures story { (run : Run) (heard : List BackMessage) → IsStoryOf run heard (story run heard) }
-    ensures one_more { (run : Run) (c : Call) (place : ℕ) → turns_of (calls_of (run ++ (c, place) ∷ [])) ≡ turns_with (turns_of (calls_of run)) c }
+    ensures order { (h : History) → KeepsOrder h }
+    ensures one_more { (cs : Calls) (c : Call) (place : ℕ) → turns_of (calls_of (cs ++ (c, place) ∷ [])) ≡ turns_with (turns_of (calls_of cs)) c }
 {}
 
 /// What is expected was so at each time before, so that with a message that isn't expected nothing behind it is.
@@ -43,12 +41,10 @@ pub fn expected_begins()
 
 /// A request is made once all before it have been answered, and what is called for a copy belongs to the last one.
 pub fn answers_of_a_run()
-    ensures { (run : Run) (fed : List ℕ) (heard : List BackMessage) (rest : List ℕ) (given : List Settled) (sent : List ℕ) (handed_back : Bool) (client : ClientView)
-        → IsRunOf run fed heard rest given sent handed_back client → TakesTurns (story run heard) (given ++ client.settled) client }
+    ensures { (h : History) (client : ClientView) → IsHistoryOf h client → TakesTurns (happenings h) (h.given ++ client.settled) client }
 {}
 
 /// What went out has a spelling: the startup packet and each message.
 pub fn spelled_in_a_run()
-    ensures { (run : Run) (fed : List ℕ) (heard : List BackMessage) (rest : List ℕ) (given : List Settled) (sent : List ℕ) (handed_back : Bool) (client : ClientView)
-        → IsRunOf run fed heard rest given sent handed_back client → SendsSpelled client.settings (story run heard) }
+    ensures { (h : History) (client : ClientView) → IsHistoryOf h client → SendsSpelled client.settings (happenings h) }
 {}

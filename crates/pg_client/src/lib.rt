@@ -2,8 +2,8 @@
 //!
 //! A [`Client`] is a driver's half of a session. Calls append bytes for the server to a buffer, [`Client::feed`] takes the
 //! server's bytes in any pieces, and [`Client::take_settled`] gives each request with its outcome once its ReadyForQuery has
-//! come. What holds of a client, for every list of calls and every list of bytes, is what its calls carry on (`IsRunOf`) and the
-//! functions of [`laws`] say of it.
+//! come. What holds of a client, for every list of calls and every list of bytes, is said of its histories (`IsHistoryOf`): each
+//! call carries them on, and the functions of [`laws`] say what they mean.
 #![tactic(auto)]
 
 mod client;

@@ -7,7 +7,7 @@ ghost use Rattle.pg_wire.specs.Segment.{request_messages, step_message};
 ghost use Rattle.pg_wire.specs.message.First.TheVariants.{Startup};
 ghost use Rattle.pg_wire.specs.message.FrontMessage.TheVariants.{Password, Sync};
 ghost use Rattle.pg_wire.specs.declared.session.Request.TheVariants.{Group};
-ghost use Rattle.pg_client.specs.Client.{first_fault, password_messages, startup_pairs};
+ghost use Rattle.pg_client.specs.Sent.{first_fault, password_messages, startup_pairs};
 ghost use Rattle.pg_client.specs.Private.Sending.{password_text, Puts, SendsAll, SendsStart, starved_after};
 
 use crate::settings::Settings;

@@ -18,8 +18,12 @@ use Rattle.pg_client.specs.declared.phase.Cause.TheVariants as cause
 use Rattle.pg_client.specs.declared.place.Stand.TheVariants.{Idle}
 use Rattle.pg_client.specs.declared.settings.Settings.{Settings}
 use Rattle.pg_client.specs.declared.settled.Settled.{Settled}
-use Rattle.pg_client.specs.Session.{Run, IsTerminated, AreAllowed, Expected}
-use Rattle.pg_client.specs.Client.{ClientView, answer_to, AreOrdered, Hears, IsAlike, IsSpelledAt, or_else, last_said, value_of, value_said, key_said, sent_in, story, cause_of}
+use Rattle.pg_client.specs.Session.{IsTerminated, AreAllowed, Expected}
+use Rattle.pg_client.specs.Client.{ClientView, IsAlike, or_else, last_said, value_of, value_said, key_said}
+use Rattle.pg_client.specs.Sent.{answer_to, IsSpelledAt, sent_in}
+use Rattle.pg_client.specs.Closed.{cause_of}
+use Rattle.pg_client.specs.History.{AreOrdered, happenings, History}
+use Rattle.pg_client.specs.Feed.{Hears}
 use Rattle.pg_client.specs.Judged.{Stands}
 use Rattle.pg_client.specs.Machine.{Effect, Stays, Settles, Rejected, hear_with}
 use Rattle.pg_client.specs.Private.Hearing.{fault_at}
@@ -101,31 +105,31 @@ HearsNext old (Err (feeding.Wire f)) new before after = IsFaulty backend old.set
 HearsNext old (Err feeding.Memory) new before after = HearsNothing old new × (new.closed ≡ Some cause.Memory) × (after ≡ before)
 HearsNext old (Err f) new before after = (m : BackMessage) × (more : List ℕ) × IsWithin backend old.settings.limit m × (old.kept ≡ spelling backend m ++ more) × (hear_with old.settings.password old.stand m ≡ Rejected) × (f ≡ fault_at old.stand m) × HearsNothing old new × (new.closed ≡ cause_of f) × (after ≡ before)
 
--- What holds of an open client between two messages of a piece: it was fed the piece, its rest is what it keeps, and no message
--- in that was whole before the piece.
-pub record IsHearing (before : ℕ) (run : Run) (fed : List ℕ) (heard : List BackMessage) (given : List Settled) (sent : List ℕ) (client : ClientView) : Type 0 where
-  pub stream : IsStream backend client.settings.limit fed heard client.kept
-  pub places : AllByRecursion (λ c. c.1 ≤ before) run
-  pub ordered : AreOrdered run
-  pub within : before ≤ length fed
-  pub late : (m : BackMessage) (more : List ℕ) → IsWithin backend client.settings.limit m → client.kept ≡ spelling backend m ++ more → before < length (flat_map (spelling backend) heard) + length (spelling backend m)
+-- What holds of an open client between two messages of a piece, by a history with the piece: its rest is what it keeps, and no
+-- message in that was whole before the piece.
+pub record IsHearing (before : ℕ) (h : History) (client : ClientView) : Type 0 where
+  pub stream : IsStream backend client.settings.limit h.fed h.heard client.kept
+  pub places : AllByRecursion (λ c. c.1 ≤ before) h.calls
+  pub ordered : AreOrdered h.calls
+  pub within : before ≤ length h.fed
+  pub late : (m : BackMessage) (more : List ℕ) → IsWithin backend client.settings.limit m → client.kept ≡ spelling backend m ++ more → before < length (flat_map (spelling backend) h.heard) + length (spelling backend m)
   pub is_open : client.closed ≡ None
-  pub not_terminated : IsTerminated (story run heard) → ⊥
-  pub allowed : AreAllowed (story run heard)
-  pub expected : Expected client.settings.password (story run heard)
-  pub stands : Stands (story run heard) client.stand (given ++ client.settled)
-  pub status : client.status ≡ last_said status_of heard
-  pub parameters : (name : List ℕ) → value_of name client.parameters ≡ last_said (value_said name) heard
-  pub key : client.key ≡ last_said key_said heard
-  pub sent_is : sent ≡ sent_in client.settings (story run heard)
-  pub spelled : AllByRecursion (IsSpelledAt client.settings) (story run heard)
+  pub not_handed_back : h.handed_back ≡ false
+  pub not_terminated : IsTerminated (happenings h) → ⊥
+  pub allowed : AreAllowed (happenings h)
+  pub expected : Expected client.settings.password (happenings h)
+  pub stands : Stands (happenings h) client.stand (h.given ++ client.settled)
+  pub status : client.status ≡ last_said status_of h.heard
+  pub parameters : (name : List ℕ) → value_of name client.parameters ≡ last_said (value_said name) h.heard
+  pub key : client.key ≡ last_said key_said h.heard
+  pub sent_is : h.sent ≡ sent_in client.settings (happenings h)
+  pub spelled : AllByRecursion (IsSpelledAt client.settings) (happenings h)
 
 -- What taking in all that is whole does, to a client that was fed a piece: what was added are the answers to what it heard.
 pub record HearsAll (old : ClientView) (result : Result Unit FeedFault) (new : ClientView) (before after : List ℕ) : Type 0 where
   pub added : List ℕ
   pub put : after ≡ before ++ added
-  pub hears : (place : ℕ) (run : Run) (fed : List ℕ) (heard : List BackMessage) (given : List Settled) (sent piece : List ℕ)
-      → 0 < length piece → IsHearing place run fed heard given sent old → Hears run fed heard given (sent ++ added) piece result new
+  pub hears : (place : ℕ) (h : History) (piece : List ℕ) → 0 < length piece → IsHearing place h old → Hears h piece added result new
 
 -- Nothing but what the client knows has changed.
 pub record Notes (old new : ClientView) : Type 0 where

@@ -9,7 +9,7 @@ use Rattle.pg_wire.specs.Frontend.{frontend}
 use Rattle.pg_wire.specs.Password.{md5_text}
 use Rattle.pg_client.specs.declared.settings.Settings.{Settings}
 use Rattle.pg_client.specs.Session.{Start}
-use Rattle.pg_client.specs.Client.{call_fault, first_fault, sent_by, IsSpelled}
+use Rattle.pg_client.specs.Sent.{call_fault, first_fault, sent_by, IsSpelled}
 
 -- All messages are appended, or nothing.
 abbrev pub SendsAll : List FrontMessage → List ℕ → Result Unit EncodeFault → List ℕ → Type 0

@@ -6,7 +6,7 @@ ghost use Rattle.pg_wire.specs.message.BackMessage.{BackMessage};
 ghost use Rattle.pg_wire.specs.message.BackMessage.TheVariants.{ParameterStatus};
 ghost use Rattle.pg_wire.specs.value.Status.{Status};
 ghost use Rattle.pg_client.specs.Session.{is_question};
-ghost use Rattle.pg_client.specs.Client.{Feeds};
+ghost use Rattle.pg_client.specs.Feed.{Feeds};
 ghost use Rattle.pg_client.specs.Private.Feeding.{HearsAll, HearsMessage, HearsNext, IsNews, Knows, Notes, PutsAnswer, question, says_value};
 
 use crate::client::Client;

@@ -1,8 +1,8 @@
-use Rattle.pg_client.proofs.Stories.{story_is, one_more}
+use Rattle.pg_client.proofs.Ordering.{keeps_order, one_more}
 use Rattle.pg_client.proofs.laws.story_of_a_run.Goals as goal
 
-pub returns-clause-story : goal.returns-clause-story
-returns-clause-story c = story_is
+pub returns-clause-order : goal.returns-clause-order
+returns-clause-order c = keeps_order
 
 pub returns-clause-one_more : goal.returns-clause-one_more
 returns-clause-one_more c = one_more

@@ -3,11 +3,11 @@ use Rattle.pg_wire.specs.message.FrontMessage.TheVariants.{CopyData}
 use Rattle.pg_client.specs.Client.{phase_of}
 use Rattle.pg_client.specs.declared.phase.Phase.TheVariants as phase
 use Rattle.pg_client.proofs.Encoded.{encoded}
-use Rattle.pg_client.proofs.Runs.{chunk_accepted}
+use Rattle.pg_client.proofs.Accepting.{chunk_accepted}
 use Rattle.pg_client.proofs.client.Client.copy_chunk.Goals as goal
 
-pub returns-clause-run : goal.returns-clause-run
-returns-clause-run c =
+pub returns-clause-history : goal.returns-clause-history
+returns-clause-history c =
     let k : phase_of c.args.self.now ≡ phase.CopyingIn = search rules in
     let e = encoded (CopyData c.args.bytes.now) c.args.out.now.items c.copy_data.new.buf.items (c.in_ok-copy_data.ensures) in
     chunk_accepted c.args.self.now c.args.self.now c.args.out.now.items c.copy_data.new.buf.items refl c.args.bytes.now k e.spelled e.put

@@ -1,7 +1,8 @@
 use Rattle.std.proofs.Common.{rules, ◌≡◌, ◌<◌, ◌++◌, List, ℕ, length, true, false, is_some, is_err, Some, Err, sym, subst}
 use Rattle.pg_client.specs.declared.phase.Cause.TheVariants as cause
 use Rattle.pg_client.specs.declared.fault.FeedFault.TheVariants as feeding
-use Rattle.pg_client.specs.Client.{ClientView, Feeds}
+use Rattle.pg_client.specs.Client.{ClientView}
+use Rattle.pg_client.specs.Feed.{Feeds}
 use Rattle.pg_client.specs.contracts.client.Client.{the_view}
 use Rattle.pg_client.specs.Private.Feeding.{HearsAll}
 use Rattle.pg_client.proofs.Feeding.{feeds_nothing, feeds_starved, feeds_all, none_by_test, nothing_by_length, push_refused, pushed}

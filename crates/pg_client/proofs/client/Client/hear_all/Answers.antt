@@ -1,8 +1,11 @@
 use Rattle.std.proofs.Common.{Bool, true, false, Ok, subst}
 use Rattle.std.proofs.lemmas.Result.{err_from_is_err_and}
 use Rattle.pg_client.specs.Private.Feeding.{HearsNext}
-use Rattle.pg_client.proofs.Feeding.{goes_next, goes_end, goes_fault}
+use Rattle.pg_client.proofs.Feeding.{goes_from, goes_next, goes_end, goes_fault}
 use Rattle.pg_client.proofs.client.Client.hear_all.Goals as goal
+
+pub loop-init : goal.loop-init
+loop-init c = goes_from c.args.self.now c.args.out.now.items c.requires
 
 pub returns-in_err-hear_next-clause-all : goal.returns-in_err-hear_next-clause-all
 returns-in_err-hear_next-clause-all c =

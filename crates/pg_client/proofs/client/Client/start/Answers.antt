@@ -2,10 +2,10 @@ use Rattle.std.proofs.Common.{rules, ◌≡◌}
 use Rattle.pg_client.specs.Client.{phase_of}
 use Rattle.pg_client.specs.declared.phase.Phase.TheVariants as phase
 use Rattle.pg_client.specs.contracts.client.Client.{the_view}
-use Rattle.pg_client.proofs.Runs.{start_accepted}
+use Rattle.pg_client.proofs.Accepting.{start_accepted}
 use Rattle.pg_client.proofs.client.Client.start.Goals as goal
 
-pub returns-clause-run : goal.returns-clause-run
-returns-clause-run c =
+pub returns-clause-history : goal.returns-clause-history
+returns-clause-history c =
     let k : phase_of c.args.self.now ≡ phase.New = search rules in
     start_accepted (the_view c.self.inside) c.args.self.now c.args.out.now.items c.put_start.new.out.items c.self.view_is k c.in_ok-put_start.ensures.0 c.in_ok-put_start.ensures.1

@@ -1,4 +1,4 @@
--- A story has the calls of its run and the messages that were heard.
+-- What happened has the calls and the messages that were heard.
 use Rattle.std.proofs.Common.{◌≡◌, ℕ, ◌+◌, Bool, true, false, cond, List, [], ◌∷◌, ◌++◌, length, map, refl, sym, ap, ◌∙◌}
 use Rattle.std.specs.Prelude.{nat_lt}
 use Rattle.std.proofs.lemmas.List.{append-nil, map-append}
@@ -8,10 +8,10 @@ use Rattle.pg_wire.specs.message.FrontMessage.TheVariants as front
 use Rattle.pg_wire.specs.declared.session.Request.{Request}
 use Rattle.pg_wire.specs.Backend.{backend}
 use Rattle.pg_wire.specs.Direction.{spelling}
-use Rattle.pg_client.specs.Session.{Call, Start, Ask, Chunk, CopyEnd, CopyFail, Terminate, Run, Happening, Did, Came, made_before, made_since, timeline, messages_in, requests_in}
-use Rattle.pg_client.specs.Client.{with_ends, story}
+use Rattle.pg_client.specs.Session.{Call, Start, Ask, Chunk, CopyEnd, CopyFail, Terminate, Happening, Did, Came, messages_in, requests_in}
+use Rattle.pg_client.specs.History.{Calls, made_before, made_since, merged, with_ends, happenings, History}
 use Rattle.pg_client.specs.Turns.{Turn, copies_of, turns_of, calls_in}
-use Rattle.pg_client.specs.Answering.{calls_of, turns_with, IsStoryOf}
+use Rattle.pg_client.specs.Answering.{calls_of, turns_with, KeepsOrder}
 
 pub messages_in-append : (hs more : List Happening) → messages_in (hs ++ more) ≡ messages_in hs ++ messages_in more
 messages_in-append [] more = refl
@@ -25,7 +25,7 @@ calls_in-append (Came m ∷ hs) more = calls_in-append hs more
 
 -- ---- the calls
 
-calls_cut : (end : ℕ) (run : Run) → calls_in (made_before end run) ++ calls_of (made_since end run) ≡ calls_of run
+calls_cut : (end : ℕ) (cs : Calls) → calls_in (made_before end cs) ++ calls_of (made_since end cs) ≡ calls_of cs
 calls_cut end [] = refl
 calls_cut end (c ∷ cs) = by_test (nat_lt c.1 end) (calls_cut end cs)
   where
@@ -33,20 +33,20 @@ calls_cut end (c ∷ cs) = by_test (nat_lt c.1 end) (calls_cut end cs)
     by_test true ih = ap (λ (xs : List Call). c.0 ∷ xs) ih
     by_test false ih = refl
 
-calls_alone : (run : Run) → calls_in (map (λ c. Did c.0) run) ≡ calls_of run
+calls_alone : (cs : Calls) → calls_in (map (λ c. Did c.0) cs) ≡ calls_of cs
 calls_alone [] = refl
 calls_alone (c ∷ cs) = ap (λ (xs : List Call). c.0 ∷ xs) (calls_alone cs)
 
-calls_are : (run : Run) (ms : List (BackMessage × ℕ)) → calls_in (timeline run ms) ≡ calls_of run
-calls_are run [] = calls_alone run
-calls_are run (m ∷ ms) =
-    calls_in-append (made_before m.1 run) (Came m.0 ∷ timeline (made_since m.1 run) ms)
-    ∙ ap (λ (xs : List Call). calls_in (made_before m.1 run) ++ xs) (calls_are (made_since m.1 run) ms)
-    ∙ calls_cut m.1 run
+calls_are : (cs : Calls) (ms : List (BackMessage × ℕ)) → calls_in (merged cs ms) ≡ calls_of cs
+calls_are cs [] = calls_alone cs
+calls_are cs (m ∷ ms) =
+    calls_in-append (made_before m.1 cs) (Came m.0 ∷ merged (made_since m.1 cs) ms)
+    ∙ ap (λ (xs : List Call). calls_in (made_before m.1 cs) ++ xs) (calls_are (made_since m.1 cs) ms)
+    ∙ calls_cut m.1 cs
 
 -- ---- the messages
 
-no_message : (end : ℕ) (run : Run) → messages_in (made_before end run) ≡ []
+no_message : (end : ℕ) (cs : Calls) → messages_in (made_before end cs) ≡ []
 no_message end [] = refl
 no_message end (c ∷ cs) = by_test (nat_lt c.1 end) (no_message end cs)
   where
@@ -54,16 +54,16 @@ no_message end (c ∷ cs) = by_test (nat_lt c.1 end) (no_message end cs)
     by_test true ih = ih
     by_test false ih = refl
 
-none_alone : (run : Run) → messages_in (map (λ c. Did c.0) run) ≡ []
+none_alone : (cs : Calls) → messages_in (map (λ c. Did c.0) cs) ≡ []
 none_alone [] = refl
 none_alone (c ∷ cs) = none_alone cs
 
-messages_are : (run : Run) (ms : List (BackMessage × ℕ)) → messages_in (timeline run ms) ≡ map (λ m. m.0) ms
-messages_are run [] = none_alone run
-messages_are run (m ∷ ms) =
-    messages_in-append (made_before m.1 run) (Came m.0 ∷ timeline (made_since m.1 run) ms)
-    ∙ ap (λ (xs : List BackMessage). xs ++ m.0 ∷ messages_in (timeline (made_since m.1 run) ms)) (no_message m.1 run)
-    ∙ ap (λ (xs : List BackMessage). m.0 ∷ xs) (messages_are (made_since m.1 run) ms)
+messages_are : (cs : Calls) (ms : List (BackMessage × ℕ)) → messages_in (merged cs ms) ≡ map (λ m. m.0) ms
+messages_are cs [] = none_alone cs
+messages_are cs (m ∷ ms) =
+    messages_in-append (made_before m.1 cs) (Came m.0 ∷ merged (made_since m.1 cs) ms)
+    ∙ ap (λ (xs : List BackMessage). xs ++ m.0 ∷ messages_in (merged (made_since m.1 cs) ms)) (no_message m.1 cs)
+    ∙ ap (λ (xs : List BackMessage). m.0 ∷ xs) (messages_are (made_since m.1 cs) ms)
 
 without_ends : (at : ℕ) (ms : List BackMessage) → map (λ m. m.0) (with_ends at ms) ≡ ms
 without_ends at [] = refl
@@ -148,12 +148,12 @@ turns_more (CopyFail b ∷ cs) c = turns_more cs c
 turns_more (Start ∷ cs) c = turns_more cs c
 turns_more (Terminate ∷ cs) c = turns_more cs c
 
-pub story_is : (run : Run) (heard : List BackMessage) → IsStoryOf run heard (story run heard)
-story_is run heard = record {
-  calls = calls_are run (with_ends 0 heard);
-  messages = messages_are run (with_ends 0 heard) ∙ without_ends 0 heard;
-  requests = requests_of_calls (story run heard) ∙ ap (λ (cs : List Call). map (λ t. t.request) (turns_of cs)) (calls_are run (with_ends 0 heard));
+pub keeps_order : (h : History) → KeepsOrder h
+keeps_order h = record {
+  calls = calls_are h.calls (with_ends 0 h.heard);
+  messages = messages_are h.calls (with_ends 0 h.heard) ∙ without_ends 0 h.heard;
+  requests = requests_of_calls (happenings h) ∙ ap (λ (cs : List Call). map (λ t. t.request) (turns_of cs)) (calls_are h.calls (with_ends 0 h.heard));
 }
 
-pub one_more : (run : Run) (c : Call) (place : ℕ) → turns_of (calls_of (run ++ (c, place) ∷ [])) ≡ turns_with (turns_of (calls_of run)) c
-one_more run c place = ap turns_of (map-append (λ (x : Call × ℕ). x.0) run ((c, place) ∷ [])) ∙ turns_more (calls_of run) c
+pub one_more : (cs : Calls) (c : Call) (place : ℕ) → turns_of (calls_of (cs ++ (c, place) ∷ [])) ≡ turns_with (turns_of (calls_of cs)) c
+one_more cs c place = ap turns_of (map-append (λ (x : Call × ℕ). x.0) cs ((c, place) ∷ [])) ∙ turns_more (calls_of cs) c

@@ -1,5 +1,5 @@
--- A call that is accepted goes to the end of the run.
-use Rattle.std.proofs.Common.{◌≡◌, ℕ, List, [], ◌∷◌, ◌++◌, length, false, Option, Some, None, refl, sym, ap, subst, ◌∙◌, append_assoc, arith, length-append}
+-- A call that is accepted goes to the end of the history.
+use Rattle.std.proofs.Common.{◌≡◌, ℕ, List, [], ◌∷◌, ◌++◌, length, Bool, true, false, Option, Some, None, refl, sym, ap, subst, ◌∙◌, append_assoc, arith, length-append}
 use Rattle.std.specs.Prelude.{◌↔◌}
 use Rattle.std.specs.List.{flat_map, AllByRecursion}
 use Rattle.std.proofs.lemmas.List.{append-nil, append_cancel_left}
@@ -21,8 +21,12 @@ use Rattle.pg_client.specs.declared.place.Stand.TheVariants.{New, Starting, Idle
 use Rattle.pg_client.specs.declared.place.Welcome.TheVariants.{Fresh}
 use Rattle.pg_client.specs.declared.settings.Settings.{Settings}
 use Rattle.pg_client.specs.declared.settled.Settled.{Settled}
-use Rattle.pg_client.specs.Session.{requests_in, Run, Call, Start, Ask, Chunk, CopyEnd, CopyFail, Terminate, Happening, Did, Came, Expected, IsStarted, IsTerminated, HasPlace, IsAllowed, AreAllowed}
-use Rattle.pg_client.specs.Client.{ClientView, phase_of, phase_with, stand_phase, busy_phase_of, IsOpenPhase, with_ends, story, sent_at, sent_in, sent_by, IsSpelled, IsSpelledAt, Shows, Ends, IsRunOf, Accepts}
+use Rattle.pg_client.specs.Session.{requests_in, Call, Start, Ask, Chunk, CopyEnd, CopyFail, Terminate, Happening, Did, Came, Expected, IsStarted, IsTerminated, HasPlace, IsAllowed, AreAllowed}
+use Rattle.pg_client.specs.Client.{ClientView, phase_of, phase_with, stand_phase, busy_phase_of, IsOpenPhase, Shows}
+use Rattle.pg_client.specs.Sent.{sent_at, sent_in, sent_by, IsSpelled, IsSpelledAt}
+use Rattle.pg_client.specs.Closed.{Ends}
+use Rattle.pg_client.specs.History.{with_ends, happenings, with_call, Carries}
+use Rattle.pg_client.specs.Calls.{Accepts}
 use Rattle.pg_client.specs.Judged.{Stands}
 use Rattle.pg_client.specs.Private.Calling.{with_answer, with_request}
 use Rattle.pg_client.proofs.Agreeing.{answer_is_said}
@@ -30,7 +34,7 @@ use Rattle.pg_client.proofs.FactsHold.{stand_facts}
 use Rattle.pg_client.proofs.History.{expected_did, did_start, did_ask, did_copy_end, did_copy_fail, did_chunk, did_terminate}
 use Rattle.pg_client.proofs.Outcomes.{front_splits}
 use Rattle.pg_client.proofs.Said.{AnswerIsSaid, copying_in}
-use Rattle.pg_client.proofs.Timeline.{timeline-did, ends_within, places_more, ordered_more}
+use Rattle.pg_client.proofs.Merging.{merged-did, ends_within, places_more, ordered_more}
 
 -- ---- one more call
 
@@ -102,32 +106,39 @@ shows_same : (stand : Stand) (closed : Option Cause) → Shows stand stand close
 shows_same stand None = refl
 shows_same stand (Some c) = record { request = refl; error = refl }
 
-open_stand : (was now : Stand) (closed : Option Cause) → closed ≡ None → Shows was now closed false → now ≡ was
-open_stand was now None none h = h
-open_stand was now (Some c) none h = absurd cc
+-- an open client has handed nothing back
+pub not_handed_back : (was now : Stand) (closed : Option Cause) (handed_back : Bool) → closed ≡ None → Shows was now closed handed_back → handed_back ≡ false
+not_handed_back was now None false e h = refl
+not_handed_back was now None true e h = absurd h
+not_handed_back was now (Some c) b e h = absurd cc
 
-pub run_did : (old : ClientView) (stand : Stand) (c : Call) → old.closed ≡ None → Follows old.stand c stand → IsSpelled old.settings c
-    → (run : Run) (fed : List ℕ) (heard : List BackMessage) (rest : List ℕ) (given : List Settled) (sent : List ℕ) → IsRunOf run fed heard rest given sent false old
-    → IsRunOf (run ++ (c, length fed) ∷ []) fed heard rest given (sent ++ sent_by old.settings c) false (record old { stand = stand; closed = closing c })
-run_did old stand c none follows spelled run fed heard rest given sent r =
-    let hs : List Happening = story run heard in
-    let line : story (run ++ (c, length fed) ∷ []) heard ≡ hs ++ Did c ∷ [] =
-    timeline-did run c (length fed) (with_ends 0 heard) (ends_within 0 heard (length fed) (omega (arith, ap length r.stream.whole, length-append (flat_map (spelling backend) heard) rest))) in
-    let there : Stands hs old.stand (given ++ old.settled) =
-    subst (λ (s : Stand). Stands hs s (given ++ old.settled)) (sym (open_stand r.was old.stand old.closed none r.shows)) r.stands in
-    let now = follows.stands hs (given ++ old.settled) there in
+-- an open client stands where what it heard leads
+pub open_stand : (was now : Stand) (closed : Option Cause) (handed_back : Bool) → closed ≡ None → Shows was now closed handed_back → now ≡ was
+open_stand was now None false none h = h
+open_stand was now None true none h = absurd h
+open_stand was now (Some c) b none h = absurd cc
+
+pub call_carries : (old : ClientView) (stand : Stand) (c : Call) → old.closed ≡ None → Follows old.stand c stand → IsSpelled old.settings c
+    → Carries old (record old { stand = stand; closed = closing c }) (with_call old.settings c)
+call_carries old stand c none follows spelled h r =
+    let hs : List Happening = happenings h in
+    let line : happenings (with_call old.settings c h) ≡ hs ++ Did c ∷ [] =
+    merged-did h.calls c (length h.fed) (with_ends 0 h.heard) (ends_within 0 h.heard (length h.fed) (omega (arith, ap length r.stream.whole, length-append (flat_map (spelling backend) h.heard) h.rest))) in
+    let there : Stands hs old.stand (h.given ++ old.settled) =
+    subst (λ (s : Stand). Stands hs s (h.given ++ old.settled)) (sym (open_stand r.was old.stand old.closed h.handed_back none r.shows)) r.stands in
+    let now = follows.stands hs (h.given ++ old.settled) there in
     let not_yet : IsTerminated hs → ⊥ = (λ t. let e : old.closed ≡ Some cause.Terminated = r.terminated.0 t in absurd cc) in
     record {
       stream = r.stream;
-      places = places_more run c (length fed) r.places;
-      ordered = ordered_more run c (length fed) r.ordered r.places;
-      allowed = subst AreAllowed (sym line) (allowed_more hs (Did c) r.allowed (record { in_place = follows.in_place hs (given ++ old.settled) (answer_is_said hs r.expected.after r.allowed) there; not_terminated = not_yet }));
+      places = places_more h.calls c (length h.fed) r.places;
+      ordered = ordered_more h.calls c (length h.fed) r.ordered r.places;
+      allowed = subst AreAllowed (sym line) (allowed_more hs (Did c) r.allowed (record { in_place = follows.in_place hs (h.given ++ old.settled) (answer_is_said hs r.expected.after r.allowed) there; not_terminated = not_yet }));
       terminated = subst (λ (x : List Happening). IsTerminated x ↔ (closing c ≡ Some cause.Terminated)) (sym line) (terminated_by hs c not_yet);
-      expected = subst (Expected old.settings.password) (sym line) (expected_did old.settings.password hs c stand (given ++ old.settled) r.expected now);
+      expected = subst (Expected old.settings.password) (sym line) (expected_did old.settings.password hs c stand (h.given ++ old.settled) r.expected now);
       was = stand;
-      stands = subst (λ (x : List Happening). Stands x stand (given ++ old.settled)) (sym line) now;
-      shows = shows_same stand (closing c);
-      ends = subst (λ (x : List Happening). Ends old.settings x rest old.kept (closing c)) (sym line) (ends_open old.settings hs rest old.kept c (subst (Ends old.settings hs rest old.kept) none r.ends));
+      stands = subst (λ (x : List Happening). Stands x stand (h.given ++ old.settled)) (sym line) now;
+      shows = subst (Shows stand stand (closing c)) (sym (not_handed_back r.was old.stand old.closed h.handed_back none r.shows)) (shows_same stand (closing c));
+      ends = subst (λ (x : List Happening). Ends old.settings x h.rest old.kept (closing c)) (sym line) (ends_open old.settings hs h.rest old.kept c (subst (Ends old.settings hs h.rest old.kept) none r.ends));
       status = r.status;
       parameters = r.parameters;
       key = r.key;
@@ -215,9 +226,7 @@ accepts_open old stand c before after goes_on none follows spelled put = record 
   settings = refl;
   others = refl;
   put = put;
-  run = λ run fed heard rest given sent r.
-      subst (λ (o : Option Cause). IsRunOf (run ++ (c, length fed) ∷ []) fed heard rest given (sent ++ sent_by old.settings c) false (record old { stand = stand; closed = o })) (goes_on ∙ sym none)
-      (run_did old stand c none follows spelled run fed heard rest given sent r);
+  history = subst (λ (o : Option Cause). Carries old (record old { stand = stand; closed = o }) (with_call old.settings c)) (goes_on ∙ sym none) (call_carries old stand c none follows spelled);
 }
 
 -- the phase of an open client is that of where it stands
@@ -258,5 +267,5 @@ module _ (v old : ClientView) (before after : List ℕ) (same : v ≡ old) where
         settings = refl;
         others = refl;
         put = put;
-        run = λ run fed heard rest given sent r. run_did v v.stand Terminate none (terminate_follows v.stand there) spelled run fed heard rest given sent r;
+        history = call_carries v v.stand Terminate none (terminate_follows v.stand there) spelled;
       })

@@ -1,0 +1,32 @@
+-- What a client hands back when the connection is gone.
+use Rattle.std.specs.Prelude.{◌≡◌, List, length, Bool, true, false, Option, Some, None, is_some}
+use Rattle.std.specs.List.{list_any, slice_get}
+use Rattle.pg_wire.specs.message.BackMessage.{BackMessage}
+use Rattle.pg_wire.specs.Segment.{error_of}
+use Rattle.pg_client.specs.declared.settled.Loss.{Loss}
+use Rattle.pg_client.specs.declared.phase.Cause.{Cause}
+use Rattle.pg_client.specs.Session.{Happening, requests_in, rest_in, groups_in}
+use Rattle.pg_client.specs.Client.{ClientView, has_failed, unsettled_of}
+use Rattle.pg_client.specs.History.{IsHistoryOf, happenings, History}
+
+-- the cause of a close is the first one
+abbrev pub first_cause : Option Cause → Cause → Cause
+first_cause None c = c
+first_cause (Some first) c = first
+
+-- whether an error stands among the messages
+abbrev pub has_error : List BackMessage → Bool
+has_error ms = list_any (λ m. is_some (error_of m)) ms
+
+-- What lost says: the request behind those of the whole segments, and whether an error stands in its own. Asked again, nothing.
+abbrev pub Loses : Bool → List Happening → Loss → Type 0
+Loses false hs loss = (loss.unsettled ≡ slice_get (requests_in hs) (length (groups_in hs))) × (loss.seen_error ≡ has_error (rest_in hs))
+Loses true hs loss = (loss.unsettled ≡ None) × (loss.seen_error ≡ false)
+
+-- what a client knows of a loss
+abbrev pub known_loss : ClientView → Loss
+known_loss client = record { unsettled = unsettled_of client.stand; seen_error = has_failed client.stand }
+
+-- This is what is lost, by each history of the client.
+abbrev pub HandsBack : ClientView → Loss → Type 0
+HandsBack old loss = (h : History) → IsHistoryOf h old → Loses h.handed_back (happenings h) loss
