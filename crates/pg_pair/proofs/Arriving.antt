@@ -5,8 +5,9 @@ use Rattle.std.proofs.Math.Seq.{take-add}
 use Rattle.pg_wire.specs.message.BackMessage.{BackMessage}
 use Rattle.pg_client.specs.declared.fault.FeedFault.{FeedFault}
 use Rattle.pg_client.specs.declared.settled.Settled.{Settled}
-use Rattle.pg_client.specs.Session.{Run}
-use Rattle.pg_client.specs.Client.{ClientView, IsRunOf, story, Feeds, FeedsOpen, FeedsWith, Hears}
+use Rattle.pg_client.specs.Client.{ClientView}
+use Rattle.pg_client.specs.History.{happenings, History, IsHistoryOf, with_fed, with_heard}
+use Rattle.pg_client.specs.Feed.{Feeds, FeedsOpen, FeedsWith, Hears}
 use Rattle.pg_client.specs.Judged.{Stands}
 use Rattle.pg_backend.specs.declared.stage.Stage.{Stage}
 use Rattle.pg_backend.specs.declared.stage.Stage.TheVariants as stage
@@ -14,7 +15,6 @@ use Rattle.pg_backend.specs.Backend.{BackendState, HasHandled, was_lost, stored}
 use Rattle.pg_pair.specs.Applying.{IsStored, reached_more}
 use Rattle.pg_pair.specs.Standing.{Tied}
 use Rattle.pg_pair.specs.View.{Stream, arrived, waiting, PairView}
-use Rattle.pg_pair.proofs.Calling.{not_handed_back}
 use Rattle.pg_pair.proofs.Stepping.{arrived_more}
 
 -- with more bytes of those that wait
@@ -24,9 +24,8 @@ arrived_with s bytes e = take-add s.reached (length bytes) s.sent ∙ ap (λ l. 
 -- ---- at the client
 
 -- a client without its settled groups, which are among those that it has given
-emptied : (run : Run) (fed : List ℕ) (heard : List BackMessage) (rest : List ℕ) (given : List Settled) (sent : List ℕ) (handed_back : Bool) (c : ClientView)
-    → IsRunOf run fed heard rest given sent handed_back c → IsRunOf run fed heard rest (given ++ c.settled) sent handed_back (record c { settled = [] })
-emptied run fed heard rest given sent handed_back c r = record {
+emptied : (h : History) (c : ClientView) → IsHistoryOf h c → IsHistoryOf (record h { given = h.given ++ c.settled }) (record c { settled = [] })
+emptied h c r = record {
   stream = r.stream;
   places = r.places;
   ordered = r.ordered;
@@ -34,7 +33,7 @@ emptied run fed heard rest given sent handed_back c r = record {
   terminated = r.terminated;
   expected = r.expected;
   was = r.was;
-  stands = subst (Stands (story run heard) r.was) (sym (append-nil (given ++ c.settled))) r.stands;
+  stands = subst (Stands (happenings h) r.was) (sym (append-nil (h.given ++ c.settled))) r.stands;
   shows = r.shows;
   ends = r.ends;
   status = r.status;
@@ -59,12 +58,8 @@ fed_open old bytes result fed before after none feeds = subst (λ c. FeedsWith c
 
 pub heard_more : {C : Type 0} (p : PairView C) (t : Tied p) (bytes : List ℕ) (result : Result Unit FeedFault) (fed : ClientView) (sent : List ℕ)
     → p.client.closed ≡ None → (feeds : FeedsOpen p.client bytes result fed p.to_backend.sent sent)
-    → Hears t.run (arrived p.to_client ++ bytes) t.heard p.settled (p.to_backend.sent ++ feeds.added) bytes result fed
-heard_more p t bytes result fed sent none feeds =
-    let back = not_handed_back t.client_run.was p.client.stand p.client.closed t.handed_back none t.client_run.shows in
-    let was : IsRunOf t.run (arrived p.to_client) t.heard t.open_at_client p.settled p.to_backend.sent false p.client =
-    subst (λ b. IsRunOf t.run (arrived p.to_client) t.heard t.open_at_client p.settled p.to_backend.sent b p.client) back t.client_run in
-    feeds.hears t.run (arrived p.to_client) t.heard t.open_at_client p.settled p.to_backend.sent was
+    → Hears (with_fed bytes t.history) bytes feeds.added result fed
+heard_more p t bytes result fed sent none feeds = feeds.hears t.history t.client_history
 
 pub keeps_fed : {C : Type 0} (p : PairView C) (bytes : List ℕ) (result : Result Unit FeedFault) (fed : ClientView) (sent : List ℕ)
     → p.client.closed ≡ None → bytes ≡ take (length bytes) (waiting p.to_client) → WithinMore p.to_client bytes → Feeds p.client bytes result fed p.to_backend.sent sent
@@ -73,18 +68,15 @@ keeps_fed p bytes result fed sent none e within feeds t =
     let does = fed_open p.client bytes result fed p.to_backend.sent sent none feeds in
     let put : sent ≡ p.to_backend.sent ++ does.added = does.put in
     let hears = heard_more p t bytes result fed sent none does in
-    let heard : List BackMessage = t.heard ++ hears.more in
-    let bytes_are : arrived p.to_client ++ bytes ≡ arrived (reached_more p.to_client bytes) = sym (arrived_with p.to_client bytes e) in
-    let run = emptied t.run (arrived p.to_client ++ bytes) heard hears.rest p.settled (p.to_backend.sent ++ does.added) false fed hears.run_is in
+    let heard : History = with_heard hears.more hears.rest does.added (with_fed bytes t.history) in
     record {
       checked = t.checked;
       limit_is = t.limit_is;
-      run = t.run;
-      heard = heard;
-      open_at_client = hears.rest;
-      handed_back = false;
-      client_run = subst (λ l. IsRunOf t.run (arrived (reached_more p.to_client bytes)) heard hears.rest (p.settled ++ fed.settled) l false (record fed { settled = [] })) (sym put)
-          (subst (λ l. IsRunOf t.run l heard hears.rest (p.settled ++ fed.settled) (p.to_backend.sent ++ does.added) false (record fed { settled = [] })) bytes_are run);
+      history = record heard { given = heard.given ++ fed.settled };
+      client_history = emptied heard fed hears.history;
+      fed_is = ap (λ l. l ++ bytes) t.fed_is ∙ sym (arrived_with p.to_client bytes e);
+      given_is = ap (λ l. l ++ fed.settled) t.given_is;
+      sent_is = ap (λ l. l ++ does.added) t.sent_is ∙ sym put;
       places_are = t.places_are;
       taken = refl;
       input = t.input;
@@ -117,11 +109,11 @@ keeps_stored p bytes b e within stored_is t =
     record {
       checked = rw same (t.checked);
       limit_is = rw same (t.limit_is);
-      run = t.run;
-      heard = t.heard;
-      open_at_client = t.open_at_client;
-      handed_back = t.handed_back;
-      client_run = t.client_run;
+      history = t.history;
+      client_history = t.client_history;
+      fed_is = t.fed_is;
+      given_is = t.given_is;
+      sent_is = t.sent_is;
       places_are = t.places_are;
       taken = t.taken;
       input = t.input;
@@ -144,11 +136,11 @@ pub keeps_carrier : {C : Type 0} (p : PairView C) (carrier : C) → Tied p → T
 keeps_carrier p carrier t = record {
   checked = t.checked;
   limit_is = t.limit_is;
-  run = t.run;
-  heard = t.heard;
-  open_at_client = t.open_at_client;
-  handed_back = t.handed_back;
-  client_run = t.client_run;
+  history = t.history;
+  client_history = t.client_history;
+  fed_is = t.fed_is;
+  given_is = t.given_is;
+  sent_is = t.sent_is;
   places_are = t.places_are;
   taken = t.taken;
   input = t.input;

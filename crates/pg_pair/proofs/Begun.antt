@@ -4,7 +4,8 @@ use Rattle.pg_wire.specs.Direction.{longest}
 use Rattle.pg_client.specs.declared.place.Stand.{Stand}
 use Rattle.pg_client.specs.declared.place.Stand.TheVariants as stands
 use Rattle.pg_client.specs.declared.settled.Settled.{Settled}
-use Rattle.pg_client.specs.Client.{ClientView, IsRunOf}
+use Rattle.pg_client.specs.Client.{ClientView}
+use Rattle.pg_client.specs.History.{blank, IsHistoryOf}
 use Rattle.pg_client.specs.Judged.{Stands}
 use Rattle.pg_backend.specs.Backend.{BackendState, HasHandled, was_lost}
 use Rattle.pg_backend.specs.Check.{IsChecked}
@@ -17,19 +18,19 @@ none_settled (stands.Starting w) settled h = absurd h.0
 none_settled (stands.Idle asides) settled h = absurd h.0
 none_settled (stands.Busy request parts stage asides answer) settled h = absurd h.0
 
-pub begun_tied : {C : Type 0} (c : ClientView) (b : BackendState) (carrier : C) → IsRunOf [] [] [] [] [] [] false c → IsChecked b.script → b.limit ≡ longest → was_lost b.stage ≡ false
+pub begun_tied : {C : Type 0} (c : ClientView) (b : BackendState) (carrier : C) → IsHistoryOf blank c → IsChecked b.script → b.limit ≡ longest → was_lost b.stage ≡ false
     → HasHandled b [] (record { packets = []; messages = []; faulty = false }) [] []
     → Tied (record { client = c; backend = b; carrier = carrier; to_backend = silent; to_client = silent; places = []; settled = []; handed = []; loss = None })
-begun_tied c b carrier run checked limit not_lost handled = record {
+begun_tied c b carrier begun checked limit not_lost handled = record {
   checked = checked;
   limit_is = limit;
-  run = [];
-  heard = [];
-  open_at_client = [];
-  handed_back = false;
-  client_run = run;
+  history = blank;
+  client_history = begun;
+  fed_is = refl;
+  given_is = refl;
+  sent_is = refl;
   places_are = refl;
-  taken = none_settled run.was c.settled run.stands;
+  taken = none_settled begun.was c.settled begun.stands;
   input = record { packets = []; messages = []; faulty = false };
   open_at_backend = [];
   handled = handled;

@@ -2,6 +2,7 @@
 use Rattle.std.proofs.Common.{◌≡◌, ℕ, true, false, List, Some, refl, sym, subst, ◌∙◌}
 use Rattle.pg_client.specs.declared.settled.Loss.{Loss}
 use Rattle.pg_client.specs.Client.{ClientView}
+use Rattle.pg_client.specs.History.{with_handed_back}
 use Rattle.pg_backend.specs.Backend.{BackendState, HasHandled, lost_stage}
 use Rattle.pg_backend.specs.Input.{Input}
 use Rattle.pg_pair.specs.declared.carry.Way.TheVariants.{ToClient}
@@ -17,11 +18,11 @@ pub keeps_client_told : {C : Type 0} (p : PairView C) (c : ClientView) (loss : L
 keeps_client_told p c loss told t = record {
   checked = t.checked;
   limit_is = t.limit_is;
-  run = t.run;
-  heard = t.heard;
-  open_at_client = t.open_at_client;
-  handed_back = true;
-  client_run = told.run t.run (arrived p.to_client) t.heard t.open_at_client p.settled p.to_backend.sent t.handed_back t.client_run;
+  history = with_handed_back t.history;
+  client_history = told.history t.history t.client_history;
+  fed_is = t.fed_is;
+  given_is = t.given_is;
+  sent_is = t.sent_is;
   places_are = t.places_are;
   taken = told.settled ∙ t.taken;
   input = t.input;
@@ -46,11 +47,11 @@ pub keeps_backend_told : {C : Type 0} (p : PairView C) (b : BackendState) → b 
 keeps_backend_told p b e handled t = record {
   checked = rw e t.checked;
   limit_is = rw e (t.limit_is);
-  run = t.run;
-  heard = t.heard;
-  open_at_client = t.open_at_client;
-  handed_back = t.handed_back;
-  client_run = t.client_run;
+  history = t.history;
+  client_history = t.client_history;
+  fed_is = t.fed_is;
+  given_is = t.given_is;
+  sent_is = t.sent_is;
   places_are = t.places_are;
   taken = t.taken;
   input = t.input;
@@ -76,11 +77,11 @@ pub keeps_marked : {C : Type 0} (p : PairView C) → Tied p → Tied (client_mar
 keeps_marked p t = record {
   checked = t.checked;
   limit_is = t.limit_is;
-  run = t.run;
-  heard = t.heard;
-  open_at_client = t.open_at_client;
-  handed_back = t.handed_back;
-  client_run = t.client_run;
+  history = t.history;
+  client_history = t.client_history;
+  fed_is = t.fed_is;
+  given_is = t.given_is;
+  sent_is = t.sent_is;
   places_are = t.places_are;
   taken = t.taken;
   input = t.input;

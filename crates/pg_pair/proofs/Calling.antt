@@ -7,11 +7,13 @@ use Rattle.pg_client.specs.declared.phase.Cause.{Cause}
 use Rattle.pg_client.specs.declared.phase.Phase.TheVariants as phase
 use Rattle.pg_client.specs.declared.place.Stand.{Stand}
 use Rattle.pg_client.specs.Session as session
-use Rattle.pg_client.specs.Session.{Run, messages_in, rest_in}
-use Rattle.pg_client.specs.Client.{ClientView, IsRunOf, Accepts, Shows, sent_by, phase_of, phase_with}
+use Rattle.pg_client.specs.Client.{ClientView, phase_of, phase_with}
+use Rattle.pg_client.specs.Sent.{sent_by}
+use Rattle.pg_client.specs.History.{Calls, with_call}
+use Rattle.pg_client.specs.Calls.{Accepts}
 use Rattle.pg_client.specs.Turns.{turns_of}
-use Rattle.pg_client.specs.Turns as client
 use Rattle.pg_client.specs.Answering.{calls_of, turns_with}
+use Rattle.pg_client.specs.Turns as client
 use Rattle.pg_backend.specs.Backend.{HasHandled}
 use Rattle.pg_backend.specs.Lists.{Begins}
 use Rattle.pg_backend.specs.Session.{log_of}
@@ -29,32 +31,16 @@ use Rattle.pg_pair.proofs.Readiness.{client_idle}
 use Rattle.pg_pair.proofs.Settling.{tied_meets, settled_begin}
 use Rattle.pg_pair.proofs.Stepping.{arrived_more}
 
--- ---- the client was open
+-- ---- the calls with one more
 
-none_closed : (c : Option Cause) (s : Stand) → (b : Call) → IsAllowedIn b (phase_with c s) → c ≡ None
-none_closed None s b h = refl
-none_closed (Some c) s call.Start h = absurd cc
-none_closed (Some c) s (call.Request r) h = absurd cc
-none_closed (Some c) s (call.Chunk bytes) h = absurd cc
-none_closed (Some c) s call.Done h = absurd cc
-none_closed (Some c) s (call.Fail reason) h = absurd cc
-none_closed (Some c) s call.Terminate h = absurd h
-
-pub not_handed_back : (was now : Stand) (closed : Option Cause) (handed_back : Bool) → closed ≡ None → Shows was now closed handed_back → handed_back ≡ false
-not_handed_back was now None false e h = refl
-not_handed_back was now None true e h = absurd h
-not_handed_back was now (Some c) b e h = absurd cc
-
--- ---- the run with one more call
-
-abbrev pub more_run : {C : Type 0} (p : PairView C) → Tied p → session.Call → Run
-more_run p t c = t.run ++ (c, length (arrived p.to_client)) ∷ []
+abbrev pub more_calls : {C : Type 0} (p : PairView C) → Tied p → session.Call → Calls
+more_calls p t c = t.history.calls ++ (c, length t.history.fed) ∷ []
 
 abbrev pub more_turns : {C : Type 0} (p : PairView C) → Tied p → session.Call → List Turn
-more_turns p t c = map as_turn (turns_with (turns_of (calls_of t.run)) c)
+more_turns p t c = map as_turn (turns_with (turns_of (calls_of t.history.calls)) c)
 
-turns_of_more : Known → {C : Type 0} (p : PairView C) (t : Tied p) (c : session.Call) → turns_made (more_run p t c) ≡ more_turns p t c
-turns_of_more k p t c = ap (map as_turn) (k.one_more t.run c (length (arrived p.to_client)))
+turns_of_more : Known → {C : Type 0} (p : PairView C) (t : Tied p) (c : session.Call) → turns_made (more_calls p t c) ≡ more_turns p t c
+turns_of_more k p t c = ap (map as_turn) (k.one_more t.history.calls c (length t.history.fed))
 
 -- the pair after a call
 abbrev pub called : {C : Type 0} → PairView C → Call → ClientView → List ℕ → PairView C
@@ -70,24 +56,18 @@ pub record GoesOn {C : Type 0} (p : PairView C) (t : Tied p) (c : Call) : Type 0
 pub accepted : Known → {C : Type 0} (p : PairView C) (t : Tied p) (c : Call) (new : ClientView) (sent : List ℕ)
     → IsAllowedIn c (phase_of p.client) → Accepts (client_call c) p.client new p.to_backend.sent sent → GoesOn p t c → Tied (called p c new sent)
 accepted k p t c new sent allowed accepts on =
-    let none : p.client.closed ≡ None = none_closed p.client.closed p.client.stand c allowed in
-    let back : t.handed_back ≡ false = not_handed_back t.client_run.was p.client.stand p.client.closed t.handed_back none t.client_run.shows in
-    let was : IsRunOf t.run (arrived p.to_client) t.heard t.open_at_client p.settled p.to_backend.sent false p.client = subst (λ b. IsRunOf t.run (arrived p.to_client) t.heard t.open_at_client p.settled p.to_backend.sent b p.client) back t.client_run in
     let put : List ℕ = sent_by p.client.settings (client_call c) in
-    let run : IsRunOf (more_run p t (client_call c)) (arrived p.to_client) t.heard t.open_at_client p.settled sent false new =
-    subst (λ l. IsRunOf (more_run p t (client_call c)) (arrived p.to_client) t.heard t.open_at_client p.settled l false new) (sym accepts.put)
-    (accepts.run t.run (arrived p.to_client) t.heard t.open_at_client p.settled p.to_backend.sent was) in
-    let turns : more_turns p t (client_call c) ≡ turns_made (more_run p t (client_call c)) = sym (turns_of_more k p t (client_call c)) in
-    let place : length (arrived p.to_client) ≡ p.to_client.reached = length-take-le p.to_client.reached p.to_client.sent t.within_client in
+    let turns : more_turns p t (client_call c) ≡ turns_made (more_calls p t (client_call c)) = sym (turns_of_more k p t (client_call c)) in
+    let place : length t.history.fed ≡ p.to_client.reached = ap length t.fed_is ∙ length-take-le p.to_client.reached p.to_client.sent t.within_client in
     record {
       checked = t.checked;
       limit_is = t.limit_is;
-      run = more_run p t (client_call c);
-      heard = t.heard;
-      open_at_client = t.open_at_client;
-      handed_back = false;
-      client_run = run;
-      places_are = map-append (λ (x : session.Call × ℕ). x.1) t.run ((client_call c, length (arrived p.to_client)) ∷ []) ∙ ap (λ l. l ++ length (arrived p.to_client) ∷ []) t.places_are ∙ ap (λ n. p.places ++ n ∷ []) place;
+      history = with_call p.client.settings (client_call c) t.history;
+      client_history = accepts.history t.history t.client_history;
+      fed_is = t.fed_is;
+      given_is = t.given_is;
+      sent_is = ap (λ l. l ++ put) t.sent_is ∙ sym accepts.put;
+      places_are = map-append (λ (x : session.Call × ℕ). x.1) t.history.calls ((client_call c, length t.history.fed) ∷ []) ∙ ap (λ l. l ++ length t.history.fed ∷ []) t.places_are ∙ ap (λ n. p.places ++ n ∷ []) place;
       taken = ap (λ x. x.settled) accepts.others ∙ t.taken;
       input = t.input;
       open_at_backend = t.open_at_backend;
@@ -106,10 +86,10 @@ accepted k p t c new sent allowed accepts on =
 asked_turns : (ts : List client.Turn) (r : Request) → map as_turn (ts ++ record { request = r; copies = [] } ∷ []) ≡ map as_turn ts ++ record { request = r; copies = [] } ∷ []
 asked_turns ts r = map-append as_turn ts (record { request = r; copies = [] } ∷ [])
 
-asked_in_turn : Known → {C : Type 0} (p : PairView C) (t : Tied p) (r : Request) → phase_of p.client ≡ phase.Ready → InTurn p.backend.script.answers (turns_made t.run ++ record { request = r; copies = [] } ∷ [])
+asked_in_turn : Known → {C : Type 0} (p : PairView C) (t : Tied p) (r : Request) → phase_of p.client ≡ phase.Ready → InTurn p.backend.script.answers (turns_made t.history.calls ++ record { request = r; copies = [] } ∷ [])
 asked_in_turn k p t r ready =
     let idle = client_idle k p t ready in
-    let turns = turns_made t.run in
+    let turns = turns_made t.history.calls in
     elim (tied_meets k p t) [
       | inl s ↦ absurd (idle.has_whole s.none)
       | inr m ↦
@@ -125,12 +105,12 @@ asked_in_turn k p t r ready =
 
 asked_goes_on : Known → {C : Type 0} (p : PairView C) (t : Tied p) (r : Request) → phase_of p.client ≡ phase.Ready → GoesOn p t (call.Request r)
 asked_goes_on k p t r ready = record {
-  in_turn = subst (InTurn p.backend.script.answers) (sym (asked_turns (turns_of (calls_of t.run)) r)) (asked_in_turn k p t r ready);
-  copied = subst AreCopied (sym (asked_turns (turns_of (calls_of t.run)) r)) (all_of_both (λ (x : Turn). IsCopy x.copies) (turns_made t.run) (record { request = r; copies = [] } ∷ []) t.copied (tt, tt));
-  handed_are = ap (λ l. l ++ [] ∷ []) t.handed_are ∙ sym (map-append (λ (x : Turn). chunks_of x.copies) (turns_made t.run) (record { request = r; copies = [] } ∷ [])) ∙ ap handed_for (sym (asked_turns (turns_of (calls_of t.run)) r));
+  in_turn = subst (InTurn p.backend.script.answers) (sym (asked_turns (turns_of (calls_of t.history.calls)) r)) (asked_in_turn k p t r ready);
+  copied = subst AreCopied (sym (asked_turns (turns_of (calls_of t.history.calls)) r)) (all_of_both (λ (x : Turn). IsCopy x.copies) (turns_made t.history.calls) (record { request = r; copies = [] } ∷ []) t.copied (tt, tt));
+  handed_are = ap (λ l. l ++ [] ∷ []) t.handed_are ∙ sym (map-append (λ (x : Turn). chunks_of x.copies) (turns_made t.history.calls) (record { request = r; copies = [] } ∷ [])) ∙ ap handed_for (sym (asked_turns (turns_of (calls_of t.history.calls)) r));
 }
 
-same_goes_on : {C : Type 0} (p : PairView C) (t : Tied p) (c : Call) → more_turns p t (client_call c) ≡ turns_made t.run → handed_after c p.handed ≡ p.handed → GoesOn p t c
+same_goes_on : {C : Type 0} (p : PairView C) (t : Tied p) (c : Call) → more_turns p t (client_call c) ≡ turns_made t.history.calls → handed_after c p.handed ≡ p.handed → GoesOn p t c
 same_goes_on p t c e h = record {
   in_turn = subst (InTurn p.backend.script.answers) (sym e) t.in_turn;
   copied = subst AreCopied (sym e) t.copied;

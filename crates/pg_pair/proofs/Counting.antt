@@ -2,7 +2,10 @@
 use Rattle.std.proofs.Common.{◌≡◌, ◌≤◌, ◌+◌, suc, ℕ, false, List, [], ◌++◌, None, Result, length, ap, sym, ◌∙◌, arith, length-append}
 use Rattle.std.proofs.lemmas.List.{append-nil, length-map}
 use Rattle.pg_client.specs.declared.fault.FeedFault.{FeedFault}
-use Rattle.pg_client.specs.Client.{ClientView, story, Feeds, groups_in}
+use Rattle.pg_client.specs.Session.{groups_in}
+use Rattle.pg_client.specs.Client.{ClientView}
+use Rattle.pg_client.specs.History.{happenings, History, with_fed, with_heard}
+use Rattle.pg_client.specs.Feed.{Feeds}
 use Rattle.pg_client.specs.Turns.{turns_of}
 use Rattle.pg_client.specs.Answering.{calls_of, turns_in}
 use Rattle.pg_backend.specs.Turns.{Turn, chunks_of}
@@ -10,7 +13,8 @@ use Rattle.pg_pair.specs.Copies.{as_turn, turns_made}
 use Rattle.pg_pair.specs.Private.Known.{Known}
 use Rattle.pg_pair.specs.Standing.{Tied}
 use Rattle.pg_pair.specs.View.{arrived, PairView}
-use Rattle.pg_pair.proofs.Arriving.{fed_open, heard_more}
+use Rattle.pg_pair.proofs.Histories.{in_pair, tied_history}
+use Rattle.pg_pair.proofs.Arriving.{fed_open}
 
 -- What a client that was fed has settled.
 pub record SettlesOne {C : Type 0} (p : PairView C) (fed : ClientView) : Type 0 where
@@ -21,20 +25,20 @@ pub settles_one : Known → {C : Type 0} (p : PairView C) (t : Tied p) (bytes : 
     → p.client.closed ≡ None → Feeds p.client bytes result fed p.to_backend.sent sent → SettlesOne p fed
 settles_one k p t bytes result fed sent none feeds =
     let does = fed_open p.client bytes result fed p.to_backend.sent sent none feeds in
-    let hears = heard_more p t bytes result fed sent none does in
-    let heard = t.heard ++ hears.more in
-    let was = story t.run t.heard in
-    let now = story t.run heard in
-    let before = k.answering t.run (arrived p.to_client) t.heard t.open_at_client p.settled p.to_backend.sent t.handed_back p.client t.client_run in
-    let after = k.answering t.run (arrived p.to_client ++ bytes) heard hears.rest p.settled (p.to_backend.sent ++ does.added) false fed hears.run_is in
-    let turns_was : length (turns_in was) ≡ length (turns_of (calls_of t.run)) = ap (λ cs. length (turns_of cs)) ((k.story_of t.run t.heard).calls) in
-    let turns_now : length (turns_in now) ≡ length (turns_of (calls_of t.run)) = ap (λ cs. length (turns_of cs)) ((k.story_of t.run heard).calls) in
+    let hears = does.hears (in_pair p t.history) (tied_history p t) in
+    let past : History = with_heard hears.more hears.rest does.added (with_fed bytes (in_pair p t.history)) in
+    let was = happenings t.history in
+    let now = happenings past in
+    let before = k.answering (in_pair p t.history) p.client (tied_history p t) in
+    let after = k.answering past fed hears.history in
+    let turns_was : length (turns_in was) ≡ length (turns_of (calls_of t.history.calls)) = ap (λ cs. length (turns_of cs)) ((k.order t.history).calls) in
+    let turns_now : length (turns_in now) ≡ length (turns_of (calls_of t.history.calls)) = ap (λ cs. length (turns_of cs)) ((k.order past).calls) in
     let few : length (turns_in was) ≤ suc (length (groups_in was)) = (before.in_turn was [] (sym (append-nil was))).one_at_most in
     let many : length (groups_in now) ≤ length (turns_in now) = (after.in_turn now [] (sym (append-nil now))).none_ahead in
     let all_was : length (p.settled ++ p.client.settled) ≡ length (groups_in was) = before.settled_all in
     let all_now : length (p.settled ++ fed.settled) ≡ length (groups_in now) = after.settled_all in
     let empty : length p.client.settled ≡ 0 = ap length t.taken in
-    let handed : length p.handed ≡ length (turns_of (calls_of t.run)) = ap length t.handed_are ∙ length-map (turns_made t.run) (λ (x : Turn). chunks_of x.copies) ∙ length-map (turns_of (calls_of t.run)) as_turn in
+    let handed : length p.handed ≡ length (turns_of (calls_of t.history.calls)) = ap length t.handed_are ∙ length-map (turns_made t.history.calls) (λ (x : Turn). chunks_of x.copies) ∙ length-map (turns_of (calls_of t.history.calls)) as_turn in
     record {
       one = omega (arith, length-append p.settled p.client.settled, length-append p.settled fed.settled);
       room = omega (arith, length-append p.settled fed.settled);

@@ -11,7 +11,8 @@ use Rattle.pg_client.specs.declared.place.Open.TheVariants as begun
 use Rattle.pg_client.specs.declared.place.Stage.TheVariants as stage
 use Rattle.pg_client.specs.declared.place.Stand.{Stand}
 use Rattle.pg_client.specs.declared.place.Stand.TheVariants as stands
-use Rattle.pg_client.specs.Client.{ClientView, Feeds, phase_of, phase_with, stand_phase}
+use Rattle.pg_client.specs.Client.{ClientView, phase_of, phase_with, stand_phase}
+use Rattle.pg_client.specs.Feed.{Feeds}
 use Rattle.pg_backend.specs.Backend.{BackendState}
 use Rattle.pg_pair.specs.declared.carry.CarryFault.{CarryFault}
 use Rattle.pg_pair.specs.declared.carry.Way.TheVariants.{ToBackend, ToClient}

@@ -1,5 +1,6 @@
 -- Lemmas, by the subject.
 pub mod Beginnings
+pub mod Histories
 pub mod Streams
 pub mod OneCopy
 pub mod Opening

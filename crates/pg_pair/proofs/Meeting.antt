@@ -16,7 +16,7 @@ use Rattle.pg_wire.specs.Password.{md5_text}
 use Rattle.pg_wire.specs.Segment.{put_before, segments, without_asides}
 use Rattle.pg_wire.specs.Stream.{IsStream}
 use Rattle.pg_client.specs.declared.settings.Settings.{Settings}
-use Rattle.pg_client.specs.Client.{startup_pairs}
+use Rattle.pg_client.specs.Sent.{startup_pairs}
 use Rattle.pg_client.specs.Turns.{passwords, first_answer}
 use Rattle.pg_backend.specs.declared.script.Auth.{Auth}
 use Rattle.pg_backend.specs.declared.script.Auth.TheVariants.{Trust, Cleartext, Md5}

@@ -11,7 +11,7 @@ use Rattle.pg_wire.specs.Frontend.{frontend}
 use Rattle.pg_wire.specs.Laws.{OneSpelling, OnePacket}
 use Rattle.pg_client.specs.declared.settings.Settings.{Settings}
 use Rattle.pg_client.specs.Session.{Call}
-use Rattle.pg_client.specs.Client.{startup_pairs}
+use Rattle.pg_client.specs.Sent.{startup_pairs}
 use Rattle.pg_client.specs.Turns.{greeting}
 use Rattle.pg_backend.specs.Input.{Input, IsInput, is_started}
 use Rattle.pg_pair.proofs.Streams.{within_spelled, reads_first}

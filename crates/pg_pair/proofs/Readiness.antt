@@ -14,7 +14,8 @@ use Rattle.pg_client.specs.declared.phase.Cause.TheVariants as cause
 use Rattle.pg_client.specs.declared.phase.Phase.TheVariants as phase
 use Rattle.pg_client.specs.declared.place.Stand.{Stand}
 use Rattle.pg_client.specs.Session.{Start, Ask, Chunk, CopyEnd, CopyFail, Terminate, Happening, Did, Came, IsTerminated, IsReady, whole_in}
-use Rattle.pg_client.specs.Client.{story, phase_of, phase_with}
+use Rattle.pg_client.specs.Client.{phase_of, phase_with}
+use Rattle.pg_client.specs.History.{happenings}
 use Rattle.pg_client.specs.Facts.{IsPhase}
 use Rattle.pg_client.specs.Turns.{turns_of, calls_in, farewell}
 use Rattle.pg_client.specs.Answering.{calls_of}
@@ -31,6 +32,7 @@ use Rattle.pg_pair.specs.Headline.{settled_as, answered_as, input_bytes, StandsR
 use Rattle.pg_pair.specs.Private.Known.{Known}
 use Rattle.pg_pair.specs.Standing.{Tied}
 use Rattle.pg_pair.specs.View.{arrived, PairView}
+use Rattle.pg_pair.proofs.Histories.{in_pair, tied_history}
 use Rattle.pg_pair.proofs.Beginnings.{begins_length, begins_take}
 use Rattle.pg_pair.proofs.Opening.{opening}
 use Rattle.pg_pair.proofs.Settling.{Messages, Met, tied_meets, settled_begin, all_taken, all_asked, one_unsettled}
@@ -53,22 +55,22 @@ farewell_said (Came m ∷ hs) h = farewell_said hs h
 
 -- What is so of a client that stands ready: it has not ended the session, each of its turns is settled, and a segment is whole.
 pub record IsIdle {C : Type 0} (p : PairView C) (t : Tied p) : Type 0 where
-  pub stays : farewell (calls_of t.run) ≡ []
-  pub settled_all : length p.settled ≡ length (turns_made t.run)
-  pub has_whole : (segments t.heard).whole ≡ [] → ⊥
+  pub stays : farewell (calls_of t.history.calls) ≡ []
+  pub settled_all : length p.settled ≡ length (turns_made t.history.calls)
+  pub has_whole : (segments t.history.heard).whole ≡ [] → ⊥
 
 pub client_idle : Known → {C : Type 0} (p : PairView C) (t : Tied p) → phase_of p.client ≡ phase.Ready → IsIdle p t
 client_idle k p t ready =
-    let hs = story t.run t.heard in
-    let told = k.story_of t.run t.heard in
+    let hs = happenings t.history in
+    let told = k.order t.history in
     let none : p.client.closed ≡ None = not_closed p.client.closed p.client.stand ready in
-    let facts = k.facts t.run (arrived p.to_client) t.heard t.open_at_client p.settled p.to_backend.sent t.handed_back p.client t.client_run in
-    let turns = k.answering t.run (arrived p.to_client) t.heard t.open_at_client p.settled p.to_backend.sent t.handed_back p.client t.client_run in
+    let facts = k.facts (in_pair p t.history) p.client (tied_history p t) in
+    let turns = k.answering (in_pair p t.history) p.client (tied_history p t) in
     let idle : IsReady hs = subst (λ c. IsPhase hs c phase.Ready) none ((facts.phase phase.Ready).0 ready) in
-    let going : IsTerminated hs → ⊥ = λ over. let e : p.client.closed ≡ Some cause.Terminated = t.client_run.terminated.0 over in let f : None ≡ Some cause.Terminated = sym none ∙ e in absurd cc in
+    let going : IsTerminated hs → ⊥ = λ over. let e : p.client.closed ≡ Some cause.Terminated = t.client_history.terminated.0 over in let f : None ≡ Some cause.Terminated = sym none ∙ e in absurd cc in
     let given : length (p.settled ++ p.client.settled) ≡ length p.settled = ap length (ap (λ l. p.settled ++ l) t.taken ∙ append-nil p.settled) in
     let all : length (p.settled ++ p.client.settled) ≡ length (turns_of (calls_in hs)) = turns.ready ready in
-    let made : length (turns_of (calls_in hs)) ≡ length (turns_made t.run) = ap (λ cs. length (turns_of cs)) told.calls ∙ sym (length-map (turns_of (calls_of t.run)) as_turn) in
+    let made : length (turns_of (calls_in hs)) ≡ length (turns_made t.history.calls) = ap (λ cs. length (turns_of cs)) told.calls ∙ sym (length-map (turns_of (calls_of t.history.calls)) as_turn) in
     record {
       stays = ap farewell (sym (told.calls)) ∙ farewell_said hs going;
       settled_all = sym given ∙ all ∙ made;
@@ -101,7 +103,7 @@ ready_with : Known → {C : Type 0} (p : PairView C) (t : Tied p) → IsIdle p t
 ready_with k p t idle m whole spared =
     let answers = p.backend.script.answers in
     let ms = m.since in
-    let turns = turns_made t.run in
+    let turns = turns_made t.history.calls in
     let left = m.read.left in
     let all : flat_map turn_messages turns ≡ ms ++ left =
     sym (append-nil (flat_map turn_messages turns)) ∙ ap (λ l. flat_map turn_messages turns ++ l) (sym (idle.stays)) ∙ m.behind in

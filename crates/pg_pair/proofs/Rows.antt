@@ -14,7 +14,8 @@ use Rattle.pg_wire.proofs.Rows.{salted}
 use Rattle.pg_client.specs.declared.phase.Cause.TheVariants as cause
 use Rattle.pg_client.specs.declared.place.Stand.TheVariants as stands
 use Rattle.pg_client.specs.declared.settings.Settings.{Settings}
-use Rattle.pg_client.specs.Session.{Run, Start, Ask, Chunk, CopyEnd, Terminate}
+use Rattle.pg_client.specs.Session.{Start, Ask, Chunk, CopyEnd, Terminate}
+use Rattle.pg_client.specs.History.{Calls}
 use Rattle.pg_client.specs.Turns.{messages_behind}
 use Rattle.pg_backend.specs.declared.script.Answer.{Answer}
 use Rattle.pg_backend.specs.declared.script.Auth.TheVariants.{Trust, Cleartext, Md5}
@@ -127,17 +128,17 @@ query_settled = refl
 
 -- ---- a copy
 
-run : Run
-run = (Start, 0) ∷ (Ask select, 15) ∷ (Chunk (49 ∷ []), 40) ∷ (Chunk (50 ∷ []), 40) ∷ (CopyEnd, 40) ∷ (Terminate, 60) ∷ []
+calls : Calls
+calls = (Start, 0) ∷ (Ask select, 15) ∷ (Chunk (49 ∷ []), 40) ∷ (Chunk (50 ∷ []), 40) ∷ (CopyEnd, 40) ∷ (Terminate, 60) ∷ []
 
 -- the chunks that were handed over for the one request
-copy_handed : handed_for (turns_made run) ≡ ((49 ∷ []) ∷ (50 ∷ []) ∷ []) ∷ []
-unfolding run
+copy_handed : handed_for (turns_made calls) ≡ ((49 ∷ []) ∷ (50 ∷ []) ∷ []) ∷ []
+unfolding calls
 copy_handed = refl
 
 -- which is the one that was made
-copy_asked : requests_of (turns_made run) ≡ select ∷ []
-unfolding run
+copy_asked : requests_of (turns_made calls) ≡ select ∷ []
+unfolding calls
 copy_asked = refl
 
 request_hands_none : handed_after (call.Request select) [] ≡ [] ∷ []

@@ -15,8 +15,8 @@ use Rattle.pg_wire.specs.Laws.{OneOutcome}
 use Rattle.pg_wire.specs.Segment.{Fits, Segments, segments, request_messages, without_asides}
 use Rattle.pg_client.specs.declared.settings.Settings.{Settings}
 use Rattle.pg_client.specs.declared.settled.Settled.{Settled}
-use Rattle.pg_client.specs.Session.{Run, Call, Terminate, Happening, Did, Came, messages_in, requests_in, IsAfterItsCall}
-use Rattle.pg_client.specs.Client.{story, groups_in}
+use Rattle.pg_client.specs.Session.{Call, Terminate, Happening, Did, Came, messages_in, requests_in, IsAfterItsCall, groups_in}
+use Rattle.pg_client.specs.History.{Calls, happenings}
 use Rattle.pg_client.specs.Facts.{SettledInOrder}
 use Rattle.pg_client.specs.Turns.{turns_of, calls_in, passwords, first_answer, messages_behind, greeting, farewell}
 use Rattle.pg_client.specs.Turns as client
@@ -33,6 +33,7 @@ use Rattle.pg_pair.specs.Headline.{settled_as, answered_as, requests_of, request
 use Rattle.pg_pair.specs.Private.Known.{Known}
 use Rattle.pg_pair.specs.Standing.{Tied}
 use Rattle.pg_pair.specs.View.{arrived, waiting, PairView}
+use Rattle.pg_pair.proofs.Histories.{in_pair, tied_history}
 use Rattle.pg_pair.proofs.Beginnings.{begins_nil, begins_head, begins_tail, begins_cons, begins_take}
 use Rattle.pg_pair.proofs.Meeting.{user_of, IsSilent, SendsPassword, HasMet, meets}
 use Rattle.pg_pair.proofs.Opening.{opening, IsUnread, IsRead, reads}
@@ -68,7 +69,7 @@ took_each [] hs h = tt
 took_each (l ∷ ls) [] h = absurd h
 took_each (l ∷ ls) (x ∷ hs) h = (record { first = begins_take l.loaded x h.0.begins; all = h.0.all }, took_each ls hs h.1)
 
--- ---- what a run sends
+-- ---- what a client sends
 
 turns_messages : (ts : List client.Turn) → flat_map client.turn_messages ts ≡ flat_map turn_messages (map as_turn ts)
 turns_messages [] = refl
@@ -78,23 +79,23 @@ turns_requests : (ts : List client.Turn) → map (λ (t : Turn). t.request) (map
 turns_requests [] = refl
 turns_requests (t ∷ ts) = ap (λ l. t.request ∷ l) (turns_requests ts)
 
--- the messages of a run behind the password: those of its turns, and maybe a Terminate
-abbrev pub run_messages : Run → List FrontMessage
-run_messages run = flat_map turn_messages (turns_made run) ++ farewell (calls_of run)
+-- the messages behind the password: those of its turns, and maybe a Terminate
+abbrev pub turns_sent : Calls → List FrontMessage
+turns_sent cs = flat_map turn_messages (turns_made cs) ++ farewell (calls_of cs)
 
 -- all messages behind the startup packet, by what was heard
-abbrev pub all_messages : Settings → List BackMessage → Run → List FrontMessage
-all_messages settings heard run = passwords settings heard ++ run_messages run
+abbrev pub all_messages : Settings → List BackMessage → Calls → List FrontMessage
+all_messages settings heard cs = passwords settings heard ++ turns_sent cs
 
-all_messages_are : (settings : Settings) (heard : List BackMessage) (run : Run) → messages_behind settings heard (calls_of run) ≡ all_messages settings heard run
-all_messages_are settings heard run = ap (λ l. passwords settings heard ++ (l ++ farewell (calls_of run))) (turns_messages (turns_of (calls_of run)))
+all_messages_are : (settings : Settings) (heard : List BackMessage) (cs : Calls) → messages_behind settings heard (calls_of cs) ≡ all_messages settings heard cs
+all_messages_are settings heard cs = ap (λ l. passwords settings heard ++ (l ++ farewell (calls_of cs))) (turns_messages (turns_of (calls_of cs)))
 
 one_farewell : (cs : List Call) → (farewell cs ≡ []) ⊎ (farewell cs ≡ front.Terminate ∷ [])
 one_farewell [] = inl refl
 one_farewell (Terminate ∷ cs) = inr refl
 one_farewell (_ ∷ cs) = one_farewell cs
 
--- no message of a run is a password, so the first isn't one
+-- no message of a turn is a password, so the first isn't one
 no_password : (ts : List Turn) (end : List FrontMessage) → (end ≡ []) ⊎ (end ≡ front.Terminate ∷ []) → (password : List ℕ) (more : List FrontMessage) → flat_map turn_messages ts ++ end ≡ front.Password password ∷ more → ⊥
 no_password [] end (inl none) password more e = cc
 no_password [] end (inr said) password more e = cc
@@ -109,7 +110,7 @@ no_password (t ∷ ts) end ends password more e = by_request t.request e
     by_request (Group (step.Execute portal max_rows ∷ steps)) k = cc
     by_request (Group (step.Close target name ∷ steps)) k = cc
 
--- what is handled of the messages of a run
+-- what is handled of these messages
 handled_first : (ts : List Turn) (end handled left : List FrontMessage) → (end ≡ []) ⊎ (end ≡ front.Terminate ∷ []) → flat_map turn_messages ts ++ end ≡ handled ++ left → AreFirstOf handled ts
 handled_first ts end handled left (inl none) e =
     (left ++ front.Terminate ∷ [], ap (λ l. l ++ front.Terminate ∷ []) (sym (append-nil (flat_map turn_messages ts)) ∙ ap (λ l. flat_map turn_messages ts ++ l) (sym none) ∙ e) ∙ append_assoc handled left (front.Terminate ∷ []))
@@ -117,36 +118,36 @@ handled_first ts end handled left (inr said) e = (left, ap (λ l. flat_map turn_
 
 -- ---- of a pair
 
-abbrev Story : {C : Type 0} (p : PairView C) → Tied p → List Happening
-Story p t = story t.run t.heard
+abbrev Happened : {C : Type 0} (p : PairView C) → Tied p → List Happening
+Happened p t = happenings t.history
 
 -- all messages that the client sends behind its startup packet
 abbrev pub Messages : {C : Type 0} (p : PairView C) → Tied p → List FrontMessage
-Messages p t = all_messages p.client.settings t.heard t.run
+Messages p t = all_messages p.client.settings t.history.heard t.history.calls
 
-behind_story : Known → {C : Type 0} (p : PairView C) (t : Tied p) → messages_behind p.client.settings (messages_in (Story p t)) (calls_in (Story p t)) ≡ Messages p t
-behind_story k p t =
-    let told = k.story_of t.run t.heard in
-    ap (λ ms. messages_behind p.client.settings ms (calls_in (Story p t))) told.messages ∙ ap (messages_behind p.client.settings t.heard) told.calls ∙ all_messages_are p.client.settings t.heard t.run
+behind_happened : Known → {C : Type 0} (p : PairView C) (t : Tied p) → messages_behind p.client.settings (messages_in (Happened p t)) (calls_in (Happened p t)) ≡ Messages p t
+behind_happened k p t =
+    let told = k.order t.history in
+    ap (λ ms. messages_behind p.client.settings ms (calls_in (Happened p t))) told.messages ∙ ap (messages_behind p.client.settings t.history.heard) told.calls ∙ all_messages_are p.client.settings t.history.heard t.history.calls
 
--- what the client has sent, in the messages of its run
-pub sent_messages : Known → {C : Type 0} (p : PairView C) (t : Tied p) → p.to_backend.sent ≡ greeting p.client.settings (calls_of t.run) ++ flat_map (spelling frontend) (Messages p t)
+-- what the client has sent, in messages
+pub sent_messages : Known → {C : Type 0} (p : PairView C) (t : Tied p) → p.to_backend.sent ≡ greeting p.client.settings (calls_of t.history.calls) ++ flat_map (spelling frontend) (Messages p t)
 sent_messages k p t =
-    let turns = k.turns t.run (arrived p.to_client) t.heard t.open_at_client p.settled p.to_backend.sent t.handed_back p.client t.client_run in
-    let told = k.story_of t.run t.heard in
-    turns.sent_is ∙ ap (λ cs. greeting p.client.settings cs ++ flat_map (spelling frontend) (messages_behind p.client.settings (messages_in (Story p t)) (calls_in (Story p t)))) told.calls
-    ∙ ap (λ l. greeting p.client.settings (calls_of t.run) ++ flat_map (spelling frontend) l) (behind_story k p t)
+    let turns = k.turns (in_pair p t.history) p.client (tied_history p t) in
+    let told = k.order t.history in
+    turns.sent_is ∙ ap (λ cs. greeting p.client.settings cs ++ flat_map (spelling frontend) (messages_behind p.client.settings (messages_in (Happened p t)) (calls_in (Happened p t)))) told.calls
+    ∙ ap (λ l. greeting p.client.settings (calls_of t.history.calls) ++ flat_map (spelling frontend) l) (behind_happened k p t)
 
--- what a run sends has a spelling
+-- what it sends has a spelling
 pub tied_spelled : Known → {C : Type 0} (p : PairView C) (t : Tied p) → AllByRecursion (HasSpelling frontend) (Messages p t)
 tied_spelled k p t =
-    let says = k.spelled t.run (arrived p.to_client) t.heard t.open_at_client p.settled p.to_backend.sent t.handed_back p.client t.client_run in
-    subst (AllByRecursion (HasSpelling frontend)) (behind_story k p t) says.messages
+    let says = k.spelled (in_pair p t.history) p.client (tied_history p t) in
+    subst (AllByRecursion (HasSpelling frontend)) (behind_happened k p t) says.messages
 
-pub tied_packet : Known → {C : Type 0} (p : PairView C) (t : Tied p) → (c : Call) (ds : List Call) → calls_of t.run ≡ c ∷ ds → IsPacket (opening p.client.settings)
+pub tied_packet : Known → {C : Type 0} (p : PairView C) (t : Tied p) → (c : Call) (ds : List Call) → calls_of t.history.calls ≡ c ∷ ds → IsPacket (opening p.client.settings)
 tied_packet k p t c ds e =
-    let told = k.story_of t.run t.heard in
-    let says = k.spelled t.run (arrived p.to_client) t.heard t.open_at_client p.settled p.to_backend.sent t.handed_back p.client t.client_run in
+    let told = k.order t.history in
+    let says = k.spelled (in_pair p t.history) p.client (tied_history p t) in
     says.packet c ds (told.calls ∙ e)
 
 -- without a call nothing was heard
@@ -156,49 +157,49 @@ none_heard (Did c ∷ hs) after e = absurd cc
 none_heard (Came m ∷ hs) after e = absurd (after [] m hs refl).started
 
 -- nor sent
-pub tied_none : Known → {C : Type 0} (p : PairView C) (t : Tied p) → calls_of t.run ≡ [] → Messages p t ≡ []
+pub tied_none : Known → {C : Type 0} (p : PairView C) (t : Tied p) → calls_of t.history.calls ≡ [] → Messages p t ≡ []
 tied_none k p t e =
-    let told = k.story_of t.run t.heard in
-    let nothing : t.heard ≡ [] = sym (told.messages) ∙ none_heard (Story p t) t.client_run.expected.after (told.calls ∙ e) in
-    sym (all_messages_are p.client.settings t.heard t.run) ∙ ap (messages_behind p.client.settings t.heard) e ∙ ap (λ ms. messages_behind p.client.settings ms []) nothing
+    let told = k.order t.history in
+    let nothing : t.history.heard ≡ [] = sym (told.messages) ∙ none_heard (Happened p t) t.client_history.expected.after (told.calls ∙ e) in
+    sym (all_messages_are p.client.settings t.history.heard t.history.calls) ∙ ap (messages_behind p.client.settings t.history.heard) e ∙ ap (λ ms. messages_behind p.client.settings ms []) nothing
 
 -- the password that it has sent
-tied_password : Known → {C : Type 0} (p : PairView C) (t : Tied p) → SendsPassword p.client.settings t.heard (run_messages t.run)
+tied_password : Known → {C : Type 0} (p : PairView C) (t : Tied p) → SendsPassword p.client.settings t.history.heard (turns_sent t.history.calls)
 tied_password k p t =
-    let turns = k.turns t.run (arrived p.to_client) t.heard t.open_at_client p.settled p.to_backend.sent t.handed_back p.client t.client_run in
-    let told = k.story_of t.run t.heard in
+    let turns = k.turns (in_pair p t.history) p.client (tied_history p t) in
+    let told = k.order t.history in
     record {
       one = subst (λ ms. length (passwords p.client.settings ms) ≤ 1) told.messages turns.one_password;
       first = subst (λ ms. passwords p.client.settings ms ≡ first_answer p.client.settings (without_asides ms)) told.messages turns.first_answered;
-      no_other = no_password (turns_made t.run) (farewell (calls_of t.run)) (one_farewell (calls_of t.run));
+      no_other = no_password (turns_made t.history.calls) (farewell (calls_of t.history.calls)) (one_farewell (calls_of t.history.calls));
     }
 
 -- what the backend has read of what the client has sent
 pub tied_reads : Known → {C : Type 0} (p : PairView C) (t : Tied p)
     → IsUnread t.input ⊎ IsRead p.client.settings (Messages p t) t.input t.open_at_backend (waiting p.to_backend) p.to_backend.sent
 tied_reads k p t =
-    reads k.one_front k.one_packet p.client.settings (calls_of t.run) (Messages p t) p.backend.limit (arrived p.to_backend) (waiting p.to_backend) p.to_backend.sent t.input t.open_at_backend
+    reads k.one_front k.one_packet p.client.settings (calls_of t.history.calls) (Messages p t) p.backend.limit (arrived p.to_backend) (waiting p.to_backend) p.to_backend.sent t.input t.open_at_backend
     (tied_packet k p t) (tied_spelled k p t) (tied_none k p t) t.handled.input (take-append-drop p.to_backend.reached p.to_backend.sent) (sent_messages k p t)
 
 -- The client was let in, and this is what it heard.
 abbrev pub Met : {C : Type 0} (p : PairView C) → Tied p → Type 0
-Met p t = HasMet p.backend.script p.client.settings (run_messages t.run) t.input t.open_at_backend (waiting p.to_backend) p.to_backend.sent t.heard p.backend.log
+Met p t = HasMet p.backend.script p.client.settings (turns_sent t.history.calls) t.input t.open_at_backend (waiting p.to_backend) p.to_backend.sent t.history.heard p.backend.log
 
 -- what the two ends have of each other
-pub tied_meets : Known → {C : Type 0} (p : PairView C) (t : Tied p) → IsSilent t.heard p.backend.log ⊎ Met p t
+pub tied_meets : Known → {C : Type 0} (p : PairView C) (t : Tied p) → IsSilent t.history.heard p.backend.log ⊎ Met p t
 tied_meets k p t =
-    meets k.one_back p.backend.script p.client.settings (run_messages t.run) t.input t.open_at_backend (waiting p.to_backend) p.to_backend.sent t.heard p.backend.log
-    p.client.settings.limit (arrived p.to_client) t.open_at_client (waiting p.to_client) (tied_password k p t) (tied_reads k p t)
-    t.faultless t.client_run.stream (take-append-drop p.to_client.reached p.to_client.sent ∙ t.handled.sent_is) t.handled.spelled t.handled.log_is
+    meets k.one_back p.backend.script p.client.settings (turns_sent t.history.calls) t.input t.open_at_backend (waiting p.to_backend) p.to_backend.sent t.history.heard p.backend.log
+    p.client.settings.limit (arrived p.to_client) t.history.rest (waiting p.to_client) (tied_password k p t) (tied_reads k p t)
+    t.faultless (tied_history p t).stream (take-append-drop p.to_client.reached p.to_client.sent ∙ t.handled.sent_is) t.handled.spelled t.handled.log_is
 
 -- the settled groups, by what was heard
-pub settled_by_heard : Known → {C : Type 0} (p : PairView C) (t : Tied p) → SettledInOrder (map (λ (x : Turn). x.request) (turns_made t.run)) (drop 1 (segments t.heard).whole) p.settled
+pub settled_by_heard : Known → {C : Type 0} (p : PairView C) (t : Tied p) → SettledInOrder (map (λ (x : Turn). x.request) (turns_made t.history.calls)) (drop 1 (segments t.history.heard).whole) p.settled
 settled_by_heard k p t =
-    let facts = k.facts t.run (arrived p.to_client) t.heard t.open_at_client p.settled p.to_backend.sent t.handed_back p.client t.client_run in
-    let told = k.story_of t.run t.heard in
-    subst (λ rs. SettledInOrder rs (drop 1 (segments t.heard).whole) p.settled) (told.requests ∙ sym (turns_requests (turns_of (calls_of t.run))))
-    (subst (λ ms. SettledInOrder (requests_in (Story p t)) (drop 1 (segments ms).whole) p.settled) told.messages
-    (subst (SettledInOrder (requests_in (Story p t)) (groups_in (Story p t))) (ap (λ l. p.settled ++ l) t.taken ∙ append-nil p.settled) facts.in_order))
+    let facts = k.facts (in_pair p t.history) p.client (tied_history p t) in
+    let told = k.order t.history in
+    subst (λ rs. SettledInOrder rs (drop 1 (segments t.history.heard).whole) p.settled) (told.requests ∙ sym (turns_requests (turns_of (calls_of t.history.calls))))
+    (subst (λ ms. SettledInOrder (requests_in (Happened p t)) (drop 1 (segments ms).whole) p.settled) told.messages
+    (subst (SettledInOrder (requests_in (Happened p t)) (groups_in (Happened p t))) (ap (λ l. p.settled ++ l) t.taken ∙ append-nil p.settled) facts.in_order))
 
 none_settled : (rs : List Request) (xs : List (List BackMessage)) (ss : List Settled) → xs ≡ [] → SettledInOrder rs xs ss → ss ≡ []
 none_settled rs [] [] e h = refl
@@ -207,8 +208,8 @@ none_settled (r ∷ rs) [] (s ∷ ss) e h = absurd h
 none_settled rs (x ∷ xs) ss e h = absurd cc
 
 -- the messages that the backend has handled behind the password, as the first of the turns'
-pub met_handled : {C : Type 0} (p : PairView C) (t : Tied p) (m : Met p t) → AreFirstOf m.since (turns_made t.run)
-met_handled p t m = handled_first (turns_made t.run) (farewell (calls_of t.run)) m.since m.read.left (one_farewell (calls_of t.run)) m.behind
+pub met_handled : {C : Type 0} (p : PairView C) (t : Tied p) (m : Met p t) → AreFirstOf m.since (turns_made t.history.calls)
+met_handled p t m = handled_first (turns_made t.history.calls) (farewell (calls_of t.history.calls)) m.since m.read.left (one_farewell (calls_of t.history.calls)) m.behind
 
 met_begins : Known → {C : Type 0} (p : PairView C) (t : Tied p) → Met p t → Begins (map settled_as p.settled) (map answered_as p.backend.log)
 met_begins k p t m =
@@ -216,12 +217,12 @@ met_begins k p t m =
     let ms = m.since in
     let user = user_of p.client.settings in
     let first : List BackMessage = asked p.backend.script.auth user ++ welcome p.backend.script in
-    let heard : Begins (segments t.heard).whole (first ∷ (segments (replies answers ms)).whole) =
-    subst (λ (s : Segments). Begins (segments t.heard).whole s.whole) (k.welcome_is_segment p.backend.script user (replies answers ms))
-    (segments_grow t.heard (asked p.backend.script.auth user ++ (welcome p.backend.script ++ replies answers ms)) m.heard_is) in
-    rw (m.log_is) (settled_first k.one_outcome (map (λ (x : Turn). x.request) (turns_made t.run)) (drop 1 (segments t.heard).whole) p.settled (log_of answers ms) (segments (replies answers ms)).whole
-    (settled_by_heard k p t) (k.segments_fit_log answers ms) (without_first (segments t.heard).whole (segments (replies answers ms)).whole first heard)
-    (k.turns_logged answers (turns_made t.run) ms t.in_turn (met_handled p t m)))
+    let heard : Begins (segments t.history.heard).whole (first ∷ (segments (replies answers ms)).whole) =
+    subst (λ (s : Segments). Begins (segments t.history.heard).whole s.whole) (k.welcome_is_segment p.backend.script user (replies answers ms))
+    (segments_grow t.history.heard (asked p.backend.script.auth user ++ (welcome p.backend.script ++ replies answers ms)) m.heard_is) in
+    rw (m.log_is) (settled_first k.one_outcome (map (λ (x : Turn). x.request) (turns_made t.history.calls)) (drop 1 (segments t.history.heard).whole) p.settled (log_of answers ms) (segments (replies answers ms)).whole
+    (settled_by_heard k p t) (k.segments_fit_log answers ms) (without_first (segments t.history.heard).whole (segments (replies answers ms)).whole first heard)
+    (k.turns_logged answers (turns_made t.history.calls) ms t.in_turn (met_handled p t m)))
 
 pub settled_begin : Known → {C : Type 0} (p : PairView C) (t : Tied p) → Begins (map settled_as p.settled) (map answered_as p.backend.log)
 settled_begin k p t = elim (tied_meets k p t) [
@@ -235,28 +236,28 @@ handed_of ts = map (λ (x : Turn). backend.chunks_of x.copies) ts
 pub all_taken : Known → {C : Type 0} (p : PairView C) (t : Tied p) → TookEach p.backend.log p.handed
 all_taken k p t = elim (tied_meets k p t) [
   | inl s ↦ rw (s.no_log) tt
-  | inr m ↦ rw (m.log_is, t.handed_are) (took_each (log_of p.backend.script.answers m.since) (handed_of (turns_made t.run))
-      (k.turns_loaded p.backend.script.answers (turns_made t.run) m.since t.in_turn t.copied (met_handled p t m)))
+  | inr m ↦ rw (m.log_is, t.handed_are) (took_each (log_of p.backend.script.answers m.since) (handed_of (turns_made t.history.calls))
+      (k.turns_loaded p.backend.script.answers (turns_made t.history.calls) m.since t.in_turn t.copied (met_handled p t m)))
 ]
 
 log_first : (ls : List Logged) (rs : List Request) → Begins (map (λ (l : Logged). l.request) ls) rs → map (λ (l : Logged). l.request) ls ≡ take (length ls) rs
 log_first ls rs h = begins_take (map (λ (l : Logged). l.request) ls) rs h ∙ ap (λ n. take n rs) (length-map ls (λ (l : Logged). l.request))
 
 -- the log's requests are the first that were made
-logged_first : Known → {C : Type 0} (p : PairView C) (t : Tied p) → requests_logged p.backend.log ≡ take (length p.backend.log) (requests_of (turns_made t.run))
+logged_first : Known → {C : Type 0} (p : PairView C) (t : Tied p) → requests_logged p.backend.log ≡ take (length p.backend.log) (requests_of (turns_made t.history.calls))
 logged_first k p t = elim (tied_meets k p t) [
   | inl s ↦ rw (s.no_log) refl
-  | inr m ↦ rw (m.log_is) (log_first (log_of p.backend.script.answers m.since) (requests_of (turns_made t.run))
-      (k.turns_logged p.backend.script.answers (turns_made t.run) m.since t.in_turn (met_handled p t m)))
+  | inr m ↦ rw (m.log_is) (log_first (log_of p.backend.script.answers m.since) (requests_of (turns_made t.history.calls))
+      (k.turns_logged p.backend.script.answers (turns_made t.history.calls) m.since t.in_turn (met_handled p t m)))
 ]
 
 pub all_asked : Known → {C : Type 0} (p : PairView C) (t : Tied p) → IsAsked p
 all_asked k p t = record {
-  run = t.run;
-  heard = t.heard;
-  rest = t.open_at_client;
-  handed_back = t.handed_back;
-  client_run = t.client_run;
+  history = t.history;
+  client_history = t.client_history;
+  fed = t.fed_is;
+  given = t.given_is;
+  sent = t.sent_is;
   places = t.places_are;
   logged = logged_first k p t;
   handed = t.handed_are;
@@ -265,11 +266,11 @@ all_asked k p t = record {
 -- at most one request isn't settled
 pub one_unsettled : Known → {C : Type 0} (p : PairView C) (t : Tied p) → length p.handed ≤ suc (length p.settled)
 one_unsettled k p t =
-    let hs = story t.run t.heard in
-    let turns = k.answering t.run (arrived p.to_client) t.heard t.open_at_client p.settled p.to_backend.sent t.handed_back p.client t.client_run in
+    let hs = happenings t.history in
+    let turns = k.answering (in_pair p t.history) p.client (tied_history p t) in
     let few : length (turns_in hs) ≤ suc (length (groups_in hs)) = (turns.in_turn hs [] (sym (append-nil hs))).one_at_most in
-    let made : length (turns_in hs) ≡ length (turns_of (calls_of t.run)) = ap (λ cs. length (turns_of cs)) ((k.story_of t.run t.heard).calls) in
+    let made : length (turns_in hs) ≡ length (turns_of (calls_of t.history.calls)) = ap (λ cs. length (turns_of cs)) ((k.order t.history).calls) in
     let all : length (p.settled ++ p.client.settled) ≡ length (groups_in hs) = turns.settled_all in
     let given : length (p.settled ++ p.client.settled) ≡ length p.settled = ap length (ap (λ l. p.settled ++ l) t.taken ∙ append-nil p.settled) in
-    let handed : length p.handed ≡ length (turns_of (calls_of t.run)) = ap length t.handed_are ∙ length-map (turns_made t.run) (λ (x : Turn). backend.chunks_of x.copies) ∙ length-map (turns_of (calls_of t.run)) as_turn in
+    let handed : length p.handed ≡ length (turns_of (calls_of t.history.calls)) = ap length t.handed_are ∙ length-map (turns_made t.history.calls) (λ (x : Turn). backend.chunks_of x.copies) ∙ length-map (turns_of (calls_of t.history.calls)) as_turn in
     omega arith

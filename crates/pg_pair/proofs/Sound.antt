@@ -64,9 +64,9 @@ pub not_faulty : Known → {C : Type 0} (p : PairView C) (t : Tied p) (f : WireF
 not_faulty k p t f h = elim (tied_reads k p t) [
   | inl u ↦
       let faulty : IsFaultyPacket t.open_at_backend f = subst (λ ps. IsFaultyRest (is_started ps) p.backend.limit t.open_at_backend f) u.packets h in
-      let bytes : t.open_at_backend ++ waiting p.to_backend ≡ greeting p.client.settings (calls_of t.run) ++ flat_map (spelling frontend) (Messages p t) =
+      let bytes : t.open_at_backend ++ waiting p.to_backend ≡ greeting p.client.settings (calls_of t.history.calls) ++ flat_map (spelling frontend) (Messages p t) =
       ap (λ l. l ++ waiting p.to_backend) (sym (unread_rest p.backend.limit (arrived p.to_backend) t.input t.open_at_backend u t.handled.input)) ∙ take-append-drop p.to_backend.reached p.to_backend.sent ∙ sent_messages k p t in
-      packets_sound k.faulty_packet p.client.settings (calls_of t.run) t.open_at_backend (waiting p.to_backend) (flat_map (spelling frontend) (Messages p t)) f (tied_packet k p t) (λ e. ap (flat_map (spelling frontend)) (tied_none k p t e)) bytes faulty
+      packets_sound k.faulty_packet p.client.settings (calls_of t.history.calls) t.open_at_backend (waiting p.to_backend) (flat_map (spelling frontend) (Messages p t)) f (tied_packet k p t) (λ e. ap (flat_map (spelling frontend)) (tied_none k p t e)) bytes faulty
   | inr r ↦
       let faulty : IsFaulty frontend longest t.open_at_backend f = subst (λ l. IsFaulty frontend l t.open_at_backend f) t.limit_is (subst (λ ps. IsFaultyRest (is_started ps) p.backend.limit t.open_at_backend f) r.packets h) in
       let left : AllByRecursion (HasSpelling frontend) r.left = all_back (HasSpelling frontend) t.input.messages r.left (subst (AllByRecursion (HasSpelling frontend)) r.messages (tied_spelled k p t)) in

@@ -1,7 +1,6 @@
 -- A step of the backend keeps what is so of a pair.
 use Rattle.std.proofs.Common.{◌≡◌, ◌≤◌, ℕ, true, false, Bool, List, [], ◌∷◌, ◌++◌, Result, Ok, Err, length, take, refl, ap, sym, subst, ◌∙◌, arith, length-append}
 use Rattle.std.proofs.lemmas.List.{append-nil, take-append-le}
-use Rattle.pg_client.specs.Client.{IsRunOf}
 use Rattle.pg_backend.specs.declared.fault.BackendFault.{BackendFault}
 use Rattle.pg_backend.specs.declared.fault.BackendFault.TheVariants as faults
 use Rattle.pg_backend.specs.declared.script.Script.{Script}
@@ -40,12 +39,11 @@ handled_more : {C : Type 0} (p : PairView C) (t : Tied p) (b : BackendState) (se
 handled_more p t b sent added j left more handled sound script limit not_lost = record {
   checked = subst IsChecked (sym script) t.checked;
   limit_is = limit ∙ t.limit_is;
-  run = t.run;
-  heard = t.heard;
-  open_at_client = t.open_at_client;
-  handed_back = t.handed_back;
-  client_run = subst (λ fed. IsRunOf t.run fed t.heard t.open_at_client p.settled p.to_backend.sent t.handed_back p.client)
-      (sym (ap (take p.to_client.reached) more ∙ arrived_more p.to_client added t.within_client)) t.client_run;
+  history = t.history;
+  client_history = t.client_history;
+  fed_is = t.fed_is ∙ sym (ap (take p.to_client.reached) more ∙ arrived_more p.to_client added t.within_client);
+  given_is = t.given_is;
+  sent_is = t.sent_is;
   places_are = t.places_are;
   taken = t.taken;
   input = j;
@@ -53,7 +51,7 @@ handled_more p t b sent added j left more handled sound script limit not_lost = 
   handled = handled;
   faultless = sound;
   not_lost = not_lost;
-  in_turn = subst (λ (s : Script). InTurn s.answers (turns_made t.run)) (sym script) t.in_turn;
+  in_turn = subst (λ (s : Script). InTurn s.answers (turns_made t.history.calls)) (sym script) t.in_turn;
   copied = t.copied;
   handed_are = t.handed_are;
   within_backend = t.within_backend;

@@ -9,7 +9,11 @@ use Rattle.pg_client.specs.declared.phase.Phase.TheVariants as phase
 use Rattle.pg_client.specs.declared.settled.Settled.{Settled}
 use Rattle.pg_client.specs.declared.settled.Loss.{Loss}
 use Rattle.pg_client.specs.Session as session
-use Rattle.pg_client.specs.Client.{ClientView, phase_of, IsOpenPhase, Accepts, RefusesUnless, RefusesCopy, RefusesEnd, Feeds, first_cause, IsRunOf, Loses, story}
+use Rattle.pg_client.specs.Client.{ClientView, phase_of, IsOpenPhase}
+use Rattle.pg_client.specs.History.{Carries, with_handed_back}
+use Rattle.pg_client.specs.Calls.{Accepts, RefusesUnless, RefusesCopy, RefusesEnd}
+use Rattle.pg_client.specs.Feed.{Feeds}
+use Rattle.pg_client.specs.Lost.{first_cause, HandsBack}
 use Rattle.pg_wire.specs.message.BackMessage.{BackMessage}
 use Rattle.pg_backend.specs.declared.backend.BackPhase.{BackPhase}
 use Rattle.pg_backend.specs.declared.backend.BackPhase.TheVariants as back
@@ -148,8 +152,8 @@ pub record IsTold (old : ClientView) (loss : Loss) (new : ClientView) : Type 0 w
   pub settings : new.settings ≡ old.settings
   pub closed : new.closed ≡ Some (first_cause old.closed cause.Lost)
   pub settled : new.settled ≡ old.settled
-  pub says : (run : session.Run) (fed : List ℕ) (heard : List BackMessage) (rest : List ℕ) (given : List Settled) (sent : List ℕ) (handed_back : Bool) → IsRunOf run fed heard rest given sent handed_back old → Loses handed_back (story run heard) loss
-  pub run : (run : session.Run) (fed : List ℕ) (heard : List BackMessage) (rest : List ℕ) (given : List Settled) (sent : List ℕ) (handed_back : Bool) → IsRunOf run fed heard rest given sent handed_back old → IsRunOf run fed heard rest given sent true new
+  pub says : HandsBack old loss
+  pub history : Carries old new with_handed_back
 
 abbrev pub broken : Stream → Stream
 broken s = record s { broken = true }

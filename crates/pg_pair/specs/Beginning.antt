@@ -2,7 +2,7 @@
 use Rattle.std.specs.Prelude.{◌≡◌, false, [], None}
 use Rattle.pg_client.specs.declared.phase.Phase.TheVariants as phase
 use Rattle.pg_client.specs.declared.settings.Settings.{Settings}
-use Rattle.pg_client.specs.Client.{IsRunOf}
+use Rattle.pg_client.specs.History.{blank, IsHistoryOf}
 use Rattle.pg_client.specs.Client as client
 use Rattle.pg_backend.specs.declared.script.Script.{Script}
 use Rattle.pg_backend.specs.declared.stage.Stage.TheVariants as stage
@@ -17,7 +17,7 @@ silent = record { sent = []; reached = 0; broken = false }
 pub record IsBegun {C : Type 0} (settings : Settings) (script : Script) (carrier : C) (p : PairView C) : Type 0 where
   pub client_settings : p.client.settings ≡ settings
   pub client_phase : client.phase_of p.client ≡ phase.New
-  pub client_run : IsRunOf [] [] [] [] [] [] false p.client
+  pub client_history : IsHistoryOf blank p.client
   pub rest : p ≡ record {
     client = p.client;
     backend = record { script = script; limit = longest; left = script.answers; stage = stage.First (record { kept = []; ended = false; fault = None }); log = [] };

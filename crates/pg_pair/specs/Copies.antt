@@ -1,7 +1,7 @@
 -- What a client hands over for its copies, and what a backend takes of it ("COPY Operations").
 use Rattle.std.specs.Prelude.{◌≡◌, ℕ, true, List, [], ◌∷◌, length, map, take}
 use Rattle.std.specs.List.{list_any}
-use Rattle.pg_client.specs.Session.{Run}
+use Rattle.pg_client.specs.History.{Calls}
 use Rattle.pg_client.specs.Turns.{turns_of}
 use Rattle.pg_client.specs.Turns as client
 use Rattle.pg_client.specs.Answering.{calls_of}
@@ -11,9 +11,9 @@ use Rattle.pg_backend.specs.Turns.{Turn, is_copied_in, chunks_of}
 abbrev pub as_turn : client.Turn → Turn
 as_turn t = record { request = t.request; copies = t.copies }
 
--- each request that a run made, with what was called for its copies
-abbrev pub turns_made : Run → List Turn
-turns_made run = map as_turn (turns_of (calls_of run))
+-- each request that these calls made, with what was called for its copies
+abbrev pub turns_made : Calls → List Turn
+turns_made cs = map as_turn (turns_of (calls_of cs))
 
 -- the chunks that were handed over for each request
 abbrev pub handed_for : List Turn → List (List (List ℕ))

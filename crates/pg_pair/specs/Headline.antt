@@ -10,8 +10,7 @@ use Rattle.pg_wire.specs.First.{packet}
 use Rattle.pg_wire.specs.Frontend.{frontend}
 use Rattle.pg_client.specs.declared.settled.Settled.{Settled}
 use Rattle.pg_client.specs.declared.phase.Phase.TheVariants as client_phase
-use Rattle.pg_client.specs.Session.{Run}
-use Rattle.pg_client.specs.Client.{IsRunOf}
+use Rattle.pg_client.specs.History.{History, IsHistoryOf}
 use Rattle.pg_client.specs.Client as client
 use Rattle.pg_backend.specs.declared.script.Logged.{Logged}
 use Rattle.pg_backend.specs.declared.backend.BackPhase.TheVariants as backend_phase
@@ -37,19 +36,20 @@ requests_of ts = map (λ t. t.request) ts
 abbrev pub requests_logged : List Logged → List Request
 requests_logged ls = map (λ l. l.request) ls
 
--- The client has accepted these calls in their places. The log's requests are the first of those
--- that they made, and what was handed over is a list of chunks for each of those.
+-- The client has this history: it was fed what has reached it, its settled groups are all with the
+-- pair, it has put out what was sent to the backend, and its calls have the pair's places. The log's
+-- requests are the first of those that they made, and what was handed over is a list of chunks for
+-- each of those.
 pub record IsAsked {C : Type 0} (p : PairView C) : Type 0 where
-  pub run : Run
-  pub heard : List BackMessage
-  pub rest : List ℕ
-  pub handed_back : Bool
-  pub client_run : IsRunOf run (arrived p.to_client) heard rest
-      p.settled p.to_backend.sent handed_back p.client
-  pub places : map (λ c. c.1) run ≡ p.places
+  pub history : History
+  pub client_history : IsHistoryOf history p.client
+  pub fed : history.fed ≡ arrived p.to_client
+  pub given : history.given ≡ p.settled
+  pub sent : history.sent ≡ p.to_backend.sent
+  pub places : map (λ c. c.1) history.calls ≡ p.places
   pub logged : requests_logged p.backend.log
-      ≡ take (length p.backend.log) (requests_of (turns_made run))
-  pub handed : p.handed ≡ handed_for (turns_made run)
+      ≡ take (length p.backend.log) (requests_of (turns_made history.calls))
+  pub handed : p.handed ≡ handed_for (turns_made history.calls)
 
 -- the bytes of an input
 abbrev pub input_bytes : Input → List ℕ

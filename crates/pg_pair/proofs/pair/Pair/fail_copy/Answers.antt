@@ -7,4 +7,4 @@ use Rattle.pg_pair.proofs.pair.Pair.fail_copy.Goals as goal
 pub invariant_of-self-2 : goal.invariant_of-self-2
 invariant_of-self-2 g c =
     rw (c.push_reserved.ensures.items, c.reserve.ensures.items)
-    (∥∥₁_map c.self.invariant.0 (keeps_copy_called c.known.ensures (view_of c.self.inside) (call.Fail c.args.reason) c.copy_fail-result.new.self c.copy_fail-result.new.out.items c.in_default.ensures.ok.0 (rw c.as_slice.ensures at c.in_default.ensures.run) tt), c.self.invariant.1)
+    (∥∥₁_map c.self.invariant.0 (keeps_copy_called c.known.ensures (view_of c.self.inside) (call.Fail c.args.reason) c.copy_fail-result.new.self c.copy_fail-result.new.out.items c.in_default.ensures.ok.0 (rw c.as_slice.ensures at c.in_default.ensures.history) tt), c.self.invariant.1)

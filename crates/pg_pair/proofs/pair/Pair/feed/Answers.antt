@@ -1,6 +1,6 @@
 use Rattle.std.proofs.Common.{◌≡◌, ◌≤◌, arith, false, length, subst, sym, take, ◌∙◌}
 use Rattle.std.proofs.Math.Logic.{∥∥₁_map}
-use Rattle.pg_client.specs.Client.{Feeds}
+use Rattle.pg_client.specs.Feed.{Feeds}
 use Rattle.pg_pair.specs.declared.carry.Way.TheVariants.{ToClient}
 use Rattle.pg_pair.specs.Applying.{client_answer, is_closed, TakesIn, waiting_at}
 use Rattle.pg_pair.specs.View.{PairView}

@@ -7,4 +7,4 @@ use Rattle.pg_pair.proofs.pair.Pair.terminate.Goals as goal
 pub invariant_of-self-2 : goal.invariant_of-self-2
 invariant_of-self-2 g c =
     rw (c.push_reserved.ensures.items, c.reserve.ensures.items)
-    (∥∥₁_map c.self.invariant.0 (keeps_called c.known.ensures (view_of c.self.inside) call.Terminate c.terminate.new.self c.terminate.new.out.items c.in_default.ensures.ok.0 c.in_default.ensures.run tt), c.self.invariant.1)
+    (∥∥₁_map c.self.invariant.0 (keeps_called c.known.ensures (view_of c.self.inside) call.Terminate c.terminate.new.self c.terminate.new.out.items c.in_default.ensures.ok.0 c.in_default.ensures.history tt), c.self.invariant.1)
