@@ -22,6 +22,7 @@ pub mod Beginnings
 pub mod Agreeing
 pub mod Copying
 pub mod TakingTurns
+pub mod SettlingLast
 pub mod TurnRows
 pub mod Rows
 pub mod ParameterLaws

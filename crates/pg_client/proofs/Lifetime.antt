@@ -3,7 +3,6 @@ use Rattle.std.proofs.Common.{◌≡◌, ℕ, List, [], ◌∷◌, ◌++◌, Boo
 use Rattle.std.specs.Prelude.{unwrap_or, IfSome, ◌↔◌}
 use Rattle.pg_wire.specs.declared.fault.WireFault.{WireFault}
 use Rattle.pg_wire.specs.declared.fault.WireFault.TheVariants as wire
-use Rattle.pg_wire.specs.message.BackMessage.{BackMessage}
 use Rattle.pg_wire.specs.Backend.{backend}
 use Rattle.pg_wire.specs.Stream.{IsOpen, IsFaulty}
 use Rattle.pg_client.specs.declared.phase.Cause.{Cause}

@@ -1,5 +1,5 @@
 -- A password is asked for once at most, before the first request, so its answer stands between the startup packet and the turns.
-use Rattle.std.proofs.Common.{◌≡◌, ℕ, ◌≤◌, Bool, List, [], ◌∷◌, ◌++◌, length, map, Option, Some, None, refl, sym, ap, subst, ◌∙◌, append_assoc, inl, inr, arith, length-append}
+use Rattle.std.proofs.Common.{◌≡◌, ℕ, ◌≤◌, List, [], ◌∷◌, ◌++◌, length, map, Option, Some, None, refl, sym, ap, subst, ◌∙◌, append_assoc, inl, inr, arith, length-append}
 use Rattle.std.specs.Prelude.{◌⊎◌}
 use Rattle.std.specs.List.{flat_map}
 use Rattle.std.proofs.lemmas.Grind.{flat_map-append}
@@ -26,7 +26,6 @@ use Rattle.pg_client.specs.declared.place.Stage.TheVariants.{Within, Failed}
 use Rattle.pg_client.specs.declared.place.Welcome.{Welcome}
 use Rattle.pg_client.specs.declared.place.Welcome.TheVariants.{Fresh, Asked, Admitted}
 use Rattle.pg_client.specs.declared.settings.Settings.{Settings}
-use Rattle.pg_client.specs.declared.settled.Settled.{Settled}
 use Rattle.pg_client.specs.Place.{Place, left, progress, begins, after_progress, read_by, read_from, read_all}
 use Rattle.pg_client.specs.Session.{Call, Start, Ask, Terminate, Happening, Did, Came, messages_in, requests_in, whole_in, rest_in, AsksPassword, BeginsStartup, FitAll, IsSession, IsStarted, IsTerminated, AreAllowed, Expected}
 use Rattle.pg_client.specs.Client.{ClientView}

@@ -120,3 +120,17 @@ pub record TakesTurns (hs : List Happening) (settled : List Settled) (client : C
   -- with one CopyInResponse in the segment, chunks are all that was sent for the last request
   pub copying : phase_of client ≡ phase.CopyingIn → IsCopyingSince hs
   pub ended : phase_of client ≡ phase.CopyingIn → suc (copies_ended (last_copies (turns_in hs))) ≤ copies_begun (rest_in hs)
+
+-- ---- what settles as bytes come
+
+-- By then these groups were given, and those waited. They wait still, and one more at most: it is of the request that was asked
+-- last, and all requests are settled then.
+pub record SettlesLast (asked : List Request) (given was now : List Settled) : Type 0 where
+  pub fresh : List Settled
+  pub behind : now ≡ was ++ fresh
+  pub one_at_most : length fresh ≤ 1
+  pub last : (t : Settled) → fresh ≡ t ∷ [] → asked ≡ map (λ s. s.request) (given ++ was) ++ t.request ∷ []
+
+-- The groups are of all requests that were asked, in order.
+abbrev pub AllSettled : List Request → List Settled → Type 0
+AllSettled asked settled = map (λ s. s.request) settled ≡ asked

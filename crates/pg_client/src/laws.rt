@@ -1,15 +1,18 @@
 //! Laws over the definitions: each function does nothing, and its contract is the law.
 
-ghost use Rattle.std.specs.Prelude.{◌≡◌, ◌++◌, [], ◌∷◌, ℕ, List, Option};
+ghost use Rattle.std.specs.Prelude.{◌≡◌, ◌++◌, [], ◌∷◌, ℕ, List, Option, Result};
 ghost use Rattle.pg_wire.specs.message.BackMessage.{BackMessage};
-ghost use Rattle.pg_client.specs.Session.{Call, Happening, Came, Expected};
-ghost use Rattle.pg_client.specs.Client.{ClientView};
+ghost use Rattle.pg_client.specs.declared.fault.FeedFault.{FeedFault};
+ghost use Rattle.pg_client.specs.declared.phase.Phase.TheVariants as phase;
+ghost use Rattle.pg_client.specs.Session.{Call, Happening, Came, Expected, requests_in};
+ghost use Rattle.pg_client.specs.Client.{ClientView, phase_of};
 ghost use Rattle.pg_client.specs.History.{Calls, happenings, History, IsHistoryOf};
+ghost use Rattle.pg_client.specs.Feed.{Feeds};
 ghost use Rattle.pg_client.specs.Lost.{known_loss, Loses};
 ghost use Rattle.pg_client.specs.Facts.{Facts};
 ghost use Rattle.pg_client.specs.Turns.{InTurns, turns_of};
 ghost use Rattle.pg_client.specs.Spelled.{SendsSpelled};
-ghost use Rattle.pg_client.specs.Answering.{KeepsOrder, TakesTurns, calls_of, turns_with};
+ghost use Rattle.pg_client.specs.Answering.{AllSettled, KeepsOrder, SettlesLast, TakesTurns, calls_of, turns_with};
 
 /// What the history of a client means, in the words of the protocol: what it settled, and what its phase says.
 pub fn facts_of_a_run()
@@ -48,3 +51,12 @@ pub fn answers_of_a_run()
 pub fn spelled_in_a_run()
     ensures { (h : History) (client : ClientView) → IsHistoryOf h client → SendsSpelled client.settings (happenings h) }
 {}
+
+/// What settles as bytes come is the request that was asked last, and nothing else. In phase Ready all requests are settled.
+pub fn settles_the_last()
+    ensures fed { (h : History) (old new : ClientView) (piece : List ℕ) (result : Result Unit FeedFault) (before after : List ℕ)
+        → IsHistoryOf h old → Feeds old piece result new before after → SettlesLast (requests_in (happenings h)) h.given old.settled new.settled }
+    ensures ready { (h : History) (client : ClientView) → IsHistoryOf h client → phase_of client ≡ phase.Ready → AllSettled (requests_in (happenings h)) (h.given ++ client.settled) }
+{
+    pg_wire::laws::one_outcome();
+}

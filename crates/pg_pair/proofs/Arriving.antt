@@ -1,10 +1,8 @@
 -- Bytes that reach an end keep what is so of a pair.
-use Rattle.std.proofs.Common.{◌≡◌, ◌≤◌, ◌+◌, ℕ, false, Bool, List, [], ◌++◌, None, Result, length, take, refl, ap, sym, subst, ◌∙◌, arith, length-append}
+use Rattle.std.proofs.Common.{◌≡◌, ◌≤◌, ◌+◌, ℕ, List, [], ◌++◌, None, Result, length, take, refl, ap, sym, subst, ◌∙◌, arith, length-append}
 use Rattle.std.proofs.lemmas.List.{append-nil}
 use Rattle.std.proofs.Math.Seq.{take-add}
-use Rattle.pg_wire.specs.message.BackMessage.{BackMessage}
 use Rattle.pg_client.specs.declared.fault.FeedFault.{FeedFault}
-use Rattle.pg_client.specs.declared.settled.Settled.{Settled}
 use Rattle.pg_client.specs.Client.{ClientView}
 use Rattle.pg_client.specs.History.{happenings, History, IsHistoryOf, with_fed, with_heard}
 use Rattle.pg_client.specs.Feed.{Feeds, FeedsOpen, FeedsWith, Hears}

@@ -1,13 +1,11 @@
 -- A call that the client accepts keeps what is so of a pair.
-use Rattle.std.proofs.Common.{◌≡◌, ◌≤◌, ℕ, true, false, Bool, List, [], ◌∷◌, ◌++◌, Option, Some, None, map, length, take, refl, ap, sym, subst, ◌∙◌, arith, length-append, inl, inr}
+use Rattle.std.proofs.Common.{◌≡◌, ◌≤◌, ℕ, List, [], ◌∷◌, ◌++◌, map, length, take, refl, ap, sym, subst, ◌∙◌, arith, length-append, inl, inr}
 use Rattle.std.specs.List.{flat_map}
 use Rattle.std.proofs.lemmas.List.{append-nil, map-append, length-map, length-take-le}
 use Rattle.pg_wire.specs.declared.session.Request.{Request}
-use Rattle.pg_client.specs.declared.phase.Cause.{Cause}
 use Rattle.pg_client.specs.declared.phase.Phase.TheVariants as phase
-use Rattle.pg_client.specs.declared.place.Stand.{Stand}
 use Rattle.pg_client.specs.Session as session
-use Rattle.pg_client.specs.Client.{ClientView, phase_of, phase_with}
+use Rattle.pg_client.specs.Client.{ClientView, phase_of}
 use Rattle.pg_client.specs.Sent.{sent_by}
 use Rattle.pg_client.specs.History.{Calls, with_call}
 use Rattle.pg_client.specs.Calls.{Accepts}
@@ -25,7 +23,7 @@ use Rattle.pg_pair.specs.Copies.{as_turn, turns_made, handed_for}
 use Rattle.pg_pair.specs.Headline.{settled_as, answered_as}
 use Rattle.pg_pair.specs.Private.Known.{Known}
 use Rattle.pg_pair.specs.Standing.{Tied}
-use Rattle.pg_pair.specs.View.{arrived, PairView}
+use Rattle.pg_pair.specs.View.{PairView}
 use Rattle.pg_pair.proofs.Beginnings.{begins_length, all_of_both}
 use Rattle.pg_pair.proofs.Readiness.{client_idle}
 use Rattle.pg_pair.proofs.Settling.{tied_meets, settled_begin}

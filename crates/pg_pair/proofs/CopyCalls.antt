@@ -16,7 +16,7 @@ use Rattle.pg_pair.specs.declared.event.Call.TheVariants as call
 use Rattle.pg_pair.specs.Applying.{client_call, IsAllowedIn, with_chunk}
 use Rattle.pg_pair.specs.Private.Known.{Known}
 use Rattle.pg_pair.specs.Standing.{Tied}
-use Rattle.pg_pair.specs.View.{arrived, PairView}
+use Rattle.pg_pair.specs.View.{PairView}
 use Rattle.pg_pair.proofs.Histories.{in_pair, tied_history}
 use Rattle.pg_pair.proofs.Calling.{GoesOn, accepted, called}
 use Rattle.pg_pair.proofs.Copying.{AreChunks, last_open, copied_on, in_turn_on, handed_chunk, handed_done, handed_failed}

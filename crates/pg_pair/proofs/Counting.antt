@@ -1,5 +1,5 @@
 -- A delivery settles one group at most, and there is room for it.
-use Rattle.std.proofs.Common.{◌≡◌, ◌≤◌, ◌+◌, suc, ℕ, false, List, [], ◌++◌, None, Result, length, ap, sym, ◌∙◌, arith, length-append}
+use Rattle.std.proofs.Common.{◌≡◌, ◌≤◌, ◌+◌, suc, ℕ, List, [], ◌++◌, None, Result, length, ap, sym, ◌∙◌, arith, length-append}
 use Rattle.std.proofs.lemmas.List.{append-nil, length-map}
 use Rattle.pg_client.specs.declared.fault.FeedFault.{FeedFault}
 use Rattle.pg_client.specs.Session.{groups_in}
@@ -12,7 +12,7 @@ use Rattle.pg_backend.specs.Turns.{Turn, chunks_of}
 use Rattle.pg_pair.specs.Copies.{as_turn, turns_made}
 use Rattle.pg_pair.specs.Private.Known.{Known}
 use Rattle.pg_pair.specs.Standing.{Tied}
-use Rattle.pg_pair.specs.View.{arrived, PairView}
+use Rattle.pg_pair.specs.View.{PairView}
 use Rattle.pg_pair.proofs.Histories.{in_pair, tied_history}
 use Rattle.pg_pair.proofs.Arriving.{fed_open}
 

@@ -31,7 +31,7 @@ use Rattle.pg_pair.specs.Copies.{as_turn, turns_made}
 use Rattle.pg_pair.specs.Headline.{settled_as, answered_as, input_bytes, StandsReady, Headline}
 use Rattle.pg_pair.specs.Private.Known.{Known}
 use Rattle.pg_pair.specs.Standing.{Tied}
-use Rattle.pg_pair.specs.View.{arrived, PairView}
+use Rattle.pg_pair.specs.View.{PairView}
 use Rattle.pg_pair.proofs.Histories.{in_pair, tied_history}
 use Rattle.pg_pair.proofs.Beginnings.{begins_length, begins_take}
 use Rattle.pg_pair.proofs.Opening.{opening}

@@ -6,7 +6,6 @@ use Rattle.pg_client.specs.declared.fault.FeedFault.{FeedFault}
 use Rattle.pg_client.specs.declared.phase.Cause.TheVariants as cause
 use Rattle.pg_client.specs.declared.phase.Phase.{Phase}
 use Rattle.pg_client.specs.declared.phase.Phase.TheVariants as phase
-use Rattle.pg_client.specs.declared.settled.Settled.{Settled}
 use Rattle.pg_client.specs.declared.settled.Loss.{Loss}
 use Rattle.pg_client.specs.Session as session
 use Rattle.pg_client.specs.Client.{ClientView, phase_of, IsOpenPhase}
@@ -14,7 +13,6 @@ use Rattle.pg_client.specs.History.{Carries, with_handed_back}
 use Rattle.pg_client.specs.Calls.{Accepts, RefusesUnless, RefusesCopy, RefusesEnd}
 use Rattle.pg_client.specs.Feed.{Feeds}
 use Rattle.pg_client.specs.Lost.{first_cause, HandsBack}
-use Rattle.pg_wire.specs.message.BackMessage.{BackMessage}
 use Rattle.pg_backend.specs.declared.backend.BackPhase.{BackPhase}
 use Rattle.pg_backend.specs.declared.backend.BackPhase.TheVariants as back
 use Rattle.pg_backend.specs.declared.fault.BackendFault.{BackendFault}

@@ -1,7 +1,6 @@
 -- What the groups that the client has settled say of those that the backend has answered.
-use Rattle.std.specs.Prelude.{◌≡◌, ◌≤◌, suc, ℕ, Bool, true, false, List, ◌++◌, length, map, take}
+use Rattle.std.specs.Prelude.{◌≡◌, ◌≤◌, suc, ℕ, true, false, List, ◌++◌, length, map, take}
 use Rattle.std.specs.List.{flat_map}
-use Rattle.pg_wire.specs.message.BackMessage.{BackMessage}
 use Rattle.pg_wire.specs.message.FrontMessage.{FrontMessage}
 use Rattle.pg_wire.specs.declared.session.Outcome.{Outcome}
 use Rattle.pg_wire.specs.declared.session.Request.{Request}

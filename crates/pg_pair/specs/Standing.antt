@@ -1,6 +1,5 @@
 -- What is so of a pair at any time: what its client did and heard, what its backend has handled, and how the two go together.
-use Rattle.std.specs.Prelude.{◌≡◌, ℕ, ◌≤◌, Bool, false, List, [], length, map}
-use Rattle.pg_wire.specs.message.BackMessage.{BackMessage}
+use Rattle.std.specs.Prelude.{◌≡◌, ℕ, ◌≤◌, false, List, [], length, map}
 use Rattle.pg_wire.specs.Direction.{longest}
 use Rattle.pg_client.specs.History.{History, IsHistoryOf}
 use Rattle.pg_backend.specs.Check.{IsChecked}

@@ -17,7 +17,6 @@ use Rattle.pg_client.specs.declared.news.News.TheVariants as news
 use Rattle.pg_client.specs.declared.phase.Cause.TheVariants as cause
 use Rattle.pg_client.specs.declared.place.Stand.TheVariants.{Idle}
 use Rattle.pg_client.specs.declared.settings.Settings.{Settings}
-use Rattle.pg_client.specs.declared.settled.Settled.{Settled}
 use Rattle.pg_client.specs.Session.{IsTerminated, AreAllowed, Expected}
 use Rattle.pg_client.specs.Client.{ClientView, IsAlike, or_else, last_said, value_of, value_said, key_said}
 use Rattle.pg_client.specs.Sent.{answer_to, IsSpelledAt, sent_in}

@@ -1,10 +1,8 @@
 -- What the laws of both ends say.
-use Rattle.std.specs.Prelude.{◌≡◌, ℕ, Bool, List, [], ◌∷◌, ◌++◌}
-use Rattle.pg_wire.specs.message.BackMessage.{BackMessage}
+use Rattle.std.specs.Prelude.{◌≡◌, ℕ, [], ◌∷◌, ◌++◌}
 use Rattle.pg_wire.specs.Backend.{backend}
 use Rattle.pg_wire.specs.Frontend.{frontend}
 use Rattle.pg_wire.specs.Laws.{OneSpelling, OnePacket, OneOutcome, FaultyBeginsNone, FaultyBeginsNoPacket}
-use Rattle.pg_client.specs.declared.settled.Settled.{Settled}
 use Rattle.pg_client.specs.Session.{Call}
 use Rattle.pg_client.specs.Client.{ClientView}
 use Rattle.pg_client.specs.History.{Calls, History, happenings, IsHistoryOf}
