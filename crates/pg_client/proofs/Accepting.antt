@@ -30,7 +30,7 @@ use Rattle.pg_client.specs.Judged.{Stands}
 use Rattle.pg_client.specs.Private.Calling.{with_answer, with_request}
 use Rattle.pg_client.proofs.Agreeing.{answer_is_said}
 use Rattle.pg_client.proofs.FactsHold.{stand_facts}
-use Rattle.pg_client.proofs.History.{expected_did, did_start, did_ask, did_copy_end, did_copy_fail, did_chunk, did_terminate}
+use Rattle.pg_client.proofs.Happening.{expected_did, did_start, did_ask, did_copy_end, did_copy_fail, did_chunk, did_terminate}
 use Rattle.pg_client.proofs.Outcomes.{front_splits}
 use Rattle.pg_client.proofs.Said.{AnswerIsSaid, copying_in}
 use Rattle.pg_client.proofs.Merging.{merged-did, ends_within, places_more, ordered_more}

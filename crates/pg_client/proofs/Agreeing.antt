@@ -14,7 +14,7 @@ use Rattle.pg_client.specs.declared.place.CopyAnswer.TheVariants.{Awaited, Done,
 use Rattle.pg_client.specs.Session.{Call, Start, Ask, Chunk, CopyEnd, CopyFail, Terminate, Happening, Did, Came, whole_in, rest_in, EndInCopyIn, IsAside, IsNoCopyIn, IsSaid, IsReady, IsCopyingIn, AreAllowed}
 use Rattle.pg_client.specs.Machine.{copy_answer_after, copy_answer}
 use Rattle.pg_client.proofs.Beginnings.{segments_did, segments_came, AreAsked, AllAfter, after_begins, kept_aside, along, are_asked}
-use Rattle.pg_client.proofs.History.{copy_answer_from-more}
+use Rattle.pg_client.proofs.Happening.{copy_answer_from-more}
 use Rattle.pg_client.proofs.OneMessage.{put_after}
 use Rattle.pg_client.proofs.Outcomes.{kept_with, front_splits, snoc_front, without_asides-append}
 use Rattle.pg_client.proofs.Said.{Says, AnswerIsSaid}

@@ -11,7 +11,7 @@ use Rattle.pg_wire.specs.declared.session.Aside.{Aside}
 use Rattle.pg_wire.specs.declared.session.Request.{Request}
 use Rattle.pg_wire.specs.Segment.{aside_of, without_asides, Fits, Begins, Segments, segments, status_of}
 use Rattle.pg_client.specs.Session.{Call, Start, Ask, Chunk, CopyEnd, CopyFail, Terminate, Happening, Did, Came, messages_in, requests_in, whole_in, rest_in, IsStartup, BeginsStartup, FitAll, IsSession, IsAside, IsAfterItsCall, can_answer, Expected, AreAllowed}
-use Rattle.pg_client.proofs.History.{all_front, requests_in-more}
+use Rattle.pg_client.proofs.Happening.{all_front, requests_in-more}
 use Rattle.pg_client.proofs.OneMessage.{put_after, segments-more}
 use Rattle.pg_client.proofs.Outcomes.{kept_with, without_asides-append}
 use Rattle.pg_client.proofs.Ordering.{messages_in-append}

@@ -19,7 +19,7 @@ use Rattle.pg_client.specs.Turns.{Turn, turns_of, calls_in}
 use Rattle.pg_client.specs.Answering.{turns_in, turns_with, with_copy, last_copies, copies_ended, copies_begun, IsChunkOrAside, IsCopyingSince}
 use Rattle.pg_client.proofs.Agreeing.{never_ends, no_copy_in, aside_says_nothing, is_aside, not_ready, copying_begun, answer_is_said}
 use Rattle.pg_client.proofs.Beginnings.{segments_did, segments_came, requests_came, AreAsked, AllAfter, after_begins, allowed_begins, kept_aside, along, are_asked, are_answered}
-use Rattle.pg_client.proofs.History.{requests_in-more, IsStarted-more, copy_answer_from-more}
+use Rattle.pg_client.proofs.Happening.{requests_in-more, IsStarted-more, copy_answer_from-more}
 use Rattle.pg_client.proofs.OneMessage.{put_after}
 use Rattle.pg_client.proofs.Said.{IsCopyAwaited, copy_awaited}
 use Rattle.pg_client.proofs.Ordering.{messages_in-append, calls_in-append, turns_more}

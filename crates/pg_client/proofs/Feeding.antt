@@ -33,7 +33,7 @@ use Rattle.pg_client.specs.Judged.{Stands}
 use Rattle.pg_client.specs.Private.Feeding.{Knows, HearsNothing, MovesBy, HearsOne, HearsNext, HearsAll, IsHearing, leaving}
 use Rattle.pg_client.proofs.Agreeing.{answer_is_said}
 use Rattle.pg_client.proofs.Faults.{fault_for}
-use Rattle.pg_client.proofs.History.{Hears as Judges, hears, expected_came, rejected_unexpected}
+use Rattle.pg_client.proofs.Happening.{Hears as Judges, hears, expected_came, rejected_unexpected}
 use Rattle.pg_client.proofs.Messages.{IsNamed, fault_named}
 use Rattle.pg_client.proofs.Accepting.{open_stand, not_handed_back, sent_more, spelled_more, not_terminated_more, allowed_more}
 use Rattle.pg_client.proofs.Merging.{MadeBefore, merged-came, with_ends-more}

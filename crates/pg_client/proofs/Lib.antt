@@ -5,7 +5,7 @@ pub mod Outcomes
 pub mod Startup
 pub mod Said
 pub mod OneMessage
-pub mod History
+pub mod Happening
 pub mod FactsHold
 pub mod Merging
 pub mod Encoded

@@ -19,7 +19,7 @@ use Rattle.pg_client.specs.History.{happenings, IsHistoryOf, with_given, with_ha
 use Rattle.pg_client.specs.Lost.{Loses, first_cause, HandsBack}
 use Rattle.pg_client.specs.Judged.{Stands}
 use Rattle.pg_client.proofs.FactsHold.{StandFacts, stand_facts}
-use Rattle.pg_client.proofs.History.{expected_nothing}
+use Rattle.pg_client.proofs.Happening.{expected_nothing}
 
 -- ---- the beginning
 

@@ -46,7 +46,7 @@ use Rattle.pg_client.specs.Private.Calling.{with_request}
 use Rattle.pg_client.specs.Private.Hearing.{fault_at}
 use Rattle.pg_client.specs.Judged.{Stands}
 use Rattle.pg_client.proofs.Agreeing.{no_copy_in}
-use Rattle.pg_client.proofs.History.{hears, did_start, expected_came, expected_did, expected_nothing}
+use Rattle.pg_client.proofs.Happening.{hears, did_start, expected_came, expected_did, expected_nothing}
 use Rattle.pg_client.proofs.Outcomes.{read_outcome}
 use Rattle.pg_client.proofs.Passwords.{comes_first}
 

@@ -13,7 +13,7 @@ use Rattle.pg_client.specs.declared.settings.Settings.{Settings}
 use Rattle.pg_client.specs.Session.{Call, Start, Ask, Chunk, CopyEnd, CopyFail, Terminate, Happening, Did, Came, requests_in, IsStarted, IsTerminated, AreAllowed}
 use Rattle.pg_client.specs.Sent.{call_messages, sent_by}
 use Rattle.pg_client.specs.Turns.{turn_messages, copies_of, turns_of, calls_in, greeting, farewell}
-use Rattle.pg_client.proofs.History.{requests_in-more, IsStarted-more}
+use Rattle.pg_client.proofs.Happening.{requests_in-more, IsStarted-more}
 
 -- ---- calls in order: start, then requests and their copies, then the end
 

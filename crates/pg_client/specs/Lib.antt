@@ -10,6 +10,7 @@ pub mod Feed
 pub mod Lost
 pub mod Facts
 pub mod Turns
+pub mod Spelled
 pub mod Answering
 -- How the client's place goes on from message to message. A history has these words; the law facts_of_a_run says what they mean in
 -- those above.
@@ -18,4 +19,3 @@ pub mod Machine
 pub mod Judged
 -- Words of private functions, which no public contract cites.
 pub mod Private
-pub mod Spelled
