@@ -1,5 +1,5 @@
 -- A copy in and a query, and the turns that they are, by computation.
-use Rattle.std.proofs.Common.{◌≡◌, List, [], ◌∷◌, length, false, Some, None, refl}
+use Rattle.std.proofs.Common.{◌≡◌, List, [], ◌∷◌, length, map, false, Some, None, refl, sym, ap, arith}
 use Rattle.pg_wire.specs.message.BackMessage.{BackMessage}
 use Rattle.pg_wire.specs.message.BackMessage.TheVariants.{AuthOk, AuthCleartext, Ready, CommandComplete, NoticeResponse}
 use Rattle.pg_wire.specs.message.BackMessage.TheVariants as back
@@ -7,10 +7,11 @@ use Rattle.pg_wire.specs.message.FrontMessage.TheVariants as front
 use Rattle.pg_wire.specs.value.Status.TheVariants as status
 use Rattle.pg_wire.specs.declared.session.Request.{Request}
 use Rattle.pg_wire.specs.declared.session.Request.TheVariants.{Query}
+use Rattle.pg_client.specs.declared.settled.Settled.{Settled}
 use Rattle.pg_client.specs.Session.{Start, Ask, Chunk, CopyEnd, Terminate, Happening, Did, Came, rest_in, groups_in}
-use Rattle.pg_client.specs.History.{Calls, with_ends, merged}
+use Rattle.pg_client.specs.History.{Calls, with_ends, merged, blank, with_call, with_fed, with_heard}
 use Rattle.pg_client.specs.Turns.{turns_of, messages_behind}
-use Rattle.pg_client.specs.Answering.{calls_of, turns_in, turns_with, last_copies, copies_ended, copies_begun, IsCopyingSince}
+use Rattle.pg_client.specs.Answering.{calls_of, turns_in, turns_with, last_copies, copies_ended, copies_begun, IsCopyingSince, SettlesLast}
 
 abbrev copy : Request
 copy = Query (67 ∷ [])
@@ -76,3 +77,27 @@ chunks_since = record {
 -- a copy that was ended is answered with its request
 both_answered : length (groups_in (merged calls (with_ends 0 heard))) ≡ 1
 both_answered = refl
+
+-- a call is appended with its place
+call_appended : (with_call (record { user = 117 ∷ []; database = None; pairs = []; password = None; limit = 64 }) CopyEnd (record blank { fed = 82 ∷ 0 ∷ [] })).calls ≡ (CopyEnd, 2) ∷ []
+call_appended = refl
+
+-- a piece stands behind the rest, of which messages are heard
+piece_heard : (with_heard (begins ∷ []) (3 ∷ []) [] (with_fed (2 ∷ 3 ∷ []) (record blank { fed = 1 ∷ []; rest = 1 ∷ [] }))) ≡ record blank { fed = 1 ∷ 2 ∷ 3 ∷ []; heard = begins ∷ []; rest = 3 ∷ [] }
+piece_heard = refl
+
+abbrev group : Request → Settled
+group r = record { request = r; outcome = record { parts = []; error = None; status = status.Idle; asides = [] } }
+
+-- the request that was asked last settles
+last_settles : SettlesLast (copy ∷ select ∷ []) (group copy ∷ []) [] (group select ∷ [])
+last_settles = record {
+  fresh = group select ∷ [];
+  behind = refl;
+  one_at_most = omega arith;
+  last = λ t e. ap (λ (ts : List Settled). copy ∷ map (λ (s : Settled). s.request) ts) e;
+}
+
+-- and no other one
+other_settles : SettlesLast (copy ∷ select ∷ []) [] [] (group copy ∷ []) → ⊥
+other_settles h = let e : copy ∷ select ∷ [] ≡ copy ∷ [] = h.last (group copy) (sym h.behind) in cc
