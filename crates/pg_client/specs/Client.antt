@@ -32,26 +32,31 @@ pub record ClientView : Type 0 where
   pub key : Option (ℤ × ℤ)
   pub closed : Option Cause
 
+-- the first of the two that is there
 abbrev pub or_else : {A : Type 0} → Option A → Option A → Option A
 or_else (Some a) other = Some a
 or_else None other = other
 
 -- ---- phases
 
+-- the phase of a copy in: the server waits for its data until the client has said how it ends
 abbrev pub copying_phase : CopyAnswer → Phase
 copying_phase Awaited = phase.CopyingIn
 copying_phase _ = phase.Busy
 
+-- the phase while a request is outstanding
 abbrev pub busy_phase_of : Stage → CopyAnswer → Phase
 busy_phase_of (Within (begun.CopyIn head)) answer = copying_phase answer
 busy_phase_of _ answer = phase.Busy
 
+-- the phase of a client that stands there and isn't closed
 abbrev pub stand_phase : Stand → Phase
 stand_phase stands.New = phase.New
 stand_phase (stands.Starting w) = phase.Starting
 stand_phase (stands.Idle asides) = phase.Ready
 stand_phase (stands.Busy request parts stage asides answer) = busy_phase_of stage answer
 
+-- the phase by where it stands and why it is closed
 abbrev pub phase_with : Option Cause → Stand → Phase
 phase_with (Some c) stand = phase.Closed c
 phase_with None stand = stand_phase stand
@@ -67,6 +72,7 @@ IsOpenPhase _ = Unit {0}
 
 -- ---- what the messages said
 
+-- what the last message said that said something, or else what was said before
 abbrev pub last_from : {A : Type 0} → (BackMessage → Option A) → Option A → List BackMessage → Option A
 last_from says old [] = old
 last_from says old (m ∷ ms) = last_from says (or_else (says m) old) ms
@@ -97,6 +103,7 @@ abbrev pub unsettled_of : Stand → Option Request
 unsettled_of (stands.Busy request parts stage asides answer) = Some request
 unsettled_of _ = None
 
+-- whether an error came in the segment
 abbrev pub stage_failed : Stage → Bool
 stage_failed (Within o) = false
 stage_failed (Failed fields) = true

@@ -22,6 +22,7 @@ IsFresh hs = IsStarting hs × (without_asides (rest_in hs) ≡ [])
 abbrev pub AsksOther : BackMessage → Type 0
 AsksOther m = (code : ℤ) × (bytes : List ℕ) × (m ≡ AuthOther code bytes)
 
+-- The message is an error.
 abbrev pub IsError : BackMessage → Type 0
 IsError m = (fields : Fields) × (m ≡ ErrorResponse fields)
 

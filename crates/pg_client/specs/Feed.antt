@@ -40,5 +40,6 @@ abbrev pub FeedsWith : Option Cause → ClientView → List ℕ → Result Unit 
 FeedsWith (Some c) old piece result new before after = (result ≡ Err feeding.Closed) × (new ≡ old) × (after ≡ before)
 FeedsWith None old piece result new before after = FeedsOpen old piece result new before after
 
+-- What feed does.
 abbrev pub Feeds : ClientView → List ℕ → Result Unit FeedFault → ClientView → List ℕ → List ℕ → Type 0
 Feeds old piece result new before after = FeedsWith old.closed old piece result new before after

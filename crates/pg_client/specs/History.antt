@@ -20,6 +20,7 @@ use Rattle.pg_client.specs.Judged.{Stands}
 abbrev pub Calls : Type 0
 Calls = List (Call × ℕ)
 
+-- what was done with a client and what it did, up to a time
 pub record History : Type 0 where
   pub calls : Calls
   -- the bytes that the client was fed, the messages that it heard of them, and the rest, of which it heard nothing
@@ -72,6 +73,7 @@ AreOrdered (c ∷ d ∷ cs) = (c.1 ≤ d.1) × AreOrdered (d ∷ cs)
 pub record IsHistoryOf (h : History) (client : ClientView) : Type 0 where
   -- the bytes are the messages and the rest
   pub stream : IsStream backend client.settings.limit h.fed h.heard h.rest
+  -- the calls stand in their order among these bytes, and each was allowed when it was made
   pub places : AllByRecursion (λ c. c.1 ≤ length h.fed) h.calls
   pub ordered : AreOrdered h.calls
   pub allowed : AreAllowed (happenings h)

@@ -45,6 +45,7 @@ call_messages CopyEnd = front.CopyDone ∷ []
 call_messages (CopyFail reason) = front.CopyFail reason ∷ []
 call_messages Terminate = front.Terminate ∷ []
 
+-- the bytes that a call sends
 abbrev pub sent_by : Settings → Call → List ℕ
 sent_by settings Start = packet (Startup (startup_pairs settings))
 sent_by settings c = flat_map (spelling frontend) (call_messages c)
@@ -54,6 +55,7 @@ abbrev pub IsSpelled : Settings → Call → Type 0
 IsSpelled settings Start = IsPacket (Startup (startup_pairs settings)) × AllByRecursion (HasSpelling frontend) (password_messages settings.password)
 IsSpelled settings c = AllByRecursion (HasSpelling frontend) (call_messages c)
 
+-- the bytes that go out as this happens
 abbrev pub sent_at : Settings → Happening → List ℕ
 sent_at settings (Did c) = sent_by settings c
 sent_at settings (Came m) = flat_map (spelling frontend) (answer_to settings m)
@@ -62,6 +64,7 @@ sent_at settings (Came m) = flat_map (spelling frontend) (answer_to settings m)
 abbrev pub sent_in : Settings → List Happening → List ℕ
 sent_in settings hs = flat_map (sent_at settings) hs
 
+-- All that goes out as this happens has a spelling.
 abbrev pub IsSpelledAt : Settings → Happening → Type 0
 IsSpelledAt settings (Did c) = IsSpelled settings c
 IsSpelledAt settings (Came m) = AllByRecursion (HasSpelling frontend) (answer_to settings m)

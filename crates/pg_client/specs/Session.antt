@@ -21,6 +21,7 @@ pub data Call : Type 0 where
   CopyFail : List ℕ → Call
   Terminate : Call
 
+-- such a call, or a message that came
 pub data Happening : Type 0 where
   Did : Call → Happening
   Came : BackMessage → Happening
