@@ -9,16 +9,16 @@ use Rattle.pg_wire.specs.message.FrontMessage.{FrontMessage}
 use Rattle.pg_wire.specs.declared.session.Request.{Request}
 use Rattle.pg_wire.specs.declared.session.Request.TheVariants as request
 use Rattle.pg_wire.specs.declared.session.Step.{Step}
-use Rattle.pg_backend.specs.declared.meaning.Meaning.{Meaning}
-use Rattle.pg_backend.specs.declared.meaning.Meaning.TheVariants.{Asks, Adds, Closes, Drops, Leaves, Strays}
-use Rattle.pg_backend.specs.declared.script.Answer.{Answer}
-use Rattle.pg_backend.specs.declared.script.Logged.{Logged}
-use Rattle.pg_backend.specs.Answers.{answer_for}
-use Rattle.pg_backend.specs.Replies.{Verdict, verdict}
-use Rattle.pg_backend.specs.Session.{meaning, Exchange, exchange, Between, Copying, Session, only, place_after, begun, read, cut, session, farewell, fatal_unexpected, said, replies, decided, log_of}
+use Rattle.pg_script.specs.declared.meaning.Meaning.{Meaning}
+use Rattle.pg_script.specs.declared.meaning.Meaning.TheVariants.{Asks, Adds, Closes, Drops, Leaves, Strays}
+use Rattle.pg_script.specs.declared.script.Answer.{Answer}
+use Rattle.pg_script.specs.declared.script.Logged.{Logged}
+use Rattle.pg_script.specs.Answers.{answer_for}
+use Rattle.pg_script.specs.Replies.{Verdict, verdict}
+use Rattle.pg_script.specs.Session.{meaning, Exchange, exchange, Between, Copying, Session, only, place_after, begun, read, cut, session, farewell, fatal_unexpected, said, replies, decided, log_of}
 use Rattle.pg_backend.specs.Standing.{prepend, Reading}
 use Rattle.pg_backend.specs.Private.Moves.{opened, between}
-use Rattle.pg_backend.proofs.Grows.{no_farewell_after}
+use Rattle.pg_script.proofs.Grows.{no_farewell_after}
 
 said_prepend : (done : List Exchange) (s : Session) → said (prepend done s) ≡ flat_map (λ e. e.reply) done ++ said s
 said_prepend done s = rw (flat_map-append (λ (e : Exchange). e.reply) done s.exchanges)

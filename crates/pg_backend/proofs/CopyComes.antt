@@ -8,23 +8,23 @@ use Rattle.pg_wire.specs.value.CopyHead.{CopyHead}
 use Rattle.pg_wire.specs.value.ErrorField.{ErrorField}
 use Rattle.pg_wire.specs.message.FrontMessage.{FrontMessage}
 use Rattle.pg_wire.specs.declared.session.Request.{Request}
-use Rattle.pg_backend.specs.declared.meaning.InCopy.{InCopy}
-use Rattle.pg_backend.specs.declared.meaning.InCopy.TheVariants as copy
-use Rattle.pg_backend.specs.declared.script.Answer.{Answer}
-use Rattle.pg_backend.specs.declared.script.Load.{Load}
-use Rattle.pg_backend.specs.declared.script.Load.TheVariants.{Accept, Refuse}
-use Rattle.pg_backend.specs.declared.script.ScriptPart.{ScriptPart}
-use Rattle.pg_backend.specs.declared.script.ScriptPart.TheVariants as part
-use Rattle.pg_backend.specs.Answers.{answer_for, others}
-use Rattle.pg_backend.specs.Copies.{in_copy, canceled, out_of_copy, CopyEnd, accepted, refused, copy_end}
-use Rattle.pg_backend.specs.Replies.{Shape, Whole, Copies, shape, after_part, Verdict, verdict, at_copy_end, outcome_at, aside_message, parts_sent, after_end, after_copy, reply}
-use Rattle.pg_backend.specs.Session.{Exchange, exchange, Place, Between, Terminated, Session, only, copy_place, begun, begin, cut, farewell, said, decided}
+use Rattle.pg_script.specs.declared.meaning.InCopy.{InCopy}
+use Rattle.pg_script.specs.declared.meaning.InCopy.TheVariants as copy
+use Rattle.pg_script.specs.declared.script.Answer.{Answer}
+use Rattle.pg_script.specs.declared.script.Load.{Load}
+use Rattle.pg_script.specs.declared.script.Load.TheVariants.{Accept, Refuse}
+use Rattle.pg_script.specs.declared.script.ScriptPart.{ScriptPart}
+use Rattle.pg_script.specs.declared.script.ScriptPart.TheVariants as part
+use Rattle.pg_script.specs.Answers.{answer_for, others}
+use Rattle.pg_script.specs.Copies.{in_copy, canceled, out_of_copy, CopyEnd, accepted, refused, copy_end}
+use Rattle.pg_script.specs.Replies.{Shape, Whole, Copies, shape, after_part, Verdict, verdict, at_copy_end, outcome_at, aside_message, parts_sent, after_end, after_copy, reply}
+use Rattle.pg_script.specs.Session.{Exchange, exchange, Place, Between, Terminated, Session, only, copy_place, begun, begin, cut, farewell, said, decided}
 use Rattle.pg_backend.specs.Standing.{prepend, Behind, chunks_in, AllWait, NotRefused, Undecided}
 use Rattle.pg_backend.specs.Private.Moves.{before_copy, behind_copy, Effect, Decides, Keeps, Abandons, effect, has_effect}
 use Rattle.pg_backend.proofs.Comes.{Beyond, Grown, grown, now}
 use Rattle.pg_backend.proofs.Counting.{accepted_on, refused_on}
 use Rattle.pg_backend.proofs.Goes.{passes}
-use Rattle.pg_backend.proofs.Grows.{no_farewell_copy, said_open}
+use Rattle.pg_script.proofs.Grows.{no_farewell_copy, said_open}
 use Rattle.std.proofs.lemmas.Option.{same_Some}
 
 -- ---- where a copy stands in its answer

@@ -5,14 +5,14 @@ use Rattle.pg_wire.specs.message.FrontMessage.{FrontMessage}
 use Rattle.pg_wire.specs.declared.session.Request.{Request}
 use Rattle.pg_wire.specs.declared.session.Request.TheVariants as request
 use Rattle.pg_wire.specs.declared.session.Step.{Step}
-use Rattle.pg_backend.specs.declared.script.Answer.{Answer}
-use Rattle.pg_backend.specs.Answers.{answer_for, others}
-use Rattle.pg_backend.specs.Replies.{Verdict, verdict}
-use Rattle.pg_backend.specs.Copies.{in_copy}
-use Rattle.pg_backend.specs.declared.meaning.Meaning.TheVariants.{Asks, Adds, Closes, Drops}
-use Rattle.pg_backend.specs.Session.{meaning, Exchange, exchange, Place, Session, copy_place, begun, begin, read, cut, session}
+use Rattle.pg_script.specs.declared.script.Answer.{Answer}
+use Rattle.pg_script.specs.Answers.{answer_for, others}
+use Rattle.pg_script.specs.Replies.{Verdict, verdict}
+use Rattle.pg_script.specs.Copies.{in_copy}
+use Rattle.pg_script.specs.declared.meaning.Meaning.TheVariants.{Asks, Adds, Closes, Drops}
+use Rattle.pg_script.specs.Session.{meaning, Exchange, exchange, Place, Session, copy_place, begun, begin, read, cut, session}
 use Rattle.pg_backend.specs.Standing.{prepend, Reading, Behind}
-use Rattle.pg_backend.proofs.More.{verdict_more, reply_more}
+use Rattle.pg_script.proofs.More.{verdict_more, reply_more}
 
 pub starts : (answers : List Answer) → Reading answers [] [] answers []
 starts answers = record { goes_on = λ more. refl }

@@ -1,15 +1,10 @@
--- Laws of the definitions, and what a machine has to know of what came before.
-pub mod More
-pub mod Grows
+-- What a machine has to know of what came before.
 pub mod Goes
 pub mod Counting
-pub mod Leaving
 pub mod Comes
 pub mod CopyComes
 pub mod Moved
 pub mod Led
-pub mod Tellings
-pub mod InStep
 pub mod Splits
 pub mod AtOnce
 pub mod NextAnswer
@@ -20,13 +15,3 @@ pub mod Greeted
 pub mod PacketHandled
 pub mod MessageHandled
 pub mod StepHandled
-pub mod Growing
-pub mod Meant
-pub mod Segments
-pub mod OneCopy
-pub mod TurnLaws
-pub mod PartOfTurns
-pub mod Loads
-pub mod Rows
-pub mod CopyRows
-pub mod TurnRows

@@ -8,15 +8,15 @@ use Rattle.pg_wire.specs.message.First.{First}
 use Rattle.pg_wire.specs.message.First.TheVariants as first
 use Rattle.pg_wire.specs.First.{packet, is_last, IsPacket}
 use Rattle.pg_wire.specs.FirstDecoder.{FirstState, HasBegun, FirstTakes}
-use Rattle.pg_backend.specs.declared.script.Answer.{Answer}
-use Rattle.pg_backend.specs.declared.script.Logged.{Logged}
-use Rattle.pg_backend.specs.declared.script.Script.{Script}
+use Rattle.pg_script.specs.declared.script.Answer.{Answer}
+use Rattle.pg_script.specs.declared.script.Logged.{Logged}
+use Rattle.pg_script.specs.declared.script.Script.{Script}
 use Rattle.pg_backend.specs.declared.stage.Ending.TheVariants as ending
 use Rattle.pg_backend.specs.declared.stage.Stage.{Stage}
 use Rattle.pg_backend.specs.declared.stage.Stage.TheVariants as stage
-use Rattle.pg_backend.specs.Session.{Stray}
-use Rattle.pg_backend.specs.Opening.{Sent, No, Says, user_from, no_user, asked, admission, admission_messages, sent_for}
-use Rattle.pg_backend.specs.Input.{Input, is_started, Takes, packet_taken, IsSpelled, sent_bytes, packets_log, admission_log, admission_end, At, Opening, Refusal, End, packets_end, end_phase, IsStray}
+use Rattle.pg_script.specs.Session.{Stray}
+use Rattle.pg_script.specs.Opening.{Sent, No, Says, user_from, no_user, asked, admission, admission_messages, sent_for}
+use Rattle.pg_script.specs.Input.{Input, is_started, Takes, packet_taken, IsSpelled, sent_bytes, packets_log, admission_log, admission_end, At, Opening, Refusal, End, packets_end, end_phase, IsStray}
 use Rattle.pg_backend.specs.Backend.{BackendState, awaited_end, phase_of, phase_by, StandsAt, HasHandled}
 use Rattle.pg_backend.specs.Private.Advancing.{Effect, applied, packet_effect, startup_effect, Begun}
 use Rattle.pg_backend.specs.Private.Greeting.{awaits_first, greeting}

@@ -12,16 +12,17 @@ use Rattle.pg_wire.specs.Direction.{HasSpelling}
 use Rattle.pg_wire.specs.FirstDecoder.{FirstState}
 use Rattle.pg_backend.specs.declared.fault.BackendFault.{BackendFault}
 use Rattle.pg_backend.specs.declared.fault.BackendFault.TheVariants as faults
-use Rattle.pg_backend.specs.declared.script.Script.{Script}
+use Rattle.pg_script.specs.declared.script.Script.{Script}
 use Rattle.pg_backend.specs.declared.stage.Awaits.{Awaits}
 use Rattle.pg_backend.specs.declared.stage.Stage.{Stage}
 use Rattle.pg_backend.specs.declared.stage.Stage.TheVariants as stage
-use Rattle.pg_backend.specs.Opening.{Says}
-use Rattle.pg_backend.specs.Input.{sent_bytes, IsSpelled}
+use Rattle.pg_script.specs.Opening.{Says}
+use Rattle.pg_script.specs.Input.{sent_bytes, IsSpelled}
 use Rattle.pg_backend.specs.Backend.{BackendState}
 use Rattle.pg_backend.specs.Private.Greeting.{awaits_first, greeting, Greets}
 use Rattle.pg_backend.specs.Private.Sessions.{SessionState}
-use Rattle.pg_backend.specs.Private.Telling.{Tells, Puts}
+use Rattle.pg_script.specs.Telling.{Tells}
+use Rattle.pg_backend.specs.Private.Telling.{Puts}
 use Rattle.pg_backend.specs.Private.Advancing.{applied, named_effect, Sends}
 
 all_says : (ms : List BackMessage) → AllByRecursion (HasSpelling backend) ms → AllByRecursion IsSpelled (map Says ms)

@@ -11,9 +11,9 @@ use Rattle.pg_wire.specs.FirstDecoder.{FirstState}
 use Rattle.pg_wire.specs.Frontend.{frontend}
 use Rattle.pg_backend.specs.declared.fault.BackendFault.{BackendFault}
 use Rattle.pg_backend.specs.declared.fault.BackendFault.TheVariants as faults
-use Rattle.pg_backend.specs.declared.script.Answer.{Answer}
-use Rattle.pg_backend.specs.declared.script.Logged.{Logged}
-use Rattle.pg_backend.specs.declared.script.Script.{Script}
+use Rattle.pg_script.specs.declared.script.Answer.{Answer}
+use Rattle.pg_script.specs.declared.script.Logged.{Logged}
+use Rattle.pg_script.specs.declared.script.Script.{Script}
 use Rattle.pg_backend.specs.declared.stage.Awaits.{Awaits}
 use Rattle.pg_backend.specs.declared.stage.Ending.TheVariants as ending
 use Rattle.pg_backend.specs.declared.stage.Next.{Next}
@@ -21,9 +21,9 @@ use Rattle.pg_backend.specs.declared.stage.Next.TheVariants as next
 use Rattle.pg_backend.specs.declared.stage.Stage.{Stage}
 use Rattle.pg_backend.specs.declared.stage.Stage.TheVariants as stage
 use Rattle.std.proofs.lemmas.Option.{same_Some}
-use Rattle.pg_backend.specs.Session.{Stray}
-use Rattle.pg_backend.specs.Opening.{sent_for}
-use Rattle.pg_backend.specs.Input.{Input, Takes, IsSpelled, sent_bytes, last_word, At, packets_end}
+use Rattle.pg_script.specs.Session.{Stray}
+use Rattle.pg_script.specs.Opening.{sent_for}
+use Rattle.pg_script.specs.Input.{Input, Takes, IsSpelled, sent_bytes, last_word, At, packets_end}
 use Rattle.pg_backend.specs.Backend.{BackendState, IsSound, HasHandled, Handles}
 use Rattle.pg_backend.specs.Private.Moves.{move}
 use Rattle.pg_backend.specs.Private.Advancing.{packet_effect, message_effect, stray_tag, Advances, AdvancesUnlessClosed, is_refused}

@@ -10,22 +10,22 @@ use Rattle.pg_wire.specs.First.{IsBeginning, IsWholePacket, IsFaultyPacket, IsOp
 use Rattle.pg_wire.specs.FirstDecoder.{HasBegun}
 use Rattle.pg_wire.specs.Frontend.{frontend}
 use Rattle.pg_wire.specs.Stream.{IsFaulty, IsOpen}
-use Rattle.pg_backend.specs.declared.backend.BackPhase.{BackPhase}
-use Rattle.pg_backend.specs.declared.backend.BackPhase.TheVariants as phase
+use Rattle.pg_script.specs.declared.phase.BackPhase.{BackPhase}
+use Rattle.pg_script.specs.declared.phase.BackPhase.TheVariants as phase
 use Rattle.pg_backend.specs.declared.fault.BackendFault.{BackendFault}
 use Rattle.pg_backend.specs.declared.fault.BackendFault.TheVariants as faults
-use Rattle.pg_backend.specs.declared.script.Answer.{Answer}
-use Rattle.pg_backend.specs.declared.script.Logged.{Logged}
-use Rattle.pg_backend.specs.declared.script.Script.{Script}
+use Rattle.pg_script.specs.declared.script.Answer.{Answer}
+use Rattle.pg_script.specs.declared.script.Logged.{Logged}
+use Rattle.pg_script.specs.declared.script.Script.{Script}
 use Rattle.pg_backend.specs.declared.stage.Awaits.{Awaits}
 use Rattle.pg_backend.specs.declared.stage.Awaits.TheVariants as awaits
 use Rattle.pg_backend.specs.declared.stage.Ending.TheVariants as ending
 use Rattle.pg_backend.specs.declared.stage.Stage.{Stage}
 use Rattle.pg_backend.specs.declared.stage.Stage.TheVariants as stage
-use Rattle.pg_backend.specs.Lists.{Begins}
-use Rattle.pg_backend.specs.Session.{Copying, place_after, session, replies, log_of}
-use Rattle.pg_backend.specs.Opening.{Sent, Says, by_password, admission_messages, sent_for}
-use Rattle.pg_backend.specs.Input.{Input, is_started, IsInput, IsFaultyRest, IsOpenRest, Takes, transcript, output, IsSpelled, admission_log, packets_log, input_log, End, Asking, At, admission_end, packets_end, end_phase, input_phase, IsStray}
+use Rattle.pg_script.specs.Lists.{Begins}
+use Rattle.pg_script.specs.Session.{Copying, place_after, session, replies, log_of}
+use Rattle.pg_script.specs.Opening.{Sent, Says, by_password, admission_messages, sent_for}
+use Rattle.pg_script.specs.Input.{Input, is_started, IsInput, IsFaultyRest, IsOpenRest, Takes, transcript, output, IsSpelled, admission_log, packets_log, input_log, End, Asking, At, admission_end, packets_end, end_phase, input_phase, IsStray}
 use Rattle.pg_backend.specs.Standing.{Stands}
 
 -- the script, the limit, the answers that are left, where the backend stands with the bytes that it has not handled, and the log

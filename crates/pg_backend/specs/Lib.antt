@@ -1,15 +1,23 @@
--- What a reader must believe: what a script's answers come to and what is sent for them, and what each call does.
-pub mod Lists
-pub mod Answers
-pub mod Copies
-pub mod Replies
-pub mod Session
-pub mod Opening
-pub mod Input
-pub mod Check
+-- What a reader must believe: what each call does, and what a backend has handled of its input.
 pub mod Standing
-pub mod Turns
 pub mod Backend
-pub mod Laws
 -- Words of private functions, which no public contract cites.
 pub mod Private
+-- What pg_script defines and the contracts here speak of. Who uses pg_backend names it through these lines.
+pub use Rattle.pg_script.specs.Lists
+pub use Rattle.pg_script.specs.Answers
+pub use Rattle.pg_script.specs.Copies
+pub use Rattle.pg_script.specs.Replies
+pub use Rattle.pg_script.specs.Session
+pub use Rattle.pg_script.specs.Opening
+pub use Rattle.pg_script.specs.Input
+pub use Rattle.pg_script.specs.Check
+pub use Rattle.pg_script.specs.Turns
+pub use Rattle.pg_script.specs.Laws
+-- Its types.
+pub use Rattle.pg_script.specs.declared.script
+pub use Rattle.pg_script.specs.declared.meaning
+pub use Rattle.pg_script.specs.declared.phase
+pub use Rattle.pg_script.specs.declared.fault
+-- How a phase is stored: its code, by which two phases are compared.
+pub use Rattle.pg_script.specs.contracts.phase as phase_contracts

@@ -4,18 +4,18 @@ use Rattle.pg_wire.specs.value.CopyHead.{CopyHead}
 use Rattle.pg_wire.specs.message.FrontMessage.{FrontMessage}
 use Rattle.pg_wire.specs.declared.session.Request.{Request}
 use Rattle.pg_wire.specs.declared.session.Step.{Step}
-use Rattle.pg_backend.specs.declared.meaning.InCopy.{InCopy}
-use Rattle.pg_backend.specs.declared.meaning.InCopy.TheVariants as copy
-use Rattle.pg_backend.specs.declared.script.Answer.{Answer}
-use Rattle.pg_backend.specs.declared.script.Load.{Load}
-use Rattle.pg_backend.specs.declared.script.Load.TheVariants.{Accept, Refuse}
-use Rattle.pg_backend.specs.declared.script.ScriptPart.{ScriptPart}
+use Rattle.pg_script.specs.declared.meaning.InCopy.{InCopy}
+use Rattle.pg_script.specs.declared.meaning.InCopy.TheVariants as copy
+use Rattle.pg_script.specs.declared.script.Answer.{Answer}
+use Rattle.pg_script.specs.declared.script.Load.{Load}
+use Rattle.pg_script.specs.declared.script.Load.TheVariants.{Accept, Refuse}
+use Rattle.pg_script.specs.declared.script.ScriptPart.{ScriptPart}
 use Rattle.pg_backend.specs.declared.stage.Awaits.{Awaits}
 use Rattle.pg_backend.specs.declared.stage.Awaits.TheVariants as awaits
-use Rattle.pg_backend.specs.Answers.{answer_for, others}
-use Rattle.pg_backend.specs.Copies.{in_copy}
-use Rattle.pg_backend.specs.Replies.{Copies, shape}
-use Rattle.pg_backend.specs.Session.{Exchange, Session, begin, cut, session}
+use Rattle.pg_script.specs.Answers.{answer_for, others}
+use Rattle.pg_script.specs.Copies.{in_copy}
+use Rattle.pg_script.specs.Replies.{Copies, shape}
+use Rattle.pg_script.specs.Session.{Exchange, Session, begin, cut, session}
 
 abbrev pub prepend : List Exchange → Session → Session
 prepend done s = record { exchanges = done ++ s.exchanges; place = s.place }

@@ -2,19 +2,19 @@
 
 ghost use Rattle.std.specs.Prelude.{◌≡◌, ◌++◌, ◌∷◌, [], map, MatchOption, MatchResult, Ok, Err, Some};
 ghost use Rattle.pg_wire.specs.message.BackMessage.TheVariants.{Ready, CopyIn, CommandComplete};
-ghost use Rattle.pg_backend.specs.Answers.{parts_of};
-ghost use Rattle.pg_backend.specs.Replies.{aside_message, parts_sent, error_sent, end_sent, whole_outcome};
-ghost use Rattle.pg_backend.specs.declared.script.Load.TheVariants.{Refuse};
+ghost use Rattle.pg_script.specs.Answers.{parts_of};
+ghost use Rattle.pg_script.specs.Replies.{aside_message, parts_sent, error_sent, end_sent, whole_outcome};
+ghost use Rattle.pg_script.specs.declared.script.Load.TheVariants.{Refuse};
 ghost use Rattle.pg_backend.specs.Standing.{NotRefused};
 ghost use Rattle.pg_backend.specs.Private.Moves.{before_copy, behind_copy};
-ghost use Rattle.pg_backend.specs.Private.Telling.{Tells};
+ghost use Rattle.pg_script.specs.Telling.{Tells};
 ghost use Rattle.pg_backend.specs.Private.Answering.{IsSplit, Gives, BeginsCopy, Opens, Decides};
 
 use crate::fault::BackendFault;
-use crate::outcome::{copy_of_load, outcome, whole_outcome};
-use crate::script::{Answer, Load, Logged, ScriptPart};
 use crate::stage::Loading;
-use crate::telling::{Told, tell_all, tell_error, worse};
+use pg_script::outcome::{copy_of_load, outcome, whole_outcome};
+use pg_script::telling::{Told, tell_all, tell_error, worse};
+use pg_script::{Answer, Load, Logged, ScriptPart};
 use pg_wire::backend::{command_complete, copy_in, encode};
 use pg_wire::{BackMessage, CopyHead, EncodeFault, Fields, Request, Seq, Status};
 use std::alloc::Global;

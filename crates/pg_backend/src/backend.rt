@@ -2,8 +2,8 @@
 
 ghost use Rattle.std.specs.Prelude.{◌≡◌, ◌≤◌, ◌++◌, ◌∷◌, [], List, ℕ, false, Ok, Err, None, OnOk, MatchResult};
 ghost use Rattle.pg_backend.specs.declared.stage.Stage.{Stage};
-ghost use Rattle.pg_backend.specs.Check.{IsChecked};
-ghost use Rattle.pg_backend.specs.Input.{Input};
+ghost use Rattle.pg_script.specs.Check.{IsChecked};
+ghost use Rattle.pg_script.specs.Input.{Input};
 ghost use Rattle.pg_backend.specs.Backend.{phase_of, lost_stage, IsSound, Stores, Steps, HasHandled, Handles};
 ghost use Rattle.pg_backend.specs.Private.Moves.{move};
 ghost use Rattle.pg_backend.specs.Private.Advancing.{BreaksOff, Advances, AdvancesUnlessClosed, is_refused, TakesEffect, Hands, only_sends, named_effect, packet_effect};
@@ -11,37 +11,20 @@ ghost use Rattle.pg_wire.specs.message.BackMessage.TheVariants.{ErrorResponse};
 ghost use Rattle.pg_wire.specs.Direction.{IsLimit};
 ghost use Rattle.pg_wire.specs.First.{is_last};
 ghost use Rattle.pg_backend.specs.declared.stage.Ending.TheVariants.{Input as ByInput, Memory as ByMemory};
-ghost use Rattle.pg_backend.specs.Opening.{No, Says, no_user};
+ghost use Rattle.pg_script.specs.Opening.{No, Says, no_user};
 
 use crate::answering::put;
 use crate::fault::BackendFault;
 use crate::opening::{admit, user};
-use crate::own_error::{fatal_bad, no_user};
-use crate::script::{Logged, Script};
 use crate::session::Session;
 use crate::stage::{Awaits, Ending, Next, Stage};
+use pg_script::own_error::{fatal_bad, no_user};
+use pg_script::{BackPhase, Logged, Script};
 use pg_wire::backend::error_response;
 use pg_wire::{First, FirstDecoder, FrontDecoder, FrontMessage, WireFault};
 use std::alloc::Global;
 use std::marker::Model;
 use std::mem;
-
-/// What a backend is doing.
-#[derive(Clone, Copy, Debug, PartialEq, Eq)]
-pub enum BackPhase {
-    /// It awaits first packets.
-    First,
-    /// It awaits a password.
-    Password,
-    /// It awaits a request.
-    Ready,
-    /// It awaits the next step of a group, or the Sync that makes the group a request.
-    Grouping,
-    /// It awaits the data of a copy that isn't decided.
-    CopyIn,
-    /// It is closed.
-    Closed,
-}
 
 /// The server's side of a connection, which answers from a script.
 ///

@@ -1,4 +1,4 @@
-//! Why a script or a step is refused.
+//! Why a call is refused.
 
 ghost use Rattle.std.specs.Prelude.{◌≡◌};
 ghost use Rattle.pg_backend.specs.declared.fault.BackendFault.TheVariants.{Memory};
@@ -6,20 +6,6 @@ ghost use Rattle.pg_backend.specs.declared.fault.BackendFault.TheVariants.{Memor
 use pg_wire::WireFault;
 use std::alloc::{AllocError, AllocFailed};
 use thiserror::Error;
-
-/// Why a script can't be played: the first of these that holds.
-#[derive(Clone, Copy, Debug, PartialEq, Eq, Error)]
-pub enum ScriptFault {
-    /// An answer has two or more copies from the client.
-    #[error("S1 Copies")]
-    Copies,
-    /// A message that the script stands for has no spelling, in an answer that fits its request or not.
-    #[error("S2 Encode")]
-    Encode,
-    /// Memory was refused.
-    #[error("S3 Memory")]
-    Memory,
-}
 
 /// Why a backend refuses a call.
 #[derive(Clone, Copy, Debug, PartialEq, Eq, Error)]

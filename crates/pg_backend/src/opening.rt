@@ -1,15 +1,15 @@
 //! The begin of a session.
 
 ghost use Rattle.std.specs.Prelude.{◌≡◌, ◌==◌, ◌<◌, [], length, IsTrue, ◌↔◌};
-ghost use Rattle.pg_backend.specs.Opening.{welcome, user_from};
+ghost use Rattle.pg_script.specs.Opening.{welcome, user_from};
 ghost use Rattle.pg_backend.specs.Private.Greeting.{Greets};
-ghost use Rattle.pg_backend.specs.Private.Telling.{Tells};
+ghost use Rattle.pg_script.specs.Telling.{Tells};
 
 use crate::answering::put;
 use crate::fault::BackendFault;
-use crate::script::{Auth, Script};
 use crate::stage::Awaits;
-use crate::telling::{tell_all, tell_key, worse};
+use pg_script::telling::{tell_all, tell_key, worse};
+use pg_script::{Auth, Script};
 use pg_wire::backend::encode;
 use pg_wire::{BackMessage, EncodeFault, Seq, Status, md5_answer};
 use std::alloc::Global;

@@ -1,22 +1,22 @@
 //! A session behind a Startup: what each message does.
 
 ghost use Rattle.std.specs.Prelude.{◌≡◌, ◌≤◌, ◌∷◌, ◌++◌, [], true, false, drop, MatchOption, Ok, Err};
-ghost use Rattle.pg_backend.specs.declared.meaning.InCopy.TheVariants.{Chunk};
-ghost use Rattle.pg_backend.specs.Answers.{answer_for, no_answer};
-ghost use Rattle.pg_backend.specs.Session.{meaning};
-ghost use Rattle.pg_backend.specs.Copies.{in_copy};
+ghost use Rattle.pg_script.specs.declared.meaning.InCopy.TheVariants.{Chunk};
+ghost use Rattle.pg_script.specs.Answers.{answer_for, no_answer};
+ghost use Rattle.pg_script.specs.Session.{meaning};
+ghost use Rattle.pg_script.specs.Copies.{in_copy};
 ghost use Rattle.pg_backend.specs.Private.Moves.{load_result, refuses_at, asked, between, effect, entered, entering, has_effect, move, decided, strays};
 ghost use Rattle.pg_backend.specs.Private.Answering.{Opens};
 ghost use Rattle.pg_backend.specs.Private.Sessions.{Notes, Moves};
 
 use crate::answering::{Opened, decide, open, put};
 use crate::fault::BackendFault;
-use crate::fitting::fits;
-use crate::meaning::{InCopy, Meaning, tag};
 use crate::opening::tell_welcome;
-use crate::own_error::{canceled, fatal_unexpected, no_answer, out_of_copy, wrong_password};
-use crate::script::{Answer, Load, Logged, Script};
 use crate::stage::{Awaits, Loading, Next};
+use pg_script::fitting::fits;
+use pg_script::meaning::{InCopy, Meaning, tag};
+use pg_script::own_error::{canceled, fatal_unexpected, no_answer, out_of_copy, wrong_password};
+use pg_script::{Answer, Load, Logged, Script};
 use pg_wire::backend::error_response;
 use pg_wire::{Fields, FrontMessage, Request, Seq, Step};
 use std::alloc::Global;

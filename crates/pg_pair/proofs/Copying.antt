@@ -4,7 +4,7 @@ use Rattle.pg_wire.specs.message.FrontMessage.{FrontMessage}
 use Rattle.pg_wire.specs.message.FrontMessage.TheVariants as front
 use Rattle.pg_client.specs.Turns as client
 use Rattle.pg_client.specs.Answering.{with_copy, last_copies, copies_ended}
-use Rattle.pg_backend.specs.declared.script.Answer.{Answer}
+use Rattle.pg_backend.specs.script.Answer.{Answer}
 use Rattle.pg_backend.specs.Answers.{others}
 use Rattle.pg_backend.specs.Turns.{is_copy, InTurn, IsCopy, AreCopied, chunks_of}
 use Rattle.pg_pair.specs.Applying.{with_chunk}

@@ -19,7 +19,7 @@ use Rattle.pg_client.specs.History.{happenings}
 use Rattle.pg_client.specs.Facts.{IsPhase}
 use Rattle.pg_client.specs.Turns.{turns_of, calls_in, farewell}
 use Rattle.pg_client.specs.Answering.{calls_of}
-use Rattle.pg_backend.specs.declared.backend.BackPhase.{BackPhase}
+use Rattle.pg_backend.specs.phase.BackPhase.{BackPhase}
 use Rattle.pg_backend.specs.declared.stage.Ending.TheVariants as ending
 use Rattle.pg_backend.specs.declared.stage.Stage.{Stage}
 use Rattle.pg_backend.specs.declared.stage.Stage.TheVariants as stage

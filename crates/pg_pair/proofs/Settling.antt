@@ -21,7 +21,7 @@ use Rattle.pg_client.specs.Facts.{SettledInOrder}
 use Rattle.pg_client.specs.Turns.{turns_of, calls_in, passwords, first_answer, messages_behind, greeting, farewell}
 use Rattle.pg_client.specs.Turns as client
 use Rattle.pg_client.specs.Answering.{calls_of, turns_in}
-use Rattle.pg_backend.specs.declared.script.Logged.{Logged}
+use Rattle.pg_backend.specs.script.Logged.{Logged}
 use Rattle.pg_backend.specs.Laws.{FitEach, AreFirstOf}
 use Rattle.pg_backend.specs.Lists.{Begins}
 use Rattle.pg_backend.specs.Opening.{welcome, asked}

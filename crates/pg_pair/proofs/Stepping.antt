@@ -3,13 +3,13 @@ use Rattle.std.proofs.Common.{◌≡◌, ◌≤◌, ℕ, true, false, Bool, List
 use Rattle.std.proofs.lemmas.List.{append-nil, take-append-le}
 use Rattle.pg_backend.specs.declared.fault.BackendFault.{BackendFault}
 use Rattle.pg_backend.specs.declared.fault.BackendFault.TheVariants as faults
-use Rattle.pg_backend.specs.declared.script.Script.{Script}
+use Rattle.pg_backend.specs.script.Script.{Script}
 use Rattle.pg_backend.specs.Backend.{BackendState, Steps, HasHandled, Handles, was_lost}
 use Rattle.pg_backend.specs.Check.{IsChecked}
 use Rattle.pg_backend.specs.Input.{Input, Takes, packet_taken, message_taken}
 use Rattle.pg_backend.specs.Turns.{InTurn}
-use Rattle.pg_backend.specs.declared.backend.BackPhase.{BackPhase}
-use Rattle.pg_backend.specs.declared.backend.BackPhase.TheVariants as back
+use Rattle.pg_backend.specs.phase.BackPhase.{BackPhase}
+use Rattle.pg_backend.specs.phase.BackPhase.TheVariants as back
 use Rattle.pg_pair.specs.declared.event.Applied.{Applied}
 use Rattle.pg_pair.specs.declared.event.Applied.TheVariants as applied
 use Rattle.pg_pair.specs.Applying.{is_closed_backend, TakesStep, OneStep, StepsIn}

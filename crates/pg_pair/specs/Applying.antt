@@ -13,8 +13,8 @@ use Rattle.pg_client.specs.History.{Carries, with_handed_back}
 use Rattle.pg_client.specs.Calls.{Accepts, RefusesUnless, RefusesCopy, RefusesEnd}
 use Rattle.pg_client.specs.Feed.{Feeds}
 use Rattle.pg_client.specs.Lost.{first_cause, HandsBack}
-use Rattle.pg_backend.specs.declared.backend.BackPhase.{BackPhase}
-use Rattle.pg_backend.specs.declared.backend.BackPhase.TheVariants as back
+use Rattle.pg_backend.specs.phase.BackPhase.{BackPhase}
+use Rattle.pg_backend.specs.phase.BackPhase.TheVariants as back
 use Rattle.pg_backend.specs.declared.fault.BackendFault.{BackendFault}
 use Rattle.pg_backend.specs.Backend.{BackendState, Stores, Steps, HasHandled, Handles, lost_stage}
 use Rattle.pg_backend.specs.Backend as backend

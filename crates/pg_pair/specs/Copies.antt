@@ -5,7 +5,7 @@ use Rattle.pg_client.specs.History.{Calls}
 use Rattle.pg_client.specs.Turns.{turns_of}
 use Rattle.pg_client.specs.Turns as client
 use Rattle.pg_client.specs.Answering.{calls_of}
-use Rattle.pg_backend.specs.declared.script.Logged.{Logged}
+use Rattle.pg_backend.specs.script.Logged.{Logged}
 use Rattle.pg_backend.specs.Turns.{Turn, is_copied_in, chunks_of}
 
 abbrev pub as_turn : client.Turn → Turn

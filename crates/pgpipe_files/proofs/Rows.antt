@@ -7,9 +7,9 @@ use Rattle.pg_wire.specs.declared.session.Request.TheVariants as request
 use Rattle.pg_wire.specs.declared.session.Step.TheVariants as step
 use Rattle.pg_wire.specs.value.Target.TheVariants as target
 use Rattle.pg_wire.specs.value.Status.TheVariants as status
-use Rattle.pg_backend.specs.declared.script.Auth.TheVariants as auth
-use Rattle.pg_backend.specs.declared.script.Script.{Script}
-use Rattle.pg_backend.specs.declared.script.ScriptPart.TheVariants as part
+use Rattle.pg_backend.specs.script.Auth.TheVariants as auth
+use Rattle.pg_backend.specs.script.Script.{Script}
+use Rattle.pg_backend.specs.script.ScriptPart.TheVariants as part
 use Rattle.pg_pair.specs.declared.event.Call.TheVariants as call
 use Rattle.pg_pair.specs.declared.event.Event.TheVariants as event
 use Rattle.hex.proofs.OnLiterals.{hex_on_literals}

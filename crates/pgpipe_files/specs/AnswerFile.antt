@@ -7,11 +7,11 @@ use Rattle.pg_wire.specs.declared.session.Aside.{Aside}
 use Rattle.pg_wire.specs.declared.session.Aside.TheVariants as aside
 use Rattle.pg_wire.specs.declared.session.ExecEnd.{ExecEnd}
 use Rattle.pg_wire.specs.declared.session.ExecEnd.TheVariants as end
-use Rattle.pg_backend.specs.declared.script.Answer.{Answer}
-use Rattle.pg_backend.specs.declared.script.Load.{Load}
-use Rattle.pg_backend.specs.declared.script.Load.TheVariants as load
-use Rattle.pg_backend.specs.declared.script.ScriptPart.{ScriptPart}
-use Rattle.pg_backend.specs.declared.script.ScriptPart.TheVariants as part
+use Rattle.pg_backend.specs.script.Answer.{Answer}
+use Rattle.pg_backend.specs.script.Load.{Load}
+use Rattle.pg_backend.specs.script.Load.TheVariants as load
+use Rattle.pg_backend.specs.script.ScriptPart.{ScriptPart}
+use Rattle.pg_backend.specs.script.ScriptPart.TheVariants as part
 use Rattle.pgpipe_files.specs.declared.answer_file.Open.{Open}
 use Rattle.pgpipe_files.specs.declared.answer_file.Types.{Types}
 use Rattle.pgpipe_files.specs.declared.verb.AnswerVerb.{AnswerVerb}

@@ -6,11 +6,11 @@ use Rattle.hex.specs.Hex.{decode_sized}
 use Rattle.pg_copy.specs.Row.{Row}
 use Rattle.pg_wire.specs.value.Status.{Status}
 use Rattle.pg_wire.specs.value.Status.TheVariants as status
-use Rattle.pg_backend.specs.declared.script.Answer.{Answer}
-use Rattle.pg_backend.specs.declared.script.Auth.{Auth}
-use Rattle.pg_backend.specs.declared.script.Auth.TheVariants as auth
-use Rattle.pg_backend.specs.declared.script.Key.{Key}
-use Rattle.pg_backend.specs.declared.script.Script.{Script}
+use Rattle.pg_backend.specs.script.Answer.{Answer}
+use Rattle.pg_backend.specs.script.Auth.{Auth}
+use Rattle.pg_backend.specs.script.Auth.TheVariants as auth
+use Rattle.pg_backend.specs.script.Key.{Key}
+use Rattle.pg_backend.specs.script.Script.{Script}
 use Rattle.pgpipe_files.specs.declared.answer_file.Open.{Open}
 use Rattle.pgpipe_files.specs.declared.answer_file.Types.{Types}
 use Rattle.pgpipe_files.specs.declared.verb.AuthWay.{AuthWay}

@@ -6,7 +6,7 @@ use Rattle.std.proofs.lemmas.List.{append-nil, map-append, take_more, length-dro
 use Rattle.std.proofs.lemmas.Grind.{flat_map-append}
 use Rattle.pg_copy.specs.Row.{Row, most_fields}
 use Rattle.pg_copy.specs.Text.{delimiter, newline, written_field, written_fields}
-use Rattle.pg_backend.specs.declared.script.Logged.{Logged}
+use Rattle.pg_backend.specs.script.Logged.{Logged}
 use Rattle.pgpipe_files.proofs.Lists.{take-least}
 use Rattle.pgpipe_loop.specs.LoopLines.{text_line, text_lines, most_chunks, loaded_row, loaded_rows_of, loaded_rows}
 use Rattle.pgpipe_loop.specs.Private.LineWriting.{LineState, whole_lines, separator, with_field, with_fields, with_end, with_row, with_rows}

@@ -2,8 +2,8 @@
 use Rattle.std.specs.Prelude.{ℕ, ◌≡◌, Bool, List, Result, Ok, Err, string_bytes}
 use Rattle.std.specs.List.{FoldsTo, concat}
 use Rattle.pg_wire.specs.Link.{HasRisen}
-use Rattle.pg_backend.specs.declared.fault.ScriptFault.{ScriptFault}
-use Rattle.pg_backend.specs.declared.script.Script.{Script}
+use Rattle.pg_backend.specs.fault.ScriptFault.{ScriptFault}
+use Rattle.pg_backend.specs.script.Script.{Script}
 use Rattle.pg_backend.specs.Check.{Checks}
 use Rattle.pg_pair.specs.Beginning.{IsBegun}
 use Rattle.pg_pair.specs.View.{PairView}

@@ -8,8 +8,8 @@ use Rattle.pgpipe_words.specs.declared.failure.Failure.{Failure}
 use Rattle.pgpipe_words.specs.declared.failure.Failure.TheVariants as failure
 use Rattle.pgpipe_convert.specs.declared.convert.Converted.{Converted}
 use Rattle.pgpipe_convert.specs.declared.convert.Converted.TheVariants as converted
-use Rattle.pg_backend.specs.declared.fault.ScriptFault.{ScriptFault}
-use Rattle.pg_backend.specs.declared.fault.ScriptFault.TheVariants as check
+use Rattle.pg_backend.specs.fault.ScriptFault.{ScriptFault}
+use Rattle.pg_backend.specs.fault.ScriptFault.TheVariants as check
 use Rattle.pgpipe_files.specs.declared.line_fault.LineFault.{LineFault}
 use Rattle.pgpipe_files.specs.declared.line_fault.LineFault.TheVariants as line
 use Rattle.pgpipe_loop.specs.declared.run_loop.Ran.{Ran}

@@ -1,6 +1,6 @@
 -- How SCRIPT and CALLS are read, with the files that CALLS names.
 use Rattle.std.specs.Prelude.{ℕ, ◌≡◌, ◌⊎◌, List, Some, None, Result, Ok, Err}
-use Rattle.pg_backend.specs.declared.script.Script.{Script}
+use Rattle.pg_backend.specs.script.Script.{Script}
 use Rattle.pgpipe_files.specs.declared.calls_file.Calls.{Calls}
 use Rattle.pgpipe_files.specs.declared.line_fault.LineFault.{LineFault}
 use Rattle.pgpipe_files.specs.declared.line_fault.LineFault.TheVariants.{Line}

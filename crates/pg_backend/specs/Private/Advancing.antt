@@ -11,19 +11,19 @@ use Rattle.pg_wire.specs.Decoder.{DecoderState}
 use Rattle.pg_wire.specs.Decoder as decoder
 use Rattle.pg_wire.specs.FirstDecoder.{FirstState, HasBegun, FirstTakes}
 use Rattle.pg_wire.specs.Frontend.{frontend}
-use Rattle.pg_backend.specs.declared.backend.BackPhase.TheVariants as phase
+use Rattle.pg_script.specs.declared.phase.BackPhase.TheVariants as phase
 use Rattle.pg_backend.specs.declared.fault.BackendFault.{BackendFault}
 use Rattle.pg_backend.specs.declared.fault.BackendFault.TheVariants as faults
-use Rattle.pg_backend.specs.declared.script.Answer.{Answer}
-use Rattle.pg_backend.specs.declared.script.Logged.{Logged}
+use Rattle.pg_script.specs.declared.script.Answer.{Answer}
+use Rattle.pg_script.specs.declared.script.Logged.{Logged}
 use Rattle.pg_backend.specs.declared.stage.Ending.TheVariants as ending
 use Rattle.pg_backend.specs.declared.stage.Next.{Next}
 use Rattle.pg_backend.specs.declared.stage.Next.TheVariants as next
 use Rattle.pg_backend.specs.declared.stage.Stage.{Stage}
 use Rattle.pg_backend.specs.declared.stage.Stage.TheVariants as stage
-use Rattle.pg_backend.specs.Lists.{Begins}
-use Rattle.pg_backend.specs.Opening.{Sent, No, Says, user_from, no_user}
-use Rattle.pg_backend.specs.Input.{sent_bytes, IsSpelled, last_word}
+use Rattle.pg_script.specs.Lists.{Begins}
+use Rattle.pg_script.specs.Opening.{Sent, No, Says, user_from, no_user}
+use Rattle.pg_script.specs.Input.{sent_bytes, IsSpelled, last_word}
 use Rattle.pg_backend.specs.Backend.{BackendState, phase_of, IsWaiting, IsBroken, WantsMemory}
 use Rattle.pg_backend.specs.Private.Greeting.{awaits_first, greeting}
 use Rattle.pg_backend.specs.Private.Moves.{Move, move}

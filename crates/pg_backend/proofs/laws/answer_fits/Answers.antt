@@ -1,5 +1,0 @@
-use Rattle.pg_backend.proofs.Meant.{answer_fits}
-use Rattle.pg_backend.proofs.laws.answer_fits.Goals as goal
-
-pub returns : goal.returns
-returns c = answer_fits

@@ -1,5 +1,0 @@
-use Rattle.pg_backend.proofs.Growing.{logs_grow}
-use Rattle.pg_backend.proofs.laws.log_grows.Goals as goal
-
-pub returns : goal.returns
-returns c = logs_grow

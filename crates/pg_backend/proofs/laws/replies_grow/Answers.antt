@@ -1,5 +1,0 @@
-use Rattle.pg_backend.proofs.Grows.{replies_grow}
-use Rattle.pg_backend.proofs.laws.replies_grow.Goals as goal
-
-pub returns : goal.returns
-returns c = replies_grow

@@ -1,5 +1,0 @@
-use Rattle.pg_backend.proofs.Meant.{reply_begins}
-use Rattle.pg_backend.proofs.laws.reply_begins.Goals as goal
-
-pub returns : goal.returns
-returns c = reply_begins

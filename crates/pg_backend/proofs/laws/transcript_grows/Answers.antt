@@ -1,5 +1,0 @@
-use Rattle.pg_backend.proofs.Growing.{transcript_grows}
-use Rattle.pg_backend.proofs.laws.transcript_grows.Goals as goal
-
-pub returns : goal.returns
-returns c = transcript_grows

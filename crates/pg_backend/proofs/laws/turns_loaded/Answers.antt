@@ -1,5 +1,0 @@
-use Rattle.pg_backend.proofs.Loads.{turns_loaded}
-use Rattle.pg_backend.proofs.laws.turns_loaded.Goals as goal
-
-pub returns : goal.returns
-returns c = turns_loaded

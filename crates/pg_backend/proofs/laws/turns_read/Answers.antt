@@ -1,5 +1,0 @@
-use Rattle.pg_backend.proofs.TurnLaws.{turns_read}
-use Rattle.pg_backend.proofs.laws.turns_read.Goals as goal
-
-pub returns : goal.returns
-returns c = turns_read

@@ -1,0 +1,5 @@
+use Rattle.pg_script.proofs.More.{reply_grows}
+use Rattle.pg_script.proofs.laws.reply_grows.Goals as goal
+
+pub returns : goal.returns
+returns c = reply_grows

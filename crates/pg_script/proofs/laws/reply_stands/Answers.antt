@@ -1,0 +1,5 @@
+use Rattle.pg_script.proofs.More.{reply_more}
+use Rattle.pg_script.proofs.laws.reply_stands.Goals as goal
+
+pub returns : goal.returns
+returns c = reply_more

@@ -1,0 +1,5 @@
+use Rattle.pg_script.proofs.TurnLaws.{turns_end}
+use Rattle.pg_script.proofs.laws.turns_end.Goals as goal
+
+pub returns : goal.returns
+returns c = turns_end

@@ -1,0 +1,5 @@
+use Rattle.pg_script.proofs.PartOfTurns.{turns_logged}
+use Rattle.pg_script.proofs.laws.turns_logged.Goals as goal
+
+pub returns : goal.returns
+returns c = turns_logged

@@ -1,0 +1,56 @@
+-- Which scripts can be played.
+use Rattle.std.specs.Prelude.{None, ◌≡◌, true, List, [], ◌∷◌, ◌++◌, map, Result, Ok, Err}
+use Rattle.std.specs.List.{flat_map, list_all, AllByRecursion}
+use Rattle.pg_wire.specs.message.BackMessage.{BackMessage}
+use Rattle.pg_wire.specs.message.BackMessage.TheVariants as back
+use Rattle.pg_wire.specs.Backend.{backend}
+use Rattle.pg_wire.specs.Direction.{encode_fault, HasSpelling}
+use Rattle.pg_wire.specs.Segment.{messages_of}
+use Rattle.pg_script.specs.declared.fault.ScriptFault.{ScriptFault}
+use Rattle.pg_script.specs.declared.fault.ScriptFault.TheVariants as faults
+use Rattle.pg_script.specs.declared.script.Answer.{Answer}
+use Rattle.pg_script.specs.declared.script.Load.TheVariants.{Refuse}
+use Rattle.pg_script.specs.declared.script.Script.{Script}
+use Rattle.pg_script.specs.declared.script.ScriptPart.{ScriptPart}
+use Rattle.pg_script.specs.declared.script.ScriptPart.TheVariants as part
+use Rattle.pg_script.specs.Answers.{complete, has_one_copy}
+use Rattle.pg_script.specs.Replies.{aside_message, error_sent}
+use Rattle.pg_script.specs.Opening.{pair_message, key_messages}
+
+-- the messages that a part stands for: those of the part that is complete, or of the copy that is refused
+abbrev pub part_messages : ScriptPart → List BackMessage
+part_messages (part.CopyIn head (Refuse after fields)) = back.CopyIn head ∷ back.ErrorResponse fields ∷ []
+part_messages p = flat_map messages_of (complete p)
+
+-- the messages that an answer stands for, whether it fits its request or not
+abbrev pub answer_messages : Answer → List BackMessage
+answer_messages a = map aside_message a.before ++ (flat_map part_messages a.parts ++ error_sent a.error)
+
+-- the messages that a script stands for
+abbrev pub script_messages : Script → List BackMessage
+script_messages s = map pair_message s.pairs ++ (key_messages s.key ++ flat_map answer_messages s.answers)
+
+-- Each answer has at most one copy from the client.
+abbrev pub HasOneCopyEach : Script → Type 0
+HasOneCopyEach s = list_all has_one_copy s.answers ≡ true
+
+-- Each message has a spelling.
+abbrev pub IsSpelledWhole : Script → Type 0
+IsSpelledWhole s = AllByRecursion (HasSpelling backend) (script_messages s)
+
+-- No message has a fault. That is the same, as the numbers of a program are of their types.
+abbrev pub HasNoFault : Script → Type 0
+HasNoFault s = AllByRecursion (λ m. encode_fault backend m ≡ None) (script_messages s)
+
+-- The script can be played.
+pub record IsChecked (s : Script) : Type 0 where
+  pub one_copy : HasOneCopyEach s
+  pub spelled : IsSpelledWhole s
+
+-- A check answers Ok where the script can be played, and else the first reason why it can't. Want of memory is answered only where
+-- there is no such reason.
+abbrev pub Checks : Script → Result Unit ScriptFault → Type 0
+Checks s (Ok x) = IsChecked s
+Checks s (Err faults.Copies) = HasOneCopyEach s → ⊥
+Checks s (Err faults.Encode) = HasOneCopyEach s × (HasNoFault s → ⊥)
+Checks s (Err faults.Memory) = HasOneCopyEach s × HasNoFault s

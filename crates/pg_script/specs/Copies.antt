@@ -1,0 +1,71 @@
+-- How a copy from the client ends ("COPY Operations").
+use Rattle.std.specs.Prelude.{ℕ, zero, suc, List, [], ◌∷◌, ◌++◌, Option, Some, None, option_map, map, take, codes, Result, Ok, Err}
+use Rattle.pg_wire.specs.value.ErrorField.{ErrorField}
+use Rattle.pg_wire.specs.message.FrontMessage.{FrontMessage}
+use Rattle.pg_wire.specs.message.FrontMessage.TheVariants as front
+use Rattle.pg_script.specs.declared.meaning.InCopy.{InCopy}
+use Rattle.pg_script.specs.declared.meaning.InCopy.TheVariants.{Chunk, Done, Fails, Waits, Leaves, Strays}
+use Rattle.pg_script.specs.declared.script.Load.{Load}
+use Rattle.pg_script.specs.declared.script.Load.TheVariants.{Accept, Refuse}
+use Rattle.pg_script.specs.Answers.{own_error}
+
+-- what a message of the client means during a copy
+abbrev pub in_copy : FrontMessage → InCopy
+in_copy (front.CopyData bytes) = Chunk bytes
+in_copy front.CopyDone = Done
+in_copy (front.CopyFail reason) = Fails reason
+in_copy front.Flush = Waits
+in_copy front.Sync = Waits
+in_copy front.Terminate = Leaves
+in_copy _ = Strays
+
+-- the error of a copy that the client gives up
+abbrev pub canceled : List ℕ → List ErrorField
+canceled reason = own_error (codes "ERROR") (codes "57014") (codes "COPY failed: " ++ take 200 reason)
+
+-- the error of a copy that another message ends
+abbrev pub out_of_copy : List ErrorField
+out_of_copy = own_error (codes "ERROR") (codes "08P01") (codes "unexpected message in COPY")
+
+-- the end of a copy: the chunks that were taken, the tag or the error that it ended with, and how many messages it took
+pub record CopyEnd : Type 0 where
+  pub loaded : List (List ℕ)
+  pub result : Result (List ℕ) (List ErrorField)
+  pub taken : ℕ
+
+-- a message that is no chunk ends the copy
+abbrev pub ended : Result (List ℕ) (List ErrorField) → Option CopyEnd
+ended result = Some (record { loaded = []; result = result; taken = 1 })
+
+-- the end of a copy behind one more message: a chunk, or one without effect
+abbrev pub with_chunk : List ℕ → CopyEnd → CopyEnd
+with_chunk bytes e = record { loaded = bytes ∷ e.loaded; result = e.result; taken = suc e.taken }
+
+abbrev pub with_wait : CopyEnd → CopyEnd
+with_wait e = record { loaded = e.loaded; result = e.result; taken = suc e.taken }
+
+-- how a copy ends that is accepted with this tag
+abbrev pub accepted : List ℕ → List InCopy → Option CopyEnd
+accepted tag [] = None
+accepted tag (Chunk bytes ∷ ms) = option_map (with_chunk bytes) (accepted tag ms)
+accepted tag (Done ∷ ms) = ended (Ok tag)
+accepted tag (Fails reason ∷ ms) = ended (Err (canceled reason))
+accepted tag (Strays ∷ ms) = ended (Err out_of_copy)
+accepted tag (Waits ∷ ms) = option_map with_wait (accepted tag ms)
+accepted tag (Leaves ∷ ms) = None
+
+-- how a copy ends that is refused with the n-th chunk from here
+abbrev pub refused : List ErrorField → ℕ → List InCopy → Option CopyEnd
+refused fields zero ms = Some (record { loaded = []; result = Err fields; taken = 0 })
+refused fields (suc n) [] = None
+refused fields (suc n) (Chunk bytes ∷ ms) = option_map (with_chunk bytes) (refused fields n ms)
+refused fields (suc n) (Done ∷ ms) = ended (Err fields)
+refused fields (suc n) (Fails reason ∷ ms) = ended (Err (canceled reason))
+refused fields (suc n) (Strays ∷ ms) = ended (Err out_of_copy)
+refused fields (suc n) (Waits ∷ ms) = option_map with_wait (refused fields (suc n) ms)
+refused fields (suc n) (Leaves ∷ ms) = None
+
+-- how a copy ends, if these messages end it
+abbrev pub copy_end : Load → List FrontMessage → Option CopyEnd
+copy_end (Accept tag) ms = accepted tag (map in_copy ms)
+copy_end (Refuse n fields) ms = refused fields n (map in_copy ms)

@@ -1,0 +1,108 @@
+-- What is sent from the begin of a connection on ("Start-up").
+use Rattle.std.specs.Prelude.{ℕ, List, [], ◌∷◌, ◌++◌, Option, Some, None, map, if◌then◌else◌, codes}
+use Rattle.std.specs.Str.{bytes_eq}
+use Rattle.pg_wire.specs.message.BackMessage.{BackMessage}
+use Rattle.pg_wire.specs.message.BackMessage.TheVariants as back
+use Rattle.pg_wire.specs.value.ErrorField.{ErrorField}
+use Rattle.pg_wire.specs.message.First.{First}
+use Rattle.pg_wire.specs.message.First.TheVariants as first
+use Rattle.pg_wire.specs.message.FrontMessage.{FrontMessage}
+use Rattle.pg_wire.specs.message.FrontMessage.TheVariants as front
+use Rattle.pg_wire.specs.value.Status.TheVariants.{Idle}
+use Rattle.pg_wire.specs.Password.{md5_text}
+use Rattle.pg_script.specs.declared.script.Auth.{Auth}
+use Rattle.pg_script.specs.declared.script.Auth.TheVariants.{Trust, Cleartext, Md5}
+use Rattle.pg_script.specs.declared.script.Key.{Key}
+use Rattle.pg_script.specs.declared.script.Script.{Script}
+use Rattle.pg_script.specs.Answers.{own_error}
+use Rattle.pg_script.specs.Session.{Place, Terminated, Stray, farewell, replies}
+
+-- ---- the first messages
+
+abbrev pub pair_message : List ℕ × List ℕ → BackMessage
+pair_message p = back.ParameterStatus p.0 p.1
+
+abbrev pub key_messages : Option Key → List BackMessage
+key_messages None = []
+key_messages (Some key) = back.KeyData key.process key.secret ∷ []
+
+-- authentication is done, the run-time parameters, the key, and the server is ready
+abbrev pub welcome : Script → List BackMessage
+welcome s = back.AuthOk ∷ (map pair_message s.pairs ++ key_messages s.key ++ back.Ready Idle ∷ [])
+
+-- ---- who is let in
+
+-- the last value of the name user, and where there is none the one given
+abbrev pub user_from : List ℕ → List (List ℕ × List ℕ) → List ℕ
+user_from user [] = user
+user_from user (p ∷ ps) = user_from (if bytes_eq p.0 (codes "user") then p.1 else user) ps
+
+-- the error of a Startup that names no user
+abbrev pub no_user : List ErrorField
+no_user = own_error (codes "FATAL") (codes "28000") (codes "no user in startup")
+
+-- the error of a password that isn't the one that is awaited
+abbrev pub wrong_password : List ErrorField
+wrong_password = own_error (codes "FATAL") (codes "28P01") (codes "password authentication failed")
+
+-- what a client is asked for
+abbrev pub question : Auth → List BackMessage
+question Trust = []
+question (Cleartext password) = back.AuthCleartext ∷ []
+question (Md5 password salt) = back.AuthMd5 salt ∷ []
+
+-- a client that names no user is asked for nothing
+abbrev pub asked : Auth → List ℕ → List BackMessage
+asked auth [] = []
+asked auth (c ∷ cs) = question auth
+
+-- what becomes of a client that has sent a Startup: it is refused; its password is awaited; its messages end before that, where it
+-- leaves or one can't stand there; or it is let in, and these messages come after
+pub data Admission : Type 0 where
+  Refused : (fields : List ErrorField) → Admission
+  Awaited : Admission
+  Stopped : (place : Place) → Admission
+  Admitted : (messages : List FrontMessage) → Admission
+
+-- the first message has to be this password
+abbrev pub by_password : List ℕ → List FrontMessage → Admission
+by_password expected [] = Awaited
+by_password expected (front.Password password ∷ ms) = if bytes_eq password expected then Admitted ms else Refused wrong_password
+by_password expected (front.Terminate ∷ ms) = Stopped Terminated
+by_password expected (m ∷ ms) = Stopped Stray
+
+-- how the script asks who the client is
+abbrev pub by_auth : Auth → List ℕ → List FrontMessage → Admission
+by_auth Trust user ms = Admitted ms
+by_auth (Cleartext password) user ms = by_password password ms
+by_auth (Md5 password salt) user ms = by_password (md5_text user password salt) ms
+
+abbrev pub admission : Auth → List ℕ → List FrontMessage → Admission
+admission auth [] ms = Refused no_user
+admission auth (c ∷ cs) ms = by_auth auth (c ∷ cs) ms
+
+abbrev pub admission_messages : Script → Admission → List BackMessage
+admission_messages s (Refused fields) = back.ErrorResponse fields ∷ []
+admission_messages s Awaited = []
+admission_messages s (Stopped place) = farewell place
+admission_messages s (Admitted ms) = welcome s ++ replies s.answers ms
+
+-- what is sent after a Startup with these parameters
+abbrev pub started : Script → List (List ℕ × List ℕ) → List FrontMessage → List BackMessage
+started s pairs ms =
+    let user = user_from [] pairs in asked s.auth user ++ admission_messages s (admission s.auth user ms)
+
+-- ---- all that is sent
+
+-- what a backend sends: the one byte N, or a message
+pub data Sent : Type 0 where
+  No : Sent
+  Says : (message : BackMessage) → Sent
+
+-- all that is sent for these first packets and the messages behind them
+abbrev pub sent_for : Script → List First → List FrontMessage → List Sent
+sent_for s [] ms = []
+sent_for s (first.Ssl ∷ packets) ms = No ∷ sent_for s packets ms
+sent_for s (first.Gss ∷ packets) ms = No ∷ sent_for s packets ms
+sent_for s (first.Cancel process secret ∷ packets) ms = []
+sent_for s (first.Startup pairs ∷ packets) ms = map Says (started s pairs ms)

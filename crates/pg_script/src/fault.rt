@@ -1,0 +1,17 @@
+//! Why a script is refused.
+
+use thiserror::Error;
+
+/// Why a script can't be played: the first of these that holds.
+#[derive(Clone, Copy, Debug, PartialEq, Eq, Error)]
+pub enum ScriptFault {
+    /// An answer has two or more copies from the client.
+    #[error("S1 Copies")]
+    Copies,
+    /// A message that the script stands for has no spelling, in an answer that fits its request or not.
+    #[error("S2 Encode")]
+    Encode,
+    /// Memory was refused.
+    #[error("S3 Memory")]
+    Memory,
+}
