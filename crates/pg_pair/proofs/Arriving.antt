@@ -1,5 +1,5 @@
 -- Bytes that reach an end keep what is so of a pair.
-use Rattle.std.proofs.Common.{◌≡◌, ◌≤◌, ◌+◌, ℕ, List, [], ◌++◌, None, Result, length, take, refl, ap, sym, subst, ◌∙◌, arith, length-append}
+use Rattle.std.proofs.Common.{◌≡◌, ◌≤◌, ◌+◌, ℕ, List, [], ◌++◌, None, Result, length, take, refl, ap, sym, subst, ◌∙◌}
 use Rattle.std.proofs.lemmas.List.{append-nil}
 use Rattle.std.proofs.Math.Seq.{take-add}
 use Rattle.pg_client.specs.declared.fault.FeedFault.{FeedFault}
@@ -10,10 +10,10 @@ use Rattle.pg_client.specs.Judged.{Stands}
 use Rattle.pg_backend.specs.declared.stage.Stage.{Stage}
 use Rattle.pg_backend.specs.declared.stage.Stage.TheVariants as stage
 use Rattle.pg_backend.specs.Backend.{BackendState, HasHandled, was_lost, stored}
-use Rattle.pg_pair.specs.Applying.{IsStored, reached_more}
-use Rattle.pg_pair.specs.Standing.{Tied}
+use Rattle.pg_pair.specs.Delivering.{IsStored, reached_more}
+use Rattle.pg_pair.specs.Invariant.{Tied}
 use Rattle.pg_pair.specs.View.{Stream, arrived, waiting, PairView}
-use Rattle.pg_pair.proofs.Stepping.{arrived_more}
+use Rattle.pg_pair.proofs.Ends.{backend_stays}
 
 -- with more bytes of those that wait
 arrived_with : (s : Stream) (bytes : List ℕ) → bytes ≡ take (length bytes) (waiting s) → arrived (reached_more s bytes) ≡ arrived s ++ bytes
@@ -56,8 +56,8 @@ fed_open old bytes result fed before after none feeds = subst (λ c. FeedsWith c
 
 pub heard_more : {C : Type 0} (p : PairView C) (t : Tied p) (bytes : List ℕ) (result : Result Unit FeedFault) (fed : ClientView) (sent : List ℕ)
     → p.client.closed ≡ None → (feeds : FeedsOpen p.client bytes result fed p.to_backend.sent sent)
-    → Hears (with_fed bytes t.history) bytes feeds.added result fed
-heard_more p t bytes result fed sent none feeds = feeds.hears t.history t.client_history
+    → Hears (with_fed bytes t.client.history) bytes feeds.added result fed
+heard_more p t bytes result fed sent none feeds = feeds.hears t.client.history t.client.is_history
 
 pub keeps_fed : {C : Type 0} (p : PairView C) (bytes : List ℕ) (result : Result Unit FeedFault) (fed : ClientView) (sent : List ℕ)
     → p.client.closed ≡ None → bytes ≡ take (length bytes) (waiting p.to_client) → WithinMore p.to_client bytes → Feeds p.client bytes result fed p.to_backend.sent sent
@@ -66,27 +66,20 @@ keeps_fed p bytes result fed sent none e within feeds t =
     let does = fed_open p.client bytes result fed p.to_backend.sent sent none feeds in
     let put : sent ≡ p.to_backend.sent ++ does.added = does.put in
     let hears = heard_more p t bytes result fed sent none does in
-    let heard : History = with_heard hears.more hears.rest does.added (with_fed bytes t.history) in
+    let heard : History = with_heard hears.more hears.rest does.added (with_fed bytes t.client.history) in
     record {
-      checked = t.checked;
-      limit_is = t.limit_is;
-      history = record heard { given = heard.given ++ fed.settled };
-      client_history = emptied heard fed hears.history;
-      fed_is = ap (λ l. l ++ bytes) t.fed_is ∙ sym (arrived_with p.to_client bytes e);
-      given_is = ap (λ l. l ++ fed.settled) t.given_is;
-      sent_is = ap (λ l. l ++ does.added) t.sent_is ∙ sym put;
-      places_are = t.places_are;
-      taken = refl;
-      input = t.input;
-      open_at_backend = t.open_at_backend;
-      handled = subst (λ l. HasHandled p.backend l t.input t.open_at_backend p.to_client.sent) (sym (ap (take p.to_backend.reached) put ∙ arrived_more p.to_backend does.added t.within_backend)) t.handled;
-      faultless = t.faultless;
-      not_lost = t.not_lost;
-      in_turn = t.in_turn;
-      copied = t.copied;
-      handed_are = t.handed_are;
-      within_backend = let n = ap length put in let w = t.within_backend in omega (arith, length-append p.to_backend.sent does.added);
-      within_client = within;
+      client = record {
+        history = record heard { given = heard.given ++ fed.settled };
+        is_history = emptied heard fed hears.history;
+        fed = ap (λ l. l ++ bytes) t.client.fed ∙ sym (arrived_with p.to_client bytes e);
+        given = ap (λ l. l ++ fed.settled) t.client.given;
+        sent = ap (λ l. l ++ does.added) t.client.sent ∙ sym put;
+        places = t.client.places;
+        taken = refl;
+        within = within;
+      };
+      backend = backend_stays p sent does.added put t.backend;
+      turns = t.turns;
     }
 
 -- ---- at the backend
@@ -104,51 +97,25 @@ pub keeps_stored : {C : Type 0} (p : PairView C) (bytes : List ℕ) (b : Backend
     → bytes ≡ take (length bytes) (waiting p.to_backend) → WithinMore p.to_backend bytes → IsStored p.backend bytes b → Tied p → Tied (stored_pair p bytes b)
 keeps_stored p bytes b e within stored_is t =
     let same : b ≡ record p.backend { stage = stored p.backend.stage bytes } = stored_is.stores.1 in
-    record {
-      checked = rw same (t.checked);
-      limit_is = rw same (t.limit_is);
-      history = t.history;
-      client_history = t.client_history;
-      fed_is = t.fed_is;
-      given_is = t.given_is;
-      sent_is = t.sent_is;
-      places_are = t.places_are;
-      taken = t.taken;
-      input = t.input;
-      open_at_backend = t.open_at_backend ++ bytes;
-      handled = subst (λ l. HasHandled b l t.input (t.open_at_backend ++ bytes) p.to_client.sent) (sym (arrived_with p.to_backend bytes e))
-          (stored_is.handled (arrived p.to_backend) t.input t.open_at_backend p.to_client.sent t.handled);
-      faultless = t.faultless;
-      not_lost = λ h. ap (λ x. was_lost x.stage) same ∙ stored_lost p.backend.stage bytes ∙ t.not_lost h;
-      in_turn = rw same (t.in_turn);
-      copied = t.copied;
-      handed_are = t.handed_are;
-      within_backend = within;
-      within_client = t.within_client;
-    }
+    let handled = stored_is.handled (arrived p.to_backend) t.backend.input t.backend.rest p.to_client.sent t.backend.handled in
+    subst (λ (x : BackendState). Tied (stored_pair p bytes x)) (sym same) (record {
+      client = t.client;
+      backend = record {
+        checked = t.backend.checked;
+        limit = t.backend.limit;
+        input = t.backend.input;
+        rest = t.backend.rest ++ bytes;
+        handled = subst (λ (x : BackendState). HasHandled x (arrived (reached_more p.to_backend bytes)) t.backend.input (t.backend.rest ++ bytes) p.to_client.sent) same
+            (subst (λ l. HasHandled b l t.backend.input (t.backend.rest ++ bytes) p.to_client.sent) (sym (arrived_with p.to_backend bytes e)) handled);
+        faultless = t.backend.faultless;
+        not_lost = λ h. stored_lost p.backend.stage bytes ∙ t.backend.not_lost h;
+        within = within;
+      };
+      turns = t.turns;
+    })
 
 -- ---- along the way
 
 -- what is so doesn't depend on the carrier
 pub keeps_carrier : {C : Type 0} (p : PairView C) (carrier : C) → Tied p → Tied (record p { carrier = carrier })
-keeps_carrier p carrier t = record {
-  checked = t.checked;
-  limit_is = t.limit_is;
-  history = t.history;
-  client_history = t.client_history;
-  fed_is = t.fed_is;
-  given_is = t.given_is;
-  sent_is = t.sent_is;
-  places_are = t.places_are;
-  taken = t.taken;
-  input = t.input;
-  open_at_backend = t.open_at_backend;
-  handled = t.handled;
-  faultless = t.faultless;
-  not_lost = t.not_lost;
-  in_turn = t.in_turn;
-  copied = t.copied;
-  handed_are = t.handed_are;
-  within_backend = t.within_backend;
-  within_client = t.within_client;
-}
+keeps_carrier p carrier t = record { client = t.client; backend = t.backend; turns = t.turns }

@@ -10,7 +10,7 @@ use Rattle.pg_client.specs.Judged.{Stands}
 use Rattle.pg_backend.specs.Backend.{BackendState, HasHandled, was_lost}
 use Rattle.pg_backend.specs.Check.{IsChecked}
 use Rattle.pg_pair.specs.Beginning.{silent}
-use Rattle.pg_pair.specs.Standing.{Tied}
+use Rattle.pg_pair.specs.Invariant.{Tied}
 
 none_settled : (was : Stand) (settled : List Settled) → Stands [] was settled → settled ≡ []
 none_settled stands.New settled h = h.1
@@ -22,23 +22,25 @@ pub begun_tied : {C : Type 0} (c : ClientView) (b : BackendState) (carrier : C) 
     → HasHandled b [] (record { packets = []; messages = []; faulty = false }) [] []
     → Tied (record { client = c; backend = b; carrier = carrier; to_backend = silent; to_client = silent; places = []; settled = []; handed = []; loss = None })
 begun_tied c b carrier begun checked limit not_lost handled = record {
-  checked = checked;
-  limit_is = limit;
-  history = blank;
-  client_history = begun;
-  fed_is = refl;
-  given_is = refl;
-  sent_is = refl;
-  places_are = refl;
-  taken = none_settled begun.was c.settled begun.stands;
-  input = record { packets = []; messages = []; faulty = false };
-  open_at_backend = [];
-  handled = handled;
-  faultless = refl;
-  not_lost = λ h. not_lost;
-  in_turn = tt;
-  copied = tt;
-  handed_are = refl;
-  within_backend = omega arith;
-  within_client = omega arith;
+  client = record {
+    history = blank;
+    is_history = begun;
+    fed = refl;
+    given = refl;
+    sent = refl;
+    places = refl;
+    taken = none_settled begun.was c.settled begun.stands;
+    within = omega arith;
+  };
+  backend = record {
+    checked = checked;
+    limit = limit;
+    input = record { packets = []; messages = []; faulty = false };
+    rest = [];
+    handled = handled;
+    faultless = refl;
+    not_lost = λ h. not_lost;
+    within = omega arith;
+  };
+  turns = record { in_turn = tt; copied = tt; handed = refl };
 }

@@ -6,8 +6,8 @@ use Rattle.pg_client.specs.History.{with_handed_back}
 use Rattle.pg_backend.specs.Backend.{BackendState, HasHandled, lost_stage}
 use Rattle.pg_backend.specs.Input.{Input}
 use Rattle.pg_pair.specs.declared.carry.Way.TheVariants.{ToClient}
-use Rattle.pg_pair.specs.Applying.{IsTold, broken, Breaks, is_closed, TellsClient}
-use Rattle.pg_pair.specs.Standing.{Tied}
+use Rattle.pg_pair.specs.Breaking.{Breaks, broken, is_closed, IsTold, TellsClient}
+use Rattle.pg_pair.specs.Invariant.{Tied}
 use Rattle.pg_pair.specs.View.{arrived, PairView}
 
 -- the pair after the way to the client broke, and after the way to the backend broke
@@ -16,25 +16,18 @@ client_told p c loss = record p { client = c; to_client = broken p.to_client; lo
 
 pub keeps_client_told : {C : Type 0} (p : PairView C) (c : ClientView) (loss : Loss) → IsTold p.client loss c → Tied p → Tied (client_told p c loss)
 keeps_client_told p c loss told t = record {
-  checked = t.checked;
-  limit_is = t.limit_is;
-  history = with_handed_back t.history;
-  client_history = told.history t.history t.client_history;
-  fed_is = t.fed_is;
-  given_is = t.given_is;
-  sent_is = t.sent_is;
-  places_are = t.places_are;
-  taken = told.settled ∙ t.taken;
-  input = t.input;
-  open_at_backend = t.open_at_backend;
-  handled = t.handled;
-  faultless = t.faultless;
-  not_lost = t.not_lost;
-  in_turn = t.in_turn;
-  copied = t.copied;
-  handed_are = t.handed_are;
-  within_backend = t.within_backend;
-  within_client = t.within_client;
+  client = record {
+    history = with_handed_back t.client.history;
+    is_history = told.history t.client.history t.client.is_history;
+    fed = t.client.fed;
+    given = t.client.given;
+    sent = t.client.sent;
+    places = t.client.places;
+    taken = told.settled ∙ t.client.taken;
+    within = t.client.within;
+  };
+  backend = t.backend;
+  turns = t.turns;
 }
 
 abbrev pub backend_told : {C : Type 0} → PairView C → BackendState → PairView C
@@ -44,27 +37,22 @@ backend_told p b = record p { backend = b; to_backend = broken p.to_backend }
 pub keeps_backend_told : {C : Type 0} (p : PairView C) (b : BackendState) → b ≡ record p.backend { stage = lost_stage p.backend.stage }
     → ((pushed : List ℕ) (i : Input) (rest sent : List ℕ) → HasHandled p.backend pushed i rest sent → HasHandled b pushed i rest sent)
     → Tied p → Tied (backend_told p b)
-keeps_backend_told p b e handled t = record {
-  checked = rw e t.checked;
-  limit_is = rw e (t.limit_is);
-  history = t.history;
-  client_history = t.client_history;
-  fed_is = t.fed_is;
-  given_is = t.given_is;
-  sent_is = t.sent_is;
-  places_are = t.places_are;
-  taken = t.taken;
-  input = t.input;
-  open_at_backend = t.open_at_backend;
-  handled = handled (arrived p.to_backend) t.input t.open_at_backend p.to_client.sent t.handled;
-  faultless = t.faultless;
-  not_lost = λ h. absurd cc;
-  in_turn = rw e (t.in_turn);
-  copied = t.copied;
-  handed_are = t.handed_are;
-  within_backend = t.within_backend;
-  within_client = t.within_client;
-}
+keeps_backend_told p b e handled t =
+    subst (λ (x : BackendState). Tied (backend_told p x)) (sym e) (record {
+      client = t.client;
+      backend = record {
+        checked = t.backend.checked;
+        limit = t.backend.limit;
+        input = t.backend.input;
+        rest = t.backend.rest;
+        handled = subst (λ (x : BackendState). HasHandled x (arrived p.to_backend) t.backend.input t.backend.rest p.to_client.sent) e
+            (handled (arrived p.to_backend) t.backend.input t.backend.rest p.to_client.sent t.backend.handled);
+        faultless = t.backend.faultless;
+        not_lost = λ h. absurd cc;
+        within = t.backend.within;
+      };
+      turns = t.turns;
+    })
 
 pub breaks_client : {C : Type 0} (p : PairView C) (c : ClientView) (loss : Loss) → is_closed ToClient p ≡ false → IsTold p.client loss c → Breaks ToClient p (client_told p c loss)
 breaks_client p c loss going told = subst (λ b. TellsClient b p (client_told p c loss)) (sym going) (loss, told, refl)
@@ -74,27 +62,7 @@ abbrev pub client_marked : {C : Type 0} → PairView C → PairView C
 client_marked p = record p { to_client = broken p.to_client }
 
 pub keeps_marked : {C : Type 0} (p : PairView C) → Tied p → Tied (client_marked p)
-keeps_marked p t = record {
-  checked = t.checked;
-  limit_is = t.limit_is;
-  history = t.history;
-  client_history = t.client_history;
-  fed_is = t.fed_is;
-  given_is = t.given_is;
-  sent_is = t.sent_is;
-  places_are = t.places_are;
-  taken = t.taken;
-  input = t.input;
-  open_at_backend = t.open_at_backend;
-  handled = t.handled;
-  faultless = t.faultless;
-  not_lost = t.not_lost;
-  in_turn = t.in_turn;
-  copied = t.copied;
-  handed_are = t.handed_are;
-  within_backend = t.within_backend;
-  within_client = t.within_client;
-}
+keeps_marked p t = record { client = t.client; backend = t.backend; turns = t.turns }
 
 pub breaks_closed : {C : Type 0} (p : PairView C) → is_closed ToClient p ≡ true → Breaks ToClient p (client_marked p)
 breaks_closed p closed = subst (λ b. TellsClient b p (client_marked p)) (sym closed) refl

@@ -1,5 +1,5 @@
 -- One more message for the copies of the last turn.
-use Rattle.std.proofs.Common.{◌≡◌, ℕ, suc, true, List, [], ◌∷◌, ◌++◌, map, length, refl, ap, sym, ◌∙◌, arith}
+use Rattle.std.proofs.Common.{◌≡◌, ℕ, true, List, [], ◌∷◌, ◌++◌, map, refl, ap, sym, arith}
 use Rattle.pg_wire.specs.message.FrontMessage.{FrontMessage}
 use Rattle.pg_wire.specs.message.FrontMessage.TheVariants as front
 use Rattle.pg_client.specs.Turns as client
@@ -7,7 +7,7 @@ use Rattle.pg_client.specs.Answering.{with_copy, last_copies, copies_ended}
 use Rattle.pg_backend.specs.script.Answer.{Answer}
 use Rattle.pg_backend.specs.Answers.{others}
 use Rattle.pg_backend.specs.Turns.{is_copy, InTurn, IsCopy, AreCopied, chunks_of}
-use Rattle.pg_pair.specs.Applying.{with_chunk}
+use Rattle.pg_pair.specs.Calling.{add_to_last}
 use Rattle.pg_pair.specs.Copies.{as_turn, handed_for}
 use Rattle.pg_pair.proofs.Beginnings.{all_of_both}
 
@@ -52,7 +52,7 @@ chunks_more [] bytes = refl
 chunks_more (front.CopyData b ∷ ms) bytes = ap (λ l. b ∷ l) (chunks_more ms bytes)
 chunks_more (_ ∷ ms) bytes = chunks_more ms bytes
 
-pub handed_chunk : (bytes : List ℕ) (ts : List client.Turn) → with_chunk bytes (handed_for (map as_turn ts)) ≡ handed_for (map as_turn (with_copy (front.CopyData bytes) ts))
+pub handed_chunk : (bytes : List ℕ) (ts : List client.Turn) → add_to_last bytes (handed_for (map as_turn ts)) ≡ handed_for (map as_turn (with_copy (front.CopyData bytes) ts))
 handed_chunk bytes [] = refl
 handed_chunk bytes (t ∷ []) = ap (λ l. l ∷ []) (sym (chunks_more t.copies bytes))
 handed_chunk bytes (t ∷ u ∷ us) = ap (λ l. chunks_of t.copies ∷ l) (handed_chunk bytes (u ∷ us))
@@ -76,25 +76,3 @@ pub handed_failed : (reason : List ℕ) (ts : List client.Turn) → handed_for (
 handed_failed reason [] = refl
 handed_failed reason (t ∷ []) = ap (λ l. l ∷ []) (sym (chunks_failed t.copies reason))
 handed_failed reason (t ∷ u ∷ us) = ap (λ l. chunks_of t.copies ∷ l) (handed_failed reason (u ∷ us))
-
--- ---- the last list, taken out and put back
-
-chunk_at_end : (bytes : List ℕ) (rest : List (List (List ℕ))) (x : List (List ℕ)) (xs : List (List (List ℕ))) → with_chunk bytes (rest ++ x ∷ xs) ≡ rest ++ with_chunk bytes (x ∷ xs)
-chunk_at_end bytes [] x xs = refl
-chunk_at_end bytes (h ∷ []) x xs = refl
-chunk_at_end bytes (h ∷ k ∷ hs) x xs = ap (λ l. h ∷ l) (chunk_at_end bytes (k ∷ hs) x xs)
-
-chunk_behind : (bytes : List ℕ) (rest l : List (List (List ℕ))) → (l ≡ [] → rest ≡ []) → with_chunk bytes (rest ++ l) ≡ rest ++ with_chunk bytes l
-chunk_behind bytes rest [] none = rw (none refl) refl
-chunk_behind bytes rest (x ∷ xs) none = chunk_at_end bytes rest x xs
-
--- what is handed over, where the last list was taken out, and put back with one chunk more
-pub chunk_added : (bytes : List ℕ) (handed rest before room after now : List (List (List ℕ))) → handed ≡ rest ++ before → (before ≡ [] → rest ≡ []) → room ≡ before → after ≡ with_chunk bytes room → now ≡ rest ++ after
-    → now ≡ with_chunk bytes handed
-chunk_added bytes handed rest before room after now was none same added is =
-    is ∙ ap (λ l. rest ++ l) (added ∙ ap (with_chunk bytes) same) ∙ sym (chunk_behind bytes rest before none) ∙ ap (with_chunk bytes) (sym was)
-
-pub length-with_chunk : (bytes : List ℕ) (handed : List (List (List ℕ))) → length (with_chunk bytes handed) ≡ length handed
-length-with_chunk bytes [] = refl
-length-with_chunk bytes (h ∷ []) = refl
-length-with_chunk bytes (h ∷ k ∷ hs) = ap suc (length-with_chunk bytes (k ∷ hs))

@@ -11,7 +11,7 @@ use Rattle.pg_client.specs.Answering.{calls_of, turns_in}
 use Rattle.pg_backend.specs.Turns.{Turn, chunks_of}
 use Rattle.pg_pair.specs.Copies.{as_turn, turns_made}
 use Rattle.pg_pair.specs.Private.Known.{Known}
-use Rattle.pg_pair.specs.Standing.{Tied}
+use Rattle.pg_pair.specs.Invariant.{Tied}
 use Rattle.pg_pair.specs.View.{PairView}
 use Rattle.pg_pair.proofs.Histories.{in_pair, tied_history}
 use Rattle.pg_pair.proofs.Arriving.{fed_open}
@@ -25,20 +25,20 @@ pub settles_one : Known → {C : Type 0} (p : PairView C) (t : Tied p) (bytes : 
     → p.client.closed ≡ None → Feeds p.client bytes result fed p.to_backend.sent sent → SettlesOne p fed
 settles_one k p t bytes result fed sent none feeds =
     let does = fed_open p.client bytes result fed p.to_backend.sent sent none feeds in
-    let hears = does.hears (in_pair p t.history) (tied_history p t) in
-    let past : History = with_heard hears.more hears.rest does.added (with_fed bytes (in_pair p t.history)) in
-    let was = happenings t.history in
+    let hears = does.hears (in_pair p t.client.history) (tied_history p t) in
+    let past : History = with_heard hears.more hears.rest does.added (with_fed bytes (in_pair p t.client.history)) in
+    let was = happenings t.client.history in
     let now = happenings past in
-    let before = k.answering (in_pair p t.history) p.client (tied_history p t) in
+    let before = k.answering (in_pair p t.client.history) p.client (tied_history p t) in
     let after = k.answering past fed hears.history in
-    let turns_was : length (turns_in was) ≡ length (turns_of (calls_of t.history.calls)) = ap (λ cs. length (turns_of cs)) ((k.order t.history).calls) in
-    let turns_now : length (turns_in now) ≡ length (turns_of (calls_of t.history.calls)) = ap (λ cs. length (turns_of cs)) ((k.order past).calls) in
+    let turns_was : length (turns_in was) ≡ length (turns_of (calls_of t.client.history.calls)) = ap (λ cs. length (turns_of cs)) ((k.order t.client.history).calls) in
+    let turns_now : length (turns_in now) ≡ length (turns_of (calls_of t.client.history.calls)) = ap (λ cs. length (turns_of cs)) ((k.order past).calls) in
     let few : length (turns_in was) ≤ suc (length (groups_in was)) = (before.in_turn was [] (sym (append-nil was))).one_at_most in
     let many : length (groups_in now) ≤ length (turns_in now) = (after.in_turn now [] (sym (append-nil now))).none_ahead in
     let all_was : length (p.settled ++ p.client.settled) ≡ length (groups_in was) = before.settled_all in
     let all_now : length (p.settled ++ fed.settled) ≡ length (groups_in now) = after.settled_all in
-    let empty : length p.client.settled ≡ 0 = ap length t.taken in
-    let handed : length p.handed ≡ length (turns_of (calls_of t.history.calls)) = ap length t.handed_are ∙ length-map (turns_made t.history.calls) (λ (x : Turn). chunks_of x.copies) ∙ length-map (turns_of (calls_of t.history.calls)) as_turn in
+    let empty : length p.client.settled ≡ 0 = ap length t.client.taken in
+    let handed : length p.handed ≡ length (turns_of (calls_of t.client.history.calls)) = ap length t.turns.handed ∙ length-map (turns_made t.client.history.calls) (λ (x : Turn). chunks_of x.copies) ∙ length-map (turns_of (calls_of t.client.history.calls)) as_turn in
     record {
       one = omega (arith, length-append p.settled p.client.settled, length-append p.settled fed.settled);
       room = omega (arith, length-append p.settled fed.settled);

@@ -12,10 +12,12 @@ use Rattle.pg_pair.specs.declared.carry.Way.{Way}
 use Rattle.pg_pair.specs.declared.carry.Way.TheVariants.{ToBackend, ToClient}
 use Rattle.pg_pair.specs.declared.event.Applied.{Applied}
 use Rattle.pg_pair.specs.declared.event.Applied.TheVariants as applied
-use Rattle.pg_pair.specs.Applying.{Applies, BreaksIf, CarriesPiece, delivered, delivery_applied, DeliversUnless, EndsWith, Goes, begins, goes_on, GoesWhole, is_bad, is_closed, is_shut, same_front, stream_of, TakesIn, waiting_at}
-use Rattle.pg_pair.specs.Carrying.{Carrying, longest_piece}
-use Rattle.pg_pair.specs.Deliveries.{delivery_of, DeliveryMoves, Delivers, FallsShort, fed_on, GivesWhole, IsFedOn, LeavesOther, MovesAll, MovesUnless, PutsOut, unfed, WholeMoves}
-use Rattle.pg_pair.specs.View.{Stream, waiting, PairView}
+use Rattle.pg_pair.specs.Breaking.{BreaksIf, is_closed, is_shut}
+use Rattle.pg_pair.specs.Delivering.{ArrivesAt, begins, CarriesPiece, DeliversUnless, delivery_applied, EndsWithPiece, Goes, goes_on, GoesWhole}
+use Rattle.pg_pair.specs.Event.{Applies}
+use Rattle.pg_pair.specs.Carrying.{Carrying, delivered, is_bad, longest_piece, same_front}
+use Rattle.pg_pair.specs.Laws.{delivery_of, DeliveryMoves, Delivers, FallsShort, fed_on, GivesWhole, IsFedOn, LeavesOther, MovesAll, MovesUnless, PutsOut, unfed, WholeMoves}
+use Rattle.pg_pair.specs.View.{PairView, Stream, stream_of, waiting, waiting_at}
 use Rattle.pg_pair.proofs.Delivering.{delivered_first, delivered_within}
 use Rattle.pg_pair.proofs.Ways.{breaks_one, BreaksOne, stream_carried}
 
@@ -89,7 +91,7 @@ took_none {C} ToClient p answer = record {
   };
 }
 
-took : {C : Type 0} (w : Way) (p : PairView C) (bytes : List ℕ) (answer : Option Applied) (q : PairView C) → TakesIn w p bytes answer q → Took w p bytes answer q
+took : {C : Type 0} (w : Way) (p : PairView C) (bytes : List ℕ) (answer : Option Applied) (q : PairView C) → ArrivesAt w p bytes answer q → Took w p bytes answer q
 took {C} w p [] answer q h = subst (λ (x : PairView C). Took w p [] answer x) (sym h.1) (took_none w p answer)
 took {C} ToBackend p (b ∷ bytes) answer q (Ok x, h, e) = record {
   count = length (b ∷ bytes);
@@ -285,7 +287,7 @@ not_less : (n : ℕ) → nat_lt n n ≡ false
 not_less n = le-ltb n n (omega arith)
 
 -- what an end answers is a fault
-no_answer_of : (w : Way) {C : Type 0} (p : PairView C) (bytes : List ℕ) (answer : Option Applied) (bad : Bool) (n : ℕ) (q : PairView C) → TakesIn w p bytes answer q
+no_answer_of : (w : Way) {C : Type 0} (p : PairView C) (bytes : List ℕ) (answer : Option Applied) (bad : Bool) (n : ℕ) (q : PairView C) → ArrivesAt w p bytes answer q
     → (delivery_applied answer bad n ≡ applied.Done) ⊎ (delivery_applied answer bad n ≡ applied.Nothing) → answer ≡ None
 no_answer_of w p [] answer bad n q h e = h.0
 no_answer_of ToBackend p (b ∷ bytes) answer bad n q (Ok x, h, is) e = is
@@ -297,7 +299,7 @@ no_answer_of ToClient p (b ∷ bytes) answer bad n q (Err f, h, is) (inr e) = ab
 
 never_short : {C : Type 0} (carries : Carrying C) → GivesWhole carries → (w : Way) (most : ℕ) (p : PairView C) (result : Applied) (q : PairView C) → (result ≡ applied.Done) ⊎ (result ≡ applied.Nothing) → FallsShort carries w most p result q → ⊥
 never_short {C} carries gives w most p result q fine h =
-    let e : EndsWith carries w most h.before h.between result q = h.ends in
+    let e : EndsWithPiece carries w most h.before h.between result q = h.ends in
     let came : e.came ≡ Ok e.piece = gives h.between.carrier w e.piece e.came e.carrier e.carries_piece.carried in
     let all : delivered e.piece e.came ≡ e.piece = ap (delivered e.piece) came ∙ same_itself e.piece in
     let good : is_bad e.piece e.came ≡ false = ap (is_bad e.piece) came ∙ ap (λ l. nat_lt (length l) (length e.piece)) (same_itself e.piece) ∙ not_less (length e.piece) in

@@ -16,10 +16,12 @@ use Rattle.pg_client.specs.Feed.{Feeds}
 use Rattle.pg_backend.specs.Backend.{BackendState}
 use Rattle.pg_pair.specs.declared.carry.CarryFault.{CarryFault}
 use Rattle.pg_pair.specs.declared.carry.Way.TheVariants.{ToBackend, ToClient}
-use Rattle.pg_pair.specs.Applying.{client_answer, delivered, is_closed, is_closed_client, IsStored, same_front, TakesIn, waiting_at}
+use Rattle.pg_pair.specs.Breaking.{is_closed, is_closed_client}
+use Rattle.pg_pair.specs.Carrying.{delivered, same_front}
+use Rattle.pg_pair.specs.Delivering.{ArrivesAt, client_answer, IsStored}
 use Rattle.pg_pair.specs.Private.Known.{Known}
-use Rattle.pg_pair.specs.Standing.{Tied}
-use Rattle.pg_pair.specs.View.{Stream, waiting, PairView}
+use Rattle.pg_pair.specs.Invariant.{Tied}
+use Rattle.pg_pair.specs.View.{PairView, Stream, waiting, waiting_at}
 use Rattle.pg_pair.proofs.Arriving.{fed_open, fed_pair, heard_more, keeps_fed, keeps_stored, stored_pair}
 use Rattle.pg_pair.proofs.Counting.{SettlesOne, settles_one}
 
@@ -80,6 +82,15 @@ pub record IsPushed {C : Type 0} (p : PairView C) (count : ℕ) (b : BackendStat
   pub within : count ≤ length (waiting p.to_backend)
   pub is_stored : IsStored p.backend (take count (waiting p.to_backend)) b
 
+-- it has, where the pair is seen so
+pub is_pushed : {C : Type 0} (p q : PairView C) → p ≡ q → (count : ℕ) (bytes : List ℕ) (b : BackendState)
+    → 0 < count → count ≤ length (waiting_at ToBackend q) → bytes ≡ waiting p.to_backend → IsStored p.backend (take count bytes) b → IsPushed p count b
+is_pushed {C} p q same count bytes b some within is stored = record {
+  some = some;
+  within = subst (λ (x : PairView C). count ≤ length (waiting_at ToBackend x)) (sym same) within;
+  is_stored = subst (λ l. IsStored p.backend (take count l) b) is stored;
+}
+
 counted : (count : ℕ) (bytes : List ℕ) → count ≤ length bytes → length (take count bytes) ≡ count
 counted count bytes within = length-take-le count bytes within
 
@@ -92,17 +103,17 @@ fits s count reached within = omega (arith, counted count (waiting s) within, le
 pub pushed_tied : {C : Type 0} (p : PairView C) (count : ℕ) (b : BackendState) → IsPushed p count b → Tied p → Tied (stored_at p count b)
 pushed_tied p count b h t =
     subst (λ n. Tied (stored_at p n b)) (counted count (waiting p.to_backend) h.within)
-    (keeps_stored p (take count (waiting p.to_backend)) b (itself count (waiting p.to_backend) h.within) (fits p.to_backend count t.within_backend h.within) h.is_stored t)
+    (keeps_stored p (take count (waiting p.to_backend)) b (itself count (waiting p.to_backend) h.within) (fits p.to_backend count t.backend.within h.within) h.is_stored t)
 
-takes_stored : {C : Type 0} (p : PairView C) (bytes : List ℕ) (b : BackendState) → 0 < length bytes → IsStored p.backend bytes b → TakesIn ToBackend p bytes None (stored_pair p bytes b)
+takes_stored : {C : Type 0} (p : PairView C) (bytes : List ℕ) (b : BackendState) → 0 < length bytes → IsStored p.backend bytes b → ArrivesAt ToBackend p bytes None (stored_pair p bytes b)
 takes_stored p [] b some h = absurd (omega arith)
 takes_stored p (x ∷ xs) b some h = (Ok record {}, (h, refl), refl)
 
-pub pushed_in : {C : Type 0} (p : PairView C) (count : ℕ) (b : BackendState) → IsPushed p count b → TakesIn ToBackend p (take count (waiting_at ToBackend p)) None (stored_at p count b)
+pub pushed_in : {C : Type 0} (p : PairView C) (count : ℕ) (b : BackendState) → IsPushed p count b → ArrivesAt ToBackend p (take count (waiting_at ToBackend p)) None (stored_at p count b)
 pushed_in p count b h =
     let n : length (take count (waiting p.to_backend)) ≡ count = counted count (waiting p.to_backend) h.within in
     let some = h.some in
-    subst (λ n. TakesIn ToBackend p (take count (waiting p.to_backend)) None (stored_at p n b)) n
+    subst (λ n. ArrivesAt ToBackend p (take count (waiting p.to_backend)) None (stored_at p n b)) n
     (takes_stored p (take count (waiting p.to_backend)) b (omega (arith, n, some)) h.is_stored)
 
 -- ---- at the client
@@ -139,6 +150,17 @@ pub record IsFed {C : Type 0} (p : PairView C) (count : ℕ) (result : Result Un
   pub within : count ≤ length (waiting p.to_client)
   pub feeds : Feeds p.client (take count (waiting p.to_client)) result fed p.to_backend.sent sent
 
+-- it was, where the pair is seen so
+pub is_fed : {C : Type 0} (p q : PairView C) → p ≡ q → (count : ℕ) (bytes : List ℕ) (result : Result Unit FeedFault) (fed : ClientView) (sent : List ℕ)
+    → is_closed ToClient q ≡ false → 0 < count → count ≤ length (waiting_at ToClient q) → bytes ≡ waiting p.to_client
+    → Feeds p.client (take count bytes) result fed p.to_backend.sent sent → IsFed p count result fed sent
+is_fed {C} p q same count bytes result fed sent going some within is feeds = record {
+  none = going_none p.client (subst (λ (x : PairView C). is_closed ToClient x ≡ false) (sym same) going);
+  some = some;
+  within = subst (λ (x : PairView C). count ≤ length (waiting_at ToClient x)) (sym same) within;
+  feeds = subst (λ l. Feeds p.client (take count l) result fed p.to_backend.sent sent) is feeds;
+}
+
 pub fed_settles : Known → {C : Type 0} (p : PairView C) (count : ℕ) (result : Result Unit FeedFault) (fed : ClientView) (sent : List ℕ) → IsFed p count result fed sent → ∥ Tied p ∥₁ → SettlesOne p fed
 fed_settles k p count result fed sent h some =
     let settles : Tied p → SettlesOne p fed = λ t. settles_one k p t (take count (waiting p.to_client)) result fed sent h.none h.feeds in
@@ -147,19 +169,19 @@ fed_settles k p count result fed sent h some =
 pub fed_tied : {C : Type 0} (p : PairView C) (count : ℕ) (result : Result Unit FeedFault) (fed : ClientView) (sent : List ℕ) → IsFed p count result fed sent → Tied p → Tied (fed_at p count fed sent)
 fed_tied p count result fed sent h t =
     subst (λ n. Tied (fed_at p n fed sent)) (counted count (waiting p.to_client) h.within)
-    (keeps_fed p (take count (waiting p.to_client)) result fed sent h.none (itself count (waiting p.to_client) h.within) (fits p.to_client count t.within_client h.within) h.feeds t)
+    (keeps_fed p (take count (waiting p.to_client)) result fed sent h.none (itself count (waiting p.to_client) h.within) (fits p.to_client count t.client.within h.within) h.feeds t)
 
 takes_fed : {C : Type 0} (p : PairView C) (bytes : List ℕ) (result : Result Unit FeedFault) (fed : ClientView) (sent : List ℕ) → 0 < length bytes → Feeds p.client bytes result fed p.to_backend.sent sent
-    → TakesIn ToClient p bytes (client_answer result) (fed_pair p bytes fed sent)
+    → ArrivesAt ToClient p bytes (client_answer result) (fed_pair p bytes fed sent)
 takes_fed p [] result fed sent some h = absurd (omega arith)
 takes_fed p (x ∷ xs) result fed sent some h = (result, record { fed = fed; feeds = h; rest = refl }, refl)
 
 pub fed_in : {C : Type 0} (p : PairView C) (count : ℕ) (result : Result Unit FeedFault) (fed : ClientView) (sent : List ℕ) → IsFed p count result fed sent
-    → TakesIn ToClient p (take count (waiting_at ToClient p)) (client_answer result) (fed_at p count fed sent)
+    → ArrivesAt ToClient p (take count (waiting_at ToClient p)) (client_answer result) (fed_at p count fed sent)
 fed_in p count result fed sent h =
     let n : length (take count (waiting p.to_client)) ≡ count = counted count (waiting p.to_client) h.within in
     let some = h.some in
-    subst (λ n. TakesIn ToClient p (take count (waiting p.to_client)) (client_answer result) (fed_at p n fed sent)) n
+    subst (λ n. ArrivesAt ToClient p (take count (waiting p.to_client)) (client_answer result) (fed_at p n fed sent)) n
     (takes_fed p (take count (waiting p.to_client)) result fed sent (omega (arith, n, some)) h.feeds)
 
 -- a client that answers no fault is open

@@ -1,6 +1,7 @@
 -- Lemmas, by the subject.
 pub mod Beginnings
 pub mod Histories
+pub mod Ends
 pub mod Streams
 pub mod OneCopy
 pub mod Opening
@@ -13,8 +14,10 @@ pub mod Stored
 pub mod Stepping
 pub mod Breaking
 pub mod Copying
-pub mod Calling
+pub mod Keeping
+pub mod Asking
 pub mod CopyCalls
+pub mod Calling
 pub mod Arriving
 pub mod Counting
 pub mod Begun

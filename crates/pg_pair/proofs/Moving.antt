@@ -6,10 +6,11 @@ use Rattle.pg_pair.specs.declared.carry.Way.TheVariants.{ToBackend, ToClient}
 use Rattle.pg_pair.specs.declared.event.Applied.{Applied}
 use Rattle.pg_pair.specs.declared.pair.carrying.Carried.{Carried}
 use Rattle.pg_pair.specs.declared.pair.delivering.Moved.{Moved}
-use Rattle.pg_pair.specs.Applying.{BreaksIf, CarriesPiece, delivered, delivery_applied, DeliversUnless, EndsWith, Goes, goes_on, GoesWhole, is_bad, is_closed, is_shut, stream_of, TakesIn, waiting_at}
-use Rattle.pg_pair.specs.Carrying.{Carrying, longest_piece}
-use Rattle.pg_pair.specs.Private.Delivering.{Carries, Moves}
-use Rattle.pg_pair.specs.View.{PairView}
+use Rattle.pg_pair.specs.Breaking.{BreaksIf, is_closed, is_shut}
+use Rattle.pg_pair.specs.Delivering.{ArrivesAt, CarriesPiece, DeliversUnless, delivery_applied, EndsWithPiece, Goes, goes_on, GoesWhole}
+use Rattle.pg_pair.specs.Carrying.{Carrying, delivered, is_bad, longest_piece}
+use Rattle.pg_pair.specs.Private.Delivering.{MovesPiece, PairCarries}
+use Rattle.pg_pair.specs.View.{PairView, stream_of, waiting_at}
 use Rattle.pg_pair.proofs.Delivering.{delivered_of_count, delivered_of_waiting, delivered_whole, delivered_within}
 
 -- ---- one piece
@@ -18,11 +19,11 @@ waiting_same : {C : Type 0} (w : Way) (p : PairView C) (carrier : C) → waiting
 waiting_same ToBackend p carrier = refl
 waiting_same ToClient p carrier = refl
 
-waiting_carried : {C : Type 0} (carries : Carrying C) (w : Way) (p : PairView C) (piece : List ℕ) (c : Carried) (q : PairView C) → Carries carries w p piece c q → waiting_at w q ≡ waiting_at w p
+waiting_carried : {C : Type 0} (carries : Carrying C) (w : Way) (p : PairView C) (piece : List ℕ) (c : Carried) (q : PairView C) → PairCarries carries w p piece c q → waiting_at w q ≡ waiting_at w p
 waiting_carried carries w p piece c q k = ap (waiting_at w) k.rest ∙ waiting_same w p q.carrier
 
 -- what is delivered is under way
-pub given_within : {C : Type 0} (carries : Carrying C) (w : Way) (p : PairView C) (count : ℕ) (c : Carried) (q : PairView C) → Carries carries w p (take count (waiting_at w p)) c q → c.given ≤ length (waiting_at w q)
+pub given_within : {C : Type 0} (carries : Carrying C) (w : Way) (p : PairView C) (count : ℕ) (c : Carried) (q : PairView C) → PairCarries carries w p (take count (waiting_at w p)) c q → c.given ≤ length (waiting_at w q)
 given_within carries w p count c q k =
     let few = delivered_of_count count (waiting_at w p) k.carried.came in
     let same = ap length (waiting_carried carries w p (take count (waiting_at w p)) c q k) in
@@ -34,8 +35,8 @@ unbroken false w r s e b = b
 unbroken true w r s e b = absurd cc
 
 pub moves : {C : Type 0} (carries : Carrying C) (w : Way) (p : PairView C) (count : ℕ) (c : Carried) (q : PairView C) (answer : Option Applied) (r s : PairView C)
-    → Carries carries w p (take count (waiting_at w p)) c q → TakesIn w q (take c.given (waiting_at w q)) answer r → (answer ≡ None → is_closed w r ≡ false) → BreaksIf c.bad w r s
-    → Moves carries w p (take count (waiting_at w p)) (record { given = c.given; bad = c.bad; answer = answer }) s
+    → PairCarries carries w p (take count (waiting_at w p)) c q → ArrivesAt w q (take c.given (waiting_at w q)) answer r → (answer ≡ None → is_closed w r ≡ false) → BreaksIf c.bad w r s
+    → MovesPiece carries w p (take count (waiting_at w p)) (record { given = c.given; bad = c.bad; answer = answer }) s
 moves carries w p count c q answer r s k takes going breaks =
     let piece : List ℕ = take count (waiting_at w p) in
     let bytes : take c.given (waiting_at w q) ≡ delivered piece k.carried.came =
@@ -45,7 +46,7 @@ moves carries w p count c q answer r s k takes going breaks =
       carrier = q.carrier;
       carried = k.carried.carried;
       taken = r;
-      takes = subst (λ l. TakesIn w (record p { carrier = q.carrier }) l answer r) bytes (subst (λ m. TakesIn w m (take c.given (waiting_at w q)) answer r) k.rest takes);
+      takes = subst (λ l. ArrivesAt w (record p { carrier = q.carrier }) l answer r) bytes (subst (λ m. ArrivesAt w m (take c.given (waiting_at w q)) answer r) k.rest takes);
       breaks = breaks;
       given = k.carried.given;
       bad = k.carried.bad;
@@ -62,7 +63,7 @@ take_count count most l e =
     sym (take-take count most l (omega arith)) ∙ ap (λ n. take n (take most l)) same ∙ take_min longest_piece (take most l)
 
 carries_piece : {C : Type 0} (carries : Carrying C) (w : Way) (most count : ℕ) (m : PairView C) (moved : Moved) (q : PairView C) → count ≡ min (min (length (waiting_at w m)) most) longest_piece → 0 < count
-    → (h : Moves carries w m (take count (waiting_at w m)) moved q) → CarriesPiece carries w most m (take count (waiting_at w m)) h.came h.carrier
+    → (h : MovesPiece carries w m (take count (waiting_at w m)) moved q) → CarriesPiece carries w most m (take count (waiting_at w m)) h.came h.carrier
 carries_piece carries w most count m moved q e some h = record {
   piece_is = take_count count most (waiting_at w m) e;
   some = let n = length-take-le count (waiting_at w m) (omega arith) in omega arith;
@@ -74,7 +75,7 @@ piece_length w most count m e = length-take-le count (waiting_at w m) (omega ari
 
 -- no more than the piece is moved
 pub moved_within : {C : Type 0} (carries : Carrying C) (w : Way) (most count : ℕ) (m : PairView C) (moved : Moved) (q : PairView C) → count ≡ min (min (length (waiting_at w m)) most) longest_piece
-    → Moves carries w m (take count (waiting_at w m)) moved q → (moved.given ≤ count) × (count ≤ most)
+    → MovesPiece carries w m (take count (waiting_at w m)) moved q → (moved.given ≤ count) × (count ≤ most)
 moved_within carries w most count m moved q e h =
     let long = piece_length w most count m e in
     let few = delivered_within (take count (waiting_at w m)) h.came in
@@ -93,7 +94,7 @@ pub going_on : {C : Type 0} (w : Way) (p : PairView C) → is_shut w p ≡ false
 going_on w p e = open_way (stream_of w p).broken (is_closed w p) e
 
 pub goes_further : {C : Type 0} (carries : Carrying C) (w : Way) (most : ℕ) (p : PairView C) (n count : ℕ) (m : PairView C) (moved : Moved) (q : PairView C)
-    → Goes carries w most p n m → count ≡ min (min (length (waiting_at w m)) (most - n)) longest_piece → 0 < count → Moves carries w m (take count (waiting_at w m)) moved q
+    → Goes carries w most p n m → count ≡ min (min (length (waiting_at w m)) (most - n)) longest_piece → 0 < count → MovesPiece carries w m (take count (waiting_at w m)) moved q
     → moved.bad ≡ false → moved.answer ≡ None → count ≤ moved.given → Goes carries w most p (n + moved.given) q
 goes_further carries w most p n count m moved q goes e some h fine none whole =
     let piece : List ℕ = take count (waiting_at w m) in
@@ -101,13 +102,13 @@ goes_further carries w most p n count m moved q goes e some h fine none whole =
     let given = h.given in
     let all : delivered piece h.came ≡ piece = delivered_whole piece h.came (omega arith) in
     let same : q ≡ h.taken = unbroken moved.bad w h.taken q fine h.breaks in
-    let takes : TakesIn w (record m { carrier = h.carrier }) piece None h.taken =
-    subst (λ a. TakesIn w (record m { carrier = h.carrier }) piece a h.taken) none (subst (λ l. TakesIn w (record m { carrier = h.carrier }) l moved.answer h.taken) all h.takes) in
+    let takes : ArrivesAt w (record m { carrier = h.carrier }) piece None h.taken =
+    subst (λ a. ArrivesAt w (record m { carrier = h.carrier }) piece a h.taken) none (subst (λ l. ArrivesAt w (record m { carrier = h.carrier }) l moved.answer h.taken) all h.takes) in
     let on : Goes carries w most p (n + length piece) h.taken = goes_on n m piece h.came h.carrier h.taken goes (carries_piece carries w (most - n) count m moved q e some h) all (sym h.bad ∙ fine) takes in
     subst (λ l. Goes carries w most p (n + l) q) (sym (h.given ∙ ap length all)) (subst (λ x. Goes carries w most p (n + length piece) x) (sym same) on)
 
 delivers : {C : Type 0} (b : Bool) (carries : Carrying C) (w : Way) (most : ℕ) (p : PairView C) (n : ℕ) (m : PairView C) (result : Applied) (q : PairView C) → b ≡ false
-    → Goes carries w most p n m → GoesWhole w most n m result q ⊎ EndsWith carries w most n m result q → DeliversUnless b carries w most p result q
+    → Goes carries w most p n m → GoesWhole w most n m result q ⊎ EndsWithPiece carries w most n m result q → DeliversUnless b carries w most p result q
 delivers false carries w most p n m result q e goes ends = (n, m, goes, ends)
 delivers true carries w most p n m result q e goes ends = absurd cc
 
@@ -122,7 +123,7 @@ delivers_whole carries w most p n count m going goes within e none =
     (inl (record { all = none_left n most (waiting_at w m) within (sym none ∙ e); result_is = refl; same = refl }))
 
 pub delivers_part : {C : Type 0} (carries : Carrying C) (w : Way) (most : ℕ) (p : PairView C) (n count : ℕ) (m : PairView C) (moved : Moved) (q : PairView C) → is_shut w p ≡ false → Goes carries w most p n m
-    → count ≡ min (min (length (waiting_at w m)) (most - n)) longest_piece → 0 < count → Moves carries w m (take count (waiting_at w m)) moved q
+    → count ≡ min (min (length (waiting_at w m)) (most - n)) longest_piece → 0 < count → MovesPiece carries w m (take count (waiting_at w m)) moved q
     → (moved.bad ≡ false → moved.answer ≡ None → count ≤ moved.given → ⊥)
     → DeliversUnless (is_shut w p) carries w most p (delivery_applied moved.answer moved.bad (n + moved.given)) q
 delivers_part carries w most p n count m moved q going goes e some h last =

@@ -30,7 +30,7 @@ use Rattle.pg_backend.specs.Turns.{turn_messages}
 use Rattle.pg_pair.specs.Copies.{as_turn, turns_made}
 use Rattle.pg_pair.specs.Headline.{settled_as, answered_as, input_bytes, StandsReady, Headline}
 use Rattle.pg_pair.specs.Private.Known.{Known}
-use Rattle.pg_pair.specs.Standing.{Tied}
+use Rattle.pg_pair.specs.Invariant.{Tied}
 use Rattle.pg_pair.specs.View.{PairView}
 use Rattle.pg_pair.proofs.Histories.{in_pair, tied_history}
 use Rattle.pg_pair.proofs.Beginnings.{begins_length, begins_take}
@@ -55,22 +55,22 @@ farewell_said (Came m ∷ hs) h = farewell_said hs h
 
 -- What is so of a client that stands ready: it has not ended the session, each of its turns is settled, and a segment is whole.
 pub record IsIdle {C : Type 0} (p : PairView C) (t : Tied p) : Type 0 where
-  pub stays : farewell (calls_of t.history.calls) ≡ []
-  pub settled_all : length p.settled ≡ length (turns_made t.history.calls)
-  pub has_whole : (segments t.history.heard).whole ≡ [] → ⊥
+  pub stays : farewell (calls_of t.client.history.calls) ≡ []
+  pub settled_all : length p.settled ≡ length (turns_made t.client.history.calls)
+  pub has_whole : (segments t.client.history.heard).whole ≡ [] → ⊥
 
 pub client_idle : Known → {C : Type 0} (p : PairView C) (t : Tied p) → phase_of p.client ≡ phase.Ready → IsIdle p t
 client_idle k p t ready =
-    let hs = happenings t.history in
-    let told = k.order t.history in
+    let hs = happenings t.client.history in
+    let told = k.order t.client.history in
     let none : p.client.closed ≡ None = not_closed p.client.closed p.client.stand ready in
-    let facts = k.facts (in_pair p t.history) p.client (tied_history p t) in
-    let turns = k.answering (in_pair p t.history) p.client (tied_history p t) in
+    let facts = k.facts (in_pair p t.client.history) p.client (tied_history p t) in
+    let turns = k.answering (in_pair p t.client.history) p.client (tied_history p t) in
     let idle : IsReady hs = subst (λ c. IsPhase hs c phase.Ready) none ((facts.phase phase.Ready).0 ready) in
-    let going : IsTerminated hs → ⊥ = λ over. let e : p.client.closed ≡ Some cause.Terminated = t.client_history.terminated.0 over in let f : None ≡ Some cause.Terminated = sym none ∙ e in absurd cc in
-    let given : length (p.settled ++ p.client.settled) ≡ length p.settled = ap length (ap (λ l. p.settled ++ l) t.taken ∙ append-nil p.settled) in
+    let going : IsTerminated hs → ⊥ = λ over. let e : p.client.closed ≡ Some cause.Terminated = t.client.is_history.terminated.0 over in let f : None ≡ Some cause.Terminated = sym none ∙ e in absurd cc in
+    let given : length (p.settled ++ p.client.settled) ≡ length p.settled = ap length (ap (λ l. p.settled ++ l) t.client.taken ∙ append-nil p.settled) in
     let all : length (p.settled ++ p.client.settled) ≡ length (turns_of (calls_in hs)) = turns.ready ready in
-    let made : length (turns_of (calls_in hs)) ≡ length (turns_made t.history.calls) = ap (λ cs. length (turns_of cs)) told.calls ∙ sym (length-map (turns_of (calls_of t.history.calls)) as_turn) in
+    let made : length (turns_of (calls_in hs)) ≡ length (turns_made t.client.history.calls) = ap (λ cs. length (turns_of cs)) told.calls ∙ sym (length-map (turns_of (calls_of t.client.history.calls)) as_turn) in
     record {
       stays = ap farewell (sym (told.calls)) ∙ farewell_said hs going;
       settled_all = sym given ∙ all ∙ made;
@@ -103,7 +103,7 @@ ready_with : Known → {C : Type 0} (p : PairView C) (t : Tied p) → IsIdle p t
 ready_with k p t idle m whole spared =
     let answers = p.backend.script.answers in
     let ms = m.since in
-    let turns = turns_made t.history.calls in
+    let turns = turns_made t.client.history.calls in
     let left = m.read.left in
     let all : flat_map turn_messages turns ≡ ms ++ left =
     sym (append-nil (flat_map turn_messages turns)) ∙ ap (λ l. flat_map turn_messages turns ++ l) (sym (idle.stays)) ∙ m.behind in
@@ -112,12 +112,12 @@ ready_with k p t idle m whole spared =
     let two : length (map answered_as p.backend.log) ≡ length p.backend.log = length-map p.backend.log answered_as in
     let logged : length p.backend.log ≡ length (log_of answers ms) = ap length m.log_is in
     let settled_all : length p.settled ≡ length turns = idle.settled_all in
-    let rest = k.turns_left answers turns ms left t.in_turn all (omega arith) in
-    let bytes : p.to_backend.sent ≡ input_bytes t.input ++ flat_map (spelling frontend) left =
-    m.read.sent_is ∙ sent_parts (opening p.client.settings) (Messages p t) t.input.packets t.input.messages left m.read.packets m.read.messages in
+    let rest = k.turns_left answers turns ms left t.turns.in_turn all (omega arith) in
+    let bytes : p.to_backend.sent ≡ input_bytes t.backend.input ++ flat_map (spelling frontend) left =
+    m.read.sent_is ∙ sent_parts (opening p.client.settings) (Messages p t) t.backend.input.packets t.backend.input.messages left m.read.packets m.read.messages in
     record {
-      phase = t.handled.phase_is ∙ spared_phase p.backend.stage _ spared (t.not_lost whole) ∙ m.phase ∙ ap place_phase rest.1;
-      left = ∣ record { input = t.input; rest = t.open_at_backend; handled = t.handled; left = left; sent = bytes; copies = rest.0 } ∣₁;
+      phase = t.backend.handled.phase_is ∙ spared_phase p.backend.stage _ spared (t.backend.not_lost whole) ∙ m.phase ∙ ap place_phase rest.1;
+      left = ∣ record { input = t.backend.input; rest = t.backend.rest; handled = t.backend.handled; left = left; sent = bytes; copies = rest.0 } ∣₁;
     }
 
 pub headline : Known → {C : Type 0} (p : PairView C) → Tied p → Headline p

@@ -31,7 +31,11 @@ use Rattle.pg_pair.specs.declared.event.Event.TheVariants as event
 use Rattle.pg_pair.specs.declared.carry.CarryFault.{CarryFault}
 use Rattle.pg_pair.specs.declared.carry.Way.{Way}
 use Rattle.pg_pair.specs.declared.carry.Way.TheVariants.{ToBackend, ToClient}
-use Rattle.pg_pair.specs.Applying.{delivered, delivery_applied, handed_after, is_bad, is_shut, Happens, Ran}
+use Rattle.pg_pair.specs.Breaking.{is_shut}
+use Rattle.pg_pair.specs.Calling.{handed_after}
+use Rattle.pg_pair.specs.Carrying.{delivered, is_bad}
+use Rattle.pg_pair.specs.Delivering.{delivery_applied}
+use Rattle.pg_pair.specs.Event.{Happens, Ran}
 use Rattle.pg_pair.specs.Copies.{handed_for, TookEach, turns_made}
 use Rattle.pg_pair.specs.Headline.{answered_as, requests_of, settled_as}
 use Rattle.pg_pair.specs.View.{PairView}

@@ -29,9 +29,9 @@ use Rattle.pg_backend.specs.Session.{replies, log_of}
 use Rattle.pg_backend.specs.Turns.{Turn, turn_messages}
 use Rattle.pg_backend.specs.Turns as backend
 use Rattle.pg_pair.specs.Copies.{as_turn, turns_made, TookEach}
-use Rattle.pg_pair.specs.Headline.{settled_as, answered_as, requests_of, requests_logged, IsAsked}
+use Rattle.pg_pair.specs.Headline.{settled_as, answered_as, requests_of, requests_logged, MatchesCalls}
 use Rattle.pg_pair.specs.Private.Known.{Known}
-use Rattle.pg_pair.specs.Standing.{Tied}
+use Rattle.pg_pair.specs.Invariant.{Tied}
 use Rattle.pg_pair.specs.View.{arrived, waiting, PairView}
 use Rattle.pg_pair.proofs.Histories.{in_pair, tied_history}
 use Rattle.pg_pair.proofs.Beginnings.{begins_nil, begins_head, begins_tail, begins_cons, begins_take}
@@ -119,35 +119,35 @@ handled_first ts end handled left (inr said) e = (left, ap (λ l. flat_map turn_
 -- ---- of a pair
 
 abbrev Happened : {C : Type 0} (p : PairView C) → Tied p → List Happening
-Happened p t = happenings t.history
+Happened p t = happenings t.client.history
 
 -- all messages that the client sends behind its startup packet
 abbrev pub Messages : {C : Type 0} (p : PairView C) → Tied p → List FrontMessage
-Messages p t = all_messages p.client.settings t.history.heard t.history.calls
+Messages p t = all_messages p.client.settings t.client.history.heard t.client.history.calls
 
 behind_happened : Known → {C : Type 0} (p : PairView C) (t : Tied p) → messages_behind p.client.settings (messages_in (Happened p t)) (calls_in (Happened p t)) ≡ Messages p t
 behind_happened k p t =
-    let told = k.order t.history in
-    ap (λ ms. messages_behind p.client.settings ms (calls_in (Happened p t))) told.messages ∙ ap (messages_behind p.client.settings t.history.heard) told.calls ∙ all_messages_are p.client.settings t.history.heard t.history.calls
+    let told = k.order t.client.history in
+    ap (λ ms. messages_behind p.client.settings ms (calls_in (Happened p t))) told.messages ∙ ap (messages_behind p.client.settings t.client.history.heard) told.calls ∙ all_messages_are p.client.settings t.client.history.heard t.client.history.calls
 
 -- what the client has sent, in messages
-pub sent_messages : Known → {C : Type 0} (p : PairView C) (t : Tied p) → p.to_backend.sent ≡ greeting p.client.settings (calls_of t.history.calls) ++ flat_map (spelling frontend) (Messages p t)
+pub sent_messages : Known → {C : Type 0} (p : PairView C) (t : Tied p) → p.to_backend.sent ≡ greeting p.client.settings (calls_of t.client.history.calls) ++ flat_map (spelling frontend) (Messages p t)
 sent_messages k p t =
-    let turns = k.turns (in_pair p t.history) p.client (tied_history p t) in
-    let told = k.order t.history in
+    let turns = k.turns (in_pair p t.client.history) p.client (tied_history p t) in
+    let told = k.order t.client.history in
     turns.sent_is ∙ ap (λ cs. greeting p.client.settings cs ++ flat_map (spelling frontend) (messages_behind p.client.settings (messages_in (Happened p t)) (calls_in (Happened p t)))) told.calls
-    ∙ ap (λ l. greeting p.client.settings (calls_of t.history.calls) ++ flat_map (spelling frontend) l) (behind_happened k p t)
+    ∙ ap (λ l. greeting p.client.settings (calls_of t.client.history.calls) ++ flat_map (spelling frontend) l) (behind_happened k p t)
 
 -- what it sends has a spelling
 pub tied_spelled : Known → {C : Type 0} (p : PairView C) (t : Tied p) → AllByRecursion (HasSpelling frontend) (Messages p t)
 tied_spelled k p t =
-    let says = k.spelled (in_pair p t.history) p.client (tied_history p t) in
+    let says = k.spelled (in_pair p t.client.history) p.client (tied_history p t) in
     subst (AllByRecursion (HasSpelling frontend)) (behind_happened k p t) says.messages
 
-pub tied_packet : Known → {C : Type 0} (p : PairView C) (t : Tied p) → (c : Call) (ds : List Call) → calls_of t.history.calls ≡ c ∷ ds → IsPacket (opening p.client.settings)
+pub tied_packet : Known → {C : Type 0} (p : PairView C) (t : Tied p) → (c : Call) (ds : List Call) → calls_of t.client.history.calls ≡ c ∷ ds → IsPacket (opening p.client.settings)
 tied_packet k p t c ds e =
-    let told = k.order t.history in
-    let says = k.spelled (in_pair p t.history) p.client (tied_history p t) in
+    let told = k.order t.client.history in
+    let says = k.spelled (in_pair p t.client.history) p.client (tied_history p t) in
     says.packet c ds (told.calls ∙ e)
 
 -- without a call nothing was heard
@@ -157,49 +157,49 @@ none_heard (Did c ∷ hs) after e = absurd cc
 none_heard (Came m ∷ hs) after e = absurd (after [] m hs refl).started
 
 -- nor sent
-pub tied_none : Known → {C : Type 0} (p : PairView C) (t : Tied p) → calls_of t.history.calls ≡ [] → Messages p t ≡ []
+pub tied_none : Known → {C : Type 0} (p : PairView C) (t : Tied p) → calls_of t.client.history.calls ≡ [] → Messages p t ≡ []
 tied_none k p t e =
-    let told = k.order t.history in
-    let nothing : t.history.heard ≡ [] = sym (told.messages) ∙ none_heard (Happened p t) t.client_history.expected.after (told.calls ∙ e) in
-    sym (all_messages_are p.client.settings t.history.heard t.history.calls) ∙ ap (messages_behind p.client.settings t.history.heard) e ∙ ap (λ ms. messages_behind p.client.settings ms []) nothing
+    let told = k.order t.client.history in
+    let nothing : t.client.history.heard ≡ [] = sym (told.messages) ∙ none_heard (Happened p t) t.client.is_history.expected.after (told.calls ∙ e) in
+    sym (all_messages_are p.client.settings t.client.history.heard t.client.history.calls) ∙ ap (messages_behind p.client.settings t.client.history.heard) e ∙ ap (λ ms. messages_behind p.client.settings ms []) nothing
 
 -- the password that it has sent
-tied_password : Known → {C : Type 0} (p : PairView C) (t : Tied p) → SendsPassword p.client.settings t.history.heard (turns_sent t.history.calls)
+tied_password : Known → {C : Type 0} (p : PairView C) (t : Tied p) → SendsPassword p.client.settings t.client.history.heard (turns_sent t.client.history.calls)
 tied_password k p t =
-    let turns = k.turns (in_pair p t.history) p.client (tied_history p t) in
-    let told = k.order t.history in
+    let turns = k.turns (in_pair p t.client.history) p.client (tied_history p t) in
+    let told = k.order t.client.history in
     record {
       one = subst (λ ms. length (passwords p.client.settings ms) ≤ 1) told.messages turns.one_password;
       first = subst (λ ms. passwords p.client.settings ms ≡ first_answer p.client.settings (without_asides ms)) told.messages turns.first_answered;
-      no_other = no_password (turns_made t.history.calls) (farewell (calls_of t.history.calls)) (one_farewell (calls_of t.history.calls));
+      no_other = no_password (turns_made t.client.history.calls) (farewell (calls_of t.client.history.calls)) (one_farewell (calls_of t.client.history.calls));
     }
 
 -- what the backend has read of what the client has sent
 pub tied_reads : Known → {C : Type 0} (p : PairView C) (t : Tied p)
-    → IsUnread t.input ⊎ IsRead p.client.settings (Messages p t) t.input t.open_at_backend (waiting p.to_backend) p.to_backend.sent
+    → IsUnread t.backend.input ⊎ IsRead p.client.settings (Messages p t) t.backend.input t.backend.rest (waiting p.to_backend) p.to_backend.sent
 tied_reads k p t =
-    reads k.one_front k.one_packet p.client.settings (calls_of t.history.calls) (Messages p t) p.backend.limit (arrived p.to_backend) (waiting p.to_backend) p.to_backend.sent t.input t.open_at_backend
-    (tied_packet k p t) (tied_spelled k p t) (tied_none k p t) t.handled.input (take-append-drop p.to_backend.reached p.to_backend.sent) (sent_messages k p t)
+    reads k.one_front k.one_packet p.client.settings (calls_of t.client.history.calls) (Messages p t) p.backend.limit (arrived p.to_backend) (waiting p.to_backend) p.to_backend.sent t.backend.input t.backend.rest
+    (tied_packet k p t) (tied_spelled k p t) (tied_none k p t) t.backend.handled.input (take-append-drop p.to_backend.reached p.to_backend.sent) (sent_messages k p t)
 
 -- The client was let in, and this is what it heard.
 abbrev pub Met : {C : Type 0} (p : PairView C) → Tied p → Type 0
-Met p t = HasMet p.backend.script p.client.settings (turns_sent t.history.calls) t.input t.open_at_backend (waiting p.to_backend) p.to_backend.sent t.history.heard p.backend.log
+Met p t = HasMet p.backend.script p.client.settings (turns_sent t.client.history.calls) t.backend.input t.backend.rest (waiting p.to_backend) p.to_backend.sent t.client.history.heard p.backend.log
 
 -- what the two ends have of each other
-pub tied_meets : Known → {C : Type 0} (p : PairView C) (t : Tied p) → IsSilent t.history.heard p.backend.log ⊎ Met p t
+pub tied_meets : Known → {C : Type 0} (p : PairView C) (t : Tied p) → IsSilent t.client.history.heard p.backend.log ⊎ Met p t
 tied_meets k p t =
-    meets k.one_back p.backend.script p.client.settings (turns_sent t.history.calls) t.input t.open_at_backend (waiting p.to_backend) p.to_backend.sent t.history.heard p.backend.log
-    p.client.settings.limit (arrived p.to_client) t.history.rest (waiting p.to_client) (tied_password k p t) (tied_reads k p t)
-    t.faultless (tied_history p t).stream (take-append-drop p.to_client.reached p.to_client.sent ∙ t.handled.sent_is) t.handled.spelled t.handled.log_is
+    meets k.one_back p.backend.script p.client.settings (turns_sent t.client.history.calls) t.backend.input t.backend.rest (waiting p.to_backend) p.to_backend.sent t.client.history.heard p.backend.log
+    p.client.settings.limit (arrived p.to_client) t.client.history.rest (waiting p.to_client) (tied_password k p t) (tied_reads k p t)
+    t.backend.faultless (tied_history p t).stream (take-append-drop p.to_client.reached p.to_client.sent ∙ t.backend.handled.sent_is) t.backend.handled.spelled t.backend.handled.log_is
 
 -- the settled groups, by what was heard
-pub settled_by_heard : Known → {C : Type 0} (p : PairView C) (t : Tied p) → SettledInOrder (map (λ (x : Turn). x.request) (turns_made t.history.calls)) (drop 1 (segments t.history.heard).whole) p.settled
+pub settled_by_heard : Known → {C : Type 0} (p : PairView C) (t : Tied p) → SettledInOrder (map (λ (x : Turn). x.request) (turns_made t.client.history.calls)) (drop 1 (segments t.client.history.heard).whole) p.settled
 settled_by_heard k p t =
-    let facts = k.facts (in_pair p t.history) p.client (tied_history p t) in
-    let told = k.order t.history in
-    subst (λ rs. SettledInOrder rs (drop 1 (segments t.history.heard).whole) p.settled) (told.requests ∙ sym (turns_requests (turns_of (calls_of t.history.calls))))
+    let facts = k.facts (in_pair p t.client.history) p.client (tied_history p t) in
+    let told = k.order t.client.history in
+    subst (λ rs. SettledInOrder rs (drop 1 (segments t.client.history.heard).whole) p.settled) (told.requests ∙ sym (turns_requests (turns_of (calls_of t.client.history.calls))))
     (subst (λ ms. SettledInOrder (requests_in (Happened p t)) (drop 1 (segments ms).whole) p.settled) told.messages
-    (subst (SettledInOrder (requests_in (Happened p t)) (groups_in (Happened p t))) (ap (λ l. p.settled ++ l) t.taken ∙ append-nil p.settled) facts.in_order))
+    (subst (SettledInOrder (requests_in (Happened p t)) (groups_in (Happened p t))) (ap (λ l. p.settled ++ l) t.client.taken ∙ append-nil p.settled) facts.in_order))
 
 none_settled : (rs : List Request) (xs : List (List BackMessage)) (ss : List Settled) → xs ≡ [] → SettledInOrder rs xs ss → ss ≡ []
 none_settled rs [] [] e h = refl
@@ -208,8 +208,8 @@ none_settled (r ∷ rs) [] (s ∷ ss) e h = absurd h
 none_settled rs (x ∷ xs) ss e h = absurd cc
 
 -- the messages that the backend has handled behind the password, as the first of the turns'
-pub met_handled : {C : Type 0} (p : PairView C) (t : Tied p) (m : Met p t) → AreFirstOf m.since (turns_made t.history.calls)
-met_handled p t m = handled_first (turns_made t.history.calls) (farewell (calls_of t.history.calls)) m.since m.read.left (one_farewell (calls_of t.history.calls)) m.behind
+pub met_handled : {C : Type 0} (p : PairView C) (t : Tied p) (m : Met p t) → AreFirstOf m.since (turns_made t.client.history.calls)
+met_handled p t m = handled_first (turns_made t.client.history.calls) (farewell (calls_of t.client.history.calls)) m.since m.read.left (one_farewell (calls_of t.client.history.calls)) m.behind
 
 met_begins : Known → {C : Type 0} (p : PairView C) (t : Tied p) → Met p t → Begins (map settled_as p.settled) (map answered_as p.backend.log)
 met_begins k p t m =
@@ -217,12 +217,12 @@ met_begins k p t m =
     let ms = m.since in
     let user = user_of p.client.settings in
     let first : List BackMessage = asked p.backend.script.auth user ++ welcome p.backend.script in
-    let heard : Begins (segments t.history.heard).whole (first ∷ (segments (replies answers ms)).whole) =
-    subst (λ (s : Segments). Begins (segments t.history.heard).whole s.whole) (k.welcome_is_segment p.backend.script user (replies answers ms))
-    (segments_grow t.history.heard (asked p.backend.script.auth user ++ (welcome p.backend.script ++ replies answers ms)) m.heard_is) in
-    rw (m.log_is) (settled_first k.one_outcome (map (λ (x : Turn). x.request) (turns_made t.history.calls)) (drop 1 (segments t.history.heard).whole) p.settled (log_of answers ms) (segments (replies answers ms)).whole
-    (settled_by_heard k p t) (k.segments_fit_log answers ms) (without_first (segments t.history.heard).whole (segments (replies answers ms)).whole first heard)
-    (k.turns_logged answers (turns_made t.history.calls) ms t.in_turn (met_handled p t m)))
+    let heard : Begins (segments t.client.history.heard).whole (first ∷ (segments (replies answers ms)).whole) =
+    subst (λ (s : Segments). Begins (segments t.client.history.heard).whole s.whole) (k.welcome_is_segment p.backend.script user (replies answers ms))
+    (segments_grow t.client.history.heard (asked p.backend.script.auth user ++ (welcome p.backend.script ++ replies answers ms)) m.heard_is) in
+    rw (m.log_is) (settled_first k.one_outcome (map (λ (x : Turn). x.request) (turns_made t.client.history.calls)) (drop 1 (segments t.client.history.heard).whole) p.settled (log_of answers ms) (segments (replies answers ms)).whole
+    (settled_by_heard k p t) (k.segments_fit_log answers ms) (without_first (segments t.client.history.heard).whole (segments (replies answers ms)).whole first heard)
+    (k.turns_logged answers (turns_made t.client.history.calls) ms t.turns.in_turn (met_handled p t m)))
 
 pub settled_begin : Known → {C : Type 0} (p : PairView C) (t : Tied p) → Begins (map settled_as p.settled) (map answered_as p.backend.log)
 settled_begin k p t = elim (tied_meets k p t) [
@@ -236,41 +236,41 @@ handed_of ts = map (λ (x : Turn). backend.chunks_of x.copies) ts
 pub all_taken : Known → {C : Type 0} (p : PairView C) (t : Tied p) → TookEach p.backend.log p.handed
 all_taken k p t = elim (tied_meets k p t) [
   | inl s ↦ rw (s.no_log) tt
-  | inr m ↦ rw (m.log_is, t.handed_are) (took_each (log_of p.backend.script.answers m.since) (handed_of (turns_made t.history.calls))
-      (k.turns_loaded p.backend.script.answers (turns_made t.history.calls) m.since t.in_turn t.copied (met_handled p t m)))
+  | inr m ↦ rw (m.log_is, t.turns.handed) (took_each (log_of p.backend.script.answers m.since) (handed_of (turns_made t.client.history.calls))
+      (k.turns_loaded p.backend.script.answers (turns_made t.client.history.calls) m.since t.turns.in_turn t.turns.copied (met_handled p t m)))
 ]
 
 log_first : (ls : List Logged) (rs : List Request) → Begins (map (λ (l : Logged). l.request) ls) rs → map (λ (l : Logged). l.request) ls ≡ take (length ls) rs
 log_first ls rs h = begins_take (map (λ (l : Logged). l.request) ls) rs h ∙ ap (λ n. take n rs) (length-map ls (λ (l : Logged). l.request))
 
 -- the log's requests are the first that were made
-logged_first : Known → {C : Type 0} (p : PairView C) (t : Tied p) → requests_logged p.backend.log ≡ take (length p.backend.log) (requests_of (turns_made t.history.calls))
+logged_first : Known → {C : Type 0} (p : PairView C) (t : Tied p) → requests_logged p.backend.log ≡ take (length p.backend.log) (requests_of (turns_made t.client.history.calls))
 logged_first k p t = elim (tied_meets k p t) [
   | inl s ↦ rw (s.no_log) refl
-  | inr m ↦ rw (m.log_is) (log_first (log_of p.backend.script.answers m.since) (requests_of (turns_made t.history.calls))
-      (k.turns_logged p.backend.script.answers (turns_made t.history.calls) m.since t.in_turn (met_handled p t m)))
+  | inr m ↦ rw (m.log_is) (log_first (log_of p.backend.script.answers m.since) (requests_of (turns_made t.client.history.calls))
+      (k.turns_logged p.backend.script.answers (turns_made t.client.history.calls) m.since t.turns.in_turn (met_handled p t m)))
 ]
 
-pub all_asked : Known → {C : Type 0} (p : PairView C) (t : Tied p) → IsAsked p
+pub all_asked : Known → {C : Type 0} (p : PairView C) (t : Tied p) → MatchesCalls p
 all_asked k p t = record {
-  history = t.history;
-  client_history = t.client_history;
-  fed = t.fed_is;
-  given = t.given_is;
-  sent = t.sent_is;
-  places = t.places_are;
+  history = t.client.history;
+  client_history = t.client.is_history;
+  fed = t.client.fed;
+  given = t.client.given;
+  sent = t.client.sent;
+  places = t.client.places;
   logged = logged_first k p t;
-  handed = t.handed_are;
+  handed = t.turns.handed;
 }
 
 -- at most one request isn't settled
 pub one_unsettled : Known → {C : Type 0} (p : PairView C) (t : Tied p) → length p.handed ≤ suc (length p.settled)
 one_unsettled k p t =
-    let hs = happenings t.history in
-    let turns = k.answering (in_pair p t.history) p.client (tied_history p t) in
+    let hs = happenings t.client.history in
+    let turns = k.answering (in_pair p t.client.history) p.client (tied_history p t) in
     let few : length (turns_in hs) ≤ suc (length (groups_in hs)) = (turns.in_turn hs [] (sym (append-nil hs))).one_at_most in
-    let made : length (turns_in hs) ≡ length (turns_of (calls_of t.history.calls)) = ap (λ cs. length (turns_of cs)) ((k.order t.history).calls) in
+    let made : length (turns_in hs) ≡ length (turns_of (calls_of t.client.history.calls)) = ap (λ cs. length (turns_of cs)) ((k.order t.client.history).calls) in
     let all : length (p.settled ++ p.client.settled) ≡ length (groups_in hs) = turns.settled_all in
-    let given : length (p.settled ++ p.client.settled) ≡ length p.settled = ap length (ap (λ l. p.settled ++ l) t.taken ∙ append-nil p.settled) in
-    let handed : length p.handed ≡ length (turns_of (calls_of t.history.calls)) = ap length t.handed_are ∙ length-map (turns_made t.history.calls) (λ (x : Turn). backend.chunks_of x.copies) ∙ length-map (turns_of (calls_of t.history.calls)) as_turn in
+    let given : length (p.settled ++ p.client.settled) ≡ length p.settled = ap length (ap (λ l. p.settled ++ l) t.client.taken ∙ append-nil p.settled) in
+    let handed : length p.handed ≡ length (turns_of (calls_of t.client.history.calls)) = ap length t.turns.handed ∙ length-map (turns_made t.client.history.calls) (λ (x : Turn). backend.chunks_of x.copies) ∙ length-map (turns_of (calls_of t.client.history.calls)) as_turn in
     omega arith

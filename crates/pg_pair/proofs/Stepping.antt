@@ -1,6 +1,6 @@
 -- A step of the backend keeps what is so of a pair.
-use Rattle.std.proofs.Common.{◌≡◌, ◌≤◌, ℕ, true, false, Bool, List, [], ◌∷◌, ◌++◌, Result, Ok, Err, length, take, refl, ap, sym, subst, ◌∙◌, arith, length-append}
-use Rattle.std.proofs.lemmas.List.{append-nil, take-append-le}
+use Rattle.std.proofs.Common.{◌≡◌, ℕ, true, false, Bool, List, [], ◌∷◌, ◌++◌, Result, Ok, Err, refl, ap, sym, subst, ◌∙◌}
+use Rattle.std.proofs.lemmas.List.{append-nil}
 use Rattle.pg_backend.specs.declared.fault.BackendFault.{BackendFault}
 use Rattle.pg_backend.specs.declared.fault.BackendFault.TheVariants as faults
 use Rattle.pg_backend.specs.script.Script.{Script}
@@ -12,16 +12,14 @@ use Rattle.pg_backend.specs.phase.BackPhase.{BackPhase}
 use Rattle.pg_backend.specs.phase.BackPhase.TheVariants as back
 use Rattle.pg_pair.specs.declared.event.Applied.{Applied}
 use Rattle.pg_pair.specs.declared.event.Applied.TheVariants as applied
-use Rattle.pg_pair.specs.Applying.{is_closed_backend, TakesStep, OneStep, StepsIn}
+use Rattle.pg_pair.specs.Breaking.{is_closed_backend}
+use Rattle.pg_pair.specs.Stepping.{BackendSteps, StepsOnce, StepsUnlessClosed}
 use Rattle.pg_pair.specs.Copies.{turns_made}
 use Rattle.pg_pair.specs.Private.Known.{Known}
-use Rattle.pg_pair.specs.Standing.{Tied}
-use Rattle.pg_pair.specs.View.{Stream, arrived, PairView}
+use Rattle.pg_pair.specs.Invariant.{Tied}
+use Rattle.pg_pair.specs.View.{arrived, PairView}
+use Rattle.pg_pair.proofs.Ends.{client_stays}
 use Rattle.pg_pair.proofs.Sound.{not_faulty}
-
--- what had arrived is as it was when more is sent
-pub arrived_more : (s : Stream) (added : List ℕ) → s.reached ≤ length s.sent → take s.reached (s.sent ++ added) ≡ arrived s
-arrived_more s added within = take-append-le s.reached s.sent added within
 
 taken_faultless : (limit : ℕ) (i : Input) (rest : List ℕ) (j : Input) (left : List ℕ) → Takes limit i rest j left → j.faulty ≡ false
 taken_faultless limit i rest j left (packet_taken ps p more s h) = refl
@@ -36,62 +34,60 @@ handled_more : {C : Type 0} (p : PairView C) (t : Tied p) (b : BackendState) (se
     → sent ≡ p.to_client.sent ++ added → HasHandled b (arrived p.to_backend) j left sent → j.faulty ≡ false
     → b.script ≡ p.backend.script → b.limit ≡ p.backend.limit → (p.to_backend.broken ≡ false → was_lost b.stage ≡ false)
     → Tied (stepped p b sent)
+unfolding client_stays
 handled_more p t b sent added j left more handled sound script limit not_lost = record {
-  checked = subst IsChecked (sym script) t.checked;
-  limit_is = limit ∙ t.limit_is;
-  history = t.history;
-  client_history = t.client_history;
-  fed_is = t.fed_is ∙ sym (ap (take p.to_client.reached) more ∙ arrived_more p.to_client added t.within_client);
-  given_is = t.given_is;
-  sent_is = t.sent_is;
-  places_are = t.places_are;
-  taken = t.taken;
-  input = j;
-  open_at_backend = left;
-  handled = handled;
-  faultless = sound;
-  not_lost = not_lost;
-  in_turn = subst (λ (s : Script). InTurn s.answers (turns_made t.history.calls)) (sym script) t.in_turn;
-  copied = t.copied;
-  handed_are = t.handed_are;
-  within_backend = t.within_backend;
-  within_client = let e = t.within_client in let n = ap length more in omega (arith, length-append p.to_client.sent added);
+  client = client_stays p sent added more t.client;
+  backend = record {
+    checked = subst IsChecked (sym script) t.backend.checked;
+    limit = limit ∙ t.backend.limit;
+    input = j;
+    rest = left;
+    handled = handled;
+    faultless = sound;
+    not_lost = not_lost;
+    within = t.backend.within;
+  };
+  turns = record {
+    in_turn = subst (λ (s : Script). InTurn s.answers (turns_made t.client.history.calls)) (sym script) t.turns.in_turn;
+    copied = t.turns.copied;
+    handed = t.turns.handed;
+  };
 }
 
 -- neither the backend nor the stream changed
 stays : {C : Type 0} (p : PairView C) (t : Tied p) (b : BackendState) (sent : List ℕ) → b ≡ p.backend → sent ≡ p.to_client.sent → Tied (stepped p b sent)
 stays p t b sent same e =
-    handled_more p t b sent [] t.input t.open_at_backend (e ∙ sym (append-nil p.to_client.sent))
-    (subst (λ x. HasHandled x (arrived p.to_backend) t.input t.open_at_backend sent) (sym same) (subst (HasHandled p.backend (arrived p.to_backend) t.input t.open_at_backend) (sym e) t.handled))
-    t.faultless (ap (λ x. x.script) same) (ap (λ x. x.limit) same) (λ h. ap (λ x. was_lost x.stage) same ∙ t.not_lost h)
+    handled_more p t b sent [] t.backend.input t.backend.rest (e ∙ sym (append-nil p.to_client.sent))
+    (subst (λ x. HasHandled x (arrived p.to_backend) t.backend.input t.backend.rest sent) (sym same) (subst (HasHandled p.backend (arrived p.to_backend) t.backend.input t.backend.rest) (sym e) t.backend.handled))
+    t.backend.faultless (ap (λ x. x.script) same) (ap (λ x. x.limit) same) (λ h. ap (λ x. was_lost x.stage) same ∙ t.backend.not_lost h)
 
 by_answer : Known → {C : Type 0} (p : PairView C) (t : Tied p) (answer : Result Bool BackendFault) (b : BackendState) (sent : List ℕ)
-    → Steps p.backend p.to_client.sent answer b sent → ((added : List ℕ) × (sent ≡ p.to_client.sent ++ added) × Handles p.backend (arrived p.to_backend) t.input t.open_at_backend p.to_client.sent added answer b)
+    → Steps p.backend p.to_client.sent answer b sent → ((added : List ℕ) × (sent ≡ p.to_client.sent ++ added) × Handles p.backend (arrived p.to_backend) t.backend.input t.backend.rest p.to_client.sent added answer b)
     → Tied (stepped p b sent)
 by_answer k p t (Ok false) b sent call h = stays p t b sent call.1 call.2
 by_answer k p t (Ok true) b sent call h =
     let does = h.2 in
     let on = call.1 in
     handled_more p t b sent h.0 does.0 does.1 h.1 (subst (HasHandled b (arrived p.to_backend) does.0 does.1) (sym (h.1)) does.4)
-    (taken_faultless p.backend.limit t.input t.open_at_backend does.0 does.1 does.2) on.script_is on.limit_is (λ _. on.not_lost)
+    (taken_faultless p.backend.limit t.backend.input t.backend.rest does.0 does.1 does.2) on.script_is on.limit_is (λ _. on.not_lost)
 by_answer k p t (Err (faults.Unexpected tag)) b sent call h =
     let does = h.2 in
     let on = call.1 in
-    let j : Input = record t.input { messages = t.input.messages ++ does.0 ∷ [] } in
+    let j : Input = record t.backend.input { messages = t.backend.input.messages ++ does.0 ∷ [] } in
     handled_more p t b sent h.0 j does.1 h.1 (subst (HasHandled b (arrived p.to_backend) j does.1) (sym (h.1)) does.5)
-    t.faultless on.script_is on.limit_is (λ _. on.not_lost)
+    t.backend.faultless on.script_is on.limit_is (λ _. on.not_lost)
 by_answer k p t (Err (faults.Wire f)) b sent call h = absurd (not_faulty k p t f h.2.0)
 by_answer k p t (Err faults.Memory) b sent call h =
-    handled_more p t b sent [] t.input t.open_at_backend (call.2 ∙ sym (append-nil p.to_client.sent))
-    (subst (HasHandled b (arrived p.to_backend) t.input t.open_at_backend) (sym (call.2)) h.2)
-    t.faultless (ap (λ x. x.script) call.1) (ap (λ x. x.limit) call.1) (λ _. ap (λ x. was_lost x.stage) call.1)
+    handled_more p t b sent [] t.backend.input t.backend.rest (call.2 ∙ sym (append-nil p.to_client.sent))
+    (subst (HasHandled b (arrived p.to_backend) t.backend.input t.backend.rest) (sym (call.2)) h.2)
+    t.backend.faultless (ap (λ x. x.script) call.1) (ap (λ x. x.limit) call.1) (λ _. ap (λ x. was_lost x.stage) call.1)
 by_answer k p t (Err faults.Closed) b sent call h = stays p t b sent call.1 call.2
 
 pub keeps_step : Known → {C : Type 0} (p : PairView C) (answer : Result Bool BackendFault) (b : BackendState) (sent : List ℕ)
-    → TakesStep p.backend p.to_client.sent answer b sent → Tied p → Tied (stepped p b sent)
-keeps_step k p answer b sent step t = by_answer k p t answer b sent step.call (step.handled (arrived p.to_backend) t.input t.open_at_backend p.to_client.sent t.handled)
+    → BackendSteps p.backend p.to_client.sent answer b sent → Tied p → Tied (stepped p b sent)
+keeps_step k p answer b sent step t = by_answer k p t answer b sent step.call (step.handled (arrived p.to_backend) t.backend.input t.backend.rest p.to_client.sent t.backend.handled)
 
-pub steps_in : {C : Type 0} (b : BackPhase) (p : PairView C) (result : Applied) (q : PairView C) → is_closed_backend b ≡ false → OneStep p result q → StepsIn b p result q
+pub steps_in : {C : Type 0} (b : BackPhase) (p : PairView C) (result : Applied) (q : PairView C) → is_closed_backend b ≡ false → StepsOnce p result q → StepsUnlessClosed b p result q
 steps_in back.Closed p result q going h = absurd cc
 steps_in back.First p result q going h = h
 steps_in back.Password p result q going h = h
@@ -99,6 +95,6 @@ steps_in back.Ready p result q going h = h
 steps_in back.Grouping p result q going h = h
 steps_in back.CopyIn p result q going h = h
 
-pub no_step : {C : Type 0} (b : BackPhase) (p : PairView C) → is_closed_backend b ≡ true → StepsIn b p applied.Nothing p
+pub no_step : {C : Type 0} (b : BackPhase) (p : PairView C) → is_closed_backend b ≡ true → StepsUnlessClosed b p applied.Nothing p
 no_step back.Closed p h = (refl, refl)
 no_step _ p h = absurd cc

@@ -14,7 +14,7 @@ use Rattle.pg_backend.specs.phase.BackPhase.{BackPhase}
 use Rattle.pg_backend.specs.script.Logged.{Logged}
 use Rattle.pg_pair.specs.Copies.{Took, TookEach}
 use Rattle.pg_pair.specs.Headline.{Headline}
-use Rattle.pg_pair.specs.Standing.{Tied}
+use Rattle.pg_pair.specs.Invariant.{Tied}
 use Rattle.pg_pair.specs.View.{PairView}
 
 groups_prop : (xs ys : List (Request × Outcome)) → IsProp (xs ≡ ys)
@@ -49,10 +49,10 @@ kept_headline p holds some = record {
 
 -- no more has reached an end than was sent to it
 pub kept_within_backend : {C : Type 0} (p : PairView C) → ∥ Tied p ∥₁ → p.to_backend.reached ≤ length p.to_backend.sent
-kept_within_backend p some = ∥∥₁_elim some le_prop (λ t. t.within_backend)
+kept_within_backend p some = ∥∥₁_elim some le_prop (λ t. t.backend.within)
 
 pub kept_within_client : {C : Type 0} (p : PairView C) → ∥ Tied p ∥₁ → p.to_client.reached ≤ length p.to_client.sent
-kept_within_client p some = ∥∥₁_elim some le_prop (λ t. t.within_client)
+kept_within_client p some = ∥∥₁_elim some le_prop (λ t. t.client.within)
 
 -- what is said of an Ok
 pub ok_of : {T E P : Type 0} (r : Result T E) → false ≡ is_err r → OnOk r P → P

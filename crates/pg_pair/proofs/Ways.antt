@@ -12,10 +12,14 @@ use Rattle.pg_pair.specs.declared.event.Event.{Event}
 use Rattle.pg_pair.specs.declared.event.Event.TheVariants as event
 use Rattle.pg_pair.specs.declared.event.PairFault.{PairFault}
 use Rattle.pg_pair.specs.declared.event.PairFault.TheVariants as fault
-use Rattle.pg_pair.specs.Applying.{Applies, Breaks, BreaksIf, BreaksUnless, Calls, delivered, DeliversUnless, EndsWith, Goes, begins, goes_on, is_bad, is_closed, is_shut, StepsIn, stream_of, TakesIn, TellsClient}
-use Rattle.pg_pair.specs.Carrying.{Carrying}
-use Rattle.pg_pair.specs.Deliveries.{break_of, break_event, bad_carrier, no_memory, CarriedBadly, delivery_of, WaysBreak, WhyBroken}
-use Rattle.pg_pair.specs.View.{Stream, PairView}
+use Rattle.pg_pair.specs.Breaking.{Breaks, BreaksIf, BreaksUnless, is_closed, is_shut, TellsClient}
+use Rattle.pg_pair.specs.Calling.{CallsClient}
+use Rattle.pg_pair.specs.Delivering.{ArrivesAt, begins, DeliversUnless, EndsWithPiece, Goes, goes_on}
+use Rattle.pg_pair.specs.Event.{Applies}
+use Rattle.pg_pair.specs.Stepping.{StepsUnlessClosed}
+use Rattle.pg_pair.specs.Carrying.{Carrying, delivered, is_bad}
+use Rattle.pg_pair.specs.Laws.{break_of, break_event, bad_carrier, no_memory, CarriedBadly, delivery_of, WaysBreak, WhyBroken}
+use Rattle.pg_pair.specs.View.{PairView, Stream, stream_of}
 
 -- A way is broken where it was, and else whole.
 abbrev pub IsLike : {C : Type 0} → Way → PairView C → PairView C → Type 0
@@ -26,7 +30,7 @@ like_same {C} w p q e = ap (λ (x : PairView C). (stream_of w x).broken) e
 
 -- ---- calls and steps
 
-like_call : {C : Type 0} (w : Way) (c : Call) (p : PairView C) (result : Applied) (q : PairView C) → Calls c p result q → IsLike w p q
+like_call : {C : Type 0} (w : Way) (c : Call) (p : PairView C) (result : Applied) (q : PairView C) → CallsClient c p result q → IsLike w p q
 like_call {C} ToBackend c p applied.Done q h = ap (λ (x : PairView C). x.to_backend.broken) h.rest
 like_call {C} ToClient c p applied.Done q h = ap (λ (x : PairView C). x.to_client.broken) h.rest
 like_call w c p (applied.Refused request f) q h = like_same w p q h.2
@@ -35,14 +39,14 @@ like_call w c p (applied.Client f) q h = absurd h
 like_call w c p (applied.Backend f) q h = absurd h
 like_call w c p applied.Carrier q h = absurd h
 
-like_step : {C : Type 0} (w : Way) (b : BackPhase) (p : PairView C) (result : Applied) (q : PairView C) → StepsIn b p result q → IsLike w p q
+like_step : {C : Type 0} (w : Way) (b : BackPhase) (p : PairView C) (result : Applied) (q : PairView C) → StepsUnlessClosed b p result q → IsLike w p q
 like_step w back.Closed p result q h = like_same w p q h.1
 like_step {C} ToBackend _ p result q h = ap (λ (x : PairView C). x.to_backend.broken) h.rest
 like_step {C} ToClient _ p result q h = ap (λ (x : PairView C). x.to_client.broken) h.rest
 
 -- ---- deliveries
 
-like_taken : {C : Type 0} (v w : Way) (p : PairView C) (bytes : List ℕ) (answer : Option Applied) (q : PairView C) → TakesIn v p bytes answer q → IsLike w p q
+like_taken : {C : Type 0} (v w : Way) (p : PairView C) (bytes : List ℕ) (answer : Option Applied) (q : PairView C) → ArrivesAt v p bytes answer q → IsLike w p q
 like_taken v w p [] answer q h = like_same w p q h.1
 like_taken {C} ToBackend ToBackend p (b ∷ bytes) answer q (Ok x, h, e) = ap (λ (x : PairView C). x.to_backend.broken) h.1
 like_taken {C} ToBackend ToClient p (b ∷ bytes) answer q (Ok x, h, e) = ap (λ (x : PairView C). x.to_client.broken) h.1
@@ -55,7 +59,7 @@ pub stream_carried : {C : Type 0} (w : Way) (p : PairView C) (carrier : C) → s
 stream_carried ToBackend p carrier = refl
 stream_carried ToClient p carrier = refl
 
-like_taken_on : {C : Type 0} (v w : Way) (p : PairView C) (carrier : C) (bytes : List ℕ) (answer : Option Applied) (q : PairView C) → TakesIn v (record p { carrier = carrier }) bytes answer q → IsLike w p q
+like_taken_on : {C : Type 0} (v w : Way) (p : PairView C) (carrier : C) (bytes : List ℕ) (answer : Option Applied) (q : PairView C) → ArrivesAt v (record p { carrier = carrier }) bytes answer q → IsLike w p q
 like_taken_on v w p carrier bytes answer q h = like_taken v w (record p { carrier = carrier }) bytes answer q h ∙ ap (λ (s : Stream). s.broken) (stream_carried w p carrier)
 
 pub like_gone : {C : Type 0} (carries : Carrying C) (v w : Way) (most : ℕ) (p : PairView C) (n : ℕ) (q : PairView C) → Goes carries v most p n q → IsLike w p q
@@ -137,13 +141,13 @@ keeps_both carries w e p m q first (inr k) = inr (k.1, no_memory refl)
 keeps_both carries w e p m q (inl first) (inl second) = inl (second ∙ first)
 keeps_both carries w e p m q (inr k) (inl second) = inr (second ∙ k.1, no_memory refl)
 
-carrier_taken : {C : Type 0} (v : Way) (p : PairView C) (bytes : List ℕ) (answer : Option Applied) (q : PairView C) → TakesIn v p bytes answer q → q.carrier ≡ p.carrier
+carrier_taken : {C : Type 0} (v : Way) (p : PairView C) (bytes : List ℕ) (answer : Option Applied) (q : PairView C) → ArrivesAt v p bytes answer q → q.carrier ≡ p.carrier
 carrier_taken {C} v p [] answer q h = ap (λ (x : PairView C). x.carrier) h.1
 carrier_taken {C} ToBackend p (b ∷ bytes) answer q (Ok x, h, e) = ap (λ (x : PairView C). x.carrier) h.1
 carrier_taken {C} ToBackend p (b ∷ bytes) answer q (Err f, h, e) = ap (λ (x : PairView C). x.carrier) h.1
 carrier_taken {C} ToClient p (b ∷ bytes) answer q (result, h, e) = ap (λ (x : PairView C). x.carrier) h.rest
 
-keeps_ended : {C : Type 0} (carries : Carrying C) (b : Bool) (v w : Way) (most n : ℕ) (p m : PairView C) (result : Applied) (q : PairView C) (h : EndsWith carries v most n m result q)
+keeps_ended : {C : Type 0} (carries : Carrying C) (b : Bool) (v w : Way) (most n : ℕ) (p m : PairView C) (result : Applied) (q : PairView C) (h : EndsWithPiece carries v most n m result q)
     → is_bad h.piece h.came ≡ b → BreaksIf b v h.taken q → IsLike w p h.taken → Keeps carries (delivery_of v most) p (Ok result) q w
 keeps_ended carries false v w most n p m result q h bad breaks same = inl (like_same w h.taken q breaks ∙ same)
 keeps_ended carries true v w most n p m result q h bad breaks same = by_way (by_break v w h.taken q one)

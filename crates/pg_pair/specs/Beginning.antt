@@ -14,13 +14,20 @@ abbrev pub silent : Stream
 silent = record { sent = []; reached = 0; broken = false }
 
 -- Both ends are new, and nothing has happened.
-pub record IsBegun {C : Type 0} (settings : Settings) (script : Script) (carrier : C) (p : PairView C) : Type 0 where
+pub record IsBegun {C : Type 0} (settings : Settings) (script : Script) (carrier : C)
+    (p : PairView C) : Type 0 where
   pub client_settings : p.client.settings ≡ settings
   pub client_phase : client.phase_of p.client ≡ phase.New
   pub client_history : IsHistoryOf blank p.client
   pub rest : p ≡ record {
     client = p.client;
-    backend = record { script = script; limit = longest; left = script.answers; stage = stage.First (record { kept = []; ended = false; fault = None }); log = [] };
+    backend = record {
+      script = script;
+      limit = longest;
+      left = script.answers;
+      stage = stage.First (record { kept = []; ended = false; fault = None });
+      log = [];
+    };
     carrier = carrier;
     to_backend = silent;
     to_client = silent;

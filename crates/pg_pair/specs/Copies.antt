@@ -8,6 +8,7 @@ use Rattle.pg_client.specs.Answering.{calls_of}
 use Rattle.pg_backend.specs.script.Logged.{Logged}
 use Rattle.pg_backend.specs.Turns.{Turn, is_copied_in, chunks_of}
 
+-- a turn of the client, as the backend's definitions know it
 abbrev pub as_turn : client.Turn → Turn
 as_turn t = record { request = t.request; copies = t.copies }
 

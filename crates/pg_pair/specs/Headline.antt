@@ -20,10 +20,11 @@ use Rattle.pg_backend.specs.Turns.{Turn, AreCopies}
 use Rattle.pg_pair.specs.Copies.{TookEach, turns_made, handed_for}
 use Rattle.pg_pair.specs.View.{arrived, PairView}
 
--- a group as it was settled, and as it was answered
+-- a group as it was settled
 abbrev pub settled_as : Settled → Request × Outcome
 settled_as s = (s.request, s.outcome)
 
+-- a group as it was answered
 abbrev pub answered_as : Logged → Request × Outcome
 answered_as l = (l.request, l.outcome)
 
@@ -39,7 +40,7 @@ requests_logged ls = map (λ l. l.request) ls
 -- pair, it has put out what was sent to the backend, and its calls have the pair's places. The log's
 -- requests are the first of those that they made, and what was handed over is a list of chunks for
 -- each of those.
-pub record IsAsked {C : Type 0} (p : PairView C) : Type 0 where
+pub record MatchesCalls {C : Type 0} (p : PairView C) : Type 0 where
   pub history : History
   pub client_history : IsHistoryOf history p.client
   pub fed : history.fed ≡ arrived p.to_client
@@ -68,15 +69,21 @@ pub record StandsReady {C : Type 0} (p : PairView C) : Type 0 where
   pub phase : backend.phase_of p.backend.stage ≡ backend_phase.Ready
   pub left : ∥ LeavesCopies p ∥₁
 
+-- The headline: what the client reports settled is what the backend has answered.
 pub record Headline {C : Type 0} (p : PairView C) : Type 0 where
-  -- the settled groups are, in order, a beginning of those that the backend has answered, each with its request and its outcome
-  pub beginning : map settled_as p.settled ≡ take (length p.settled) (map answered_as p.backend.log)
-  -- the chunks that the backend took for a request begin those that were handed over for it, and are all of them where its
-  -- outcome has a copy in
+  -- the settled groups are, in order, a beginning of those that the backend has answered, each
+  -- with its request and its outcome
+  pub beginning : map settled_as p.settled
+      ≡ take (length p.settled) (map answered_as p.backend.log)
+  -- the chunks that the backend took for a request begin those that were handed over for it, and
+  -- are all of them where its outcome has a copy in
   pub copied : TookEach p.backend.log p.handed
-  -- entry k of the log and list k of what was handed over are of one request, also where it isn't settled
-  pub asked : ∥ IsAsked p ∥₁
+  -- entry k of the log and list k of what was handed over are of one request, also where it isn't
+  -- settled
+  pub asked : ∥ MatchesCalls p ∥₁
   -- at most one request isn't settled
   pub one_at_most : length p.handed ≤ suc (length p.settled)
-  -- where the client stands ready the backend does too, unless the way to it is broken or a step of it was refused memory
-  pub ready : client.phase_of p.client ≡ client_phase.Ready → p.to_backend.broken ≡ false → is_spared p.backend.stage ≡ true → StandsReady p
+  -- where the client stands ready the backend does too, unless the way to it is broken or a step of
+  -- it was refused memory
+  pub ready : client.phase_of p.client ≡ client_phase.Ready
+      → p.to_backend.broken ≡ false → is_spared p.backend.stage ≡ true → StandsReady p

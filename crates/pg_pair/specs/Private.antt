@@ -1,5 +1,6 @@
 pub mod Inside
 pub mod Known
-pub mod Delivering
+pub mod Calling
 pub mod Chunks
+pub mod Delivering
 pub mod Passing

@@ -1,9 +1,13 @@
 -- A pair as its callers see it.
-use Rattle.std.specs.Prelude.{ℕ, Bool, List, take, drop, Option}
+use Rattle.std.specs.Prelude.{◌≡◌, ℕ, Bool, List, take, drop, Option}
 use Rattle.pg_client.specs.declared.settled.Settled.{Settled}
 use Rattle.pg_client.specs.declared.settled.Loss.{Loss}
 use Rattle.pg_client.specs.Client.{ClientView}
 use Rattle.pg_backend.specs.Backend.{BackendState}
+use Rattle.pg_pair.specs.declared.carry.Way.{Way}
+use Rattle.pg_pair.specs.declared.carry.Way.TheVariants.{ToBackend, ToClient}
+use Rattle.pg_pair.specs.declared.event.Applied.{Applied}
+use Rattle.pg_pair.specs.declared.event.Applied.TheVariants as applied
 
 -- one way: all that one end has put out, how much of it has reached the other end, and whether the way is broken
 pub record Stream : Type 0 where
@@ -19,6 +23,7 @@ arrived s = take s.reached s.sent
 abbrev pub waiting : Stream → List ℕ
 waiting s = drop s.reached s.sent
 
+-- both ends, what carries the bytes, the two ways between them, and what the pair keeps of the session
 pub record PairView (C : Type 0) : Type 0 where
   pub client : ClientView
   pub backend : BackendState
@@ -33,3 +38,16 @@ pub record PairView (C : Type 0) : Type 0 where
   pub handed : List (List (List ℕ))
   -- what the client said when the way to it broke
   pub loss : Option Loss
+
+-- the way to the backend, or that to the client
+abbrev pub stream_of : {C : Type 0} → Way → PairView C → Stream
+stream_of ToBackend p = p.to_backend
+stream_of ToClient p = p.to_client
+
+-- the bytes that are under way there
+abbrev pub waiting_at : {C : Type 0} → Way → PairView C → List ℕ
+waiting_at w p = waiting (stream_of w p)
+
+-- Nothing came of an event, and the pair is as it was.
+abbrev pub DoesNothing : {C : Type 0} → PairView C → Applied → PairView C → Type 0
+DoesNothing p result q = (result ≡ applied.Nothing) × (q ≡ p)

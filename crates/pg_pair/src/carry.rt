@@ -1,9 +1,8 @@
 //! What carries bytes from one end to the other.
 
-ghost use Rattle.std.specs.Prelude.{◌≡◌, ◌<◌, ◌≤◌, ℕ, List, Result, Ok, length};
-ghost use Rattle.pg_pair.specs.declared.carry.CarryFault.{CarryFault};
-ghost use Rattle.pg_pair.specs.declared.carry.Way.{Way};
-ghost use Rattle.pg_pair.specs.Carrying.{arrival, IsWithinPiece, Counts, longest_piece};
+ghost use Rattle.std.specs.Prelude.{◌≡◌, ◌<◌, ◌≤◌, ℕ, Ok, length};
+ghost use Rattle.pg_pair.specs.Carrying.{arrival, Carrying, CountsFaults, IsWithinPiece};
+ghost use Rattle.pg_pair.specs.Carrying.{longest_piece};
 
 use thiserror::Error;
 
@@ -27,7 +26,7 @@ pub trait Carry: Drop {
     ghost failures: { Self → ℕ };
 
     // A call may carry a piece along a way so, with these bytes arriving or with a fault, and leave the carrier so.
-    ghost carries: { Self → Way → List ℕ → Result (List ℕ) CarryFault → Self → Type 0 };
+    ghost carries: { Carrying Self };
 
     /// Carries a piece of 1 to 4,096 bytes, and answers how many bytes arrived, which stand at the beginning of `into`. A fault is
     /// answered only where what is behind the carrier failed in this call, and is counted.
@@ -37,7 +36,7 @@ pub trait Carry: Drop {
         requires room { length piece.now ≤ longest_piece }
         ensures within { IsWithinPiece result piece.now }
         ensures carried { carries self.old way piece.now (arrival result into.new) self.new }
-        ensures counted { Counts result (failures self.old) (failures self.new) };
+        ensures counted { CountsFaults result (failures self.old) (failures self.new) };
 }
 
 /// Carries each piece whole, in memory.

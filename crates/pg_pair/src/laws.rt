@@ -1,8 +1,8 @@
 //! Laws of a pair: each function does nothing, and its contract is the law.
 
 ghost use Rattle.pg_pair.specs.View.{PairView};
-ghost use Rattle.pg_pair.specs.Standing.{Tied};
-ghost use Rattle.pg_pair.specs.Deliveries.{DeliveryMoves, WaysBreak, WholeMoves};
+ghost use Rattle.pg_pair.specs.Invariant.{Tied};
+ghost use Rattle.pg_pair.specs.Laws.{DeliveryMoves, WaysBreak, WholeMoves};
 ghost use Rattle.pg_pair.specs.Headline.{Headline};
 
 use crate::carry::Carry;

@@ -11,11 +11,10 @@ ghost use Rattle.std.specs.Prelude.{◌≡◌, ◌≤◌, [], drop, false, lengt
 ghost use Rattle.pg_backend.specs.Check.{IsChecked};
 ghost use Rattle.pg_wire.specs.Direction.{IsLimit};
 ghost use Rattle.pg_pair.specs.Headline.{Headline};
-ghost use Rattle.pg_pair.specs.Standing.{Tied};
-ghost use Rattle.pg_pair.specs.declared.event.Event.TheVariants as event;
+ghost use Rattle.pg_pair.specs.Invariant.{Tied};
 
 use crate::carry::{Carry, Way};
-use crate::event::{Applied, Call, Event, PairFault};
+use crate::event::{Applied, Event, PairFault};
 use crate::laws::headline;
 use pg_backend::{Backend, Script};
 use pg_client::{Client, Loss, Settings, Settled};
@@ -73,19 +72,21 @@ impl<C: Carry> Model for Pair<C> {
 
     ghost Value = { PairView C };
 
-    ghost use Rattle.pg_pair.specs.Standing.{Tied};
+    ghost use Rattle.pg_pair.specs.Invariant.{Tied};
     ghost use Rattle.pg_pair.specs.Private.Inside.{view_of};
 
     ghost view = { view_of };
 
     // there is room for a settled group of each request
-    ghost invariant = { λ p. ∥ Tied (view_of p) ∥₁ × (length p.handed.items ≤ vec_capacity p.settled) };
+    ghost invariant = { λ p. ∥ Tied (view_of p) ∥₁
+        × (length p.handed.items ≤ vec_capacity p.settled) };
 }
 
 impl<C: Carry> Pair<C> {
-    ghost use Rattle.pg_pair.specs.Applying.{Applies, Ran, stream_of};
+    ghost use Rattle.pg_pair.specs.Event.{Applies, Ran};
     ghost use Rattle.pg_pair.specs.Beginning.{IsBegun};
     ghost use Rattle.pg_pair.specs.Private.Passing.{Passes};
+    ghost use Rattle.pg_pair.specs.View.{stream_of};
 
     /// A pair of a client with these settings, whose limit is from 64 to 1,073,741,823, and a backend that plays this script,
     /// whose `check` has answered Ok. Neither has begun. It takes no memory.
@@ -128,20 +129,6 @@ impl<C: Carry> Pair<C> {
         };
         self.stand();
         result
-    }
-
-    // The client is called.
-    fn call(&mut self, call: Call) -> Result<Applied, PairFault>
-        ensures { Applies C.carries (event.Call call) self.old result self.new }
-    {
-        match call {
-            Call::Start => self.start(),
-            Call::Request(request) => self.request(request),
-            Call::Chunk(bytes) => self.hand_chunk(bytes),
-            Call::Done => self.finish_copy(),
-            Call::Fail(reason) => self.fail_copy(reason),
-            Call::Terminate => self.terminate(),
-        }
     }
 
     /// Applies events one after the other. Only P1 Memory, as [`apply`](Pair::apply) says it, ends this early.

@@ -11,7 +11,12 @@ use Rattle.pg_pair.specs.declared.event.Applied.TheVariants as applied
 use Rattle.pg_pair.specs.declared.event.Call.{Call}
 use Rattle.pg_pair.specs.declared.event.Event.{Event}
 use Rattle.pg_pair.specs.declared.event.Event.TheVariants as event
-use Rattle.pg_pair.specs.Applying.{Calls, OneStep, StepsIn, Breaks, BreaksIf, BreaksUnless, TellsClient, Pushing, TakesIn, Goes, goes_on, begins, EndsWith, DeliversUnless, Applies, is_bad, is_closed, is_shut, delivered}
+use Rattle.pg_pair.specs.Breaking.{Breaks, BreaksIf, BreaksUnless, is_closed, is_shut, TellsClient}
+use Rattle.pg_pair.specs.Calling.{CallsClient}
+use Rattle.pg_pair.specs.Carrying.{delivered, is_bad}
+use Rattle.pg_pair.specs.Delivering.{ArrivesAt, begins, DeliversUnless, EndsWithPiece, Goes, goes_on, Pushing}
+use Rattle.pg_pair.specs.Event.{Applies}
+use Rattle.pg_pair.specs.Stepping.{StepsOnce, StepsUnlessClosed}
 use Rattle.pg_pair.specs.View.{PairView}
 use Rattle.pgpipe_loop.specs.Looping.{Carries}
 
@@ -23,7 +28,7 @@ module _ {C : Type 0} (carries : Carries C) where
   same_keeps : (p q : PairView C) → q ≡ p → Keeps p q
   same_keeps p q e = let n = ap (λ (x : PairView C). length x.settled) e in omega (arith, n)
 
-  calls_keep : (c : Call) (p : PairView C) (a : Applied) (q : PairView C) → Calls c p a q → Keeps p q
+  calls_keep : (c : Call) (p : PairView C) (a : Applied) (q : PairView C) → CallsClient c p a q → Keeps p q
   calls_keep c p applied.Done q h = let n = ap (λ (x : PairView C). length x.settled) h.rest in omega (arith, n)
   calls_keep c p (applied.Refused r f) q h = same_keeps p q h.2
   calls_keep c p applied.Nothing q h = absurd h
@@ -31,10 +36,10 @@ module _ {C : Type 0} (carries : Carries C) where
   calls_keep c p (applied.Backend f) q h = absurd h
   calls_keep c p applied.Carrier q h = absurd h
 
-  step_keeps : (p : PairView C) (a : Applied) (q : PairView C) → OneStep p a q → Keeps p q
+  step_keeps : (p : PairView C) (a : Applied) (q : PairView C) → StepsOnce p a q → Keeps p q
   step_keeps p a q h = let n = ap (λ (x : PairView C). length x.settled) h.rest in omega (arith, n)
 
-  steps_keep : (phase : BackPhase) (p : PairView C) (a : Applied) (q : PairView C) → StepsIn phase p a q → Keeps p q
+  steps_keep : (phase : BackPhase) (p : PairView C) (a : Applied) (q : PairView C) → StepsUnlessClosed phase p a q → Keeps p q
   steps_keep back.Closed p a q h = same_keeps p q h.1
   steps_keep back.First p a q h = step_keeps p a q h
   steps_keep back.Password p a q h = step_keeps p a q h
@@ -62,7 +67,7 @@ module _ {C : Type 0} (carries : Carries C) where
   pushing_keeps p bytes (Ok x) q h = let n = ap (λ (x : PairView C). length x.settled) h.1 in omega (arith, n)
   pushing_keeps p bytes (Err f) q h = same_keeps p q h.1
 
-  takes_in_keeps : (w : Way) (p : PairView C) (bytes : List ℕ) (answer : Option Applied) (q : PairView C) → TakesIn w p bytes answer q → Keeps p q
+  takes_in_keeps : (w : Way) (p : PairView C) (bytes : List ℕ) (answer : Option Applied) (q : PairView C) → ArrivesAt w p bytes answer q → Keeps p q
   takes_in_keeps w p [] answer q h = same_keeps p q h.1
   takes_in_keeps ToBackend p (b ∷ bytes) answer q h = pushing_keeps p (b ∷ bytes) h.0 q h.1
   takes_in_keeps ToClient p (b ∷ bytes) answer q h = let n = ap (λ (x : PairView C). length x.settled) h.1.rest in omega (arith, n, length-append p.settled h.1.fed.settled)
@@ -71,7 +76,7 @@ module _ {C : Type 0} (carries : Carries C) where
   goes_keeps w most p n q begins = omega arith
   goes_keeps w most p n q (goes_on k m piece came carrier r g c same good t) = omega (arith, goes_keeps w most p k m g, takes_in_keeps w (record m { carrier = carrier }) piece None r t)
 
-  ends_keep : (w : Way) (most n : ℕ) (m : PairView C) (a : Applied) (q : PairView C) → EndsWith carries w most n m a q → Keeps m q
+  ends_keep : (w : Way) (most n : ℕ) (m : PairView C) (a : Applied) (q : PairView C) → EndsWithPiece carries w most n m a q → Keeps m q
   ends_keep w most n m a q h = omega (arith, takes_in_keeps w (record m { carrier = h.carrier }) (delivered h.piece h.came) h.answer h.taken h.takes_in, breaks_if_keep (is_bad h.piece h.came) w h.taken q h.breaks)
 
   delivers_keep : (shut : Bool) (w : Way) (most : ℕ) (p : PairView C) (a : Applied) (q : PairView C) → DeliversUnless shut carries w most p a q → Keeps p q

@@ -10,8 +10,7 @@ use Rattle.pg_pair.specs.declared.carry.Way.{Way}
 use Rattle.pg_pair.specs.declared.carry.Way.TheVariants.{ToBackend, ToClient}
 use Rattle.pg_pair.specs.declared.event.Applied.{Applied}
 use Rattle.pg_pair.specs.declared.event.Event.{Event}
-use Rattle.pg_pair.specs.Applying.{stream_of}
-use Rattle.pg_pair.specs.View.{PairView}
+use Rattle.pg_pair.specs.View.{PairView, stream_of}
 use Rattle.pgpipe_files.specs.declared.calls_file.CallLine.{CallLine}
 use Rattle.pgpipe_loop.specs.declared.run_loop.Stop.{Stop}
 use Rattle.pgpipe_loop.specs.declared.run_loop.Stop.TheVariants as stop

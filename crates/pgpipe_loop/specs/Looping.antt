@@ -11,7 +11,7 @@ use Rattle.pg_pair.specs.declared.event.Applied.{Applied}
 use Rattle.pg_pair.specs.declared.event.Applied.TheVariants as applied
 use Rattle.pg_pair.specs.declared.event.Event.{Event}
 use Rattle.pg_pair.specs.declared.event.Event.TheVariants as event
-use Rattle.pg_pair.specs.Applying.{Applies}
+use Rattle.pg_pair.specs.Event.{Applies}
 use Rattle.pg_pair.specs.View.{PairView}
 use Rattle.pgpipe_files.specs.declared.calls_file.CallLine.{CallLine}
 use Rattle.pgpipe_files.specs.declared.calls_file.CallLine.TheVariants as line

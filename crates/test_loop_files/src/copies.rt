@@ -5,7 +5,7 @@ use pg_wire::{CopyHead, Fields, Seq};
 use pgpipe_files::{CallLine, Calls, read_calls, read_script};
 use std::alloc::{AllocError, Global};
 use std::test::Fail;
-use tests::values::{bad, head, none, query, text};
+use test_libraries::values::{bad, head, none, query, text};
 
 const SCRIPT: &[u8] =
     b"answer\tI\ncopyout\tCOPY 2\ttext\t2\nchunk\ta\\nb\nnotice\tM\thi\nchunk\t\ncopyin\tbinary\t1\taccept\tCOPY 1\n\

@@ -5,7 +5,7 @@ use pg_wire::{ExecEnd, Request, Seq, Step, Target, Values};
 use pgpipe_files::{CallLine, read_calls, read_script};
 use std::alloc::{AllocError, Global};
 use std::test::Fail;
-use tests::values::{columns, none, row, row_and_null, text};
+use test_libraries::values::{columns, none, row, row_and_null, text};
 
 const RUNS: &[u8] =
     b"answer\tI\nexecuted\tcomplete\tT\nrow\t1\nrow\t1\t\\N\nexecuted\tempty\nexecuted\tsuspended\nrow\t1\nshut\n";

@@ -6,7 +6,7 @@ use pg_wire::{Aside, Fields, Seq, Status};
 use pgpipe_files::{CallLine, Calls, LineFault, read_calls, read_script};
 use std::alloc::{AllocError, Global};
 use std::test::Fail;
-use tests::values::{asides, bad, column, none, pair, query, row_and_null, text};
+use test_libraries::values::{asides, bad, column, none, pair, query, row_and_null, text};
 
 const SCRIPT: &[u8] =
     b"auth\ttrust\n\npair\tTimeZone\tUTC\nkey\t7\t-9\nanswer\tI\nrows\tSELECT 2\tn\trow\n\

@@ -7,7 +7,7 @@ use pg_wire::{
 use pgpipe_loop::event_lines::{closing_lines, event_lines};
 use std::alloc::{AllocError, Global};
 use std::test::Fail;
-use tests::values::{asides, bad, columns, head, none, query, row, row_and_null, text};
+use test_libraries::values::{asides, bad, columns, head, none, query, row, row_and_null, text};
 
 /// Whether these are the lines of a settled group.
 fn settles_as(alloc: Global, settled: Settled, lines: &[u8]) -> Result<bool, AllocError> {

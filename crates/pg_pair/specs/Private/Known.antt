@@ -16,6 +16,7 @@ use Rattle.pg_backend.specs.Laws.{SegmentsFitLog, OneCopyEach, WelcomeIsSegment,
 abbrev pub OfHistories : (History → ClientView → Type 0) → Type 0
 OfHistories Says = (h : History) (client : ClientView) → IsHistoryOf h client → Says h client
 
+-- Each law, as a fact.
 pub record Known : Type 0 where
   pub one_front : OneSpelling frontend
   pub one_back : OneSpelling backend
@@ -26,9 +27,11 @@ pub record Known : Type 0 where
   pub facts : OfHistories (λ h client. Facts (happenings h) (h.given ++ client.settled) client)
   pub turns : OfHistories (λ h client. InTurns client.settings (happenings h) h.sent)
   pub spelled : OfHistories (λ h client. SendsSpelled client.settings (happenings h))
-  pub answering : OfHistories (λ h client. TakesTurns (happenings h) (h.given ++ client.settled) client)
+  pub answering : OfHistories
+      (λ h client. TakesTurns (happenings h) (h.given ++ client.settled) client)
   pub order : (h : History) → KeepsOrder h
-  pub one_more : (cs : Calls) (c : Call) (place : ℕ) → turns_of (calls_of (cs ++ (c, place) ∷ [])) ≡ turns_with (turns_of (calls_of cs)) c
+  pub one_more : (cs : Calls) (c : Call) (place : ℕ)
+      → turns_of (calls_of (cs ++ (c, place) ∷ [])) ≡ turns_with (turns_of (calls_of cs)) c
   pub segments_fit_log : SegmentsFitLog
   pub one_copy_each : OneCopyEach
   pub welcome_is_segment : WelcomeIsSegment

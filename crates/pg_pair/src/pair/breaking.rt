@@ -1,7 +1,8 @@
 //! Breaks of the ways.
 
 ghost use Rattle.std.specs.Prelude.{◌≡◌};
-ghost use Rattle.pg_pair.specs.Applying.{is_closed_client, is_closed_backend, is_closed, is_shut, Breaks, BreaksIf, BreaksUnless, BreaksBoth};
+ghost use Rattle.pg_pair.specs.Breaking.{Breaks, BreaksBoth, BreaksIf, BreaksUnless};
+ghost use Rattle.pg_pair.specs.Breaking.{is_closed, is_closed_backend, is_closed_client, is_shut};
 ghost use Rattle.pg_pair.specs.declared.carry.Way.TheVariants.{ToBackend, ToClient};
 
 use crate::carry::{Carry, Way};

@@ -1,8 +1,7 @@
 //! A carrier's call, and what it comes to.
 
 ghost use Rattle.std.specs.Prelude.{◌≡◌, ◌≤◌, ◌<◌, length};
-ghost use Rattle.pg_pair.specs.Applying.{same_front};
-ghost use Rattle.pg_pair.specs.Carrying.{longest_piece};
+ghost use Rattle.pg_pair.specs.Carrying.{longest_piece, same_front};
 ghost use Rattle.pg_pair.specs.Private.Delivering.{IsCarried};
 
 use crate::carry::{Carry, Way};

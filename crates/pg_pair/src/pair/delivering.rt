@@ -2,9 +2,12 @@
 
 ghost use Rattle.std.specs.Prelude.{◌≡◌, ◌≤◌, ◌<◌, ◌+◌, ◌++◌, [], None, false, length, take};
 ghost use Rattle.std.specs.Vec.{vec_capacity, vec_len};
-ghost use Rattle.pg_pair.specs.Applying.{client_answer, delivery_applied, DeliversUnless, is_closed, is_shut, TakesIn, waiting_at};
+ghost use Rattle.pg_pair.specs.Breaking.{is_closed, is_shut};
+ghost use Rattle.pg_pair.specs.Delivering.{ArrivesAt, DeliversUnless};
+ghost use Rattle.pg_pair.specs.Delivering.{client_answer, delivery_applied};
+ghost use Rattle.pg_pair.specs.View.{waiting_at};
 ghost use Rattle.pg_pair.specs.Carrying.{longest_piece};
-ghost use Rattle.pg_pair.specs.Private.Delivering.{Carries, Moves};
+ghost use Rattle.pg_pair.specs.Private.Delivering.{MovesPiece, PairCarries};
 ghost use Rattle.pg_pair.specs.declared.carry.Way.TheVariants.{ToBackend, ToClient};
 
 use crate::carry::{Carry, Way};
@@ -74,7 +77,8 @@ impl<C: Carry> Pair<C> {
         requires some { 0 < count }
         requires within { count ≤ length (waiting_at ToClient self.old) }
         requires going { is_closed ToClient self.old ≡ false }
-        ensures takes { TakesIn ToClient self.old (take count (waiting_at ToClient self.old)) result self.new }
+        ensures takes { ArrivesAt ToClient
+            self.old (take count (waiting_at ToClient self.old)) result self.new }
         ensures going { result ≡ None → is_closed ToClient self.new ≡ false }
     {
         known();
@@ -90,7 +94,8 @@ impl<C: Carry> Pair<C> {
         requires some { 0 < count }
         requires within { count ≤ length (waiting_at ToBackend self.old) }
         requires going { is_closed ToBackend self.old ≡ false }
-        ensures takes { TakesIn ToBackend self.old (take count (waiting_at ToBackend self.old)) result self.new }
+        ensures takes { ArrivesAt ToBackend
+            self.old (take count (waiting_at ToBackend self.old)) result self.new }
         ensures going { result ≡ None → is_closed ToBackend self.new ≡ false }
     {
         let piece = &self.to_backend.waiting()[..count];
@@ -105,7 +110,8 @@ impl<C: Carry> Pair<C> {
     fn hand_over(&mut self, way: Way, count: usize) -> Option<Applied>
         requires within { count ≤ length (waiting_at way self.old) }
         requires going { is_closed way self.old ≡ false }
-        ensures takes { TakesIn way self.old (take count (waiting_at way self.old)) result self.new }
+        ensures takes { ArrivesAt way
+            self.old (take count (waiting_at way self.old)) result self.new }
         ensures going { result ≡ None → is_closed way self.new ≡ false }
     {
         if count == 0 {
@@ -122,7 +128,8 @@ impl<C: Carry> Pair<C> {
         requires some { 0 < count }
         requires room { count ≤ longest_piece }
         requires within { count ≤ length (waiting_at way self.old) }
-        ensures { Carries C.carries way self.old (take count (waiting_at way self.old)) result self.new }
+        ensures { PairCarries C.carries way
+            self.old (take count (waiting_at way self.old)) result self.new }
     {
         match way {
             Way::ToBackend => {
@@ -142,7 +149,8 @@ impl<C: Carry> Pair<C> {
         requires room { count ≤ longest_piece }
         requires within { count ≤ length (waiting_at way self.old) }
         requires going { is_closed way self.old ≡ false }
-        ensures { Moves C.carries way self.old (take count (waiting_at way self.old)) result self.new }
+        ensures { MovesPiece C.carries way
+            self.old (take count (waiting_at way self.old)) result self.new }
     {
         let carried = self.carry(way, count);
         let answer = self.hand_over(way, carried.given);
@@ -156,7 +164,8 @@ impl<C: Carry> Pair<C> {
 
     // At most so many of the bytes under way go to the receiving end.
     pub(crate) fn deliver(&mut self, way: Way, most: u32) -> Applied
-        ensures { DeliversUnless (is_shut way self.old) C.carries way most self.old result self.new }
+        ensures { DeliversUnless (is_shut way self.old) C.carries way most
+            self.old result self.new }
     {
         if self.is_shut(way) {
             return Applied::Nothing;

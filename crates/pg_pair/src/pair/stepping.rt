@@ -2,7 +2,7 @@
 
 ghost use Rattle.std.specs.Prelude.{◌≡◌};
 ghost use Rattle.pg_backend.specs.Backend.{phase_of};
-ghost use Rattle.pg_pair.specs.Applying.{step_applied, StepsIn};
+ghost use Rattle.pg_pair.specs.Stepping.{step_applied, StepsUnlessClosed};
 
 use crate::carry::Carry;
 use crate::event::Applied;
@@ -25,7 +25,7 @@ fn step_applied(answer: Result<bool, BackendFault>) -> Applied
 impl<C: Carry> Pair<C> {
     // The backend makes a step.
     pub(crate) fn step(&mut self) -> Applied
-        ensures { StepsIn (phase_of self.old.backend.stage) self.old result self.new }
+        ensures { StepsUnlessClosed (phase_of self.old.backend.stage) self.old result self.new }
     {
         known();
         if is_closed_backend(self.backend.phase()) {

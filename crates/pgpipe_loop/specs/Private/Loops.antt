@@ -9,7 +9,7 @@ use Rattle.pg_pair.specs.declared.carry.Way.TheVariants.{ToBackend, ToClient}
 use Rattle.pg_pair.specs.declared.event.Applied.{Applied}
 use Rattle.pg_pair.specs.declared.event.Event.{Event}
 use Rattle.pg_pair.specs.declared.event.Event.TheVariants as event
-use Rattle.pg_pair.specs.Applying.{Applies}
+use Rattle.pg_pair.specs.Event.{Applies}
 use Rattle.pg_pair.specs.View.{PairView}
 use Rattle.pgpipe_loop.specs.declared.run_loop.Stop.{Stop}
 use Rattle.pgpipe_loop.specs.declared.run_loop.Stop.TheVariants as stop

@@ -1,7 +1,7 @@
 use Rattle.std.proofs.Common.{subst, ap, sym, ◌∙◌}
 use Rattle.std.proofs.Math.Logic.{∥∥₁_map}
 use Rattle.pg_pair.specs.declared.carry.Way.TheVariants.{ToClient}
-use Rattle.pg_pair.specs.Applying.{is_closed_client, Breaks}
+use Rattle.pg_pair.specs.Breaking.{Breaks, is_closed_client}
 use Rattle.pg_pair.specs.View.{PairView}
 use Rattle.pg_pair.proofs.Breaking.{keeps_client_told, keeps_marked, breaks_client, client_told}
 use Rattle.pg_pair.specs.Private.Inside.{view_of}

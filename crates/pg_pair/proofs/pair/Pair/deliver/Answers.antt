@@ -1,5 +1,7 @@
 use Rattle.std.proofs.Common.{◌≡◌, ◌-◌, true, false, None, is_some, min, length, ap, sym, subst, ◌∙◌, arith}
-use Rattle.pg_pair.specs.Applying.{begins, DeliversUnless, is_shut, waiting_at}
+use Rattle.pg_pair.specs.Breaking.{is_shut}
+use Rattle.pg_pair.specs.Delivering.{begins, DeliversUnless}
+use Rattle.pg_pair.specs.View.{waiting_at}
 use Rattle.pg_pair.specs.Carrying.{longest_piece}
 use Rattle.pg_pair.proofs.Moving.{delivers_part, delivers_whole, goes_further, going_on, moved_within, no_answer}
 use Rattle.pg_pair.proofs.pair.Pair.deliver.Goals as goal

@@ -1,5 +1,6 @@
 use Rattle.std.proofs.Common.{◌≡◌, ◌≤◌, ◌-◌, false}
-use Rattle.pg_pair.specs.Applying.{Goes, is_closed}
+use Rattle.pg_pair.specs.Breaking.{is_closed}
+use Rattle.pg_pair.specs.Delivering.{Goes}
 use Rattle.pg_pair.proofs.pair.Pair.deliver.Given as goal
 
 abbrev pub invariant-loop-way : goal.invariant-loop-way

@@ -1,8 +1,7 @@
 use Rattle.std.proofs.Common.{◌≤◌, length, subst, sym}
 use Rattle.pg_pair.specs.declared.carry.Way.{Way}
 use Rattle.pg_pair.specs.declared.carry.Way.TheVariants.{ToBackend, ToClient}
-use Rattle.pg_pair.specs.Applying.{stream_of}
-use Rattle.pg_pair.specs.View.{PairView}
+use Rattle.pg_pair.specs.View.{PairView, stream_of}
 use Rattle.pg_pair.proofs.Stored.{kept_within_backend, kept_within_client}
 use Rattle.pg_pair.specs.Private.Inside.{view_of}
 use Rattle.pg_pair.proofs.pair.Pair.reached.Goals as goal

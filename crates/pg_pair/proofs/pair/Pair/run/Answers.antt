@@ -1,7 +1,7 @@
 use Rattle.std.proofs.Common.{◌≡◌, ◌∷◌, List, ap, arith, inr, length, subst, sym}
 use Rattle.std.specs.Vec.Iter.{into_iter_items}
 use Rattle.pg_pair.specs.declared.event.Event.{Event}
-use Rattle.pg_pair.specs.Applying.{Ran}
+use Rattle.pg_pair.specs.Event.{Ran}
 use Rattle.pg_pair.proofs.pair.Pair.run.Goals as goal
 
 pub loop-event-preserved : goal.loop-event-preserved

@@ -1,7 +1,7 @@
 use Rattle.std.proofs.Common.{◌≡◌, length, Result}
 use Rattle.std.specs.Vec.Iter.{into_iter_items, into_iter_len}
 use Rattle.pg_pair.specs.declared.event.PairFault.{PairFault}
-use Rattle.pg_pair.specs.Applying.{Ran}
+use Rattle.pg_pair.specs.Event.{Ran}
 use Rattle.pg_pair.specs.Headline.{Headline}
 use Rattle.pg_pair.specs.View.{PairView}
 use Rattle.pg_pair.proofs.pair.Pair.run.Given as goal

@@ -1,5 +1,5 @@
 use Rattle.std.proofs.Common.{subst}
-use Rattle.pg_pair.specs.Standing.{Tied}
+use Rattle.pg_pair.specs.Invariant.{Tied}
 use Rattle.pg_pair.proofs.Stored.{kept_headline}
 use Rattle.pg_pair.proofs.pair.Pair.settled.Goals as goal
 

@@ -1,5 +1,5 @@
 use Rattle.std.proofs.Common.{◌≡◌, ◌+◌, length, drop, arith, ◌∙◌}
-use Rattle.pg_pair.specs.Applying.{same_front}
+use Rattle.pg_pair.specs.Carrying.{same_front}
 use Rattle.pg_pair.proofs.Delivering.{same_front_end}
 use Rattle.pg_pair.proofs.pair.carrying.count_same.Goals as goal
 

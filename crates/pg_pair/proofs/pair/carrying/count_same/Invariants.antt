@@ -1,5 +1,5 @@
 use Rattle.std.proofs.Common.{◌≡◌, ◌+◌, length, drop}
-use Rattle.pg_pair.specs.Applying.{same_front}
+use Rattle.pg_pair.specs.Carrying.{same_front}
 use Rattle.pg_pair.proofs.pair.carrying.count_same.Given as goal
 
 abbrev pub invariant-loop-index : goal.invariant-loop-index

@@ -1,0 +1,81 @@
+-- What a break of a way does to a pair.
+use Rattle.std.specs.Prelude.{◌≡◌, Bool, true, false, ◌||◌, Some}
+use Rattle.pg_client.specs.declared.phase.Cause.TheVariants as cause
+use Rattle.pg_client.specs.declared.phase.Phase.{Phase}
+use Rattle.pg_client.specs.declared.phase.Phase.TheVariants as phase
+use Rattle.pg_client.specs.declared.settled.Loss.{Loss}
+use Rattle.pg_client.specs.Client.{ClientView, phase_of}
+use Rattle.pg_client.specs.History.{Carries, with_handed_back}
+use Rattle.pg_client.specs.Lost.{first_cause, HandsBack}
+use Rattle.pg_backend.specs.phase.BackPhase.{BackPhase}
+use Rattle.pg_backend.specs.phase.BackPhase.TheVariants as back
+use Rattle.pg_backend.specs.Backend.{lost_stage}
+use Rattle.pg_backend.specs.Backend as backend
+use Rattle.pg_pair.specs.declared.carry.Way.{Way}
+use Rattle.pg_pair.specs.declared.carry.Way.TheVariants.{ToBackend, ToClient}
+use Rattle.pg_pair.specs.declared.event.Applied.{Applied}
+use Rattle.pg_pair.specs.declared.event.Applied.TheVariants as applied
+use Rattle.pg_pair.specs.View.{DoesNothing, PairView, Stream, stream_of}
+
+-- a backend in this phase is closed
+abbrev pub is_closed_backend : BackPhase → Bool
+is_closed_backend back.Closed = true
+is_closed_backend _ = false
+
+-- a client in this phase is closed
+abbrev pub is_closed_client : Phase → Bool
+is_closed_client (phase.Closed c) = true
+is_closed_client _ = false
+
+-- the receiving end is closed
+abbrev pub is_closed : {C : Type 0} → Way → PairView C → Bool
+is_closed ToBackend p = is_closed_backend (backend.phase_of p.backend.stage)
+is_closed ToClient p = is_closed_client (phase_of p.client)
+
+-- nothing arrives there any more
+abbrev pub is_shut : {C : Type 0} → Way → PairView C → Bool
+is_shut w p = (stream_of w p).broken || is_closed w p
+
+-- The client was told that the connection is gone, and said this.
+pub record IsTold (old : ClientView) (loss : Loss) (new : ClientView) : Type 0 where
+  pub settings : new.settings ≡ old.settings
+  pub closed : new.closed ≡ Some (first_cause old.closed cause.Lost)
+  pub settled : new.settled ≡ old.settled
+  pub says : HandsBack old loss
+  pub history : Carries old new with_handed_back
+
+-- a way, which is broken from now on
+abbrev pub broken : Stream → Stream
+broken s = record s { broken = true }
+
+-- The client is told, unless it is closed.
+abbrev pub TellsClient : {C : Type 0} → Bool → PairView C → PairView C → Type 0
+TellsClient true p q = q ≡ record p { to_client = broken p.to_client }
+TellsClient false p q = (loss : Loss) × IsTold p.client loss q.client
+    × (q ≡ record p { client = q.client; to_client = broken p.to_client; loss = Some loss })
+
+-- A way breaks, and the receiving end is told, unless it is closed.
+abbrev pub Breaks : {C : Type 0} → Way → PairView C → PairView C → Type 0
+Breaks ToBackend p q = q ≡ record p {
+  backend = record p.backend { stage = lost_stage p.backend.stage };
+  to_backend = broken p.to_backend;
+}
+Breaks ToClient p q = TellsClient (is_closed ToClient p) p q
+
+-- A way that is shut doesn't break.
+abbrev pub BreaksUnless : {C : Type 0} → Bool → Way → PairView C → Applied → PairView C → Type 0
+BreaksUnless true w p result q = DoesNothing p result q
+BreaksUnless false w p result q = (result ≡ applied.Done) × Breaks w p q
+
+-- A way breaks where the carrier failed or gave other bytes.
+abbrev pub BreaksIf : {C : Type 0} → Bool → Way → PairView C → PairView C → Type 0
+BreaksIf false w p q = q ≡ p
+BreaksIf true w p q = Breaks w p q
+
+-- Both ways break, as by break events.
+pub record BreaksBoth {C : Type 0} (p q : PairView C) : Type 0 where
+  pub between : PairView C
+  pub first_result : Applied
+  pub first : BreaksUnless (is_shut ToBackend p) ToBackend p first_result between
+  pub second_result : Applied
+  pub second : BreaksUnless (is_shut ToClient between) ToClient between second_result q

@@ -1,0 +1,41 @@
+-- What a step of the backend does to a pair.
+use Rattle.std.specs.Prelude.{◌≡◌, ℕ, Bool, true, false, List, ◌++◌, Result, Ok, Err}
+use Rattle.pg_backend.specs.phase.BackPhase.{BackPhase}
+use Rattle.pg_backend.specs.phase.BackPhase.TheVariants as back
+use Rattle.pg_backend.specs.declared.fault.BackendFault.{BackendFault}
+use Rattle.pg_backend.specs.Backend.{BackendState, Steps, HasHandled, Handles}
+use Rattle.pg_backend.specs.Input.{Input}
+use Rattle.pg_pair.specs.declared.event.Applied.{Applied}
+use Rattle.pg_pair.specs.declared.event.Applied.TheVariants as applied
+use Rattle.pg_pair.specs.View.{DoesNothing, PairView}
+
+-- A step of the backend: what it answers, and what it has handled then.
+pub record BackendSteps (old : BackendState) (before : List ℕ)
+    (answer : Result Bool BackendFault) (new : BackendState) (after : List ℕ) : Type 0 where
+  pub call : Steps old before answer new after
+  pub handled : (pushed : List ℕ) (i : Input) (rest sent : List ℕ)
+      → HasHandled old pushed i rest sent → (added : List ℕ) × (after ≡ before ++ added)
+      × Handles old pushed i rest sent added answer new
+
+-- what comes of a step
+abbrev pub step_applied : Result Bool BackendFault → Applied
+step_applied (Ok true) = applied.Done
+step_applied (Ok false) = applied.Nothing
+step_applied (Err f) = applied.Backend f
+
+-- The backend makes one step, and what it sends is sent to the client.
+pub record StepsOnce {C : Type 0} (p : PairView C) (result : Applied)
+    (q : PairView C) : Type 0 where
+  pub answer : Result Bool BackendFault
+  pub step : BackendSteps p.backend p.to_client.sent answer q.backend q.to_client.sent
+  pub result_is : result ≡ step_applied answer
+  pub rest : q ≡ record p {
+    backend = q.backend;
+    to_client = record p.to_client { sent = q.to_client.sent };
+  }
+
+-- A closed backend makes no step.
+abbrev pub StepsUnlessClosed : {C : Type 0}
+    → BackPhase → PairView C → Applied → PairView C → Type 0
+StepsUnlessClosed back.Closed p result q = DoesNothing p result q
+StepsUnlessClosed _ p result q = StepsOnce p result q
