@@ -1,0 +1,2 @@
+-- What a reader must believe: what a driver knows of its client.
+pub mod Driver
