@@ -9,10 +9,10 @@ use Rattle.std.proofs.lemmas.Nat.{be_bytes_2, be_bytes_4}
 use Rattle.pg_copy.specs.declared.fault.BinaryFault.{BinaryFault}
 use Rattle.pg_copy.specs.declared.fault.BinaryFault.TheVariants.{Signature, Flags, Extension, FieldCount, FieldLength, AfterTrailer}
 use Rattle.pg_copy.specs.Row.{Row}
-use Rattle.pg_copy.specs.Reading.{Reading, Ending, Open, Done, Ended, Bad, after_rows}
+use Rattle.pg_copy.specs.Reading.{RowsRead, RowsEnding, Open, Done, Ended, Bad, after_rows}
 use Rattle.pg_copy.proofs.TextEscapes.{same-bytes, other-bytes}
 use Rattle.pg_copy.specs.Binary.{IsBytes, signature, head, value, binary_row, trailer, IsHead, FitsValue, FitsBinary, IsFaultyRest, field_count, field_length, after_trailer, IsOpenRest, IsRest, IsFaultyHead, signature_differs, flag_set, extension_negative, IsOpenHead, open_head, IsHeadRest, IsBinaryFile, whole, headless}
-use Rattle.pg_copy.specs.BinaryReading.{NoPart, Incomplete, Faulty, ◌>>=◌, number_at, bytes_at, signature_at, flags_at, extension_at, fixed_at, head_at, value_at, values_at, row_at, part_reading, rows_reading, body_reading, head_reading, binary_reading, trailer_reading}
+use Rattle.pg_copy.specs.BinaryPart.{NoPart, Incomplete, Faulty, ◌>>=◌, number_at, bytes_at, signature_at, flags_at, extension_at, fixed_at, head_at, value_at, values_at, row_at, part_reading, rows_reading, body_reading, head_reading, binary_reading, trailer_reading}
 use Rattle.pg_copy.proofs.TextReads.{after-none}
 use Rattle.pg_copy.proofs.BinaryReads.{body-step}
 use Rattle.pg_copy.proofs.BinaryRound.{wide16, wide32, number-again, bytes-again, value-again, row-again, head-again, rows-trip, body-trailer}
@@ -166,7 +166,7 @@ unfolding value_at
 long-stop limit n more lt other over = rw (number-again w32 (2 ^ 32) n more wide32 lt, ne_eqb n 4294967295 other, lt-leb n limit over) refl
 
 -- what a reading of the rest gives at a fault
-abbrev faulty : List Row → BinaryFault → Reading BinaryFault
+abbrev faulty : List Row → BinaryFault → RowsRead BinaryFault
 faulty rows f = record { rows = rows; ending = Bad f }
 
 body-at : (columns limit : ℕ) (bytes : List ℕ) (r : Result (Option Row × List ℕ) NoPart) → row_at columns limit bytes ≡ r → body_reading columns limit bytes ≡ part_reading bytes r (body_reading columns limit)
@@ -231,15 +231,15 @@ open-rest-short columns limit rest fits h = go (row_at columns limit rest) (row-
     go _ (row_faulty f e) = absurd (h.no_fault f e)
     go _ row_short = refl
 
-rest-again : (columns limit : ℕ) (rest : List ℕ) (ending : Ending BinaryFault) → columns ≤ 32767 → limit ≤ 2147483647 → IsBytes rest → IsRest columns limit rest ending → body_reading columns limit rest ≡ record { rows = []; ending = ending }
+rest-again : (columns limit : ℕ) (rest : List ℕ) (ending : RowsEnding BinaryFault) → columns ≤ 32767 → limit ≤ 2147483647 → IsBytes rest → IsRest columns limit rest ending → body_reading columns limit rest ≡ record { rows = []; ending = ending }
 rest-again columns limit rest (Open kept) few le fits h = body-at columns limit rest (Err Incomplete) (open-rest-short columns limit rest fits h.1) ∙ ap (λ (x : List ℕ). record { rows = []; ending = Open x }) (sym h.0)
 rest-again columns limit rest Done few le fits h = ap (body_reading columns limit) h ∙ body-trailer columns limit
 rest-again columns limit rest Ended few le fits h = absurd h
 rest-again columns limit rest (Bad f) few le fits h = fault-again columns limit rest f few le h
 
--- ---- rows and what stands behind them
+-- ---- rows and what stands after them
 
-record BodyIs (columns limit : ℕ) (bytes : List ℕ) (r : Reading BinaryFault) : Type 0 where
+record BodyIs (columns limit : ℕ) (bytes : List ℕ) (r : RowsRead BinaryFault) : Type 0 where
   pub rest : List ℕ
   pub each : AllByRecursion (FitsBinary columns limit) r.rows
   pub is : bytes ≡ flat_map binary_row r.rows ++ rest
@@ -369,14 +369,14 @@ file-there columns limit bytes few le fits = go (head_at bytes) refl (head-view 
     go _ found head_short = headless refl (refl, open-head-is bytes found)
 
 -- and the bytes are nothing else
-pub file-once : (columns limit : ℕ) (bytes : List ℕ) (rows : List Row) (ending : Ending BinaryFault) → columns ≤ 32767 → limit ≤ 2147483647 → IsBytes bytes → IsBinaryFile columns limit bytes rows ending → binary_reading columns limit bytes ≡ record { rows = rows; ending = ending }
+pub file-once : (columns limit : ℕ) (bytes : List ℕ) (rows : List Row) (ending : RowsEnding BinaryFault) → columns ≤ 32767 → limit ≤ 2147483647 → IsBytes bytes → IsBinaryFile columns limit bytes rows ending → binary_reading columns limit bytes ≡ record { rows = rows; ending = ending }
 unfolding binary_reading
 file-once columns limit bytes rows ending few le fits (whole h rest is each e ends) =
     let are : IsBytes rest = bytes-right (h ++ flat_map binary_row rows) rest (subst IsBytes e fits) in
     ap (binary_reading columns limit) e ∙ rows-trip columns limit h rows rest few le is each ∙ ap (after_rows rows) (rest-again columns limit rest ending few le are ends) ∙ after-none rows ending
 file-once columns limit bytes rows ending few le fits (headless none h) = go ending h ∙ ap (λ (x : List Row). record { rows = x; ending = ending }) (sym none)
   where
-    go : (ending : Ending BinaryFault) → IsHeadRest bytes ending → binary_reading columns limit bytes ≡ record { rows = []; ending = ending }
+    go : (ending : RowsEnding BinaryFault) → IsHeadRest bytes ending → binary_reading columns limit bytes ≡ record { rows = []; ending = ending }
     go (Open kept) (same, h) = ap (λ r. head_reading (open_head bytes) r (body_reading columns limit)) (open-head-short bytes fits h) ∙ ap (λ (x : List ℕ). record { rows = []; ending = Open x }) (sym same)
     go Done h = absurd h
     go Ended h = absurd h

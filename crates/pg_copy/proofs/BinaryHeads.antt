@@ -7,10 +7,10 @@ use Rattle.std.proofs.lemmas.Bool.{cases_lt, lt-ltb, le-ltb, ltb-true, cond-true
 use Rattle.pg_copy.specs.declared.fault.BinaryFault.{BinaryFault}
 use Rattle.pg_copy.specs.declared.fault.BinaryFault.TheVariants.{Signature, Flags, Extension}
 use Rattle.pg_copy.specs.declared.binary_reader.BinaryStage.TheVariants as stages
-use Rattle.pg_copy.specs.Reading.{Reading}
+use Rattle.pg_copy.specs.Reading.{RowsRead}
 use Rattle.pg_copy.specs.Binary.{signature, open_head}
-use Rattle.pg_copy.specs.BinaryReading.{NoPart, Incomplete, Faulty, ◌>>=◌, number_at, bytes_at, signature_at, flags_at, extension_at, fixed_at, head_at, head_reading, body_reading, binary_reading}
-use Rattle.pg_copy.specs.BinaryReader.{stage_reading}
+use Rattle.pg_copy.specs.BinaryPart.{NoPart, Incomplete, Faulty, ◌>>=◌, number_at, bytes_at, signature_at, flags_at, extension_at, fixed_at, head_at, head_reading, body_reading, binary_reading}
+use Rattle.pg_copy.specs.BinaryReader.{binary_stage_reading}
 use Rattle.pg_copy.specs.Private.BinaryPart.{rest_of}
 use Rattle.pg_copy.proofs.BinaryReads.{Grows, fixed_grows, bytes_grow}
 
@@ -120,8 +120,8 @@ open-many bytes le = cond-false _ _ _ (le-ltb (length bytes) 19 le)
 
 -- ---- an extension
 
--- what stands behind a head doesn't depend on the bytes of its extension
-pub reading-rest : (kept : List ℕ) (r s : Result (List ℕ × List ℕ) NoPart) (next : List ℕ → Reading BinaryFault) → rest_of r ≡ rest_of s → head_reading kept r next ≡ head_reading kept s next
+-- what stands after a head doesn't depend on the bytes of its extension
+pub reading-rest : (kept : List ℕ) (r s : Result (List ℕ × List ℕ) NoPart) (next : List ℕ → RowsRead BinaryFault) → rest_of r ≡ rest_of s → head_reading kept r next ≡ head_reading kept s next
 reading-rest kept (Ok x) (Ok y) next e = let is : x.1 ≡ y.1 = cc in ap next is
 reading-rest kept (Ok x) (Err t) next e = absurd cc
 reading-rest kept (Err s) (Ok y) next e = absurd cc
@@ -143,7 +143,7 @@ bytes-skip n first more some = elim (cases_lt (length (first ++ more)) n) [
 
 -- a head that lacks bytes of its extension alone
 pub skip-reads : (columns limit : ℕ) (kept more : List ℕ) (n : ℕ × List ℕ) → fixed_at kept ≡ Ok n → 19 ≤ length kept → length n.1 < n.0
-    → binary_reading columns limit (kept ++ more) ≡ stage_reading (stages.Extension (n.0 - length n.1)) columns limit more
+    → binary_reading columns limit (kept ++ more) ≡ binary_stage_reading (stages.Extension (n.0 - length n.1)) columns limit more
 unfolding binary_reading
 skip-reads columns limit kept more n e many some =
     let longer : fixed_at (kept ++ more) ≡ Ok (n.0, n.1 ++ more) = subst (λ t. Grows t (fixed_at (kept ++ more)) more) e (fixed_grows kept more) in
@@ -154,11 +154,11 @@ skip-reads columns limit kept more n e many some =
     ∙ reading-rest [] (bytes_at n.0 (n.1 ++ more)) (bytes_at (n.0 - length n.1) more) (body_reading columns limit) (bytes-skip n.0 n.1 more some)
 
 -- a piece that ends within an extension
-pub skip-some : (columns limit n : ℕ) (piece more : List ℕ) → length piece < n → stage_reading (stages.Extension n) columns limit (piece ++ more) ≡ stage_reading (stages.Extension (n - length piece)) columns limit more
+pub skip-some : (columns limit n : ℕ) (piece more : List ℕ) → length piece < n → binary_stage_reading (stages.Extension n) columns limit (piece ++ more) ≡ binary_stage_reading (stages.Extension (n - length piece)) columns limit more
 skip-some columns limit n piece more some = reading-rest [] (bytes_at n (piece ++ more)) (bytes_at (n - length piece) more) (body_reading columns limit) (bytes-skip n piece more some)
 
 -- a piece with the end of an extension
-pub skip-all : (columns limit n : ℕ) (piece more : List ℕ) → n ≤ length piece → stage_reading (stages.Extension n) columns limit (piece ++ more) ≡ stage_reading stages.Rows columns limit (drop n piece ++ more)
+pub skip-all : (columns limit n : ℕ) (piece more : List ℕ) → n ≤ length piece → binary_stage_reading (stages.Extension n) columns limit (piece ++ more) ≡ binary_stage_reading stages.Rows columns limit (drop n piece ++ more)
 skip-all columns limit n piece more all =
     let whole : bytes_at n piece ≡ Ok (take n piece, drop n piece) = cond-false _ _ _ (le-ltb (length piece) n all) in
     let longer : bytes_at n (piece ++ more) ≡ Ok (take n piece, drop n piece ++ more) = subst (λ t. Grows t (bytes_at n (piece ++ more)) more) whole (bytes_grow n piece more) in

@@ -11,11 +11,11 @@ use Rattle.pg_copy.specs.declared.binary_part.NoRow.TheVariants as no_row
 use Rattle.pg_copy.specs.declared.binary_reader.BinaryStage.{BinaryStage}
 use Rattle.pg_copy.specs.declared.binary_reader.BinaryStage.TheVariants.{Head, Extension, Rows, Closed, Failed}
 use Rattle.pg_copy.specs.Row.{Row}
-use Rattle.pg_copy.specs.Reading.{Reading, Ending, Open, Done, Bad, after_rows, RowWaits, given_by, IsGood, Gives}
+use Rattle.pg_copy.specs.Reading.{RowsRead, RowsEnding, Open, Done, Bad, after_rows, RowWaits, given_by, IsGood, AnswersNext}
 use Rattle.pg_copy.specs.Binary.{open_head}
-use Rattle.pg_copy.specs.BinaryReading.{NoPart, Incomplete, Faulty, ◌>>=◌, bytes_at, fixed_at, head_at, row_at, part_reading, row_reading, body_reading, head_reading, binary_reading, trailer_reading, last_ending, at_end, file_reading}
-use Rattle.pg_copy.specs.BinaryReader.{BinaryState, stage_reading, left, HasReadBinary, WaitsWith, binary_ending}
-use Rattle.pg_copy.specs.Private.BinaryPart.{closed_at, row_or_trailer, body_at, part_at, left_of, in_extension, behind_head, waiting_at, TakesPart}
+use Rattle.pg_copy.specs.BinaryPart.{NoPart, Incomplete, Faulty, ◌>>=◌, bytes_at, fixed_at, head_at, row_at, part_reading, row_reading, body_reading, head_reading, binary_reading, trailer_reading, last_ending, binary_at_end, binary_file_reading}
+use Rattle.pg_copy.specs.BinaryReader.{BinaryState, binary_stage_reading, binary_left, HasReadBinary, WaitsWith, binary_ending}
+use Rattle.pg_copy.specs.Private.BinaryPart.{closed_at, row_or_trailer, body_at, part_at, extension_left, in_extension, behind_head, waiting_at, TakesPart}
 use Rattle.pg_copy.proofs.TextReads.{after-after, after-none}
 use Rattle.pg_copy.proofs.BinaryReads.{Grows, row_grows, head_grows, bytes_grow, body-step, part-rows}
 use Rattle.pg_copy.proofs.BinaryHeads.{head-open, open-few, open-many, skip-reads}
@@ -44,7 +44,7 @@ finished (Err (no_row.NoPart (stops.Faulty fault))) mid = record mid { ended = t
 
 -- ---- the next part
 
--- the bytes behind a head that is whole, or an extension
+-- the bytes after a head that is whole, or an extension
 abbrev pub bytes_behind : Result (List ℕ × List ℕ) NoPart → List ℕ → List ℕ
 bytes_behind (Ok h) kept = h.1
 bytes_behind (Err stop) kept = kept
@@ -62,12 +62,12 @@ abbrev pub option_rows : Option Row → List Row
 option_rows None = []
 option_rows (Some row) = row ∷ []
 
-abbrev pub PartReads : ℕ → ℕ → List ℕ → Result ((Option Row × BinaryStage) × List ℕ) NoPart → (List ℕ → Reading BinaryFault) → Type 0
-PartReads columns limit waits (Ok x) due = ((x.0.0 ≡ None) → (x.0.1 ≡ Closed) × (x.1 ≡ [])) × ((more : List ℕ) → due more ≡ after_rows (option_rows x.0.0) (stage_reading x.0.1 columns limit (x.1 ++ more)))
+abbrev pub PartReads : ℕ → ℕ → List ℕ → Result ((Option Row × BinaryStage) × List ℕ) NoPart → (List ℕ → RowsRead BinaryFault) → Type 0
+PartReads columns limit waits (Ok x) due = ((x.0.0 ≡ None) → (x.0.1 ≡ Closed) × (x.1 ≡ [])) × ((more : List ℕ) → due more ≡ after_rows (option_rows x.0.0) (binary_stage_reading x.0.1 columns limit (x.1 ++ more)))
 PartReads columns limit waits (Err Incomplete) due = due [] ≡ record { rows = []; ending = Open waits }
 PartReads columns limit waits (Err (Faulty fault)) due = (more : List ℕ) → due more ≡ record { rows = []; ending = Bad fault }
 
-reads-same : (columns limit : ℕ) (waits : List ℕ) (p : Result ((Option Row × BinaryStage) × List ℕ) NoPart) (due due' : List ℕ → Reading BinaryFault) → ((more : List ℕ) → due more ≡ due' more) → PartReads columns limit waits p due' → PartReads columns limit waits p due
+reads-same : (columns limit : ℕ) (waits : List ℕ) (p : Result ((Option Row × BinaryStage) × List ℕ) NoPart) (due due' : List ℕ → RowsRead BinaryFault) → ((more : List ℕ) → due more ≡ due' more) → PartReads columns limit waits p due' → PartReads columns limit waits p due
 reads-same columns limit waits (Ok x) due due' e h = (h.0, λ more. e more ∙ h.1 more)
 reads-same columns limit waits (Err Incomplete) due due' e h = e [] ∙ h
 reads-same columns limit waits (Err (Faulty fault)) due due' e h = λ more. e more ∙ h more
@@ -96,7 +96,7 @@ body-reads columns limit bytes = go (row_at columns limit bytes) refl
         let longer : row_at columns limit (bytes ++ more) ≡ Err (Faulty fault) = subst (λ t. Grows t (row_at columns limit (bytes ++ more)) more) e (row_grows columns limit bytes more) in
         body-step columns limit (bytes ++ more) ∙ ap (λ t. part_reading (bytes ++ more) t (body_reading columns limit)) longer
 
--- a head, or an extension, and what stands behind it
+-- a head, or an extension, and what stands after it
 front-reads : (front : List ℕ → Result (List ℕ × List ℕ) NoPart) (stays : List ℕ → List ℕ) (columns limit : ℕ) (bytes : List ℕ) → ((more : List ℕ) → Grows (front bytes) (front (bytes ++ more)) more)
     → PartReads columns limit (bytes_behind (front bytes) (stays bytes)) (front bytes >>= λ h. body_at columns limit h.1) (λ more. head_reading (stays (bytes ++ more)) (front (bytes ++ more)) (body_reading columns limit))
 front-reads front stays columns limit bytes grows = go (front bytes) refl
@@ -113,7 +113,7 @@ front-reads front stays columns limit bytes grows = go (front bytes) refl
         let longer : front (bytes ++ more) ≡ Err (Faulty fault) = subst (λ t. Grows t (front (bytes ++ more)) more) e (grows more) in
         ap (λ t. head_reading (stays (bytes ++ more)) t (body_reading columns limit)) longer
 
-pub part-reads : (stage : BinaryStage) (columns limit : ℕ) (bytes : List ℕ) → PartReads columns limit (open_bytes stage bytes) (part_at stage columns limit bytes) (λ more. stage_reading stage columns limit (bytes ++ more))
+pub part-reads : (stage : BinaryStage) (columns limit : ℕ) (bytes : List ℕ) → PartReads columns limit (open_bytes stage bytes) (part_at stage columns limit bytes) (λ more. binary_stage_reading stage columns limit (bytes ++ more))
 unfolding part_at binary_reading
 part-reads Head columns limit bytes = front-reads head_at open_head columns limit bytes (head_grows bytes)
 part-reads (Extension n) columns limit bytes = front-reads (bytes_at n) (λ x. []) columns limit bytes (bytes_grow n bytes)
@@ -136,16 +136,16 @@ pub record Goes (old new : BinaryState) (rows : List Row) : Type 0 where
   pub columns : new.columns ≡ old.columns
   pub limit : new.limit ≡ old.limit
   pub ended : new.ended ≡ old.ended
-  pub left : (more : List ℕ) → left old more ≡ after_rows rows (left new more)
+  pub left : (more : List ℕ) → binary_left old more ≡ after_rows rows (binary_left new more)
 
 pub whole-same : (old new : BinaryState) (bytes : List ℕ) → new.columns ≡ old.columns → new.limit ≡ old.limit → binary_reading new.columns new.limit bytes ≡ binary_reading old.columns old.limit bytes
 whole-same old new bytes e f = ap (λ (c : ℕ). binary_reading c new.limit bytes) e ∙ ap (λ (l : ℕ). binary_reading old.columns l bytes) f
 
-pub HasRead-goes : (old new : BinaryState) (rows : List Row) (pushed : List ℕ) (given : List Row) → Goes old new rows → HasReadBinary old pushed given → HasReadBinary new pushed (given ++ rows)
-HasRead-goes old new rows pushed given g h =
+pub HasReadBinary-goes : (old new : BinaryState) (rows : List Row) (pushed : List ℕ) (given : List Row) → Goes old new rows → HasReadBinary old pushed given → HasReadBinary new pushed (given ++ rows)
+HasReadBinary-goes old new rows pushed given g h =
     record {
-      so_far = λ e more. whole-same old new (pushed ++ more) g.columns g.limit ∙ h.so_far (sym g.ended ∙ e) more ∙ ap (after_rows given) (g.left more) ∙ after-after given rows (left new more);
-      in_all = ap at_end (whole-same old new pushed g.columns g.limit) ∙ h.in_all ∙ ap (λ (r : Reading BinaryFault). after_rows given (at_end r)) (g.left []) ∙ after-after given rows (at_end (left new []));
+      so_far = λ e more. whole-same old new (pushed ++ more) g.columns g.limit ∙ h.so_far (sym g.ended ∙ e) more ∙ ap (after_rows given) (g.left more) ∙ after-after given rows (binary_left new more);
+      in_all = ap binary_at_end (whole-same old new pushed g.columns g.limit) ∙ h.in_all ∙ ap (λ (r : RowsRead BinaryFault). after_rows given (binary_at_end r)) (g.left []) ∙ after-after given rows (binary_at_end (binary_left new []));
     }
 
 pub Goes-same : (old : BinaryState) → Goes old old []
@@ -154,12 +154,12 @@ Goes-same old = record { columns = refl; limit = refl; ended = refl; left = λ m
 -- a head that lacks bytes of its extension alone goes off
 enters : (columns limit : ℕ) (kept : List ℕ) (ended : Bool) → head_at kept ≡ Err Incomplete →
     let old : BinaryState = record { columns = columns; limit = limit; kept = kept; stage = Head; ended = ended } in
-    Goes old (in_extension (left_of (fixed_at kept)) old) []
+    Goes old (in_extension (extension_left (fixed_at kept)) old) []
 enters columns limit kept ended short = go (fixed_at kept) refl
   where
     go : (r : Result (ℕ × List ℕ) NoPart) → fixed_at kept ≡ r →
         let old : BinaryState = record { columns = columns; limit = limit; kept = kept; stage = Head; ended = ended } in
-        Goes old (in_extension (left_of r) old) []
+        Goes old (in_extension (extension_left r) old) []
     go (Ok n) e =
         let are = head-open kept (Ok n) short e in
         record { columns = refl; limit = refl; ended = refl; left = λ more. skip-reads columns limit kept more n e are.0 are.1 }
@@ -181,7 +181,7 @@ waits columns limit kept Head ended short = go (head_at kept) refl
   where
     go : (r : Result (List ℕ × List ℕ) NoPart) → head_at kept ≡ r →
         let old : BinaryState = record { columns = columns; limit = limit; kept = kept; stage = Head; ended = ended } in
-        Goes old (behind_head r (in_extension (left_of (fixed_at kept)) old) old) []
+        Goes old (behind_head r (in_extension (extension_left (fixed_at kept)) old) old) []
     go (Ok h) e = record {
       columns = refl;
       limit = refl;
@@ -212,7 +212,7 @@ waits columns limit kept (Failed fault) ended short = Goes-same (record { column
 
 -- what the next part says of what is left
 abbrev Due : BinaryState → Result ((Option Row × BinaryStage) × List ℕ) NoPart → Type 0
-Due old p = PartReads old.columns old.limit (open_bytes old.stage old.kept) p (λ more. left old more)
+Due old p = PartReads old.columns old.limit (open_bytes old.stage old.kept) p (λ more. binary_left old more)
 
 due : (old : BinaryState) (p : Result ((Option Row × BinaryStage) × List ℕ) NoPart) → part_at old.stage old.columns old.limit old.kept ≡ p → Due old p
 due old p e = subst (λ q. Due old q) e (part-reads old.stage old.columns old.limit old.kept)
@@ -224,41 +224,41 @@ Goes-part (Ok o) old new h =
 Goes-part (Err no_row.Memory) old new h = rw h.0 (Goes-same old)
 Goes-part (Err (no_row.NoPart stops.Incomplete)) old new h = rw h.1 (waits old.columns old.limit old.kept old.stage old.ended h.0)
 Goes-part (Err (no_row.NoPart (stops.Faulty fault))) old new h =
-    let r : (more : List ℕ) → left old more ≡ record { rows = []; ending = Bad fault } = due old (Err (Faulty fault)) h.1 in
+    let r : (more : List ℕ) → binary_left old more ≡ record { rows = []; ending = Bad fault } = due old (Err (Faulty fault)) h.1 in
     rw h.2 (record { columns = refl; limit = refl; ended = refl; left = r })
 
 -- what the bytes pushed give so far
-pub reading-now : (s : BinaryState) (pushed : List ℕ) (given : List Row) → s.ended ≡ false → HasReadBinary s pushed given → binary_reading s.columns s.limit pushed ≡ after_rows given (left s [])
+pub reading-now : (s : BinaryState) (pushed : List ℕ) (given : List Row) → s.ended ≡ false → HasReadBinary s pushed given → binary_reading s.columns s.limit pushed ≡ after_rows given (binary_left s [])
 reading-now s pushed given e h = ap (binary_reading s.columns s.limit) (sym (append-nil pushed)) ∙ h.so_far e []
 
-whole-from : (old new : BinaryState) (pushed : List ℕ) (given : List Row) (ending : Ending BinaryFault) → old.ended ≡ false → new.columns ≡ old.columns → new.limit ≡ old.limit → HasReadBinary old pushed given
-    → left old [] ≡ record { rows = []; ending = ending } → binary_reading new.columns new.limit pushed ≡ record { rows = given; ending = ending }
+whole-from : (old new : BinaryState) (pushed : List ℕ) (given : List Row) (ending : RowsEnding BinaryFault) → old.ended ≡ false → new.columns ≡ old.columns → new.limit ≡ old.limit → HasReadBinary old pushed given
+    → binary_left old [] ≡ record { rows = []; ending = ending } → binary_reading new.columns new.limit pushed ≡ record { rows = given; ending = ending }
 whole-from old new pushed given ending going e f h l =
     whole-same old new pushed e f ∙ reading-now old pushed given going h ∙ ap (after_rows given) l ∙ after-none given ending
 
--- what is left where no row is: nothing behind the trailer, or a part that isn't whole, or a fault
-left-none : (old new : BinaryState) → TakesPart (Ok None) old new → (new.stage ≡ Closed) × (left old [] ≡ record { rows = []; ending = Done })
+-- what is left where no row is: nothing after the trailer, or a part that isn't whole, or a fault
+left-none : (old new : BinaryState) → TakesPart (Ok None) old new → (new.stage ≡ Closed) × (binary_left old [] ≡ record { rows = []; ending = Done })
 left-none old new h =
     let r = due old (Ok ((None, new.stage), new.kept)) h.0 in
     let n = r.0 refl in
-    (n.0, r.1 [] ∙ ap (λ (t : BinaryStage). stage_reading t old.columns old.limit (new.kept ++ [])) n.0 ∙ ap (λ (x : List ℕ). trailer_reading (x ++ [])) n.1)
+    (n.0, r.1 [] ∙ ap (λ (t : BinaryStage). binary_stage_reading t old.columns old.limit (new.kept ++ [])) n.0 ∙ ap (λ (x : List ℕ). trailer_reading (x ++ [])) n.1)
 
-left-open : (old new : BinaryState) → TakesPart (Err (no_row.NoPart stops.Incomplete)) old new → left old [] ≡ record { rows = []; ending = Open (open_bytes old.stage old.kept) }
+left-open : (old new : BinaryState) → TakesPart (Err (no_row.NoPart stops.Incomplete)) old new → binary_left old [] ≡ record { rows = []; ending = Open (open_bytes old.stage old.kept) }
 left-open old new h = due old (Err Incomplete) h.0
 
-left-fault : (old new : BinaryState) (fault : BinaryFault) → TakesPart (Err (no_row.NoPart (stops.Faulty fault))) old new → left old [] ≡ record { rows = []; ending = Bad fault }
+left-fault : (old new : BinaryState) (fault : BinaryFault) → TakesPart (Err (no_row.NoPart (stops.Faulty fault))) old new → binary_left old [] ≡ record { rows = []; ending = Bad fault }
 left-fault old new fault h =
-    let r : (more : List ℕ) → left old more ≡ record { rows = []; ending = Bad fault } = due old (Err (Faulty fault)) h.1 in
+    let r : (more : List ℕ) → binary_left old more ≡ record { rows = []; ending = Bad fault } = due old (Err (Faulty fault)) h.1 in
     r []
 
 -- a part that isn't whole is waited for at the head and among the rows alone
 abbrev EndsOpen : BinaryState → List ℕ → Type 0
 EndsOpen new bytes = (binary_ending new.stage new.kept ≡ Open bytes) × IsGood (binary_ending new.stage new.kept)
 
-enters-open : (columns limit : ℕ) (kept : List ℕ) (ended : Bool) → head_at kept ≡ Err Incomplete → EndsOpen (in_extension (left_of (fixed_at kept)) (record { columns = columns; limit = limit; kept = kept; stage = Head; ended = ended })) (open_head kept)
+enters-open : (columns limit : ℕ) (kept : List ℕ) (ended : Bool) → head_at kept ≡ Err Incomplete → EndsOpen (in_extension (extension_left (fixed_at kept)) (record { columns = columns; limit = limit; kept = kept; stage = Head; ended = ended })) (open_head kept)
 enters-open columns limit kept ended short = go (fixed_at kept) refl
   where
-    go : (r : Result (ℕ × List ℕ) NoPart) → fixed_at kept ≡ r → EndsOpen (in_extension (left_of r) (record { columns = columns; limit = limit; kept = kept; stage = Head; ended = ended })) (open_head kept)
+    go : (r : Result (ℕ × List ℕ) NoPart) → fixed_at kept ≡ r → EndsOpen (in_extension (extension_left r) (record { columns = columns; limit = limit; kept = kept; stage = Head; ended = ended })) (open_head kept)
     go (Ok n) e =
         let are = head-open kept (Ok n) short e in
         (ap (λ (x : List ℕ). Open x) (sym (open-many kept are.0)), tt)
@@ -271,7 +271,7 @@ open-ending columns limit kept Head ended e = go (head_at kept) refl
   where
     go : (r : Result (List ℕ × List ℕ) NoPart) → head_at kept ≡ r →
         let old : BinaryState = record { columns = columns; limit = limit; kept = kept; stage = Head; ended = ended } in
-        EndsOpen (behind_head r (in_extension (left_of (fixed_at kept)) old) old) (bytes_behind r (open_head kept))
+        EndsOpen (behind_head r (in_extension (extension_left (fixed_at kept)) old) old) (bytes_behind r (open_head kept))
     go (Ok h) f = (refl, tt)
     go (Err Incomplete) f = enters-open columns limit kept ended f
     go (Err (Faulty fault)) f = absurd (faulty-head columns limit kept fault f e)
@@ -287,34 +287,34 @@ open-ending columns limit [] Closed ended e = absurd cc
 open-ending columns limit (b ∷ bs) Closed ended e = absurd cc
 open-ending columns limit kept (Failed fault) ended e = absurd cc
 
-pub Gives-next : (answer : Answer) (old new : BinaryState) (pushed : List ℕ) (given : List Row) → old.ended ≡ false → TakesPart answer old new → HasReadBinary old pushed given
-    → Gives Memory (binary_reading new.columns new.limit pushed) given (binary_ending new.stage new.kept) (next_answer answer)
-Gives-next (Ok (Some row)) old new pushed given going h k = tt
-Gives-next (Ok None) old new pushed given going h k =
+pub AnswersNext-next : (answer : Answer) (old new : BinaryState) (pushed : List ℕ) (given : List Row) → old.ended ≡ false → TakesPart answer old new → HasReadBinary old pushed given
+    → AnswersNext Memory (binary_reading new.columns new.limit pushed) given (binary_ending new.stage new.kept) (next_answer answer)
+AnswersNext-next (Ok (Some row)) old new pushed given going h k = tt
+AnswersNext-next (Ok None) old new pushed given going h k =
     let n = left-none old new h in
     let g = Goes-part (Ok None) old new h in
     let file : binary_reading new.columns new.limit pushed ≡ record { rows = given; ending = Done } = whole-from old new pushed given Done going g.columns g.limit k n.1 in
     let here : Done ≡ binary_ending new.stage new.kept = ap (λ (t : BinaryStage). binary_ending t new.kept) (sym n.0) in
-    subst (λ (x : Ending BinaryFault). IsGood x × (binary_reading new.columns new.limit pushed ≡ record { rows = given; ending = x })) here (tt, file)
-Gives-next (Err no_row.Memory) old new pushed given going h k = inl refl
-Gives-next (Err (no_row.NoPart stops.Incomplete)) old new pushed given going h k =
+    subst (λ (x : RowsEnding BinaryFault). IsGood x × (binary_reading new.columns new.limit pushed ≡ record { rows = given; ending = x })) here (tt, file)
+AnswersNext-next (Err no_row.Memory) old new pushed given going h k = inl refl
+AnswersNext-next (Err (no_row.NoPart stops.Incomplete)) old new pushed given going h k =
     let o = open-ending old.columns old.limit old.kept old.stage old.ended h.0 in
     let g = Goes-part (Err (no_row.NoPart stops.Incomplete)) old new h in
     let file = whole-from old new pushed given (Open (open_bytes old.stage old.kept)) going g.columns g.limit k (left-open old new h) in
     let o' = subst (λ (s : BinaryState). EndsOpen s (open_bytes old.stage old.kept)) (sym h.1) o in
-    (o'.1, file ∙ ap (λ (x : Ending BinaryFault). record { rows = given; ending = x }) (sym o'.0))
-Gives-next (Err (no_row.NoPart (stops.Faulty fault))) old new pushed given going h k =
+    (o'.1, file ∙ ap (λ (x : RowsEnding BinaryFault). record { rows = given; ending = x }) (sym o'.0))
+AnswersNext-next (Err (no_row.NoPart (stops.Faulty fault))) old new pushed given going h k =
     let g = Goes-part (Err (no_row.NoPart (stops.Faulty fault))) old new h in
     inr (ap (λ (s : BinaryState). binary_ending s.stage s.kept) h.2, whole-from old new pushed given (Bad fault) going g.columns g.limit k (left-fault old new fault h))
 
 -- what is kept where a row is waited for
 enters-with : (columns limit : ℕ) (kept : List ℕ) (ended : Bool) → head_at kept ≡ Err Incomplete →
-    let new : BinaryState = in_extension (left_of (fixed_at kept)) (record { columns = columns; limit = limit; kept = kept; stage = Head; ended = ended }) in
+    let new : BinaryState = in_extension (extension_left (fixed_at kept)) (record { columns = columns; limit = limit; kept = kept; stage = Head; ended = ended }) in
     WaitsWith new.stage new.kept
 enters-with columns limit kept ended short = go (fixed_at kept) refl
   where
     go : (r : Result (ℕ × List ℕ) NoPart) → fixed_at kept ≡ r →
-        let new : BinaryState = in_extension (left_of r) (record { columns = columns; limit = limit; kept = kept; stage = Head; ended = ended }) in
+        let new : BinaryState = in_extension (extension_left r) (record { columns = columns; limit = limit; kept = kept; stage = Head; ended = ended }) in
         WaitsWith new.stage new.kept
     go (Ok n) e = refl
     go (Err stop) e = head-open kept (Err stop) short e
@@ -327,7 +327,7 @@ waits-with columns limit kept Head ended skips e = go (head_at kept) refl
   where
     go : (r : Result (List ℕ × List ℕ) NoPart) → head_at kept ≡ r →
         let old : BinaryState = record { columns = columns; limit = limit; kept = kept; stage = Head; ended = ended } in
-        let new : BinaryState = behind_head r (in_extension (left_of (fixed_at kept)) old) old in
+        let new : BinaryState = behind_head r (in_extension (extension_left (fixed_at kept)) old) old in
         WaitsWith new.stage new.kept
     go (Ok h) f = tt
     go (Err Incomplete) f = enters-with columns limit kept ended f
@@ -372,45 +372,45 @@ given-next (Err no_row.Memory) = refl
 given-next (Err (no_row.NoPart stops.Incomplete)) = refl
 given-next (Err (no_row.NoPart (stops.Faulty fault))) = refl
 
-pub HasRead-next : (answer : Answer) (old new : BinaryState) (pushed : List ℕ) (given : List Row) → TakesPart answer old new → HasReadBinary old pushed given → HasReadBinary new pushed (given ++ given_by (next_answer answer))
-HasRead-next answer old new pushed given h k = rw (given-next answer) (HasRead-goes old new (answer_rows answer) pushed given (Goes-part answer old new h) k)
+pub HasReadBinary-next : (answer : Answer) (old new : BinaryState) (pushed : List ℕ) (given : List Row) → TakesPart answer old new → HasReadBinary old pushed given → HasReadBinary new pushed (given ++ given_by (next_answer answer))
+HasReadBinary-next answer old new pushed given h k = rw (given-next answer) (HasReadBinary-goes old new (answer_rows answer) pushed given (Goes-part answer old new h) k)
 
 -- ---- the end of the input
 
-pub HasRead-ended : (mid new : BinaryState) (pushed : List ℕ) (given : List Row) → new ≡ record mid { ended = true } → HasReadBinary mid pushed given → HasReadBinary new pushed given
-HasRead-ended mid new pushed given e h = subst (λ (s : BinaryState). HasReadBinary s pushed given) (sym e) (record { so_far = λ f. absurd (false≢true (sym f)); in_all = h.in_all })
+pub HasReadBinary-ended : (mid new : BinaryState) (pushed : List ℕ) (given : List Row) → new ≡ record mid { ended = true } → HasReadBinary mid pushed given → HasReadBinary new pushed given
+HasReadBinary-ended mid new pushed given e h = subst (λ (s : BinaryState). HasReadBinary s pushed given) (sym e) (record { so_far = λ f. absurd (false≢true (sym f)); in_all = h.in_all })
 
-all-from : (old new : BinaryState) (pushed : List ℕ) (given : List Row) (ending : Ending BinaryFault) → new.columns ≡ old.columns → new.limit ≡ old.limit → HasReadBinary old pushed given
-    → left old [] ≡ record { rows = []; ending = ending } → file_reading new.columns new.limit pushed ≡ record { rows = given; ending = last_ending ending }
+all-from : (old new : BinaryState) (pushed : List ℕ) (given : List Row) (ending : RowsEnding BinaryFault) → new.columns ≡ old.columns → new.limit ≡ old.limit → HasReadBinary old pushed given
+    → binary_left old [] ≡ record { rows = []; ending = ending } → binary_file_reading new.columns new.limit pushed ≡ record { rows = given; ending = last_ending ending }
 all-from old new pushed given ending e f h l =
-    ap at_end (whole-same old new pushed e f) ∙ h.in_all ∙ ap (λ (r : Reading BinaryFault). after_rows given (at_end r)) l ∙ after-none given (last_ending ending)
+    ap binary_at_end (whole-same old new pushed e f) ∙ h.in_all ∙ ap (λ (r : RowsRead BinaryFault). after_rows given (binary_at_end r)) l ∙ after-none given (last_ending ending)
 
-pub Gives-finish : (answer : Answer) (old mid new : BinaryState) (pushed : List ℕ) (given : List Row) → TakesPart answer old mid → new ≡ finished answer mid → HasReadBinary old pushed given
-    → Gives Memory (file_reading new.columns new.limit pushed) given (binary_ending new.stage new.kept) (last_answer answer)
-Gives-finish (Ok (Some row)) old mid new pushed given h e k = tt
-Gives-finish (Ok None) old mid new pushed given h e k =
+pub AnswersNext-finish : (answer : Answer) (old mid new : BinaryState) (pushed : List ℕ) (given : List Row) → TakesPart answer old mid → new ≡ finished answer mid → HasReadBinary old pushed given
+    → AnswersNext Memory (binary_file_reading new.columns new.limit pushed) given (binary_ending new.stage new.kept) (last_answer answer)
+AnswersNext-finish (Ok (Some row)) old mid new pushed given h e k = tt
+AnswersNext-finish (Ok None) old mid new pushed given h e k =
     let n = left-none old mid h in
     let g = Goes-part (Ok None) old mid h in
-    let file : file_reading mid.columns mid.limit pushed ≡ record { rows = given; ending = Done } = all-from old mid pushed given Done g.columns g.limit k n.1 in
+    let file : binary_file_reading mid.columns mid.limit pushed ≡ record { rows = given; ending = Done } = all-from old mid pushed given Done g.columns g.limit k n.1 in
     let here : Done ≡ binary_ending mid.stage mid.kept = ap (λ (t : BinaryStage). binary_ending t mid.kept) (sym n.0) in
-    rw e (subst (λ (x : Ending BinaryFault). IsGood x × (file_reading mid.columns mid.limit pushed ≡ record { rows = given; ending = x })) here (tt, file))
-Gives-finish (Err no_row.Memory) old mid new pushed given h e k = inl refl
-Gives-finish (Err (no_row.NoPart stops.Incomplete)) old mid new pushed given h e k =
+    rw e (subst (λ (x : RowsEnding BinaryFault). IsGood x × (binary_file_reading mid.columns mid.limit pushed ≡ record { rows = given; ending = x })) here (tt, file))
+AnswersNext-finish (Err no_row.Memory) old mid new pushed given h e k = inl refl
+AnswersNext-finish (Err (no_row.NoPart stops.Incomplete)) old mid new pushed given h e k =
     let g = Goes-part (Err (no_row.NoPart stops.Incomplete)) old mid h in
     rw e (inr (refl, all-from old mid pushed given (Open (open_bytes old.stage old.kept)) g.columns g.limit k (left-open old mid h)))
-Gives-finish (Err (no_row.NoPart (stops.Faulty fault))) old mid new pushed given h e k =
+AnswersNext-finish (Err (no_row.NoPart (stops.Faulty fault))) old mid new pushed given h e k =
     let g = Goes-part (Err (no_row.NoPart (stops.Faulty fault))) old mid h in
     rw e (inr (ap (λ (s : BinaryState). binary_ending s.stage s.kept) h.2, all-from old mid pushed given (Bad fault) g.columns g.limit k (left-fault old mid fault h)))
 
-pub HasRead-finish : (answer : Answer) (old mid new : BinaryState) (pushed : List ℕ) (given : List Row) → TakesPart answer old mid → new ≡ finished answer mid → HasReadBinary old pushed given → HasReadBinary new pushed (given ++ given_by (last_answer answer))
-HasRead-finish (Ok (Some row)) old mid new pushed given h e k = HasRead-ended mid new pushed (given ++ row ∷ []) e (HasRead-goes old mid (row ∷ []) pushed given (Goes-part (Ok (Some row)) old mid h) k)
-HasRead-finish (Ok None) old mid new pushed given h e k = HasRead-ended mid new pushed (given ++ []) e (HasRead-goes old mid [] pushed given (Goes-part (Ok None) old mid h) k)
-HasRead-finish (Err no_row.Memory) old mid new pushed given h e k = rw e (HasRead-goes old mid [] pushed given (Goes-part (Err no_row.Memory) old mid h) k)
-HasRead-finish (Err (no_row.NoPart stops.Incomplete)) old mid new pushed given h e k =
+pub HasReadBinary-finish : (answer : Answer) (old mid new : BinaryState) (pushed : List ℕ) (given : List Row) → TakesPart answer old mid → new ≡ finished answer mid → HasReadBinary old pushed given → HasReadBinary new pushed (given ++ given_by (last_answer answer))
+HasReadBinary-finish (Ok (Some row)) old mid new pushed given h e k = HasReadBinary-ended mid new pushed (given ++ row ∷ []) e (HasReadBinary-goes old mid (row ∷ []) pushed given (Goes-part (Ok (Some row)) old mid h) k)
+HasReadBinary-finish (Ok None) old mid new pushed given h e k = HasReadBinary-ended mid new pushed (given ++ []) e (HasReadBinary-goes old mid [] pushed given (Goes-part (Ok None) old mid h) k)
+HasReadBinary-finish (Err no_row.Memory) old mid new pushed given h e k = rw e (HasReadBinary-goes old mid [] pushed given (Goes-part (Err no_row.Memory) old mid h) k)
+HasReadBinary-finish (Err (no_row.NoPart stops.Incomplete)) old mid new pushed given h e k =
     let g = Goes-part (Err (no_row.NoPart stops.Incomplete)) old mid h in
     let all = all-from old mid pushed given (Open (open_bytes old.stage old.kept)) g.columns g.limit k (left-open old mid h) in
     rw e (record { so_far = λ f. absurd (false≢true (sym f)); in_all = all ∙ ap (λ (rows : List Row). record { rows = rows; ending = Bad Truncated }) (sym (append-nil given) ∙ sym (append-nil (given ++ []))) })
-HasRead-finish (Err (no_row.NoPart (stops.Faulty fault))) old mid new pushed given h e k = HasRead-ended mid new pushed (given ++ []) e (HasRead-goes old mid [] pushed given (Goes-part (Err (no_row.NoPart (stops.Faulty fault))) old mid h) k)
+HasReadBinary-finish (Err (no_row.NoPart (stops.Faulty fault))) old mid new pushed given h e k = HasReadBinary-ended mid new pushed (given ++ []) e (HasReadBinary-goes old mid [] pushed given (Goes-part (Err (no_row.NoPart (stops.Faulty fault))) old mid h) k)
 
 pub finish-closed : (answer : Answer) (old mid new : BinaryState) → TakesPart answer old mid → new ≡ finished answer mid → last_answer answer ≡ Ok None → new.stage ≡ Closed
 finish-closed (Ok (Some row)) old mid new h e f = absurd cc
@@ -421,23 +421,23 @@ finish-closed (Err (no_row.NoPart (stops.Faulty fault))) old mid new h e f = abs
 
 -- ---- a reader that failed
 
-pub left-failed : (old : BinaryState) (fault : BinaryFault) → old.stage ≡ Failed fault → left old [] ≡ record { rows = []; ending = Bad fault }
-left-failed old fault e = ap (λ (t : BinaryStage). stage_reading t old.columns old.limit (old.kept ++ [])) e
+pub left-failed : (old : BinaryState) (fault : BinaryFault) → old.stage ≡ Failed fault → binary_left old [] ≡ record { rows = []; ending = Bad fault }
+left-failed old fault e = ap (λ (t : BinaryStage). binary_stage_reading t old.columns old.limit (old.kept ++ [])) e
 
-pub Gives-failed-next : (old : BinaryState) (pushed : List ℕ) (given : List Row) (fault : BinaryFault) → old.ended ≡ false → old.stage ≡ Failed fault → HasReadBinary old pushed given → Gives Memory (binary_reading old.columns old.limit pushed) given (binary_ending old.stage old.kept) (Err fault)
-Gives-failed-next old pushed given fault going e h =
+pub AnswersNext-failed-next : (old : BinaryState) (pushed : List ℕ) (given : List Row) (fault : BinaryFault) → old.ended ≡ false → old.stage ≡ Failed fault → HasReadBinary old pushed given → AnswersNext Memory (binary_reading old.columns old.limit pushed) given (binary_ending old.stage old.kept) (Err fault)
+AnswersNext-failed-next old pushed given fault going e h =
     inr (ap (λ (t : BinaryStage). binary_ending t old.kept) e, whole-from old old pushed given (Bad fault) going refl refl h (left-failed old fault e))
 
-pub Gives-failed : (old : BinaryState) (pushed : List ℕ) (given : List Row) (fault : BinaryFault) → old.stage ≡ Failed fault → HasReadBinary old pushed given → Gives Memory (file_reading old.columns old.limit pushed) given (binary_ending old.stage old.kept) (Err fault)
-Gives-failed old pushed given fault e h =
+pub AnswersNext-failed : (old : BinaryState) (pushed : List ℕ) (given : List Row) (fault : BinaryFault) → old.stage ≡ Failed fault → HasReadBinary old pushed given → AnswersNext Memory (binary_file_reading old.columns old.limit pushed) given (binary_ending old.stage old.kept) (Err fault)
+AnswersNext-failed old pushed given fault e h =
     inr (ap (λ (t : BinaryStage). binary_ending t old.kept) e, all-from old old pushed given (Bad fault) refl refl h (left-failed old fault e))
 
 -- a row that is found waits
-pub waits-part : (old : BinaryState) (row : Row) (rest : List ℕ) → part_at old.stage old.columns old.limit old.kept ≡ Ok ((Some row, Rows), rest) → RowWaits (left old [])
+pub waits-part : (old : BinaryState) (row : Row) (rest : List ℕ) → part_at old.stage old.columns old.limit old.kept ≡ Ok ((Some row, Rows), rest) → RowWaits (binary_left old [])
 waits-part old row rest e =
     let r = due old (Ok ((Some row, Rows), rest)) e in
-    let after = stage_reading Rows old.columns old.limit (rest ++ []) in
-    let is : left old [] ≡ after_rows (row ∷ []) after = r.1 [] in
+    let after = binary_stage_reading Rows old.columns old.limit (rest ++ []) in
+    let is : binary_left old [] ≡ after_rows (row ∷ []) after = r.1 [] in
     rw is (omega (arith, length-append (row ∷ []) after.rows))
 
 -- ---- a row is given among the rows

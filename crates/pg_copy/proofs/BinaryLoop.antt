@@ -2,7 +2,7 @@
 use Rattle.std.proofs.Common.{◌≡◌, ℕ, suc, ◌-◌, ◌+◌, ◌≤◌, ◌<◌, List, [], ◌∷◌, ◌++◌, Option, Result, Ok, Err, refl, sym, ap, ◌∙◌, append_assoc, arith}
 use Rattle.std.proofs.lemmas.List.{append-nil}
 use Rattle.pg_copy.specs.Row.{Row}
-use Rattle.pg_copy.specs.BinaryReading.{NoPart, ◌>>=◌, value_at, values_at}
+use Rattle.pg_copy.specs.BinaryPart.{NoPart, ◌>>=◌, value_at, values_at}
 
 -- what was read before, and what is still read
 abbrev pub with_front : Row → Result (Row × List ℕ) NoPart → Result (Row × List ℕ) NoPart

@@ -8,20 +8,20 @@ use Rattle.pg_copy.specs.declared.binary_reader.BinaryStage.{BinaryStage}
 use Rattle.pg_copy.specs.declared.binary_reader.BinaryStage.TheVariants.{Extension, Rows}
 use Rattle.pg_copy.specs.Row.{Row}
 use Rattle.pg_copy.specs.Reading.{after_rows}
-use Rattle.pg_copy.specs.BinaryReading.{binary_reading, at_end}
-use Rattle.pg_copy.specs.BinaryReader.{BinaryState, stage_reading, left, HasReadBinary, kept_of, stage_behind, pushed_after, PushesBinary}
+use Rattle.pg_copy.specs.BinaryPart.{binary_reading, binary_at_end}
+use Rattle.pg_copy.specs.BinaryReader.{BinaryState, binary_stage_reading, binary_left, HasReadBinary, kept_of, stage_behind, pushed_after, PushesBinary}
 use Rattle.pg_copy.proofs.BinaryHeads.{skip-some, skip-all}
 use Rattle.pg_copy.proofs.BinaryHistory.{whole-same}
 
 -- what is left of a longer file
-pub HasRead-pushed : (old new : BinaryState) (piece pushed : List ℕ) (given : List Row) → old.ended ≡ false → new.columns ≡ old.columns → new.limit ≡ old.limit
-    → ((more : List ℕ) → left old (piece ++ more) ≡ left new more) → HasReadBinary old pushed given → HasReadBinary new (pushed ++ piece) given
-HasRead-pushed old new piece pushed given going e f l h =
-    let so_far : (more : List ℕ) → binary_reading new.columns new.limit ((pushed ++ piece) ++ more) ≡ after_rows given (left new more) =
+pub HasReadBinary-pushed : (old new : BinaryState) (piece pushed : List ℕ) (given : List Row) → old.ended ≡ false → new.columns ≡ old.columns → new.limit ≡ old.limit
+    → ((more : List ℕ) → binary_left old (piece ++ more) ≡ binary_left new more) → HasReadBinary old pushed given → HasReadBinary new (pushed ++ piece) given
+HasReadBinary-pushed old new piece pushed given going e f l h =
+    let so_far : (more : List ℕ) → binary_reading new.columns new.limit ((pushed ++ piece) ++ more) ≡ after_rows given (binary_left new more) =
     λ more. whole-same old new ((pushed ++ piece) ++ more) e f ∙ ap (binary_reading old.columns old.limit) (append_assoc pushed piece more) ∙ h.so_far going (piece ++ more) ∙ ap (after_rows given) (l more) in
     record {
       so_far = λ g more. so_far more;
-      in_all = ap (λ (x : List ℕ). at_end (binary_reading new.columns new.limit x)) (sym (append-nil (pushed ++ piece))) ∙ ap at_end (so_far []);
+      in_all = ap (λ (x : List ℕ). binary_at_end (binary_reading new.columns new.limit x)) (sym (append-nil (pushed ++ piece))) ∙ ap binary_at_end (so_far []);
     }
 
 -- how a push leaves a reader at this stage
@@ -46,26 +46,26 @@ pushed-past old piece n e le =
     ∙ at_stage (Extension n) old piece e
 
 -- a piece that is pushed within an extension
-HasRead-within : (old new : BinaryState) (piece pushed : List ℕ) (given : List Row) (n : ℕ) → old.ended ≡ false → old.stage ≡ Extension n → old.kept ≡ [] → new ≡ pushed_after old piece → HasReadBinary old pushed given → HasReadBinary new (pushed ++ piece) given
-HasRead-within old new piece pushed given n going e empty is h = elim (cases_lt (length piece) n) [
+HasReadBinary-within : (old new : BinaryState) (piece pushed : List ℕ) (given : List Row) (n : ℕ) → old.ended ≡ false → old.stage ≡ Extension n → old.kept ≡ [] → new ≡ pushed_after old piece → HasReadBinary old pushed given → HasReadBinary new (pushed ++ piece) given
+HasReadBinary-within old new piece pushed given n going e empty is h = elim (cases_lt (length piece) n) [
   | inl lt ↦
       let fewer : BinaryState = record old { stage = Extension (n - length piece) } in
       let here : fewer ≡ new = pushed-within old piece n e lt ∙ sym is in
       let some : HasReadBinary fewer (pushed ++ piece) given =
-      HasRead-pushed old fewer piece pushed given going refl refl (λ more. left_is (piece ++ more) ∙ skip-some old.columns old.limit n piece more lt ∙ ap (λ (x : List ℕ). stage_reading (Extension (n - length piece)) old.columns old.limit (x ++ more)) (sym empty)) h in
+      HasReadBinary-pushed old fewer piece pushed given going refl refl (λ more. left_is (piece ++ more) ∙ skip-some old.columns old.limit n piece more lt ∙ ap (λ (x : List ℕ). binary_stage_reading (Extension (n - length piece)) old.columns old.limit (x ++ more)) (sym empty)) h in
       subst (λ (s : BinaryState). HasReadBinary s (pushed ++ piece) given) here some
   | inr le ↦
       let behind : BinaryState = record old { kept = old.kept ++ drop n piece; stage = Rows } in
       let here : behind ≡ new = pushed-past old piece n e le ∙ sym is in
       let all : HasReadBinary behind (pushed ++ piece) given =
-      HasRead-pushed old behind piece pushed given going refl refl (λ more. left_is (piece ++ more) ∙ skip-all old.columns old.limit n piece more le ∙ ap (λ (x : List ℕ). stage_reading Rows old.columns old.limit ((x ++ drop n piece) ++ more)) (sym empty)) h in
+      HasReadBinary-pushed old behind piece pushed given going refl refl (λ more. left_is (piece ++ more) ∙ skip-all old.columns old.limit n piece more le ∙ ap (λ (x : List ℕ). binary_stage_reading Rows old.columns old.limit ((x ++ drop n piece) ++ more)) (sym empty)) h in
       subst (λ (s : BinaryState). HasReadBinary s (pushed ++ piece) given) here all
 ]
   where
-    left_is : (more : List ℕ) → left old more ≡ stage_reading (Extension n) old.columns old.limit more
-    left_is more = ap (λ (t : BinaryStage). stage_reading t old.columns old.limit (old.kept ++ more)) e ∙ ap (λ (x : List ℕ). stage_reading (Extension n) old.columns old.limit (x ++ more)) empty
+    left_is : (more : List ℕ) → binary_left old more ≡ binary_stage_reading (Extension n) old.columns old.limit more
+    left_is more = ap (λ (t : BinaryStage). binary_stage_reading t old.columns old.limit (old.kept ++ more)) e ∙ ap (λ (x : List ℕ). binary_stage_reading (Extension n) old.columns old.limit (x ++ more)) empty
 
-pub HasRead-skip : (old new : BinaryState) (piece : List ℕ) (result : Result Unit BinaryFault) (n : ℕ) → old.ended ≡ false → old.stage ≡ Extension n → old.kept ≡ [] → PushesBinary old piece result new
+pub HasReadBinary-skip : (old new : BinaryState) (piece : List ℕ) (result : Result Unit BinaryFault) (n : ℕ) → old.ended ≡ false → old.stage ≡ Extension n → old.kept ≡ [] → PushesBinary old piece result new
     → OnOk result ((pushed : List ℕ) (given : List Row) → HasReadBinary old pushed given → HasReadBinary new (pushed ++ piece) given)
-HasRead-skip old new piece (Ok x) n going e empty h = λ pushed given k. HasRead-within old new piece pushed given n going e empty h.1 k
-HasRead-skip old new piece (Err f) n going e empty h = tt
+HasReadBinary-skip old new piece (Ok x) n going e empty h = λ pushed given k. HasReadBinary-within old new piece pushed given n going e empty h.1 k
+HasReadBinary-skip old new piece (Err f) n going e empty h = tt

@@ -10,9 +10,9 @@ use Rattle.pg_copy.specs.declared.binary_reader.BinaryStage.{BinaryStage}
 use Rattle.pg_copy.specs.declared.binary_reader.BinaryStage.TheVariants.{Head, Rows, Closed, Failed}
 use Rattle.pg_copy.specs.declared.binary_reader.BinaryStage.TheVariants as stages
 use Rattle.pg_copy.specs.Row.{Row}
-use Rattle.pg_copy.specs.Reading.{Reading, after_rows}
+use Rattle.pg_copy.specs.Reading.{RowsRead, after_rows}
 use Rattle.pg_copy.specs.Binary.{signature}
-use Rattle.pg_copy.specs.BinaryReading.{NoPart, Incomplete, Faulty, ◌>>=◌, number_at, bytes_at, signature_at, flags_at, extension_at, fixed_at, head_at, value_at, values_at, row_at, part_reading, row_reading, rows_reading, body_reading}
+use Rattle.pg_copy.specs.BinaryPart.{NoPart, Incomplete, Faulty, ◌>>=◌, number_at, bytes_at, signature_at, flags_at, extension_at, fixed_at, head_at, value_at, values_at, row_at, part_reading, row_reading, rows_reading, body_reading}
 use Rattle.pg_copy.specs.Private.BinaryPart.{row_or_trailer, body_at, part_at}
 
 -- ---- what is read stays so when bytes are added
@@ -174,7 +174,7 @@ shorter r bytes x h e =
     let k = subst (λ t. Takes 2 t bytes) e h in
     omega (arith, k.1, k.2, ap length k.3, length-drop k.0 bytes)
 
-part-same : (bytes : List ℕ) (r : Result (Option Row × List ℕ) NoPart) (f g : List ℕ → Reading BinaryFault) → ((x : Option (Row) × List ℕ) → r ≡ Ok x → f x.1 ≡ g x.1) → part_reading bytes r f ≡ part_reading bytes r g
+part-same : (bytes : List ℕ) (r : Result (Option Row × List ℕ) NoPart) (f g : List ℕ → RowsRead BinaryFault) → ((x : Option (Row) × List ℕ) → r ≡ Ok x → f x.1 ≡ g x.1) → part_reading bytes r f ≡ part_reading bytes r g
 part-same bytes (Ok x) f g h = row-same x.0 x.1 (h x refl)
   where
     row-same : (o : Option (Row)) (rest : List ℕ) → f rest ≡ g rest → row_reading o rest f ≡ row_reading o rest g

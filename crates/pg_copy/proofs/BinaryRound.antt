@@ -9,7 +9,7 @@ use Rattle.std.proofs.lemmas.Nat.{from_be_bytes-to_be_bytes_2, from_be_bytes-to_
 use Rattle.pg_copy.specs.Row.{Row}
 use Rattle.pg_copy.specs.Reading.{Done, after_rows}
 use Rattle.pg_copy.specs.Binary.{signature, open_head, value, binary_row, trailer, IsHead, FitsValue, FitsBinary}
-use Rattle.pg_copy.specs.BinaryReading.{number_at, bytes_at, signature_at, flags_at, extension_at, fixed_at, head_at, value_at, values_at, row_at, part_reading, body_reading, head_reading, binary_reading, at_end, file_reading}
+use Rattle.pg_copy.specs.BinaryPart.{number_at, bytes_at, signature_at, flags_at, extension_at, fixed_at, head_at, value_at, values_at, row_at, part_reading, body_reading, head_reading, binary_reading, binary_at_end, binary_file_reading}
 use Rattle.pg_copy.proofs.TextReads.{after-none}
 use Rattle.pg_copy.proofs.BinaryReads.{body-step}
 
@@ -114,6 +114,6 @@ pub body-trailer : (columns limit : ℕ) → body_reading columns limit trailer 
 body-trailer columns limit = body-step columns limit trailer ∙ ap (λ r. part_reading trailer r (body_reading columns limit)) (row-trailer columns limit)
 
 pub file-trip : (columns limit : ℕ) (h : List ℕ) (rows : List Row) → columns ≤ 32767 → limit ≤ 2147483647 → IsHead h → AllByRecursion (FitsBinary columns limit) rows
-    → file_reading columns limit (h ++ flat_map binary_row rows ++ trailer) ≡ record { rows = rows; ending = Done }
+    → binary_file_reading columns limit (h ++ flat_map binary_row rows ++ trailer) ≡ record { rows = rows; ending = Done }
 file-trip columns limit h rows few le is fits =
-    ap at_end (rows-trip columns limit h rows trailer few le is fits ∙ ap (after_rows rows) (body-trailer columns limit) ∙ after-none rows Done)
+    ap binary_at_end (rows-trip columns limit h rows trailer few le is fits ∙ ap (after_rows rows) (body-trailer columns limit) ∙ after-none rows Done)

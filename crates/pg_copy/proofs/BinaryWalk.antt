@@ -11,12 +11,12 @@ use Rattle.pg_copy.specs.declared.binary_part.Look.{Look}
 use Rattle.pg_copy.specs.declared.binary_reader.BinaryStage.{BinaryStage}
 use Rattle.pg_copy.specs.declared.binary_reader.BinaryStage.TheVariants.{Head, Extension, Rows, Closed, Failed}
 use Rattle.pg_copy.specs.Row.{Row}
-use Rattle.pg_copy.specs.BinaryReading.{NoPart, Incomplete, Faulty, ◌>>=◌, number_at, head_at, value_at, values_at, row_at}
-use Rattle.pg_copy.specs.Private.BinaryPart.{rest_of, IsBegun, IsWalked, row_or_trailer, closed_at, body_at, part_at, IsBehindHead, StartsRow, IsLooked, stage_of, is_head, IsReader}
+use Rattle.pg_copy.specs.BinaryPart.{NoPart, Incomplete, Faulty, ◌>>=◌, number_at, head_at, value_at, values_at, row_at}
+use Rattle.pg_copy.specs.Private.BinaryPart.{rest_of, IsWalkBegun, IsRowWalked, row_or_trailer, closed_at, body_at, part_at, IsBehindHead, StartsRow, IsLooked, stage_of, is_head, IsBinaryReader}
 use Rattle.pg_copy.specs.BinaryReader.{IsReading}
 use Rattle.pg_copy.proofs.BinaryReads.{Grows, number_grows, values_grow, head_grows, Takes, value_takes, head_takes}
 
--- ---- the bytes behind what was read
+-- ---- the bytes after what was read
 
 rest-cons : (v : Option (List ℕ)) (r : Result (Row × List ℕ) NoPart) → rest_of (r >>= λ vs. Ok (v ∷ vs.0, vs.1)) ≡ rest_of r
 rest-cons v (Ok x) = refl
@@ -75,7 +75,7 @@ number-behind bytes count rest e = elim (cases_lt (length bytes) 2) [
     clash : ◌≡◌ {A = Result (ℕ × List ℕ) NoPart} (Err Incomplete) (Ok (count, rest)) → ⊥
     clash f = cc
 
-pub begun-start : (columns limit : ℕ) (bytes : List ℕ) (count : ℕ) (rest : List ℕ) → number_at w16 bytes ≡ Ok (count, rest) → count ≡ columns → IsBegun columns limit bytes (record { at = 2; left = columns })
+pub begun-start : (columns limit : ℕ) (bytes : List ℕ) (count : ℕ) (rest : List ℕ) → number_at w16 bytes ≡ Ok (count, rest) → count ≡ columns → IsWalkBegun columns limit bytes (record { at = 2; left = columns })
 unfolding values_at
 begun-start columns limit bytes count rest e same =
     let b = number-behind bytes count rest e in
@@ -99,8 +99,8 @@ pub row-other : (columns limit : ℕ) (bytes : List ℕ) (count : ℕ) (rest : L
 unfolding row_at
 row-other columns limit bytes count rest e not_trailer other = rw (e, ne_eqb count 65535 not_trailer, ne_eqb count columns other) refl
 
-pub begun-more : (columns limit : ℕ) (bytes : List ℕ) (at l : ℕ) (v : Option (List ℕ)) (after : List ℕ) → 0 < l → IsBegun columns limit bytes (record { at = at; left = l }) → value_at limit (drop at bytes) ≡ Ok (v, after)
-    → IsBegun columns limit bytes (record { at = length bytes - length after; left = l - 1 }) × (at ≤ length bytes - length after) × (length after ≤ length bytes) × (after ≡ drop (length bytes - length after) bytes)
+pub begun-more : (columns limit : ℕ) (bytes : List ℕ) (at l : ℕ) (v : Option (List ℕ)) (after : List ℕ) → 0 < l → IsWalkBegun columns limit bytes (record { at = at; left = l }) → value_at limit (drop at bytes) ≡ Ok (v, after)
+    → IsWalkBegun columns limit bytes (record { at = length bytes - length after; left = l - 1 }) × (at ≤ length bytes - length after) × (length after ≤ length bytes) × (after ≡ drop (length bytes - length after) bytes)
 begun-more columns limit bytes at l v after some h e =
     let t = subst (λ x. Takes 0 x (drop at bytes)) e (value_takes limit (drop at bytes)) in
     let long = length-drop at bytes in
@@ -119,7 +119,7 @@ row-of columns limit bytes r few count values =
     let n : eqb columns 65535 ≡ false = ne_eqb columns 65535 (λ e. absurd (omega arith)) in
     rw (count, n, eq-eqb columns columns refl, values) refl
 
-pub row-stuck : (columns limit : ℕ) (bytes : List ℕ) (at l : ℕ) (s : NoPart) → columns ≤ 32767 → 0 < l → IsBegun columns limit bytes (record { at = at; left = l }) → value_at limit (drop at bytes) ≡ Err s → row_at columns limit bytes ≡ Err s
+pub row-stuck : (columns limit : ℕ) (bytes : List ℕ) (at l : ℕ) (s : NoPart) → columns ≤ 32767 → 0 < l → IsWalkBegun columns limit bytes (record { at = at; left = l }) → value_at limit (drop at bytes) ≡ Err s → row_at columns limit bytes ≡ Err s
 row-stuck columns limit bytes at l s few some h e =
     let one : rest_of (values_at limit (suc (columns - l)) (drop 2 bytes)) ≡ Err s = snoc limit (columns - l) (drop 2 bytes) ∙ ap (λ (x : Result (List ℕ) NoPart). x >>= λ y. rest_of (value_at limit y)) h.values ∙ ap rest_of e in
     let all : suc (columns - l) + (l - 1) ≡ columns = omega (arith, h.few) in
@@ -127,7 +127,7 @@ row-stuck columns limit bytes at l s few some h e =
     row-of columns limit bytes (Err s) few h.count values
 
 -- a row that was walked over
-pub row-whole : (columns limit : ℕ) (bytes : List ℕ) (w : Walk) → columns ≤ 32767 → w.left ≡ 0 → IsBegun columns limit bytes w
+pub row-whole : (columns limit : ℕ) (bytes : List ℕ) (w : Walk) → columns ≤ 32767 → w.left ≡ 0 → IsWalkBegun columns limit bytes w
     → (row : Row) × (values_at limit columns (drop 2 bytes) ≡ Ok (row, drop w.at bytes)) × (row_at columns limit bytes ≡ Ok (Some row, drop w.at bytes))
 row-whole columns limit bytes w few none h =
     let all : columns - w.left ≡ columns = omega arith in
@@ -143,7 +143,7 @@ grown-rest : {A : Type 0} (r longer : Result (A × List ℕ) NoPart) (rest more 
 grown-rest {A} (Ok x) longer rest more g e = let is : x.1 ≡ rest = cc in ap rest_of g ∙ ap (λ (y : List ℕ). Ok (y ++ more)) is
 grown-rest {A} (Err s) longer rest more g e = absurd cc
 
-pub walked-append : (columns limit : ℕ) (bytes more : List ℕ) (w : Walk) → IsWalked columns limit bytes w → IsWalked columns limit (bytes ++ more) w
+pub walked-append : (columns limit : ℕ) (bytes more : List ℕ) (w : Walk) → IsRowWalked columns limit bytes w → IsRowWalked columns limit (bytes ++ more) w
 walked-append columns limit bytes more w walked lt =
     let h = walked lt in
     let two = (number-behind bytes columns (drop 2 bytes) h.count).0 in
@@ -170,10 +170,10 @@ looked-append in_head columns limit bytes more l h =
       head = λ e. subst (λ (x : List ℕ). IsBehindHead in_head (bytes ++ more) x) (sym behind) (behind-append in_head bytes (drop l.start bytes) more (h.head e));
       fresh = h.fresh;
       none = h.none;
-      walk = subst (λ (x : List ℕ). IsWalked columns limit x l.walk) (sym behind) (walked-append columns limit (drop l.start bytes) more l.walk h.walk);
+      walk = subst (λ (x : List ℕ). IsRowWalked columns limit x l.walk) (sym behind) (walked-append columns limit (drop l.start bytes) more l.walk h.walk);
     }
 
--- ---- the part, by what stands behind the head
+-- ---- the part, by what stands after the head
 
 pub part-of : (in_head : Bool) (columns limit : ℕ) (bytes rest : List ℕ) → IsBehindHead in_head bytes rest → part_at (stage_of in_head) columns limit bytes ≡ body_at columns limit rest
 unfolding part_at
@@ -198,7 +198,7 @@ head-end bytes h rest e =
     let place : length bytes - length rest ≡ t.0 = omega (arith, t.2) in
     (omega arith, omega (arith, t.1), t.3 ∙ ap (λ (n : ℕ). drop n bytes) (sym place))
 
--- a reader that keeps what is pushed isn't behind the trailer, nor in an extension
+-- a reader that keeps what is pushed isn't after the trailer, nor in an extension
 pub not-closed : (stage : BinaryStage) → (stage ≡ Head) ⊎ (stage ≡ Rows) → stage ≡ Closed → ⊥
 not-closed stage (inl h) e = absurd cc
 not-closed stage (inr h) e = absurd cc
@@ -207,7 +207,7 @@ not-within : (stage : BinaryStage) (n : ℕ) → (stage ≡ Head) ⊎ (stage ≡
 not-within stage n (inl h) e = absurd cc
 not-within stage n (inr h) e = absurd cc
 
-pub reader-append : (columns limit : ℕ) (kept more : List ℕ) (l : Look) (stage : BinaryStage) → IsReader columns limit kept l stage → (stage ≡ Head) ⊎ (stage ≡ Rows) → IsReader columns limit (kept ++ more) l stage
+pub reader-append : (columns limit : ℕ) (kept more : List ℕ) (l : Look) (stage : BinaryStage) → IsBinaryReader columns limit kept l stage → (stage ≡ Head) ⊎ (stage ≡ Rows) → IsBinaryReader columns limit (kept ++ more) l stage
 reader-append columns limit kept more l stage h keeps = record {
   columns_few = h.columns_few;
   looked = looked-append (is_head stage) columns limit kept more l h.looked;
@@ -281,7 +281,7 @@ start-behind false bytes start h rest e le read = absurd (false≢true e)
 pub not-failed : (stage : BinaryStage) (fault : BinaryFault) → IsReading stage → stage ≡ Failed fault → ⊥
 not-failed stage fault h e = subst IsReading e h
 
--- where the row begins behind the head, the head was read
+-- where the row begins after the head, the head was read
 pub started : (in_head : Bool) (bytes : List ℕ) (start n : ℕ) → StartsRow in_head bytes start (Ok n) → in_head ≡ true → n ≡ 0 → ⊥
 started in_head bytes start n (le, behind, inl (inl f, same)) e z = false≢true (sym f ∙ e)
 started in_head bytes start n (le, behind, inl (inr lt, same)) e z = absurd (omega (arith, lt, same, z))

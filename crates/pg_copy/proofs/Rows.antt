@@ -7,11 +7,11 @@ use Rattle.pg_copy.specs.declared.fault.TextFault.TheVariants.{RawReturn, LoneBa
 use Rattle.pg_copy.specs.declared.fault.BinaryFault.{BinaryFault}
 use Rattle.pg_copy.specs.declared.fault.BinaryFault.TheVariants.{Flags, Extension, FieldCount, FieldLength, Truncated, AfterTrailer}
 use Rattle.pg_copy.specs.Row.{Row, text_fault}
-use Rattle.pg_copy.specs.Reading.{Reading, Ending, Open, Done, Ended, Bad}
-use Rattle.pg_copy.specs.Text.{reading, file_reading, written_row}
-use Rattle.pg_copy.specs.Escape.{IsField, nothing, plain, escaped, hexadecimal, letter}
+use Rattle.pg_copy.specs.Reading.{RowsRead, RowsEnding, Open, Done, Ended, Bad}
+use Rattle.pg_copy.specs.Text.{text_reading, text_file_reading, written_row}
+use Rattle.pg_copy.specs.TextField.{IsField, nothing, plain, escaped, hexadecimal, letter}
 use Rattle.pg_copy.specs.Binary.{written_head, binary_row, trailer}
-use Rattle.pg_copy.specs.BinaryReading as binary
+use Rattle.pg_copy.specs.BinaryPart as binary
 
 -- ---- text
 
@@ -26,8 +26,8 @@ written : written_row four ≡ four_written
 unfolding four four_written
 written = refl
 
-read_back : reading (Some 4) four_written ≡ record { rows = four ∷ []; ending = Open [] }
-unfolding reading four four_written
+read_back : text_reading (Some 4) four_written ≡ record { rows = four ∷ []; ending = Open [] }
+unfolding text_reading four four_written
 read_back = refl
 
 -- 1, null
@@ -38,8 +38,8 @@ two_written : written_row two ≡ 0x31 ∷ 0x09 ∷ 0x5C ∷ 0x4E ∷ 0x0A ∷ [
 unfolding two
 two_written = refl
 
-two_read : reading (Some 2) (0x31 ∷ 0x09 ∷ 0x5C ∷ 0x4E ∷ 0x0A ∷ []) ≡ record { rows = two ∷ []; ending = Open [] }
-unfolding reading two
+two_read : text_reading (Some 2) (0x31 ∷ 0x09 ∷ 0x5C ∷ 0x4E ∷ 0x0A ∷ []) ≡ record { rows = two ∷ []; ending = Open [] }
+unfolding text_reading two
 two_read = refl
 
 -- \\N spells \N, which isn't null
@@ -53,56 +53,56 @@ hexadecimal_a = (λ e. cc, escaped (0x78 ∷ 0x34 ∷ 0x31 ∷ []) [] 0x41 [] (h
 no_field : text_fault [] ≡ Some (row_faults.Width 0)
 no_field = refl
 
-rows_only : List Row → Ending TextFault → Reading TextFault
+rows_only : List Row → RowsEnding TextFault → RowsRead TextFault
 rows_only rows ending = record { rows = rows; ending = ending }
 
-escapes : file_reading (Some 4) (0x5C ∷ 0x31 ∷ 0x30 ∷ 0x31 ∷ 0x31 ∷ 0x09 ∷ 0x5C ∷ 0x78 ∷ 0x34 ∷ 0x31 ∷ 0x09 ∷ 0x5C ∷ 0x78 ∷ 0x09 ∷ 0x5C ∷ 0x38 ∷ [])
+escapes : text_file_reading (Some 4) (0x5C ∷ 0x31 ∷ 0x30 ∷ 0x31 ∷ 0x31 ∷ 0x09 ∷ 0x5C ∷ 0x78 ∷ 0x34 ∷ 0x31 ∷ 0x09 ∷ 0x5C ∷ 0x78 ∷ 0x09 ∷ 0x5C ∷ 0x38 ∷ [])
     ≡ rows_only ((Some (0x41 ∷ 0x31 ∷ []) ∷ Some (0x41 ∷ []) ∷ Some (0x78 ∷ []) ∷ Some (0x38 ∷ []) ∷ []) ∷ []) Ended
-unfolding reading rows_only
+unfolding text_reading rows_only
 escapes = refl
 
-empty_line : file_reading (Some 1) (0x0A ∷ []) ≡ rows_only ((Some [] ∷ []) ∷ []) Ended
-unfolding reading rows_only
+empty_line : text_file_reading (Some 1) (0x0A ∷ []) ≡ rows_only ((Some [] ∷ []) ∷ []) Ended
+unfolding text_reading rows_only
 empty_line = refl
 
-empty_line_of_two : file_reading (Some 2) (0x0A ∷ []) ≡ rows_only [] (Bad (Columns 1))
-unfolding reading rows_only
+empty_line_of_two : text_file_reading (Some 2) (0x0A ∷ []) ≡ rows_only [] (Bad (Columns 1))
+unfolding text_reading rows_only
 empty_line_of_two = refl
 
-lone_backslash : file_reading (Some 1) (0x61 ∷ 0x5C ∷ []) ≡ rows_only [] (Bad LoneBackslash)
-unfolding reading rows_only
+lone_backslash : text_file_reading (Some 1) (0x61 ∷ 0x5C ∷ []) ≡ rows_only [] (Bad LoneBackslash)
+unfolding text_reading rows_only
 lone_backslash = refl
 
-raw_return : reading (Some 1) (0x61 ∷ 0x0D ∷ 0x0A ∷ []) ≡ rows_only [] (Bad RawReturn)
-unfolding reading rows_only
+raw_return : text_reading (Some 1) (0x61 ∷ 0x0D ∷ 0x0A ∷ []) ≡ rows_only [] (Bad RawReturn)
+unfolding text_reading rows_only
 raw_return = refl
 
-end_mark_first : reading (Some 1) (0x5C ∷ 0x2E ∷ 0x0A ∷ 0x61 ∷ 0x0A ∷ []) ≡ rows_only [] Done
-unfolding reading rows_only
+end_mark_first : text_reading (Some 1) (0x5C ∷ 0x2E ∷ 0x0A ∷ 0x61 ∷ 0x0A ∷ []) ≡ rows_only [] Done
+unfolding text_reading rows_only
 end_mark_first = refl
 
-octal_777 : reading (Some 1) (0x5C ∷ 0x37 ∷ 0x37 ∷ 0x37 ∷ 0x0A ∷ []) ≡ rows_only ((Some (0xFF ∷ []) ∷ []) ∷ []) (Open [])
-unfolding reading rows_only
+octal_777 : text_reading (Some 1) (0x5C ∷ 0x37 ∷ 0x37 ∷ 0x37 ∷ 0x0A ∷ []) ≡ rows_only ((Some (0xFF ∷ []) ∷ []) ∷ []) (Open [])
+unfolding text_reading rows_only
 octal_777 = refl
 
-octal_400 : reading (Some 1) (0x5C ∷ 0x34 ∷ 0x30 ∷ 0x30 ∷ 0x0A ∷ []) ≡ rows_only ((Some (0x00 ∷ []) ∷ []) ∷ []) (Open [])
-unfolding reading rows_only
+octal_400 : text_reading (Some 1) (0x5C ∷ 0x34 ∷ 0x30 ∷ 0x30 ∷ 0x0A ∷ []) ≡ rows_only ((Some (0x00 ∷ []) ∷ []) ∷ []) (Open [])
+unfolding text_reading rows_only
 octal_400 = refl
 
-hexadecimal_4g : reading (Some 1) (0x5C ∷ 0x78 ∷ 0x34 ∷ 0x47 ∷ 0x0A ∷ []) ≡ rows_only ((Some (0x04 ∷ 0x47 ∷ []) ∷ []) ∷ []) (Open [])
-unfolding reading rows_only
+hexadecimal_4g : text_reading (Some 1) (0x5C ∷ 0x78 ∷ 0x34 ∷ 0x47 ∷ 0x0A ∷ []) ≡ rows_only ((Some (0x04 ∷ 0x47 ∷ []) ∷ []) ∷ []) (Open [])
+unfolding text_reading rows_only
 hexadecimal_4g = refl
 
-escaped_newline : reading (Some 1) (0x5C ∷ 0x0A ∷ 0x0A ∷ []) ≡ rows_only ((Some (0x0A ∷ []) ∷ []) ∷ []) (Open [])
-unfolding reading rows_only
+escaped_newline : text_reading (Some 1) (0x5C ∷ 0x0A ∷ 0x0A ∷ []) ≡ rows_only ((Some (0x0A ∷ []) ∷ []) ∷ []) (Open [])
+unfolding text_reading rows_only
 escaped_newline = refl
 
-open_end_mark : file_reading (Some 1) (0x5C ∷ 0x2E ∷ []) ≡ rows_only [] Done
-unfolding reading rows_only
+open_end_mark : text_file_reading (Some 1) (0x5C ∷ 0x2E ∷ []) ≡ rows_only [] Done
+unfolding text_reading rows_only
 open_end_mark = refl
 
-wrong_width_later : file_reading (Some 1) (0x61 ∷ 0x0A ∷ 0x62 ∷ 0x09 ∷ 0x63 ∷ 0x0A ∷ []) ≡ rows_only ((Some (0x61 ∷ []) ∷ []) ∷ []) (Bad (Columns 2))
-unfolding reading rows_only
+wrong_width_later : text_file_reading (Some 1) (0x61 ∷ 0x0A ∷ 0x62 ∷ 0x09 ∷ 0x63 ∷ 0x0A ∷ []) ≡ rows_only ((Some (0x61 ∷ []) ∷ []) ∷ []) (Bad (Columns 2))
+unfolding text_reading rows_only
 wrong_width_later = refl
 
 -- ---- binary
@@ -113,7 +113,7 @@ signed rest = 0x50 ∷ 0x47 ∷ 0x43 ∷ 0x4F ∷ 0x50 ∷ 0x59 ∷ 0x0A ∷ 0xF
 behind_head : List ℕ → List ℕ
 behind_head rest = signed (0 ∷ 0 ∷ 0 ∷ 0 ∷ 0 ∷ 0 ∷ 0 ∷ 0 ∷ rest)
 
-binary_only : List Row → Ending BinaryFault → Reading BinaryFault
+binary_only : List Row → RowsEnding BinaryFault → RowsRead BinaryFault
 binary_only rows ending = record { rows = rows; ending = ending }
 
 head_written : written_head ≡ behind_head []
@@ -123,11 +123,11 @@ head_written = refl
 row_written : binary_row (Some (0x31 ∷ []) ∷ None ∷ []) ++ trailer ≡ 0x00 ∷ 0x02 ∷ 0x00 ∷ 0x00 ∷ 0x00 ∷ 0x01 ∷ 0x31 ∷ 0xFF ∷ 0xFF ∷ 0xFF ∷ 0xFF ∷ 0xFF ∷ 0xFF ∷ []
 row_written = refl
 
-no_rows : binary.file_reading 1 2147483647 (behind_head (0xFF ∷ 0xFF ∷ [])) ≡ binary_only [] Done
+no_rows : binary.binary_file_reading 1 2147483647 (behind_head (0xFF ∷ 0xFF ∷ [])) ≡ binary_only [] Done
 unfolding behind_head signed binary_only binary.binary_reading binary.head_at binary.fixed_at binary.signature_at binary.flags_at binary.extension_at binary.rows_reading binary.row_at
 no_rows = refl
 
-truncated : binary.file_reading 1 2147483647 (behind_head (0xFF ∷ [])) ≡ binary_only [] (Bad Truncated)
+truncated : binary.binary_file_reading 1 2147483647 (behind_head (0xFF ∷ [])) ≡ binary_only [] (Bad Truncated)
 unfolding behind_head signed binary_only binary.binary_reading binary.head_at binary.fixed_at binary.signature_at binary.flags_at binary.extension_at binary.rows_reading binary.row_at
 truncated = refl
 

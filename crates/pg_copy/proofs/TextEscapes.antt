@@ -7,7 +7,7 @@ use Rattle.std.specs.Str.{bytes_eq}
 use Rattle.std.proofs.lemmas.Bool.{cases_eq, cases_lt, eq-eqb, ne_eqb, eqb-true, cond-true, cond-false}
 use Rattle.std.proofs.lemmas.List.{drop_at, length-append}
 use Rattle.pg_copy.specs.Text.{null_mark, ends_escaped, letter_value, digits_value, digits_at, hex_escape, escape_by, escape_at, text_after, field_value}
-use Rattle.pg_copy.specs.Escape.{NoDigit, IsNumeral, IsEscape, octal, hexadecimal, bare_x, letter, IsText, nothing, plain, escaped, IsField}
+use Rattle.pg_copy.specs.TextField.{NoDigit, IsNumeral, IsEscape, octal, hexadecimal, bare_x, letter, IsText, nothing, plain, escaped, IsField}
 use Rattle.pg_copy.specs.Private.Units.{NoBackslash}
 use Rattle.pg_copy.proofs.TextValues.{digits-none, digits-some, text_after-drop, same_pair}
 
@@ -34,7 +34,7 @@ numeral-at base (suc n) (c ∷ ds) rest each few all = digits-some base n c (ds 
 pub numeral-is : (base most : ℕ) (digits rest : List ℕ) → IsNumeral base most digits rest → digits_at base most (digits ++ rest) ≡ digits
 numeral-is base most digits rest h = numeral-at base most digits rest h.each h.few h.all
 
--- the digits at the front, and what comes behind them
+-- the digits at the front, and what comes after them
 record Numeral (base n : ℕ) (bytes digits : List ℕ) : Type 0 where
   pub rest : List ℕ
   pub is : bytes ≡ digits ++ rest
@@ -150,7 +150,7 @@ raw-closed (b ∷ more) rest h = ap (λ (e : Bool). ends_escaped e (more ++ rest
 tail-is : (c d : ℕ) (cs ds : List ℕ) → c ∷ cs ≡ d ∷ ds → cs ≡ ds
 tail-is c d cs ds e = cc
 
--- an escape, and the text behind it
+-- an escape, and the text after it
 there : (b : ℕ) (bs : List ℕ) (n : ℕ) → b ≡ 92 → length bs ≤ n → ends_escaped true bs ≡ false → ((rest : List ℕ) → length rest ≤ n → ends_escaped false rest ≡ false → IsText rest (text_after 0 rest)) → IsText (b ∷ bs) (text_after 0 (b ∷ bs))
 there b [] n e le closed h = absurd cc
 there b (c ∷ cs) n e le closed h =

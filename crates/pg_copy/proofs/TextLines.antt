@@ -7,9 +7,9 @@ use Rattle.pg_copy.specs.declared.fault.TextFault.{TextFault}
 use Rattle.pg_copy.specs.declared.fault.TextFault.TheVariants.{RawReturn, LoneBackslash, Columns}
 use Rattle.pg_copy.specs.declared.scan.Scan.{Scan}
 use Rattle.pg_copy.specs.Row.{Row}
-use Rattle.pg_copy.specs.Reading.{Reading}
+use Rattle.pg_copy.specs.Reading.{RowsRead}
 use Rattle.pg_copy.specs.Text.{delimiter, carriage_return, parts, has_unit, ends_escaped, end_mark, fits_width, field_value, line_row, line_reading, row_or_fault}
-use Rattle.pg_copy.specs.Private.Units.{units, units_from, IsScanned, IsUnitAt, NoBackslash, IsWalked, IsFieldEnd, IsPlain}
+use Rattle.pg_copy.specs.Private.Units.{units, units_from, IsScanned, IsUnitAt, NoBackslash, IsFieldWalked, IsFieldEnd, IsPlain}
 use Rattle.pg_copy.specs.Private.TextLine.{LineGives, LineEnds, LineFails}
 use Rattle.pg_copy.proofs.TextParts.{parts-first, parts-none, parts-length, has_unit-is, units-append, ends_escaped-append}
 
@@ -30,8 +30,8 @@ NoBackslash-append : (a : List ℕ) (b : ℕ) → NoBackslash a → eqb b 92 ≡
 NoBackslash-append [] b h k = (k, tt)
 NoBackslash-append (x ∷ a) b h k = (h.0, NoBackslash-append a b h.1 k)
 
-pub walked-more : (bytes : List ℕ) (i b : ℕ) (escaped plain escaped' plain' : Bool) → i < length bytes → get_or bytes i 0 ≡ b → IsWalked bytes i escaped plain
-    → ends_escaped escaped (b ∷ []) ≡ escaped' → units_from escaped delimiter (b ∷ []) ≡ 0 → (plain' ≡ true → (plain ≡ true) × (eqb b 92 ≡ false)) → IsWalked bytes (i + 1) escaped' plain'
+pub walked-more : (bytes : List ℕ) (i b : ℕ) (escaped plain escaped' plain' : Bool) → i < length bytes → get_or bytes i 0 ≡ b → IsFieldWalked bytes i escaped plain
+    → ends_escaped escaped (b ∷ []) ≡ escaped' → units_from escaped delimiter (b ∷ []) ≡ 0 → (plain' ≡ true → (plain ≡ true) × (eqb b 92 ≡ false)) → IsFieldWalked bytes (i + 1) escaped' plain'
 walked-more bytes i b escaped plain escaped' plain' lt is h e n p =
     let more : take (i + 1) bytes ≡ take i bytes ++ b ∷ [] = take_more bytes i 0 lt ∙ ap (λ (x : ℕ). take i bytes ++ x ∷ []) is in
     record {
@@ -41,12 +41,12 @@ walked-more bytes i b escaped plain escaped' plain' lt is h e n p =
     }
 
 -- plain bytes at the front
-pub walked-run : (bytes : List ℕ) (n : ℕ) → n ≤ length bytes → ((i : ℕ) → 0 ≤ i → i < n → IsPlain (get_or bytes i 0)) → IsWalked bytes n false true
+pub walked-run : (bytes : List ℕ) (n : ℕ) → n ≤ length bytes → ((i : ℕ) → 0 ≤ i → i < n → IsPlain (get_or bytes i 0)) → IsFieldWalked bytes n false true
 walked-run bytes zero le plain = record { escaped = refl; none = refl; plain = λ e. tt }
 walked-run bytes (suc n) le plain =
     let p = plain n (omega arith) (omega arith) in
     let one : n + 1 ≡ suc n = omega arith in
-    subst (λ (i : ℕ). IsWalked bytes i false true) one
+    subst (λ (i : ℕ). IsFieldWalked bytes i false true) one
     (walked-more bytes n _ false true false true (omega arith) refl (walked-run bytes n (omega arith) (λ i a b. plain i a (omega (arith, b)))) (rw p.no_backslash refl) (rw p.no_delimiter refl) (λ t. (t, p.no_backslash)))
 
 -- where an escape was begun, the bytes aren't plain
@@ -54,14 +54,14 @@ plain_closed : (a : List ℕ) → NoBackslash a → ends_escaped false a ≡ fal
 plain_closed [] h = refl
 plain_closed (b ∷ a) h = rw h.0 (plain_closed a h.1)
 
-pub walked-escaped : (bytes : List ℕ) (i b : ℕ) (plain : Bool) → i < length bytes → get_or bytes i 0 ≡ b → IsWalked bytes i true plain → IsWalked bytes (i + 1) false plain
+pub walked-escaped : (bytes : List ℕ) (i b : ℕ) (plain : Bool) → i < length bytes → get_or bytes i 0 ≡ b → IsFieldWalked bytes i true plain → IsFieldWalked bytes (i + 1) false plain
 walked-escaped bytes i b plain lt is h =
     walked-more bytes i b true plain false plain lt is h refl refl (λ t. absurd (clash (sym (plain_closed (take i bytes) (h.plain t)) ∙ h.escaped)))
   where
     clash : false ≡ true → ⊥
     clash e = cc
 
-pub walked-at : (bytes : List ℕ) (i : ℕ) (plain : Bool) → i < length bytes → get_or bytes i 0 ≡ delimiter → IsWalked bytes i false plain → IsFieldEnd bytes (record { len = i; plain = plain; last = false })
+pub walked-at : (bytes : List ℕ) (i : ℕ) (plain : Bool) → i < length bytes → get_or bytes i 0 ≡ delimiter → IsFieldWalked bytes i false plain → IsFieldEnd bytes (record { len = i; plain = plain; last = false })
 walked-at bytes i plain lt is h = record {
   plain = h.plain;
   more = λ e. record { in_range = lt; none = h.none; closed = h.escaped; is = is };
@@ -71,7 +71,7 @@ walked-at bytes i plain lt is h = record {
     clash : false ≡ true → ⊥
     clash e = cc
 
-pub walked-end : (bytes : List ℕ) (i : ℕ) (e plain : Bool) → length bytes ≤ i → IsWalked bytes i e plain → IsFieldEnd bytes (record { len = length bytes; plain = plain; last = true })
+pub walked-end : (bytes : List ℕ) (i : ℕ) (e plain : Bool) → length bytes ≤ i → IsFieldWalked bytes i e plain → IsFieldEnd bytes (record { len = length bytes; plain = plain; last = true })
 walked-end bytes i e plain le h =
     let all : take i bytes ≡ bytes = take_all i bytes le in
     let whole : take (length bytes) bytes ≡ bytes = take_all (length bytes) bytes (omega arith) in
@@ -95,7 +95,7 @@ lines_row columns line s h whole =
 pub line-ends : (columns : Option ℕ) (line : List ℕ) → bytes_eq line end_mark ≡ true → LineEnds columns line
 line-ends columns line e after = cond-true _ _ _ e
 
-line-of : (columns : Option ℕ) (line : List ℕ) (r : Result Row TextFault) (after : Reading TextFault) → bytes_eq line end_mark ≡ false → line_row columns line ≡ r → line_reading columns line after ≡ row_or_fault r after
+line-of : (columns : Option ℕ) (line : List ℕ) (r : Result Row TextFault) (after : RowsRead TextFault) → bytes_eq line end_mark ≡ false → line_row columns line ≡ r → line_reading columns line after ≡ row_or_fault r after
 line-of columns line r after e h = cond-false _ _ _ e ∙ ap (λ (x : Result Row TextFault). row_or_fault x after) h
 
 pub line-return : (columns : Option ℕ) (line : List ℕ) → bytes_eq line end_mark ≡ false → has_unit carriage_return line ≡ true → LineFails columns line RawReturn

@@ -56,7 +56,7 @@ parts_from-uncut false mark (x ∷ a) b h = rw h.0 (ap (onto_first x) (parts_fro
 pub parts-uncut : (mark : ℕ) (a : List ℕ) → IsUncut false mark a → parts mark a ≡ a ∷ []
 parts-uncut mark a h = ap (parts_from false mark) (sym (append-nil a)) ∙ parts_from-uncut false mark a [] h ∙ ap (λ (x : List ℕ). x ∷ []) (append-nil a)
 
--- a part with the mark behind it is the first part
+-- a part with the mark after it is the first part
 pub parts-cut : (mark : ℕ) (a b : List ℕ) → IsUncut false mark a → ends_escaped false a ≡ false → parts mark (a ++ mark ∷ b) ≡ a ∷ parts mark b
 parts-cut mark a b h closed =
     let e : parts_from (ends_escaped false a) mark (mark ∷ b) ≡ [] ∷ parts mark b = rw (closed, eq-eqb mark mark refl) refl in

@@ -8,7 +8,7 @@ use Rattle.std.proofs.lemmas.List.{append-nil, length-map}
 use Rattle.pg_copy.specs.declared.fault.TextFault.{TextFault}
 use Rattle.pg_copy.specs.Row.{Row}
 use Rattle.pg_copy.specs.Reading.{Open, Ended, after_rows}
-use Rattle.pg_copy.specs.Text.{delimiter, newline, carriage_return, null_mark, parts, ends_escaped, letter_value, escape_by, escape_at, text_after, field_value, fits_width, FitsReader, line_row, end_mark, row_or_fault, lines_reading, reading, at_end, file_reading, letter_for, with_letter, written_byte, written_field, written_fields, written_row}
+use Rattle.pg_copy.specs.Text.{delimiter, newline, carriage_return, null_mark, parts, ends_escaped, letter_value, escape_by, escape_at, text_after, field_value, fits_width, FitsReader, line_row, end_mark, row_or_fault, lines_reading, text_reading, text_at_end, text_file_reading, letter_for, with_letter, written_byte, written_field, written_fields, written_row}
 use Rattle.pg_copy.specs.Private.Units.{IsPlain}
 use Rattle.pg_copy.proofs.TextParts.{IsUncut, ends_escaped-append, IsUncut-append, parts-uncut, parts-cut, parts-some, has_unit-none}
 use Rattle.pg_copy.proofs.TextValues.{digits-none}
@@ -156,8 +156,8 @@ line_again columns row fits =
     ∙ ap (λ (x : List (List ℕ)). Ok (map field_value x)) fields ∙ ap (λ (x : List (Option (List ℕ))). Ok x) (fields_again row)
 
 -- a canonical line in front is read as its row
-pub row_again : (columns : Option ℕ) (row : List (Option (List ℕ))) (rest : List ℕ) → FitsReader columns row → reading columns (written_row row ++ rest) ≡ after_rows (row ∷ []) (reading columns rest)
-unfolding reading
+pub row_again : (columns : Option ℕ) (row : List (Option (List ℕ))) (rest : List ℕ) → FitsReader columns row → text_reading columns (written_row row ++ rest) ≡ after_rows (row ∷ []) (text_reading columns rest)
+unfolding text_reading
 row_again columns row rest fits =
     let line = written_fields row in
     let line_end = IsSafe-row newline row newline_mark refl in
@@ -166,14 +166,14 @@ row_again columns row rest fits =
     ∙ cond-false _ _ _ (not_end row) ∙ ap (λ (x : Result (List (Option (List ℕ))) TextFault). row_or_fault x (lines_reading columns (parts newline rest))) (line_again columns row fits)
 
 -- the canonical lines of rows in front are read as those rows
-pub rows-trip : (columns : Option ℕ) (rows : List Row) (rest : List ℕ) → AllByRecursion (FitsReader columns) rows → reading columns (flat_map written_row rows ++ rest) ≡ after_rows rows (reading columns rest)
+pub rows-trip : (columns : Option ℕ) (rows : List Row) (rest : List ℕ) → AllByRecursion (FitsReader columns) rows → text_reading columns (flat_map written_row rows ++ rest) ≡ after_rows rows (text_reading columns rest)
 rows-trip columns [] rest fits = refl
 rows-trip columns (row ∷ rows) rest fits =
-    ap (reading columns) (append_assoc (written_row row) (flat_map written_row rows) rest) ∙ row_again columns row (flat_map written_row rows ++ rest) fits.0 ∙ ap (after_rows (row ∷ [])) (rows-trip columns rows rest fits.1)
+    ap (text_reading columns) (append_assoc (written_row row) (flat_map written_row rows) rest) ∙ row_again columns row (flat_map written_row rows ++ rest) fits.0 ∙ ap (after_rows (row ∷ [])) (rows-trip columns rows rest fits.1)
 
 -- a file of canonical lines is read as those rows
-pub file-trip : (columns : Option ℕ) (rows : List Row) → AllByRecursion (FitsReader columns) rows → file_reading columns (flat_map written_row rows) ≡ record { rows = rows; ending = Ended }
+pub file-trip : (columns : Option ℕ) (rows : List Row) → AllByRecursion (FitsReader columns) rows → text_file_reading columns (flat_map written_row rows) ≡ record { rows = rows; ending = Ended }
 file-trip columns rows fits =
-    let lines : reading columns (flat_map written_row rows) ≡ after_rows rows (record { rows = []; ending = Open [] }) =
-    ap (reading columns) (sym (append-nil (flat_map written_row rows))) ∙ rows-trip columns rows [] fits ∙ ap (after_rows rows) (reading-empty columns) in
-    ap (at_end columns) (lines ∙ after-none rows (Open [])) ∙ after-none rows Ended
+    let lines : text_reading columns (flat_map written_row rows) ≡ after_rows rows (record { rows = []; ending = Open [] }) =
+    ap (text_reading columns) (sym (append-nil (flat_map written_row rows))) ∙ rows-trip columns rows [] fits ∙ ap (after_rows rows) (reading-empty columns) in
+    ap (text_at_end columns) (lines ∙ after-none rows (Open [])) ∙ after-none rows Ended

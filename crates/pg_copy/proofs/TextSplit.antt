@@ -5,7 +5,7 @@ use Rattle.std.proofs.lemmas.Bool.{cases_eq, eq-eqb, ne_eqb, false≢true}
 use Rattle.pg_copy.specs.declared.fault.TextFault.TheVariants.{RawReturn, LoneBackslash, Columns}
 use Rattle.pg_copy.specs.Row.{Row}
 use Rattle.pg_copy.specs.Text.{delimiter, carriage_return, parts_from, parts, has_unit, ends_escaped, field_value, fits_width, line_row}
-use Rattle.pg_copy.specs.Lines.{AreUnits, nothing, byte, escape, AreParts, one, lone, more, AreFields}
+use Rattle.pg_copy.specs.TextLine.{AreUnits, nothing, byte, escape, AreParts, one, lone, more, AreFields}
 use Rattle.pg_copy.proofs.TextParts.{IsUncut, IsUncut-append, ends_escaped-append, parts-uncut, parts-cut}
 use Rattle.pg_copy.proofs.TextEscapes.{field-there}
 

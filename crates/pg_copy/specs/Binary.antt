@@ -5,7 +5,7 @@ use Rattle.std.specs.Int.{w16, w32, to_be_bytes, cast_signed}
 use Rattle.pg_copy.specs.declared.fault.BinaryFault.{BinaryFault}
 use Rattle.pg_copy.specs.declared.fault.BinaryFault.TheVariants.{Signature, Flags, Extension, FieldCount, FieldLength, AfterTrailer}
 use Rattle.pg_copy.specs.Row.{Row}
-use Rattle.pg_copy.specs.Reading.{Ending, Open, Done, Ended, Bad}
+use Rattle.pg_copy.specs.Reading.{RowsEnding, Open, Done, Ended, Bad}
 
 -- ---- the parts of a file as bytes
 
@@ -13,17 +13,17 @@ use Rattle.pg_copy.specs.Reading.{Ending, Open, Done, Ended, Bad}
 abbrev pub signature : List ℕ
 signature = 0x50 ∷ 0x47 ∷ 0x43 ∷ 0x4F ∷ 0x50 ∷ 0x59 ∷ 0x0A ∷ 0xFF ∷ 0x0D ∷ 0x0A ∷ 0x00 ∷ []
 
--- the signature, the flags, and an extension behind its length
+-- the signature, the flags, and an extension after its length
 abbrev pub head : ℕ → List ℕ → List ℕ
 head flags extension = signature ++ to_be_bytes w32 flags ++ to_be_bytes w32 (length extension)
     ++ extension
 
--- a value behind its length, which is -1 for a null
+-- a value after its length, which is -1 for a null
 abbrev pub value : Option (List ℕ) → List ℕ
 value None = to_be_bytes w32 4294967295
 value (Some bytes) = to_be_bytes w32 (length bytes) ++ bytes
 
--- the values of a row behind their number
+-- the values of a row after their number
 abbrev pub binary_row : Row → List ℕ
 binary_row row = to_be_bytes w16 (length row) ++ flat_map value row
 
@@ -53,7 +53,7 @@ pub record FitsBinary (columns limit : ℕ) (row : Row) : Type 0 where
   pub width : length row ≡ columns
   pub each : AllByRecursion (FitsValue limit) row
 
--- ---- what stands behind the head and the rows
+-- ---- what stands after the head and the rows
 
 -- What stands in the place of a row is faulty, for this reason. A number is read as unsigned, so one below -1 is above every
 -- limit.
@@ -76,8 +76,8 @@ pub record IsOpenRest (columns limit : ℕ) (rest : List ℕ) : Type 0 where
   pub no_trailer : (more : List ℕ) → rest ≡ trailer ++ more → ⊥
   pub no_fault : (f : BinaryFault) → IsFaultyRest columns limit rest f → ⊥
 
--- What stands behind the rows, by the ending that it means: an open rest, the trailer, or a fault.
-abbrev pub IsRest : ℕ → ℕ → List ℕ → Ending BinaryFault → Type 0
+-- What stands after the rows, by the ending that it means: an open rest, the trailer, or a fault.
+abbrev pub IsRest : ℕ → ℕ → List ℕ → RowsEnding BinaryFault → Type 0
 IsRest columns limit rest (Open kept) = (kept ≡ rest) × IsOpenRest columns limit rest
 IsRest columns limit rest Done = rest ≡ trailer
 IsRest columns limit rest Ended = ⊥
@@ -101,13 +101,13 @@ pub record IsOpenHead (bytes : List ℕ) : Type 0 where
   pub no_head : (h more : List ℕ) → IsHead h → bytes ≡ h ++ more → ⊥
   pub no_fault : (f : BinaryFault) → IsFaultyHead bytes f → ⊥
 
--- Which bytes of a head that isn't whole are kept: of the extension, which stands behind the first 19, none are needed again.
+-- Which bytes of a head that isn't whole are kept: of the extension, which stands after the first 19, none are needed again.
 abbrev pub open_head : List ℕ → List ℕ
 open_head bytes = if nat_lt (length bytes) 19 then bytes else []
 
 -- What stands in the place of a head, by the ending that it means: the beginning of one, or a
 -- fault.
-abbrev pub IsHeadRest : List ℕ → Ending BinaryFault → Type 0
+abbrev pub IsHeadRest : List ℕ → RowsEnding BinaryFault → Type 0
 IsHeadRest bytes (Open kept) = (kept ≡ open_head bytes) × IsOpenHead bytes
 IsHeadRest bytes Done = ⊥
 IsHeadRest bytes Ended = ⊥
@@ -119,9 +119,9 @@ IsHeadRest bytes (Bad f) = IsFaultyHead bytes f
 abbrev pub IsBytes : List ℕ → Type 0
 IsBytes bytes = (i : ℕ) → slice_index bytes i < 256
 
--- The bytes are a head, these rows, and what stands behind them; or no whole head, and no rows.
+-- The bytes are a head, these rows, and what stands after them; or no whole head, and no rows.
 pub data IsBinaryFile (columns limit : ℕ) (bytes : List ℕ) (rows : List Row)
-    (ending : Ending BinaryFault) : Type 0 where
+    (ending : RowsEnding BinaryFault) : Type 0 where
   whole : (h rest : List ℕ) → IsHead h → AllByRecursion (FitsBinary columns limit) rows
       → bytes ≡ h ++ flat_map binary_row rows ++ rest → IsRest columns limit rest ending
       → IsBinaryFile columns limit bytes rows ending

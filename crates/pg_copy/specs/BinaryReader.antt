@@ -5,8 +5,8 @@ use Rattle.pg_copy.specs.declared.fault.BinaryFault.TheVariants.{AfterTrailer, M
 use Rattle.pg_copy.specs.declared.binary_reader.BinaryStage.{BinaryStage}
 use Rattle.pg_copy.specs.declared.binary_reader.BinaryStage.TheVariants as stages
 use Rattle.pg_copy.specs.Row.{Row}
-use Rattle.pg_copy.specs.Reading.{Reading, Ending, Open, Done, Bad, after_rows}
-use Rattle.pg_copy.specs.BinaryReading.{bytes_at, head_reading, binary_reading, body_reading, trailer_reading, at_end, file_reading}
+use Rattle.pg_copy.specs.Reading.{RowsRead, RowsEnding, Open, Done, Bad, after_rows}
+use Rattle.pg_copy.specs.BinaryPart.{bytes_at, head_reading, binary_reading, body_reading, trailer_reading, binary_at_end, binary_file_reading}
 
 -- how many columns a row has, how long a value may be, the bytes that were given and are no part yet, where it stands, and
 -- whether the input has ended
@@ -18,29 +18,31 @@ pub record BinaryState : Type 0 where
   pub ended : Bool
 
 -- what is still to come from so many bytes
-abbrev pub stage_reading : BinaryStage → ℕ → ℕ → List ℕ → Reading BinaryFault
-stage_reading stages.Head columns limit bytes = binary_reading columns limit bytes
-stage_reading (stages.Extension n) columns limit bytes = head_reading [] (bytes_at n bytes) (body_reading columns limit)
-stage_reading stages.Rows columns limit bytes = body_reading columns limit bytes
-stage_reading stages.Closed columns limit bytes = trailer_reading bytes
-stage_reading (stages.Failed fault) columns limit bytes = record { rows = []; ending = Bad fault }
+abbrev pub binary_stage_reading : BinaryStage → ℕ → ℕ → List ℕ → RowsRead BinaryFault
+binary_stage_reading stages.Head columns limit bytes = binary_reading columns limit bytes
+binary_stage_reading (stages.Extension n) columns limit bytes =
+    head_reading [] (bytes_at n bytes) (body_reading columns limit)
+binary_stage_reading stages.Rows columns limit bytes = body_reading columns limit bytes
+binary_stage_reading stages.Closed columns limit bytes = trailer_reading bytes
+binary_stage_reading (stages.Failed fault) columns limit bytes =
+    record { rows = []; ending = Bad fault }
 
 -- what is still to come, if these bytes are pushed too
-abbrev pub left : BinaryState → List ℕ → Reading BinaryFault
-left s more = stage_reading s.stage s.columns s.limit (s.kept ++ more)
+abbrev pub binary_left : BinaryState → List ℕ → RowsRead BinaryFault
+binary_left s more = binary_stage_reading s.stage s.columns s.limit (s.kept ++ more)
 
 -- what is still to come, if no more bytes are pushed
-abbrev pub last : BinaryState → Reading BinaryFault
-last s = at_end (left s [])
+abbrev pub binary_last : BinaryState → RowsRead BinaryFault
+binary_last s = binary_at_end (binary_left s [])
 
 -- The reader was given these bytes, and has given these rows: what is left is what is left of the file.
 pub record HasReadBinary (s : BinaryState) (pushed : List ℕ) (given : List Row) : Type 0 where
   pub so_far : s.ended ≡ false → (more : List ℕ)
-      → binary_reading s.columns s.limit (pushed ++ more) ≡ after_rows given (left s more)
-  pub in_all : file_reading s.columns s.limit pushed ≡ after_rows given (last s)
+      → binary_reading s.columns s.limit (pushed ++ more) ≡ after_rows given (binary_left s more)
+  pub in_all : binary_file_reading s.columns s.limit pushed ≡ after_rows given (binary_last s)
 
 -- the ending at which a reader stands, where it has looked for a row
-abbrev pub binary_ending : BinaryStage → List ℕ → Ending BinaryFault
+abbrev pub binary_ending : BinaryStage → List ℕ → RowsEnding BinaryFault
 binary_ending stages.Head kept = Open kept
 binary_ending (stages.Extension n) kept = Open []
 binary_ending stages.Rows kept = Open kept
@@ -56,7 +58,7 @@ WaitsWith stages.Rows kept = Unit {0}
 WaitsWith stages.Closed kept = kept ≡ []
 WaitsWith (stages.Failed fault) kept = Unit {0}
 
--- A piece is kept, but for what it has of an extension; behind the trailer nothing is.
+-- A piece is kept, but for what it has of an extension; after the trailer nothing is.
 abbrev pub kept_of : BinaryStage → List ℕ → List ℕ
 kept_of stages.Head piece = piece
 kept_of (stages.Extension n) piece = drop n piece
@@ -64,7 +66,7 @@ kept_of stages.Rows piece = piece
 kept_of stages.Closed piece = []
 kept_of (stages.Failed fault) piece = []
 
--- where the reader stands behind a piece: an extension may end in it, and behind the trailer a byte is a fault
+-- where the reader stands after a piece: an extension may end in it, and after the trailer a byte is a fault
 abbrev pub stage_behind : BinaryStage → List ℕ → BinaryStage
 stage_behind stages.Head piece = stages.Head
 stage_behind (stages.Extension n) piece = if nat_lt (length piece) n
@@ -74,9 +76,10 @@ stage_behind stages.Closed [] = stages.Closed
 stage_behind stages.Closed (b ∷ bs) = stages.Failed AfterTrailer
 stage_behind (stages.Failed fault) piece = stages.Failed fault
 
--- the reader behind a piece that it took
+-- the reader after a piece that it took
 abbrev pub pushed_after : BinaryState → List ℕ → BinaryState
-pushed_after s piece = record s { kept = s.kept ++ kept_of s.stage piece; stage = stage_behind s.stage piece }
+pushed_after s piece =
+    record s { kept = s.kept ++ kept_of s.stage piece; stage = stage_behind s.stage piece }
 
 -- in the head or among the rows: bytes are still read
 abbrev pub IsReading : BinaryStage → Type 0
@@ -87,7 +90,7 @@ IsReading stages.Closed = ⊥
 IsReading (stages.Failed fault) = ⊥
 
 -- A push is refused with the fault that was found, or for want of memory, which a piece of which nothing is to be kept never
--- meets: one without bytes, one within the extension, or one behind the trailer. Then nothing changes.
+-- meets: one without bytes, one within the extension, or one after the trailer. Then nothing changes.
 abbrev pub PushesBinary : BinaryState → List ℕ → Result Unit BinaryFault → BinaryState → Type 0
 PushesBinary old piece (Ok x) new = ((f : BinaryFault) → old.stage ≡ stages.Failed f → ⊥)
     × (new ≡ pushed_after old piece)

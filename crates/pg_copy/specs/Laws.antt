@@ -3,13 +3,13 @@ use Rattle.std.specs.Prelude.{◌≡◌, ℕ, ◌≤◌, false, List, ◌++◌, 
 use Rattle.std.specs.List.{flat_map, AllByRecursion}
 use Rattle.pg_copy.specs.Row.{Row}
 use Rattle.pg_copy.specs.declared.fault.BinaryFault.{BinaryFault}
-use Rattle.pg_copy.specs.Reading.{Ending, Done, Ended, after_rows}
-use Rattle.pg_copy.specs.Text.{backslash, delimiter, ends_escaped, parts, field_value, line_row, FitsReader, reading, file_reading, written_row}
-use Rattle.pg_copy.specs.Escape.{IsField}
-use Rattle.pg_copy.specs.Lines.{AreParts, AreFields}
+use Rattle.pg_copy.specs.Reading.{RowsEnding, Done, Ended, after_rows}
+use Rattle.pg_copy.specs.Text.{backslash, delimiter, ends_escaped, parts, field_value, line_row, FitsReader, text_reading, text_file_reading, written_row}
+use Rattle.pg_copy.specs.TextField.{IsField}
+use Rattle.pg_copy.specs.TextLine.{AreParts, AreFields}
 use Rattle.pg_copy.specs.Binary.{IsHead, FitsBinary, binary_row, trailer, IsBytes, IsBinaryFile}
-use Rattle.pg_copy.specs.BinaryReading.{binary_reading, body_reading}
-use Rattle.pg_copy.specs.BinaryReading as binary
+use Rattle.pg_copy.specs.BinaryPart.{binary_reading, body_reading}
+use Rattle.pg_copy.specs.BinaryPart as binary
 
 -- ---- text
 
@@ -36,9 +36,11 @@ pub record OneValue : Type 0 where
 pub record TextRoundTrip : Type 0 where
   pub before : (columns : Option ℕ) (rows : List Row) (rest : List ℕ)
       → AllByRecursion (FitsReader columns) rows
-      → reading columns (flat_map written_row rows ++ rest) ≡ after_rows rows (reading columns rest)
+      → text_reading columns (flat_map written_row rows ++ rest)
+      ≡ after_rows rows (text_reading columns rest)
   pub whole : (columns : Option ℕ) (rows : List Row) → AllByRecursion (FitsReader columns) rows
-      → file_reading columns (flat_map written_row rows) ≡ record { rows = rows; ending = Ended }
+      → text_file_reading columns (flat_map written_row rows)
+      ≡ record { rows = rows; ending = Ended }
 
 -- ---- binary
 
@@ -50,8 +52,9 @@ pub record AreBounds (columns limit : ℕ) : Type 0 where
 -- What is read of the bytes of a binary file is what they are, and they are nothing else.
 pub record OneFile : Type 0 where
   pub there : (columns limit : ℕ) (bytes : List ℕ) → AreBounds columns limit → IsBytes bytes
-      → IsBinaryFile columns limit bytes (binary_reading columns limit bytes).rows (binary_reading columns limit bytes).ending
-  pub one : (columns limit : ℕ) (bytes : List ℕ) (rows : List Row) (ending : Ending BinaryFault)
+      → IsBinaryFile columns limit bytes (binary_reading columns limit bytes).rows
+      (binary_reading columns limit bytes).ending
+  pub one : (columns limit : ℕ) (bytes : List ℕ) (rows : List Row) (ending : RowsEnding BinaryFault)
       → AreBounds columns limit
       → IsBytes bytes → IsBinaryFile columns limit bytes rows ending
       → binary_reading columns limit bytes ≡ record { rows = rows; ending = ending }
@@ -67,5 +70,5 @@ pub record BinaryRoundTrip : Type 0 where
   pub whole : (columns limit : ℕ) (h : List ℕ) (rows : List Row) → AreBounds columns limit
       → IsHead h
       → AllByRecursion (FitsBinary columns limit) rows
-      → binary.file_reading columns limit (h ++ flat_map binary_row rows ++ trailer)
+      → binary.binary_file_reading columns limit (h ++ flat_map binary_row rows ++ trailer)
       ≡ record { rows = rows; ending = Done }

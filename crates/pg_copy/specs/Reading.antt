@@ -2,25 +2,25 @@
 use Rattle.std.specs.Prelude.{◌≡◌, ℕ, ◌<◌, ◌⊎◌, List, [], ◌∷◌, ◌++◌, length, Option, Some, None, Result, Ok, Err}
 use Rattle.pg_copy.specs.Row.{Row}
 
--- What stands behind the rows: bytes that may still become a row, the end mark or the trailer, nothing at the end of the
+-- What stands after the rows: bytes that may still become a row, the end mark or the trailer, nothing at the end of the
 -- input, or a fault.
-pub data Ending (F : Type 0) : Type 0 where
-  Open : List ℕ → Ending F
-  Done : Ending F
-  Ended : Ending F
-  Bad : F → Ending F
+pub data RowsEnding (F : Type 0) : Type 0 where
+  Open : List ℕ → RowsEnding F
+  Done : RowsEnding F
+  Ended : RowsEnding F
+  Bad : F → RowsEnding F
 
--- What bytes are read as: these rows, and what stands behind them.
-pub record Reading (F : Type 0) : Type 0 where
+-- What bytes are read as: these rows, and what stands after them.
+pub record RowsRead (F : Type 0) : Type 0 where
   pub rows : List Row
-  pub ending : Ending F
+  pub ending : RowsEnding F
 
 -- rows in front of a reading
-abbrev pub after_rows : {F : Type 0} → List Row → Reading F → Reading F
+abbrev pub after_rows : {F : Type 0} → List Row → RowsRead F → RowsRead F
 after_rows rows r = record { rows = rows ++ r.rows; ending = r.ending }
 
 -- a row is there
-abbrev pub RowWaits : {F : Type 0} → Reading F → Type 0
+abbrev pub RowWaits : {F : Type 0} → RowsRead F → Type 0
 RowWaits r = 0 < length r.rows
 
 -- the row that a call gives
@@ -30,16 +30,17 @@ given_by (Ok None) = []
 given_by (Err f) = []
 
 -- a fault is no end
-abbrev pub IsGood : {F : Type 0} → Ending F → Type 0
+abbrev pub IsGood : {F : Type 0} → RowsEnding F → Type 0
 IsGood (Bad f) = ⊥
 IsGood ending = Unit {0}
 
 -- What a call answers that looks for the next row, where the bytes are read as this file, these rows were given before, and
 -- the reader then stands at this ending. None is answered only where the file has no more rows, and a fault only in its place.
-abbrev pub Gives : {F : Type 0} → F → Reading F → List Row → Ending F → Result (Option Row) F
+abbrev pub AnswersNext : {F : Type 0} → F → RowsRead F → List Row → RowsEnding F
+    → Result (Option Row) F
     → Type 0
-Gives memory file given ending (Ok (Some row)) = Unit {0}
-Gives memory file given ending (Ok None) = IsGood ending
+AnswersNext memory file given ending (Ok (Some row)) = Unit {0}
+AnswersNext memory file given ending (Ok None) = IsGood ending
     × (file ≡ record { rows = given; ending = ending })
-Gives memory file given ending (Err f) = (f ≡ memory)
+AnswersNext memory file given ending (Err f) = (f ≡ memory)
     ⊎ ((ending ≡ Bad f) × (file ≡ record { rows = given; ending = Bad f }))

@@ -6,7 +6,7 @@ use Rattle.std.specs.Str.{bytes_eq}
 use Rattle.pg_copy.specs.declared.fault.TextFault.{TextFault}
 use Rattle.pg_copy.specs.declared.fault.TextFault.TheVariants.{RawReturn, LoneBackslash, Columns}
 use Rattle.pg_copy.specs.Row.{Row, most_fields}
-use Rattle.pg_copy.specs.Reading.{Reading, Ending, Open, Done, Ended, Bad, after_rows}
+use Rattle.pg_copy.specs.Reading.{RowsRead, RowsEnding, Open, Done, Ended, Bad, after_rows}
 
 -- ---- what is the format's own
 
@@ -26,7 +26,7 @@ null_mark = backslash ∷ 78 ∷ []
 abbrev pub newline : ℕ
 newline = 10
 
--- the byte that may stand in a line only behind a backslash
+-- the byte that may stand in a line only after a backslash
 abbrev pub carriage_return : ℕ
 carriage_return = 13
 
@@ -137,41 +137,43 @@ line_row columns line =
 -- ---- files
 
 -- a row stands before what comes after it, and a bad line ends the reading with its fault
-abbrev pub row_or_fault : Result Row TextFault → Reading TextFault → Reading TextFault
+abbrev pub row_or_fault : Result Row TextFault → RowsRead TextFault → RowsRead TextFault
 row_or_fault (Ok row) after = after_rows (row ∷ []) after
 row_or_fault (Err fault) after = record { rows = []; ending = Bad fault }
 
 -- a line, and what comes after it
-abbrev pub line_reading : Option ℕ → List ℕ → Reading TextFault → Reading TextFault
+abbrev pub line_reading : Option ℕ → List ℕ → RowsRead TextFault → RowsRead TextFault
 line_reading columns line after =
     if bytes_eq line end_mark then record { rows = []; ending = Done }
     else row_or_fault (line_row columns line) after
 
 -- closed lines, and the line that isn't closed
-abbrev pub lines_reading : Option ℕ → List (List ℕ) → Reading TextFault
+abbrev pub lines_reading : Option ℕ → List (List ℕ) → RowsRead TextFault
 lines_reading columns [] = record { rows = []; ending = Open [] }
 lines_reading columns (line ∷ []) = record { rows = []; ending = Open line }
-lines_reading columns (line ∷ next ∷ lines) = line_reading columns line (lines_reading columns (next ∷ lines))
+lines_reading columns (line ∷ next ∷ lines) =
+    line_reading columns line (lines_reading columns (next ∷ lines))
 
 -- the rows of the closed lines, up to the end mark or the first bad line
-unfoldable pub reading : Option ℕ → List ℕ → Reading TextFault
-reading columns bytes = lines_reading columns (parts newline bytes)
+unfoldable pub text_reading : Option ℕ → List ℕ → RowsRead TextFault
+text_reading columns bytes = lines_reading columns (parts newline bytes)
 
 -- at the end of input the last line is closed too, unless it is empty
-abbrev pub last_reading : Option ℕ → Ending TextFault → Reading TextFault
+abbrev pub last_reading : Option ℕ → RowsEnding TextFault → RowsRead TextFault
 last_reading columns (Open []) = record { rows = []; ending = Ended }
-last_reading columns (Open (b ∷ bs)) = line_reading columns (b ∷ bs) (record { rows = []; ending = Ended })
+last_reading columns (Open (b ∷ bs)) =
+    line_reading columns (b ∷ bs) (record { rows = []; ending = Ended })
 last_reading columns Done = record { rows = []; ending = Done }
 last_reading columns Ended = record { rows = []; ending = Ended }
 last_reading columns (Bad fault) = record { rows = []; ending = Bad fault }
 
 -- a reading whose input has ended, so that what was open is closed
-abbrev pub at_end : Option ℕ → Reading TextFault → Reading TextFault
-at_end columns r = after_rows r.rows (last_reading columns r.ending)
+abbrev pub text_at_end : Option ℕ → RowsRead TextFault → RowsRead TextFault
+text_at_end columns r = after_rows r.rows (last_reading columns r.ending)
 
 -- the rows of a whole file
-abbrev pub file_reading : Option ℕ → List ℕ → Reading TextFault
-file_reading columns bytes = at_end columns (reading columns bytes)
+abbrev pub text_file_reading : Option ℕ → List ℕ → RowsRead TextFault
+text_file_reading columns bytes = text_at_end columns (text_reading columns bytes)
 
 -- ---- the canonical line of a row
 

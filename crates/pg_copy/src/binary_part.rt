@@ -6,12 +6,12 @@ ghost use Rattle.pg_copy.specs.declared.fault.BinaryFault.TheVariants.{FieldCoun
 ghost use Rattle.pg_copy.specs.declared.binary_part.NoPart.TheVariants.{Faulty};
 ghost use Rattle.std.specs.Option.{option_copied};
 ghost use Rattle.pg_copy.specs.declared.binary_part.NoRow.TheVariants.{Memory};
-ghost use Rattle.pg_copy.specs.BinaryReading.{Incomplete, number_at, bytes_at, signature_at, flags_at, extension_at, fixed_at, head_at, value_at, values_at};
+ghost use Rattle.pg_copy.specs.BinaryPart.{Incomplete, number_at, bytes_at, signature_at, flags_at, extension_at, fixed_at, head_at, value_at, values_at};
 ghost use Rattle.pg_copy.specs.Row.{Row};
-ghost use Rattle.pg_copy.specs.Private.BinaryPart.{Gives, IsWalked, Finds, IsBehindHead, StartsRow, IsLooked, FindsPart, left_of};
+ghost use Rattle.pg_copy.specs.Private.BinaryPart.{ReadsPart, IsRowWalked, FindsRow, IsBehindHead, StartsRow, IsLooked, FindsPart, extension_left};
 
 use crate::fault::BinaryFault;
-use crate::format::{LONGEST, NULL, SIGNATURE, TRAILER};
+use crate::format::{LONGEST_VALUE, NULL, SIGNATURE, TRAILER};
 use pg_seq::Seq;
 use std::alloc::{AllocError, Global};
 
@@ -35,7 +35,7 @@ pub enum NoRow {
 const CRITICAL: u32 = 65_536;
 
 fn take(bytes: &[u8], len: usize) -> Result<(&[u8], &[u8]), NoPart>
-    ensures { Gives (λ x. (x.0.now, x.1.now)) result (bytes_at len bytes.now) }
+    ensures { ReadsPart (λ x. (x.0.now, x.1.now)) result (bytes_at len bytes.now) }
 {
     if bytes.len() < len {
         return Err(NoPart::Incomplete);
@@ -44,7 +44,7 @@ fn take(bytes: &[u8], len: usize) -> Result<(&[u8], &[u8]), NoPart>
 }
 
 fn u16_at(bytes: &[u8]) -> Result<(u16, &[u8]), NoPart>
-    ensures { Gives (λ x. (x.0, x.1.now)) result (number_at w16 bytes.now) }
+    ensures { ReadsPart (λ x. (x.0, x.1.now)) result (number_at w16 bytes.now) }
 {
     if bytes.len() < 2 {
         return Err(NoPart::Incomplete);
@@ -54,7 +54,7 @@ fn u16_at(bytes: &[u8]) -> Result<(u16, &[u8]), NoPart>
 }
 
 fn u32_at(bytes: &[u8]) -> Result<(u32, &[u8]), NoPart>
-    ensures { Gives (λ x. (x.0, x.1.now)) result (number_at w32 bytes.now) }
+    ensures { ReadsPart (λ x. (x.0, x.1.now)) result (number_at w32 bytes.now) }
 {
     if bytes.len() < 4 {
         return Err(NoPart::Incomplete);
@@ -64,9 +64,9 @@ fn u32_at(bytes: &[u8]) -> Result<(u32, &[u8]), NoPart>
     Ok((number, rest))
 }
 
-#[tactic(auto, unfolding(crate::specs::BinaryReading::signature_at))]
+#[tactic(auto, unfolding(crate::specs::BinaryPart::signature_at))]
 fn signature_at(bytes: &[u8]) -> Result<(&[u8], &[u8]), NoPart>
-    ensures { Gives (λ x. (x.0.now, x.1.now)) result (signature_at bytes.now) }
+    ensures { ReadsPart (λ x. (x.0.now, x.1.now)) result (signature_at bytes.now) }
 {
     let (first, rest) = take(bytes, 11)?;
     if first != SIGNATURE.as_slice() {
@@ -75,9 +75,9 @@ fn signature_at(bytes: &[u8]) -> Result<(&[u8], &[u8]), NoPart>
     Ok((first, rest))
 }
 
-#[tactic(auto, unfolding(crate::specs::BinaryReading::flags_at))]
+#[tactic(auto, unfolding(crate::specs::BinaryPart::flags_at))]
 fn flags_at(bytes: &[u8]) -> Result<(u32, &[u8]), NoPart>
-    ensures { Gives (λ x. (x.0, x.1.now)) result (flags_at bytes.now) }
+    ensures { ReadsPart (λ x. (x.0, x.1.now)) result (flags_at bytes.now) }
 {
     let (flags, rest) = u32_at(bytes)?;
     if flags >= CRITICAL {
@@ -86,31 +86,31 @@ fn flags_at(bytes: &[u8]) -> Result<(u32, &[u8]), NoPart>
     Ok((flags, rest))
 }
 
-#[tactic(auto, unfolding(crate::specs::BinaryReading::extension_at))]
+#[tactic(auto, unfolding(crate::specs::BinaryPart::extension_at))]
 fn extension_at(bytes: &[u8]) -> Result<(u32, &[u8]), NoPart>
-    ensures { Gives (λ x. (x.0, x.1.now)) result (extension_at bytes.now) }
+    ensures { ReadsPart (λ x. (x.0, x.1.now)) result (extension_at bytes.now) }
 {
     let (len, rest) = u32_at(bytes)?;
-    if len > LONGEST {
+    if len > LONGEST_VALUE {
         return Err(NoPart::Faulty(BinaryFault::Extension(len.cast_signed())));
     }
     Ok((len, rest))
 }
 
 /// What every head begins with: the signature, the flags, and the length of the extension, which is given.
-#[tactic(auto, unfolding(crate::specs::BinaryReading::fixed_at))]
+#[tactic(auto, unfolding(crate::specs::BinaryPart::fixed_at))]
 fn fixed_at(bytes: &[u8]) -> Result<(u32, &[u8]), NoPart>
-    ensures { Gives (λ x. (x.0, x.1.now)) result (fixed_at bytes.now) }
+    ensures { ReadsPart (λ x. (x.0, x.1.now)) result (fixed_at bytes.now) }
 {
     let (_, rest) = signature_at(bytes)?;
     let (_, rest) = flags_at(rest)?;
     extension_at(rest)
 }
 
-/// The extension of the head, and what stands behind it.
-#[tactic(auto, unfolding(crate::specs::BinaryReading::head_at))]
+/// The extension of the head, and what stands after it.
+#[tactic(auto, unfolding(crate::specs::BinaryPart::head_at))]
 pub fn head_at(bytes: &[u8]) -> Result<(&[u8], &[u8]), NoPart>
-    ensures { Gives (λ x. (x.0.now, x.1.now)) result (head_at bytes.now) }
+    ensures { ReadsPart (λ x. (x.0.now, x.1.now)) result (head_at bytes.now) }
 {
     let (len, rest) = fixed_at(bytes)?;
     take(rest, len as usize)
@@ -119,7 +119,7 @@ pub fn head_at(bytes: &[u8]) -> Result<(&[u8], &[u8]), NoPart>
 /// How many bytes of the extension are to come, where the head isn't whole for want of them alone.
 pub fn extension_left(bytes: &[u8]) -> Option<u32>
     requires { head_at bytes.now ≡ Err Incomplete }
-    ensures left { result ≡ left_of (fixed_at bytes.now) }
+    ensures left { result ≡ extension_left (fixed_at bytes.now) }
     ensures some { (n : ℕ) → result ≡ Some n → 0 < n }
 {
     match fixed_at(bytes) {
@@ -128,10 +128,10 @@ pub fn extension_left(bytes: &[u8]) -> Option<u32>
     }
 }
 
-/// A value, which is lent, and what stands behind it.
-#[tactic(auto, unfolding(crate::specs::BinaryReading::value_at))]
+/// A value, which is lent, and what stands after it.
+#[tactic(auto, unfolding(crate::specs::BinaryPart::value_at))]
 fn value_at(limit: u32, bytes: &[u8]) -> Result<(Option<&[u8]>, &[u8]), NoPart>
-    ensures { Gives (λ x. (option_copied x.0, x.1.now)) result (value_at limit bytes.now) }
+    ensures { ReadsPart (λ x. (option_copied x.0, x.1.now)) result (value_at limit bytes.now) }
 {
     let (len, rest) = u32_at(bytes)?;
     if len == NULL {
@@ -163,7 +163,7 @@ impl Walk {
 
 /// What stands in the place of a row.
 #[derive(Clone, Copy, Debug, Drop, PartialEq, Eq)]
-pub enum Part {
+pub enum RowOrTrailer {
     /// A row, which was walked over.
     Row,
     Trailer,
@@ -176,18 +176,23 @@ fn wrong_count(count: u16) -> NoPart
 }
 
 /// Walks on over the row at the front, and says whether it is whole.
-pub fn find_row(columns: u16, limit: u32, bytes: &[u8], walk: &mut Walk) -> Result<Part, NoPart>
+pub fn find_row(
+    columns: u16,
+    limit: u32,
+    bytes: &[u8],
+    walk: &mut Walk,
+) -> Result<RowOrTrailer, NoPart>
     requires columns { columns ≤ 32767 }
-    requires walked { IsWalked columns limit bytes.now walk.old }
-    ensures walked { IsWalked columns limit bytes.now walk.new }
-    ensures found { Finds columns limit bytes.now result walk.new }
+    requires walked { IsRowWalked columns limit bytes.now walk.old }
+    ensures walked { IsRowWalked columns limit bytes.now walk.new }
+    ensures found { FindsRow columns limit bytes.now result walk.new }
 {
     if walk.at > 0 {
         return find_values(columns, limit, bytes, walk);
     }
     let (count, _) = u16_at(bytes)?;
     if count == TRAILER {
-        return Ok(Part::Trailer);
+        return Ok(RowOrTrailer::Trailer);
     }
     if count != columns {
         return Err(wrong_count(count));
@@ -200,12 +205,17 @@ pub fn find_row(columns: u16, limit: u32, bytes: &[u8], walk: &mut Walk) -> Resu
 }
 
 /// Walks on over the values of a row whose number of values was read.
-fn find_values(columns: u16, limit: u32, bytes: &[u8], walk: &mut Walk) -> Result<Part, NoPart>
+fn find_values(
+    columns: u16,
+    limit: u32,
+    bytes: &[u8],
+    walk: &mut Walk,
+) -> Result<RowOrTrailer, NoPart>
     requires columns { columns ≤ 32767 }
     requires begun { 0 < walk.old.at }
-    requires walked { IsWalked columns limit bytes.now walk.old }
-    ensures walked { IsWalked columns limit bytes.now walk.new }
-    ensures found { Finds columns limit bytes.now result walk.new }
+    requires walked { IsRowWalked columns limit bytes.now walk.old }
+    ensures walked { IsRowWalked columns limit bytes.now walk.new }
+    ensures found { FindsRow columns limit bytes.now result walk.new }
 {
     let mut at = walk.at;
     let mut left = walk.left;
@@ -224,13 +234,13 @@ fn find_values(columns: u16, limit: u32, bytes: &[u8], walk: &mut Walk) -> Resul
         }
     }
     *walk = Walk { at, left };
-    Ok(Part::Row)
+    Ok(RowOrTrailer::Row)
 }
 
 /// How far the next part of a file was looked over.
 #[derive(Clone, Copy, Debug, Drop, PartialEq, Eq)]
 pub struct Look {
-    /// Where the row begins: behind the head, once it was read and while it is kept.
+    /// Where the row begins: after the head, once it was read and while it is kept.
     pub start: usize,
     pub walk: Walk,
 }
@@ -246,7 +256,7 @@ impl Look {
     }
 }
 
-/// Where the row begins in the bytes: behind the head, where it is still to be read.
+/// Where the row begins in the bytes: after the head, where it is still to be read.
 fn row_start(in_head: bool, bytes: &[u8], start: usize) -> Result<usize, NoPart>
     requires found { (in_head ≡ false) ⊎ (0 < start)
         → IsBehindHead in_head bytes.now (drop start bytes.now) }
@@ -267,7 +277,7 @@ pub fn find_part(
     limit: u32,
     bytes: &[u8],
     look: &mut Look,
-) -> Result<Part, NoPart>
+) -> Result<RowOrTrailer, NoPart>
     requires columns { columns ≤ 32767 }
     requires looked { IsLooked in_head columns limit bytes.now look.old }
     ensures looked { IsLooked in_head columns limit bytes.now look.new }
@@ -276,10 +286,10 @@ pub fn find_part(
     look.start = row_start(in_head, bytes, look.start)?;
     let (_, rest) = bytes.split_at(look.start);
     match find_row(columns, limit, rest, &mut look.walk)? {
-        Part::Row => Ok(Part::Row),
-        Part::Trailer => {
+        RowOrTrailer::Row => Ok(RowOrTrailer::Row),
+        RowOrTrailer::Trailer => {
             if rest.len() == 2 {
-                Ok(Part::Trailer)
+                Ok(RowOrTrailer::Trailer)
             } else {
                 Err(NoPart::Faulty(BinaryFault::AfterTrailer))
             }

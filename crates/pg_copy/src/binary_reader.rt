@@ -5,13 +5,13 @@ ghost use Rattle.pg_copy.specs.declared.fault.BinaryFault.{BinaryFault};
 ghost use Rattle.pg_copy.specs.declared.fault.BinaryFault.TheVariants.{Memory};
 ghost use Rattle.pg_copy.specs.declared.binary_reader.BinaryStage.TheVariants.{Head, Extension, Rows, Closed, Failed};
 ghost use Rattle.pg_copy.specs.Row.{Row};
-ghost use Rattle.pg_copy.specs.Reading.{RowWaits, given_by, Gives};
-ghost use Rattle.pg_copy.specs.BinaryReading.{Incomplete, fixed_at, head_at, binary_reading, file_reading};
-ghost use Rattle.pg_copy.specs.BinaryReader.{HasReadBinary, PushesBinary, IsReading, WaitsWith, left, binary_ending};
-ghost use Rattle.pg_copy.specs.Private.BinaryPart.{TakesPart, FindsNext, stage_of, left_of, in_extension};
+ghost use Rattle.pg_copy.specs.Reading.{RowWaits, given_by, AnswersNext};
+ghost use Rattle.pg_copy.specs.BinaryPart.{Incomplete, fixed_at, head_at, binary_reading, binary_file_reading};
+ghost use Rattle.pg_copy.specs.BinaryReader.{HasReadBinary, PushesBinary, IsReading, WaitsWith, binary_left, binary_ending};
+ghost use Rattle.pg_copy.specs.Private.BinaryPart.{TakesPart, FindsNext, stage_of, extension_left, in_extension};
 
 use crate::Row;
-use crate::binary_part::{Look, NoPart, NoRow, Part, extension_left, find_part, values_of};
+use crate::binary_part::{Look, NoPart, NoRow, RowOrTrailer, extension_left, find_part, values_of};
 use crate::fault::BinaryFault;
 use pg_seq::{Buffer, Seq};
 use std::alloc::Global;
@@ -20,13 +20,13 @@ use std::marker::Model;
 /// Where a reader of a binary file stands.
 #[derive(Clone, Copy, Debug, Drop, PartialEq, Eq)]
 pub enum BinaryStage {
-    /// At the head, or at the first row behind it.
+    /// At the head, or at the first row after it.
     Head,
     /// In the head's extension, of which so many bytes are to come, 1 to 2,147,483,647.
     Extension(u32),
     /// At a row, or at the trailer.
     Rows,
-    /// Behind the trailer.
+    /// After the trailer.
     Closed,
     /// At a fault, which is not Memory.
     Failed(BinaryFault),
@@ -35,7 +35,7 @@ pub enum BinaryStage {
 /// Takes a binary file in any pieces, and gives exactly its rows.
 ///
 /// `push` keeps a piece, `next` gives the rows that are whole, one by one, and `finish` those that are left at the end of the
-/// input, where the trailer must have come; no byte may stand behind it. The length -1 is a null. A fault stands in the place
+/// input, where the trailer must have come; no byte may stand after it. The length -1 is a null. A fault stands in the place
 /// of its row, and is answered for good from then on. The flags that a reader need not know and the header's extension are
 /// skipped. The extension's bytes are dropped as they come, so that no more is kept than a row until it is whole, and what was
 /// pushed since `next` was last called. A row is looked over once, however the pieces are cut, and its values are copied once
@@ -54,13 +54,13 @@ pub struct BinaryReader {
 
 impl Model for BinaryReader {
     ghost use Rattle.pg_copy.specs.BinaryReader.{BinaryState};
-    ghost use Rattle.pg_copy.specs.Private.BinaryPart.{IsReader};
+    ghost use Rattle.pg_copy.specs.Private.BinaryPart.{IsBinaryReader};
 
     ghost Value = { BinaryState };
 
     ghost view = { λ r. record { columns = r.columns; limit = r.limit; kept = r.buffer; stage = r.stage; ended = r.ended } };
 
-    ghost invariant = { λ r. IsReader r.columns r.limit r.buffer r.look r.stage };
+    ghost invariant = { λ r. IsBinaryReader r.columns r.limit r.buffer r.look r.stage };
 }
 
 impl BinaryReader {
@@ -83,7 +83,7 @@ impl BinaryReader {
         }
     }
 
-    /// Whether the trailer was read, and no byte was pushed behind it.
+    /// Whether the trailer was read, and no byte was pushed after it.
     pub fn done(&self) -> bool
         ensures { IsTrue result ↔ (self.now.stage ≡ Closed) }
     {
@@ -98,10 +98,10 @@ impl BinaryReader {
     }
 
     /// Takes the next piece of the file, all of it. What it has of the head's extension is dropped, once a call of `next` has
-    /// found that only the extension is to come of the head. Behind the trailer nothing is kept: a byte is a fault, which the
+    /// found that only the extension is to come of the head. After the trailer nothing is kept: a byte is a fault, which the
     /// next call answers. A fault that was found is answered again. After Memory nothing of the piece was taken and the reader
     /// is unchanged; a piece of which nothing is to be kept wants no memory: one without bytes, one within the extension, or
-    /// one behind the trailer.
+    /// one after the trailer.
     pub fn push(&mut self, piece: &[u8]) -> Result<(), BinaryFault>
         requires { self.old.ended ≡ false }
         ensures call { PushesBinary self.old piece.now result self.new }
@@ -134,7 +134,7 @@ impl BinaryReader {
         ensures read { (pushed : List ℕ) (given : List Row) → HasReadBinary self.old pushed given
             → HasReadBinary self.new pushed (given ++ given_by result) }
         ensures gives { (pushed : List ℕ) (given : List Row) → HasReadBinary self.old pushed given
-            → Gives Memory (binary_reading self.new.columns self.new.limit pushed) given
+            → AnswersNext Memory (binary_reading self.new.columns self.new.limit pushed) given
             (binary_ending self.new.stage self.new.kept) result }
         ensures same { (self.new.columns ≡ self.old.columns) × (self.new.limit ≡ self.old.limit) }
         ensures ended { self.new.ended ≡ false }
@@ -143,7 +143,8 @@ impl BinaryReader {
         ensures failed { (fault : BinaryFault) → self.old.stage ≡ Failed fault
             → (result ≡ Err fault) × (self.new ≡ self.old) }
         ensures closed { self.old.stage ≡ Closed → (result ≡ Ok None) × (self.new ≡ self.old) }
-        ensures memory { result ≡ Err Memory → (self.new ≡ self.old) × RowWaits (left self.old []) }
+        ensures memory { result ≡ Err Memory
+            → (self.new ≡ self.old) × RowWaits (binary_left self.old []) }
     {
         match self.stage {
             BinaryStage::Failed(fault) => Err(fault),
@@ -164,7 +165,7 @@ impl BinaryReader {
         ensures read { (pushed : List ℕ) (given : List Row) → HasReadBinary self.old pushed given
             → HasReadBinary self.new pushed (given ++ given_by result) }
         ensures gives { (pushed : List ℕ) (given : List Row) → HasReadBinary self.old pushed given
-            → Gives Memory (file_reading self.new.columns self.new.limit pushed) given
+            → AnswersNext Memory (binary_file_reading self.new.columns self.new.limit pushed) given
             (binary_ending self.new.stage self.new.kept) result }
         ensures same { (self.new.columns ≡ self.old.columns) × (self.new.limit ≡ self.old.limit) }
         ensures ended { result ≡ Err Memory ⊎ self.new.ended ≡ true }
@@ -174,7 +175,8 @@ impl BinaryReader {
         ensures closed { self.old.stage ≡ Closed
             → (result ≡ Ok None) × (self.new ≡ record self.old { ended = true }) }
         ensures trailer { result ≡ Ok None → self.new.stage ≡ Closed }
-        ensures memory { result ≡ Err Memory → (self.new ≡ self.old) × RowWaits (left self.old []) }
+        ensures memory { result ≡ Err Memory
+            → (self.new ≡ self.old) × RowWaits (binary_left self.old []) }
     {
         match self.stage {
             BinaryStage::Failed(fault) => {
@@ -204,7 +206,7 @@ impl BinaryReader {
         }
     }
 
-    /// Drops what a piece has of the extension, and keeps what stands behind it.
+    /// Drops what a piece has of the extension, and keeps what stands after it.
     fn skip(&mut self, missing: u32, piece: &[u8]) -> Result<(), BinaryFault>
         requires { self.old.stage ≡ Extension missing }
         ensures { PushesBinary self.old piece.now result self.new }
@@ -262,11 +264,11 @@ impl BinaryReader {
                 }
                 Err(NoRow::NoPart(NoPart::Incomplete))
             }
-            Ok(Part::Trailer) => {
+            Ok(RowOrTrailer::Trailer) => {
                 self.close();
                 Ok(None)
             }
-            Ok(Part::Row) => {
+            Ok(RowOrTrailer::Row) => {
                 let (_, values) = bytes.split_at(self.look.start + 2);
                 match values_of(self.alloc, self.limit, self.columns, values) {
                     Ok(values) => {
@@ -285,7 +287,7 @@ impl BinaryReader {
     fn enter_extension(&mut self)
         requires stage { self.old.stage ≡ Head }
         requires open { head_at self.old.kept ≡ Err Incomplete }
-        ensures { self.new ≡ in_extension (left_of (fixed_at self.old.kept)) self.old }
+        ensures { self.new ≡ in_extension (extension_left (fixed_at self.old.kept)) self.old }
     {
         if let Some(missing) = extension_left(self.buffer.as_slice()) {
             let len = self.buffer.len();
@@ -295,7 +297,7 @@ impl BinaryReader {
         }
     }
 
-    /// The trailer was read, and nothing stands behind it.
+    /// The trailer was read, and nothing stands after it.
     fn close(&mut self)
         ensures { self.new ≡ record self.old { kept = []; stage = Closed } }
     {

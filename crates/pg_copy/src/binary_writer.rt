@@ -7,7 +7,7 @@ ghost use Rattle.pg_copy.specs.Binary.{value, binary_row, written_head, trailer}
 
 use crate::Row;
 use crate::fault::RowFault;
-use crate::format::{LONGEST, NULL, SIGNATURE, TRAILER, is_misfit};
+use crate::format::{LONGEST_VALUE, NULL, SIGNATURE, TRAILER, is_misfit};
 use pg_seq::Seq;
 use std::alloc::AllocError;
 
@@ -35,7 +35,7 @@ fn put_head(buf: &mut Vec<u8>) -> Result<(), AllocError>
     buf.extend_from_slice(&[0; 8])
 }
 
-/// Appends the trailer, behind which nothing stands (PostgreSQL documentation, page COPY, "Binary Format"). Memory is answered
+/// Appends the trailer, after which nothing stands (PostgreSQL documentation, page COPY, "Binary Format"). Memory is answered
 /// where the buffer could not grow, and leaves `buf` as it was.
 pub fn write_binary_trailer(buf: &mut Vec<u8>) -> Result<(), RowFault>
     ensures { Writes None trailer buf.old.items result buf.new.items }
@@ -57,7 +57,7 @@ fn is_long(field: &Option<Seq<u8>>) -> bool
 {
     match field {
         None => false,
-        Some(bytes) => bytes.len() > LONGEST as usize,
+        Some(bytes) => bytes.len() > LONGEST_VALUE as usize,
     }
 }
 
@@ -95,7 +95,7 @@ fn put_values(fields: &[Option<Seq<u8>>], buf: &mut Vec<u8>) -> Result<(), Alloc
     Ok(())
 }
 
-/// Appends the row: the number of its values, and each value behind its length, which is -1 for a null (PostgreSQL
+/// Appends the row: the number of its values, and each value after its length, which is -1 for a null (PostgreSQL
 /// documentation, page COPY, "Binary Format"). Width is answered where the row has no field or more than 32,767, then FieldLong
 /// where a value has more than 2,147,483,647 bytes, and Memory where it has neither fault and the buffer could not grow. A
 /// refusal leaves `buf` as it was.

@@ -42,7 +42,7 @@ pub enum BinaryFault {
     /// The input ends before the trailer. Only `finish` answers it.
     #[error("B6 Truncated")]
     Truncated,
-    /// A byte stands behind the trailer.
+    /// A byte stands after the trailer.
     #[error("B7 AfterTrailer")]
     AfterTrailer,
     /// Memory was refused.

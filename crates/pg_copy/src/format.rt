@@ -33,5 +33,5 @@ pub const TRAILER: u16 = 0xFFFF;
 /// The length that stands for a null: -1.
 pub const NULL: u32 = 0xFFFF_FFFF;
 
-/// The longest value, or extension of a head, that a length can say.
-pub const LONGEST: u32 = 2_147_483_647;
+/// The longest value that its length can say. An extension of a head is at most so long too.
+pub const LONGEST_VALUE: u32 = 2_147_483_647;

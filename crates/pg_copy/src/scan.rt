@@ -32,7 +32,7 @@ impl Scan {
         }
     }
 
-    /// The walk behind one byte more, which doesn't end the line.
+    /// The walk after one byte more, which doesn't end the line.
     fn behind(self, byte: u8) -> Self
         requires few { self.delimiters ≤ self.at }
         requires room { self.at + 1 < 2 ^ 64 }

@@ -15,7 +15,7 @@ use std::alloc::{AllocError, Global};
 
 /// What a line is.
 #[derive(Debug, Drop)]
-pub enum Judged {
+pub enum JudgedLine {
     /// The end mark.
     EndMark,
     /// A row of so many fields.
@@ -33,25 +33,25 @@ fn fits_width(columns: Option<u16>, count: usize) -> bool
 }
 
 /// Judges a line that was walked over.
-pub fn judge(columns: Option<u16>, line: &[u8], scan: Scan) -> Judged
+pub fn judge(columns: Option<u16>, line: &[u8], scan: Scan) -> JudgedLine
     requires scanned { IsScanned line.now scan }
     requires whole { scan.at ≡ length line.now }
     ensures { IsJudged columns line.now result }
 {
     if line == END_MARK.as_slice() {
-        return Judged::EndMark;
+        return JudgedLine::EndMark;
     }
     if scan.returned {
-        return Judged::Faulty(TextFault::RawReturn);
+        return JudgedLine::Faulty(TextFault::RawReturn);
     }
     if scan.escaped {
-        return Judged::Faulty(TextFault::LoneBackslash);
+        return JudgedLine::Faulty(TextFault::LoneBackslash);
     }
     let count = scan.delimiters + 1;
     if fits_width(columns, count) {
-        Judged::Row(count)
+        JudgedLine::Row(count)
     } else {
-        Judged::Faulty(TextFault::Columns(count))
+        JudgedLine::Faulty(TextFault::Columns(count))
     }
 }
 
@@ -61,7 +61,7 @@ pub struct FieldEnd {
     pub len: usize,
     /// It has no backslash.
     pub plain: bool,
-    /// No delimiter stands behind it.
+    /// No delimiter stands after it.
     pub last: bool,
 }
 

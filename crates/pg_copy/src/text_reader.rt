@@ -5,16 +5,16 @@ ghost use Rattle.pg_copy.specs.declared.fault.TextFault.{TextFault};
 ghost use Rattle.pg_copy.specs.declared.fault.TextFault.TheVariants.{Memory};
 ghost use Rattle.pg_copy.specs.declared.text_reader.TextStage.TheVariants.{Lines, Marked, Failed};
 ghost use Rattle.pg_copy.specs.Row.{Row};
-ghost use Rattle.pg_copy.specs.Reading.{RowWaits, given_by, Gives};
-ghost use Rattle.pg_copy.specs.Text.{newline, reading, file_reading};
-ghost use Rattle.pg_copy.specs.TextReader.{HasRead, Pushes, left, last, ending_at, last_ending_at};
+ghost use Rattle.pg_copy.specs.Reading.{RowWaits, given_by, AnswersNext};
+ghost use Rattle.pg_copy.specs.Text.{newline, text_reading, text_file_reading};
+ghost use Rattle.pg_copy.specs.TextReader.{HasReadText, PushesText, text_left, text_last, text_ending, last_text_ending};
 ghost use Rattle.pg_copy.specs.Private.Units.{IsScanned, IsUnitAt};
-ghost use Rattle.pg_copy.specs.Private.TextLine.{TakesLine, TakesLast, Ends};
+ghost use Rattle.pg_copy.specs.Private.TextLine.{TakesLine, TakesLast, EndsInput};
 
 use crate::Row;
 use crate::fault::TextFault;
 use crate::scan::Scan;
-use crate::text_line::{Judged, fields_of, judge};
+use crate::text_line::{JudgedLine, fields_of, judge};
 use pg_seq::{Buffer, Seq};
 use std::alloc::Global;
 use std::marker::Model;
@@ -24,7 +24,7 @@ use std::marker::Model;
 pub enum TextStage {
     /// Among the lines.
     Lines,
-    /// Behind the end mark.
+    /// After the end mark.
     Marked,
     /// At a fault, which is not Memory.
     Failed(TextFault),
@@ -49,13 +49,13 @@ pub struct TextReader {
 
 impl Model for TextReader {
     ghost use Rattle.pg_copy.specs.TextReader.{TextState};
-    ghost use Rattle.pg_copy.specs.Private.TextLine.{IsReader};
+    ghost use Rattle.pg_copy.specs.Private.TextLine.{IsTextReader};
 
     ghost Value = { TextState };
 
     ghost view = { λ r. record { columns = r.columns; kept = r.buffer; stage = r.stage; ended = r.ended } };
 
-    ghost invariant = { λ r. IsReader r.buffer r.scan r.stage };
+    ghost invariant = { λ r. IsTextReader r.buffer r.scan r.stage };
 }
 
 impl TextReader {
@@ -64,7 +64,7 @@ impl TextReader {
         requires { IfSome columns (λ n. (0 < n) × (n ≤ 32767)) }
         ensures state { result
             ≡ record { columns = columns; kept = []; stage = Lines; ended = false } }
-        ensures read { HasRead result [] [] }
+        ensures read { HasReadText result [] [] }
     {
         TextReader {
             alloc,
@@ -90,14 +90,15 @@ impl TextReader {
         self.ended
     }
 
-    /// Takes the next piece of the file, all of it, and drops it behind the end mark. A fault that was found is answered again.
+    /// Takes the next piece of the file, all of it, and drops it after the end mark. A fault that was found is answered again.
     /// After Memory nothing of the piece was taken and the reader is unchanged; a piece without bytes, or one that is dropped,
     /// wants no memory.
     pub fn push(&mut self, piece: &[u8]) -> Result<(), TextFault>
         requires { self.old.ended ≡ false }
-        ensures call { Pushes self.old piece.now result self.new }
+        ensures call { PushesText self.old piece.now result self.new }
         ensures read { OnOk result ((pushed : List ℕ) (given : List Row)
-            → HasRead self.old pushed given → HasRead self.new (pushed ++ piece.now) given) }
+            → HasReadText self.old pushed given
+            → HasReadText self.new (pushed ++ piece.now) given) }
     {
         match self.stage {
             TextStage::Failed(fault) => Err(fault),
@@ -114,18 +115,19 @@ impl TextReader {
     /// (PostgreSQL documentation, page COPY, "Text Format").
     pub fn next(&mut self) -> Result<Option<Row>, TextFault>
         requires { self.old.ended ≡ false }
-        ensures read { (pushed : List ℕ) (given : List Row) → HasRead self.old pushed given
-            → HasRead self.new pushed (given ++ given_by result) }
-        ensures gives { (pushed : List ℕ) (given : List Row) → HasRead self.old pushed given
-            → Gives Memory (reading self.new.columns pushed) given
-            (ending_at self.new.stage self.new.kept) result }
+        ensures read { (pushed : List ℕ) (given : List Row) → HasReadText self.old pushed given
+            → HasReadText self.new pushed (given ++ given_by result) }
+        ensures gives { (pushed : List ℕ) (given : List Row) → HasReadText self.old pushed given
+            → AnswersNext Memory (text_reading self.new.columns pushed) given
+            (text_ending self.new.stage self.new.kept) result }
         ensures columns { self.new.columns ≡ self.old.columns }
         ensures ended { self.new.ended ≡ false }
         ensures row { (row : Row) → result ≡ Ok (Some row) → self.new.stage ≡ Lines }
         ensures failed { (fault : TextFault) → self.old.stage ≡ Failed fault
             → (result ≡ Err fault) × (self.new ≡ self.old) }
         ensures marked { self.old.stage ≡ Marked → (result ≡ Ok None) × (self.new ≡ self.old) }
-        ensures memory { result ≡ Err Memory → (self.new ≡ self.old) × RowWaits (left self.old []) }
+        ensures memory { result ≡ Err Memory
+            → (self.new ≡ self.old) × RowWaits (text_left self.old []) }
     {
         match self.stage {
             TextStage::Failed(fault) => Err(fault),
@@ -145,11 +147,11 @@ impl TextReader {
     /// closed, and no line stands there where it is empty. It is to be called until it answers None. Memory is answered only
     /// where a row is left, and leaves the reader unchanged (PostgreSQL documentation, page COPY, "Text Format").
     pub fn finish(&mut self) -> Result<Option<Row>, TextFault>
-        ensures read { (pushed : List ℕ) (given : List Row) → HasRead self.old pushed given
-            → HasRead self.new pushed (given ++ given_by result) }
-        ensures gives { (pushed : List ℕ) (given : List Row) → HasRead self.old pushed given
-            → Gives Memory (file_reading self.new.columns pushed) given
-            (last_ending_at self.new.stage) result }
+        ensures read { (pushed : List ℕ) (given : List Row) → HasReadText self.old pushed given
+            → HasReadText self.new pushed (given ++ given_by result) }
+        ensures gives { (pushed : List ℕ) (given : List Row) → HasReadText self.old pushed given
+            → AnswersNext Memory (text_file_reading self.new.columns pushed) given
+            (last_text_ending self.new.stage) result }
         ensures columns { self.new.columns ≡ self.old.columns }
         ensures ended { result ≡ Err Memory ⊎ self.new.ended ≡ true }
         ensures row { (row : Row) → result ≡ Ok (Some row) → self.new.stage ≡ Lines }
@@ -157,7 +159,8 @@ impl TextReader {
             → (result ≡ Err fault) × (self.new ≡ record self.old { ended = true }) }
         ensures marked { self.old.stage ≡ Marked
             → (result ≡ Ok None) × (self.new ≡ record self.old { ended = true }) }
-        ensures memory { result ≡ Err Memory → (self.new ≡ self.old) × RowWaits (last self.old) }
+        ensures memory { result ≡ Err Memory
+            → (self.new ≡ self.old) × RowWaits (text_last self.old) }
     {
         match self.stage {
             TextStage::Failed(fault) => {
@@ -197,15 +200,15 @@ impl TextReader {
     {
         let line = &self.buffer.as_slice()[..scan.at];
         match judge(self.columns, line, scan) {
-            Judged::EndMark => {
+            JudgedLine::EndMark => {
                 self.stop(TextStage::Marked);
                 Ok(None)
             }
-            Judged::Faulty(fault) => {
+            JudgedLine::Faulty(fault) => {
                 self.stop(TextStage::Failed(fault));
                 Err(fault)
             }
-            Judged::Row(count) => match fields_of(self.alloc, line, count) {
+            JudgedLine::Row(count) => match fields_of(self.alloc, line, count) {
                 Ok(fields) => {
                     self.buffer.take(taken);
                     self.scan = Scan::start();
@@ -244,7 +247,7 @@ impl TextReader {
 
     /// The input has ended, unless memory was refused.
     fn end(&mut self, answer: &Result<Option<Row>, TextFault>)
-        ensures { Ends answer.now self.old self.new }
+        ensures { EndsInput answer.now self.old self.new }
     {
         match answer {
             Err(TextFault::Memory) => {}

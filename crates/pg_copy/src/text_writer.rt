@@ -12,7 +12,7 @@ use crate::plain::plain_end;
 use pg_seq::Seq;
 use std::alloc::AllocError;
 
-/// The letter that is written for a byte, behind a backslash.
+/// The letter that is written for a byte, after a backslash.
 fn letter_for(byte: u8) -> Option<u8>
     ensures { result ≡ letter_for byte }
 {
@@ -73,7 +73,7 @@ fn put_row(fields: &[Option<Seq<u8>>], buf: &mut Vec<u8>) -> Result<(), AllocErr
 
 /// Appends one field as a line has it: null is `\N`, the bytes 08 to 0D are written by their letters, a backslash is doubled, and all
 /// other bytes are written as they are. A caller whose values don't stand in a `Row` writes a line by it, with a tab between two
-/// fields and a newline behind the last (PostgreSQL documentation, page COPY, "Text Format"). Memory is answered where the buffer
+/// fields and a newline after the last (PostgreSQL documentation, page COPY, "Text Format"). Memory is answered where the buffer
 /// could not grow, and leaves `buf` as it was.
 pub fn write_text_field(field: Option<&[u8]>, buf: &mut Vec<u8>) -> Result<(), RowFault>
     ensures { Writes None

@@ -6,9 +6,10 @@ use Rattle.std.proofs.lemmas.Grind.{flat_map-append}
 use Rattle.std.proofs.lemmas.List.{length-take, take_all, take-append-le}
 use Rattle.pg_wire.specs.link.LinkFault.{LinkFault}
 use Rattle.pg_wire.specs.Link.{HasRisen}
-use Rattle.pgpipe_base.specs.Lines.{hexadecimal_byte, hexadecimal}
+use Rattle.pgpipe_base.specs.Digits.{hexadecimal_byte, hexadecimal}
 use Rattle.pgpipe_base.specs.Receiving.{longest_piece}
-use Rattle.pgpipe_base.specs.Sending.{most_collected, Begins, IsSentBut, Puts}
+use Rattle.pgpipe_base.specs.Outbox.{most_collected, IsSentBut, Puts}
+use mathlib.Core.List.{IsPrefix}
 
 -- calls after calls
 pub FoldsTo-append : {P A : Type 0} (R : P → A → P → Type 0) (p : P) (xs ys : List A) (q r : P) → FoldsTo R p xs q → FoldsTo R q ys r → FoldsTo R p (xs ++ ys) r
@@ -33,13 +34,13 @@ read_back n into old now e all = e ∙ take-append-le n into (drop (length into)
 pub piece_within : (n : ℕ) (into : List ℕ) → length into ≡ longest_piece → length (take n into) ≤ longest_piece
 piece_within n into room = omega (arith, length-take n into)
 
--- ---- a text that begins another
+-- ---- prefixes of a text
 
-pub begins_itself : (text : List ℕ) → Begins text text
-begins_itself text = ([], sym (append-nil text))
+pub prefix_of_itself : (text : List ℕ) → IsPrefix text text
+prefix_of_itself text = ([], append-nil text)
 
-pub begins_more : (before text more : List ℕ) → Begins before text → Begins before (text ++ more)
-begins_more before text more b = (b.0 ++ more, ap (λ (l : List ℕ). l ++ more) b.1 ∙ append_assoc before b.0 more)
+pub prefix_of_more : (before text more : List ℕ) → IsPrefix before text → IsPrefix before (text ++ more)
+prefix_of_more before text more b = (b.0 ++ more, sym (append_assoc before b.0 more) ∙ ap (λ (l : List ℕ). l ++ more) b.1)
 
 -- ---- text that is put
 
@@ -51,7 +52,7 @@ module _ {K : Type 0} (takes : K → List ℕ → K → Type 0) (failures : K �
   pub puts_none : (c : List ℕ) (s : K) → Puts {A = Unit {0}} takes failures c s [] (Ok tt) c s
   puts_none c s = record { pieces = []; calls = refl; sent = append-nil c; counted = refl }
 
-  -- text is put behind text
+  -- text is put after text
   pub puts_then : {A : Type 0} (c : List ℕ) (s : K) (t : List ℕ) (c' : List ℕ) (s' : K) (u : List ℕ) (r : Result A LinkFault) (c'' : List ℕ) (s'' : K)
       → Puts {A = Unit {0}} takes failures c s t (Ok tt) c' s' → Puts takes failures c' s' u r c'' s'' → Puts takes failures c s (t ++ u) r c'' s''
   puts_then c s t c' s' u (Ok x) c'' s'' p q = record {
@@ -63,7 +64,7 @@ module _ {K : Type 0} (takes : K → List ℕ → K → Type 0) (failures : K �
   puts_then c s t c' s' u (Err f) c'' s'' p q = record {
     pieces = p.pieces ++ q.pieces;
     calls = FoldsTo-append takes s p.pieces q.pieces s' s'' p.calls q.calls;
-    sent = (q.sent.0, sym (append_assoc c t u) ∙ ap (λ (l : List ℕ). l ++ u) p.sent ∙ append_assoc (concat p.pieces) c' u ∙ ap (λ (l : List ℕ). concat p.pieces ++ l) q.sent.1 ∙ sym (append_assoc (concat p.pieces) (concat q.pieces) q.sent.0) ∙ ap (λ (l : List ℕ). l ++ q.sent.0) (sym (concat-append p.pieces q.pieces)));
+    sent = (q.sent.0, sym (sym (append_assoc c t u) ∙ ap (λ (l : List ℕ). l ++ u) p.sent ∙ append_assoc (concat p.pieces) c' u ∙ ap (λ (l : List ℕ). concat p.pieces ++ l) (sym q.sent.1) ∙ sym (append_assoc (concat p.pieces) (concat q.pieces) q.sent.0) ∙ ap (λ (l : List ℕ). l ++ q.sent.0) (sym (concat-append p.pieces q.pieces))));
     counted = subst (λ (n : ℕ). HasRisen n (failures s'')) p.counted q.counted;
   }
 
@@ -78,13 +79,13 @@ module _ {K : Type 0} (takes : K → List ℕ → K → Type 0) (failures : K �
   sent_within c s t c' s' u (Ok x) c'' s'' p q = omega (arith, ap (λ (l : List ℕ). length l) (concat-append p.pieces q.pieces), length-append (concat p.pieces) (concat q.pieces))
   sent_within c s t c' s' u (Err f) c'' s'' p q = omega (arith, ap (λ (l : List ℕ). length l) (concat-append p.pieces q.pieces), length-append (concat p.pieces) (concat q.pieces))
 
-  -- a beginning of what was put is no more than what was sent and what may be collected
-  pub put_at_once : (s : K) (before t c' : List ℕ) (s' : K) (p : Puts {A = Unit {0}} takes failures [] s t (Ok tt) c' s') → Begins before t → length c' ≤ most_collected → length before ≤ most_collected + length (concat p.pieces)
+  -- a prefix of what was put is no more than what was sent and what may be collected
+  pub put_at_once : (s : K) (before t c' : List ℕ) (s' : K) (p : Puts {A = Unit {0}} takes failures [] s t (Ok tt) c' s') → IsPrefix before t → length c' ≤ most_collected → length before ≤ most_collected + length (concat p.pieces)
   put_at_once s before t c' s' p b within = omega (arith, within, ap (λ (l : List ℕ). length l) b.1, length-append before b.0, ap (λ (l : List ℕ). length l) p.sent, length-append (concat p.pieces) c')
 
   -- nor more than what is sent in the end
   pub sent_at_once : {A : Type 0} (s : K) (before t c' : List ℕ) (s' : K) (u : List ℕ) (r : Result A LinkFault) (c'' : List ℕ) (s'' : K) (p : Puts {A = Unit {0}} takes failures [] s t (Ok tt) c' s') (q : Puts takes failures c' s' u r c'' s'')
-      → Begins before t → length c' ≤ most_collected → length before ≤ most_collected + length (concat (puts_then [] s t c' s' u r c'' s'' p q).pieces)
+      → IsPrefix before t → length c' ≤ most_collected → length before ≤ most_collected + length (concat (puts_then [] s t c' s' u r c'' s'' p q).pieces)
   sent_at_once s before t c' s' u r c'' s'' p q b within = omega (arith, put_at_once s before t c' s' p b within, sent_within [] s t c' s' u r c'' s'' p q)
 
   -- where the sink failed, more text changes nothing
@@ -92,7 +93,7 @@ module _ {K : Type 0} (takes : K → List ℕ → K → Type 0) (failures : K �
   puts_fails c s t f g c' s' u c'' p = record {
     pieces = p.pieces;
     calls = p.calls;
-    sent = (p.sent.0 ++ u, sym (append_assoc c t u) ∙ ap (λ (l : List ℕ). l ++ u) p.sent.1 ∙ append_assoc (concat p.pieces) p.sent.0 u);
+    sent = (p.sent.0 ++ u, sym (append_assoc (concat p.pieces) p.sent.0 u) ∙ ap (λ (l : List ℕ). l ++ u) p.sent.1 ∙ append_assoc c t u);
     counted = p.counted;
   }
 
@@ -106,7 +107,7 @@ module _ {K : Type 0} (takes : K → List ℕ → K → Type 0) (failures : K �
 
   -- the sink failed at once
   pub puts_nothing : (c : List ℕ) (s : K) (f : LinkFault) (c' : List ℕ) (s' : K) → takes s [] s' → HasRisen (failures s) (failures s') → Puts {A = Unit {0}} takes failures c s [] (Err f) c' s'
-  puts_nothing c s f c' s' t n = record { pieces = [] ∷ []; calls = (s', t, refl); sent = (c, append-nil c); counted = n }
+  puts_nothing c s f c' s' t n = record { pieces = [] ∷ []; calls = (s', t, refl); sent = (c, sym (append-nil c)); counted = n }
 
   -- some of the bytes are put in hexadecimal, and the rest is left
   pub record PutsSome (c : List ℕ) (s : K) (bytes rest c' : List ℕ) (s' : K) : Type 0 where

@@ -1,4 +1,6 @@
--- What a reader must believe: a line, what is received, and what is collected and sent.
-pub mod Lines
+-- What a reader must believe: bytes as text, what is collected and sent, what is received, and what
+-- is answered where the work stops.
+pub mod Digits
+pub mod Outbox
 pub mod Receiving
-pub mod Sending
+pub mod Stop

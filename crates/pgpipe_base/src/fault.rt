@@ -1,5 +1,8 @@
 //! How a tool fails.
 
+ghost use Rattle.std.specs.Prelude.{◌≡◌};
+
+use std::alloc::AllocError;
 use thiserror::Error;
 
 /// Why the work couldn't be finished.
@@ -11,4 +14,14 @@ pub enum ToolFault {
     /// Memory was refused.
     #[error("memory")]
     Memory,
+}
+
+impl From<AllocError> for ToolFault {
+    ghost use Rattle.pgpipe_base.specs.declared.fault.ToolFault.TheVariants.{Memory};
+
+    ghost from_gives = { λ _ fault. fault ≡ Memory };
+
+    fn from(_e: AllocError) -> ToolFault {
+        ToolFault::Memory
+    }
 }

@@ -1,9 +1,12 @@
-//! What the tools of pgpipe share: how much is received, text that is collected and sent, and how a tool fails.
+//! What the tools of pgpipe share: how much is received, text that is collected and sent, why the work stops, and how a tool
+//! fails.
 #![tactic(auto)]
 
-pub mod bounds;
+mod digits;
 mod fault;
-mod line;
 pub mod outbox;
+pub mod receiving;
+mod stop;
 
 pub use fault::ToolFault;
+pub use stop::Stop;

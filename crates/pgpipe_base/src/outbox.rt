@@ -2,10 +2,10 @@
 
 ghost use Rattle.std.specs.Prelude.{◌≡◌, ◌≤◌, ◌+◌, ◌*◌, ◌++◌, [], length, ◌∷◌, OnOk, IfOk};
 ghost use Rattle.std.specs.Fmt.{decimal};
-ghost use Rattle.pgpipe_base.specs.Lines.{hexadecimal, body_text, line_of};
-ghost use Rattle.pgpipe_base.specs.Sending.{most_collected, Puts};
+ghost use Rattle.pgpipe_base.specs.Digits.{hexadecimal};
+ghost use Rattle.pgpipe_base.specs.Outbox.{body_text, line_of, most_collected, Puts};
 
-use crate::line::{write_decimal, write_hexadecimal};
+use crate::digits::{write_decimal, write_hexadecimal};
 use pg_wire::{LinkFault, Sink};
 use std::alloc::{AllocError, Global};
 use std::marker::Model;
@@ -13,11 +13,11 @@ use std::marker::Model;
 /// How many bytes are collected before they are sent.
 pub const ROOM: usize = 65_536;
 
-// The most bytes before a line's hexadecimal: a name of 7 letters, a number of 10 digits, and a space behind each.
+// The most bytes before a line's hexadecimal: a name of 7 letters, a number of 10 digits, and a space after each.
 const LONGEST_HEAD: usize = 7 + 1 + 10 + 1;
 
-// Sends all the bytes. Where the sink fails a beginning was sent.
-fn send_all<K: Sink>(bytes: &[u8], sink: &mut K) -> Result<(), LinkFault>
+// Sends all the bytes. Where the sink fails a prefix of them was sent.
+pub(crate) fn send_all<K: Sink>(bytes: &[u8], sink: &mut K) -> Result<(), LinkFault>
     ensures { Puts K.takes K.failures bytes.now sink.old [] result [] sink.new }
 {
     let mut rest = bytes;
@@ -28,7 +28,7 @@ fn send_all<K: Sink>(bytes: &[u8], sink: &mut K) -> Result<(), LinkFault>
     Ok(())
 }
 
-/// Sends all that stands in a buffer, and empties it. Where the sink fails a beginning was sent.
+/// Sends all that stands in a buffer, and empties it. Where the sink fails a prefix of it was sent.
 pub fn send<K: Sink>(buf: &mut Vec<u8>, sink: &mut K) -> Result<(), LinkFault>
     ensures puts { Puts K.takes K.failures buf.old.items sink.old [] result buf.new.items sink.new }
     ensures nothing_left { OnOk result (buf.new.items ≡ []) }
@@ -47,7 +47,7 @@ pub struct Outbox {
 
 impl Model for Outbox {
     ghost use Rattle.std.specs.Prelude.{◌≡◌, ◌≤◌, ℕ, List, take, vec_len};
-    ghost use Rattle.pgpipe_base.specs.Sending.{most_collected};
+    ghost use Rattle.pgpipe_base.specs.Outbox.{most_collected};
 
     ghost Value = { List ℕ };
 
@@ -67,8 +67,15 @@ impl Outbox {
         })
     }
 
-    /// Sends all that was collected. Where the sink fails a beginning was sent.
-    pub fn flush<K: Sink>(&mut self, sink: &mut K) -> Result<(), LinkFault>
+    /// What is collected and not sent yet.
+    pub fn collected(&self) -> &[u8]
+        ensures { result.now ≡ self.now }
+    {
+        &self.buf[..self.filled]
+    }
+
+    // Sends all that was collected. Where the sink fails a prefix of it was sent.
+    fn flush<K: Sink>(&mut self, sink: &mut K) -> Result<(), LinkFault>
         ensures puts { Puts K.takes K.failures self.old sink.old [] result self.new sink.new }
         ensures nothing_left { OnOk result (self.new ≡ []) }
     {
@@ -160,7 +167,7 @@ impl Outbox {
         Ok(())
     }
 
-    /// Puts the line for a name, a length and bytes. Where the sink fails a beginning was sent.
+    /// Puts the line for a name, a length and bytes. Where the sink fails a prefix of what was collected and the line was sent.
     pub fn put_line<K: Sink>(
         &mut self,
         name: &[u8],

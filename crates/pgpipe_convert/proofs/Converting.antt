@@ -2,29 +2,29 @@
 use Rattle.std.proofs.Common.{◌≡◌, ℕ, ◌+◌, ◌≤◌, Bool, true, false, List, [], ◌∷◌, ◌++◌, Result, Ok, Err, refl, sym, ap, subst, ◌∙◌, inl, inr, append-nil, append_assoc, length, length-append, arith}
 use Rattle.std.specs.List.{FoldsTo, concat, flat_map, AllByRecursion}
 use Rattle.std.proofs.lemmas.Grind.{flat_map-append}
-use Rattle.pg_copy.specs.Reading.{Reading, Ending, Open, Bad, IsGood, after_rows}
+use Rattle.pg_copy.specs.Reading.{RowsRead, RowsEnding, Open, Bad, IsGood, after_rows}
 use Rattle.pg_copy.specs.Row.{Row}
-use Rattle.pg_copy.specs.Text as text_reading
-use Rattle.pg_copy.specs.BinaryReading as file_reading
-use Rattle.pg_copy.specs.BinaryReader as binary
-use Rattle.pg_copy.specs.TextReader as text
+use Rattle.pg_copy.specs.Text as text
+use Rattle.pg_copy.specs.BinaryPart as binary
+use Rattle.pg_copy.specs.BinaryReader.{binary_left}
+use Rattle.pg_copy.specs.TextReader.{text_left}
 use Rattle.pg_wire.specs.link.LinkFault.{LinkFault}
 use Rattle.pg_wire.specs.Link.{HasRisen}
 use Rattle.pgpipe_convert.specs.declared.convert.Converted.{Converted}
 use Rattle.pgpipe_convert.specs.declared.convert.Converted.TheVariants as converted
-use Rattle.pgpipe_convert.specs.declared.convert.Stop.{Stop}
-use Rattle.pgpipe_convert.specs.declared.convert.Stop.TheVariants as stop
+use Rattle.pgpipe_base.specs.declared.stop.Stop.{Stop}
+use Rattle.pgpipe_base.specs.declared.stop.Stop.TheVariants as stop
 use Rattle.pgpipe_convert.specs.declared.copy_rows.RowReader.{RowReader}
 use Rattle.pgpipe_convert.specs.declared.copy_rows.RowReader.TheVariants as reader
 use Rattle.pgpipe_convert.specs.declared.format.Format.{Format}
 use Rattle.pgpipe_convert.specs.declared.format.Format.TheVariants as format
 use Rattle.pgpipe_convert.specs.Convert.{FileReading, answered, none_left, IsReadAs, IsWritable, row_of, head_of, trailer_for, AreConverted, AreAllConverted, AreConvertedBefore}
-use Rattle.pgpipe_convert.specs.Private.Conversion.{file_by, ended_of, HasReadBy, ComeNext, TakesPiece, RowsArePut, PutsRows, Ends, IsAtStep, Stands, ArePut, Halts, Steps, StepsSource, HaltsSource, HasRun}
-use Rattle.pgpipe_base.specs.Sending.{most_collected, Puts}
+use Rattle.pgpipe_convert.specs.Private.Converting.{file_by, ended_of, HasReadBy, ComeNext, TakesPiece, RowsArePut, PutsRows, EndConverts, IsAtStep, HasConverted, ArePut, Stops, StepConverts, StepsSource, StopsSource, HasRun}
+use Rattle.pgpipe_base.specs.Outbox.{most_collected, Puts}
 use Rattle.pgpipe_base.specs.Receiving.{longest_piece, most_receives}
-use Rattle.pgpipe_base.proofs.Pieces.{joined, one_more, begins_itself, puts_as, puts_then, put_at_once, sent_at_once, puts_collected}
+use Rattle.pgpipe_base.proofs.Pieces.{joined, one_more, prefix_of_itself, puts_as, puts_then, put_at_once, sent_at_once, puts_collected}
 
-abbrev at : FileReading → Bool → List ℕ → Reading Converted
+abbrev at : FileReading → Bool → List ℕ → RowsRead Converted
 at file at_end bytes = file at_end bytes
 
 -- all of one list, and all of another
@@ -33,9 +33,9 @@ both_writable to [] ys all more = more
 both_writable to (x ∷ xs) ys all more = (all.0, both_writable to xs ys all.1 more)
 
 -- what is left of a file if more comes
-left_after : RowReader → List ℕ → Reading Converted
-left_after (reader.Text s) more = answered converted.Text (text.left s more)
-left_after (reader.Binary s) more = answered converted.Binary (binary.left s more)
+left_after : RowReader → List ℕ → RowsRead Converted
+left_after (reader.Text s) more = answered converted.Text (text_left s more)
+left_after (reader.Binary s) more = answered converted.Binary (binary_left s more)
 
 reads_more : (r : RowReader) (bytes : List ℕ) (given : List Row) (more : List ℕ) → ended_of r ≡ false → HasReadBy r bytes given → file_by r false (bytes ++ more) ≡ after_rows given (left_after r more)
 unfolding left_after
@@ -43,16 +43,16 @@ reads_more (reader.Text s) bytes given more on h = ap (answered converted.Text) 
 reads_more (reader.Binary s) bytes given more on h = ap (answered converted.Binary) (h.so_far on more)
 
 -- the reader was given more, and goes on
-pub at_step : {K : Type 0} (takes : K → List ℕ → K → Type 0) (failures : K → ℕ) (file : FileReading) (to : Format) (start : K) (bytes : List ℕ) (r : RowReader) (out : List ℕ) (sink : K) → Stands takes failures file to start bytes r out sink → IsAtStep r
+pub at_step : {K : Type 0} (takes : K → List ℕ → K → Type 0) (failures : K → ℕ) (file : FileReading) (to : Format) (start : K) (bytes : List ℕ) (r : RowReader) (out : List ℕ) (sink : K) → HasConverted takes failures file to start bytes r out sink → IsAtStep r
 at_step takes failures file to start bytes r out sink st = (st.not_ended, bytes, st.rows, st.read)
 
-module _ {K : Type 0} (takes : K → List ℕ → K → Type 0) (failures : K → ℕ) (file : FileReading) (to : Format) (start : K) (bytes : List ℕ) (r : RowReader) (out : List ℕ) (sink : K) (st : Stands takes failures file to start bytes r out sink) where
-  -- the text with more rows behind it
+module _ {K : Type 0} (takes : K → List ℕ → K → Type 0) (failures : K → ℕ) (file : FileReading) (to : Format) (start : K) (bytes : List ℕ) (r : RowReader) (out : List ℕ) (sink : K) (st : HasConverted takes failures file to start bytes r out sink) where
+  -- the text with more rows after it
   text_more : (rows : List Row) → st.text ++ flat_map (row_of to) rows ≡ head_of to ++ flat_map (row_of to) (st.rows ++ rows)
   text_more rows = ap (λ (t : List ℕ). t ++ flat_map (row_of to) rows) st.each_row ∙ append_assoc (head_of to) (flat_map (row_of to) st.rows) (flat_map (row_of to) rows) ∙ ap (λ (t : List ℕ). head_of to ++ t) (sym (flat_map-append (row_of to) st.rows rows))
 
-  -- The text with these rows behind it is converted, if they come next.
-  pub converted_more : (at_end : Bool) (ended : Type 0) (more : List ℕ) (rows : List Row) (left : Reading Converted) → AllByRecursion (IsWritable to) rows → IsReadAs file ended more (after_rows (st.rows ++ rows) left) → AreConverted file to ended more left (st.text ++ flat_map (row_of to) rows)
+  -- The text with these rows after it is converted, if they come next.
+  pub converted_more : (at_end : Bool) (ended : Type 0) (more : List ℕ) (rows : List Row) (left : RowsRead Converted) → AllByRecursion (IsWritable to) rows → IsReadAs file ended more (after_rows (st.rows ++ rows) left) → AreConverted file to ended more left (st.text ++ flat_map (row_of to) rows)
   converted_more at_end ended more rows left each read = record {
     rows = st.rows ++ rows;
     read = read;
@@ -66,26 +66,26 @@ module _ {K : Type 0} (takes : K → List ℕ → K → Type 0) (failures : K �
     text = st.text;
     are_converted = record { rows = st.rows; read = inl st.all; each_writable = st.each_writable; each_row = st.each_row };
     put = puts_as takes failures [] start st.text (st.text ++ []) (Ok tt) out sink (sym (append-nil st.text)) st.put;
-    at_once = put_at_once takes failures start st.text st.text out sink st.put (begins_itself st.text) st.within;
+    at_once = put_at_once takes failures start st.text st.text out sink st.put (prefix_of_itself st.text) st.within;
   }
 
   pub all_converted : AreAllConverted file to bytes st.text
   all_converted = record { ending = st.ending; good = st.good; are_converted = record { rows = st.rows; read = inl st.all; each_writable = st.each_writable; each_row = st.each_row } }
 
   -- the source failed, and nothing came
-  pub source_failed : (ended : Type 0) → Steps takes failures file to ended start (bytes ++ []) st.text (Err stop.SourceFailed) r out sink
-  source_failed ended = subst (λ (b : List ℕ). Steps takes failures file to ended start b st.text (Err stop.SourceFailed) r out sink) (sym (append-nil bytes)) (st.ending, st.good, stands_put)
+  pub source_failed : (ended : Type 0) → StepConverts takes failures file to ended start (bytes ++ []) st.text (Err stop.SourceFailed) r out sink
+  source_failed ended = subst (λ (b : List ℕ). StepConverts takes failures file to ended start b st.text (Err stop.SourceFailed) r out sink) (sym (append-nil bytes)) (st.ending, st.good, stands_put)
 
-  -- behind the piece that the reader took
+  -- after the piece that the reader took
   abbrev piece_text : {A : Type 0} (rows : List Row) (result : Result A LinkFault) (out' : List ℕ) (sink' : K) → Puts {A = A} takes failures out sink (flat_map (row_of to) rows) result out' sink' → Puts {A = A} takes failures [] start ((st.text ++ flat_map (row_of to) rows) ++ []) result out' sink'
   piece_text {A} rows result out' sink' p = puts_as takes failures [] start (st.text ++ flat_map (row_of to) rows) ((st.text ++ flat_map (row_of to) rows) ++ []) result out' sink' (sym (append-nil (st.text ++ flat_map (row_of to) rows))) (puts_then takes failures [] start st.text out sink (flat_map (row_of to) rows) result out' sink' st.put p)
 
-  put_behind : {A : Type 0} (at_end : Bool) (ended : Type 0) (more : List ℕ) (r' : RowReader) (left : Reading Converted) (result : Result A LinkFault) (out' : List ℕ) (sink' : K) (p : RowsArePut {A = A} takes failures at_end to r' out sink left result out' sink') → IsReadAs file ended more (after_rows (st.rows ++ p.rows) left) → ArePut {A = A} takes failures file to ended start more st.text left [] result out' sink'
-  put_behind at_end ended more r' left result out' sink' p read = record {
+  put_after : {A : Type 0} (at_end : Bool) (ended : Type 0) (more : List ℕ) (r' : RowReader) (left : RowsRead Converted) (result : Result A LinkFault) (out' : List ℕ) (sink' : K) (p : RowsArePut {A = A} takes failures at_end to r' out sink left result out' sink') → IsReadAs file ended more (after_rows (st.rows ++ p.rows) left) → ArePut {A = A} takes failures file to ended start more st.text left [] result out' sink'
+  put_after at_end ended more r' left result out' sink' p read = record {
     text = st.text ++ flat_map (row_of to) p.rows;
     are_converted = converted_more at_end ended more p.rows left p.each_writable read;
     put = piece_text p.rows result out' sink' p.put;
-    at_once = sent_at_once takes failures start st.text st.text out sink (flat_map (row_of to) p.rows) result out' sink' st.put p.put (begins_itself st.text) st.within;
+    at_once = sent_at_once takes failures start st.text st.text out sink (flat_map (row_of to) p.rows) result out' sink' st.put p.put (prefix_of_itself st.text) st.within;
   }
 
   -- ---- a piece, which the reader took
@@ -94,14 +94,14 @@ module _ {K : Type 0} (takes : K → List ℕ → K → Type 0) (failures : K �
     read_piece : HasReadBy r' (bytes ++ piece) st.rows
     read_piece = took bytes st.rows st.read
 
-    come_piece : (rows : List Row) (left : Reading Converted) → ComeNext false r' rows left → file false (bytes ++ piece) ≡ after_rows (st.rows ++ rows) left
+    come_piece : (rows : List Row) (left : RowsRead Converted) → ComeNext false r' rows left → file false (bytes ++ piece) ≡ after_rows (st.rows ++ rows) left
     come_piece rows left next = ap (λ (f : FileReading). at f false (bytes ++ piece)) (sym (same ∙ st.is_file)) ∙ next (bytes ++ piece) st.rows read_piece
 
     pub piece_reads : (ended_of r' ≡ false) × (b : List ℕ) × (given : List Row) × HasReadBy r' b given
     piece_reads = (ended_same ∙ st.not_ended, bytes ++ piece, st.rows, read_piece)
 
-    pub piece_steps : (result : Result Unit Stop) (r'' : RowReader) (out' : List ℕ) (sink' : K) → PutsRows takes failures false to r' out sink result r'' out' sink' → Steps takes failures file to ended start (bytes ++ piece) st.text result r'' out' sink'
-    unfolding put_behind
+    pub piece_steps : (result : Result Unit (Stop Converted)) (r'' : RowReader) (out' : List ℕ) (sink' : K) → PutsRows takes failures false to r' out sink result r'' out' sink' → StepConverts takes failures file to ended start (bytes ++ piece) st.text result r'' out' sink'
+    unfolding put_after
     piece_steps (Ok x) r'' out' sink' p =
         let put = p.2 in
         record {
@@ -119,31 +119,31 @@ module _ {K : Type 0} (takes : K → List ℕ → K → Type 0) (failures : K �
           within = put.within st.within;
         }
     piece_steps (Err (stop.Answer converted.Whole)) r'' out' sink' p = absurd p
-    piece_steps (Err (stop.Answer (converted.Text f))) r'' out' sink' p = (p.0, p.1, put_behind false ended (bytes ++ piece) r' p.0 (Ok tt) out' sink' p.2 (inl (come_piece p.2.rows p.0 p.2.come_next)))
-    piece_steps (Err (stop.Answer (converted.Binary f))) r'' out' sink' p = (p.0, p.1, put_behind false ended (bytes ++ piece) r' p.0 (Ok tt) out' sink' p.2 (inl (come_piece p.2.rows p.0 p.2.come_next)))
-    piece_steps (Err (stop.Answer (converted.Row f))) r'' out' sink' p = (p.0, p.1, put_behind false ended (bytes ++ piece) r' p.0 (Ok tt) out' sink' p.2 (inl (come_piece p.2.rows p.0 p.2.come_next)))
+    piece_steps (Err (stop.Answer (converted.Text f))) r'' out' sink' p = (p.0, p.1, put_after false ended (bytes ++ piece) r' p.0 (Ok tt) out' sink' p.2 (inl (come_piece p.2.rows p.0 p.2.come_next)))
+    piece_steps (Err (stop.Answer (converted.Binary f))) r'' out' sink' p = (p.0, p.1, put_after false ended (bytes ++ piece) r' p.0 (Ok tt) out' sink' p.2 (inl (come_piece p.2.rows p.0 p.2.come_next)))
+    piece_steps (Err (stop.Answer (converted.Row f))) r'' out' sink' p = (p.0, p.1, put_after false ended (bytes ++ piece) r' p.0 (Ok tt) out' sink' p.2 (inl (come_piece p.2.rows p.0 p.2.come_next)))
     piece_steps (Err stop.Memory) r'' out' sink' p =
-        let put = put_behind false ended (bytes ++ piece) r' p.0 (Ok tt) out' sink' p.1 (inl (come_piece p.1.rows p.0 p.1.come_next)) in
+        let put = put_after false ended (bytes ++ piece) r' p.0 (Ok tt) out' sink' p.1 (inl (come_piece p.1.rows p.0 p.1.come_next)) in
         (p.0, put, (flat_map (row_of to) p.1.rows, refl))
     piece_steps (Err stop.SourceFailed) r'' out' sink' p = absurd p
-    piece_steps (Err stop.SinkFailed) r'' out' sink' p = (p.0, p.1, put_behind false ended (bytes ++ piece) r' p.0 (Err p.1) out' sink' p.2 (inl (come_piece p.2.rows p.0 p.2.come_next)))
+    piece_steps (Err stop.SinkFailed) r'' out' sink' p = (p.0, p.1, put_after false ended (bytes ++ piece) r' p.0 (Err p.1) out' sink' p.2 (inl (come_piece p.2.rows p.0 p.2.come_next)))
     piece_steps (Err stop.Endless) r'' out' sink' p = absurd p
 
   -- ---- a piece that the reader refused
 
-  as_file : (b : List ℕ) (at_end : Bool) (x : Reading Converted) → file_by r at_end b ≡ x → file at_end b ≡ x
+  as_file : (b : List ℕ) (at_end : Bool) (x : RowsRead Converted) → file_by r at_end b ≡ x → file at_end b ≡ x
   as_file b at_end x e = ap (λ (f : FileReading). at f at_end b) (sym st.is_file) ∙ e
 
   -- no row is put, and this is left of more bytes
-  stays : (ended : Type 0) (more : List ℕ) (left : Reading Converted) → IsReadAs file ended more (after_rows st.rows left) → ArePut {A = Unit {0}} takes failures file to ended start more st.text left [] (Ok tt) out sink
+  stays : (ended : Type 0) (more : List ℕ) (left : RowsRead Converted) → IsReadAs file ended more (after_rows st.rows left) → ArePut {A = Unit {0}} takes failures file to ended start more st.text left [] (Ok tt) out sink
   stays ended more left read = record {
     text = st.text;
     are_converted = record { rows = st.rows; read = read; each_writable = st.each_writable; each_row = st.each_row };
     put = puts_as takes failures [] start st.text (st.text ++ []) (Ok tt) out sink (sym (append-nil st.text)) st.put;
-    at_once = put_at_once takes failures start st.text st.text out sink st.put (begins_itself st.text) st.within;
+    at_once = put_at_once takes failures start st.text st.text out sink st.put (prefix_of_itself st.text) st.within;
   }
 
-  pub refused_steps : (piece : List ℕ) (ended : Type 0) (s : Stop) (r' r'' : RowReader) → TakesPiece r piece (Err s) r' → Steps takes failures file to ended start (bytes ++ piece) st.text (Err s) r'' out sink
+  pub refused_steps : (piece : List ℕ) (ended : Type 0) (s : Stop Converted) (r' r'' : RowReader) → TakesPiece r piece (Err s) r' → StepConverts takes failures file to ended start (bytes ++ piece) st.text (Err s) r'' out sink
   unfolding stays
   refused_steps piece ended (stop.Answer converted.Whole) r' r'' t = absurd t
   refused_steps piece ended (stop.Answer (converted.Text f)) r' r'' t = (none_left (Bad (converted.Text f)), refl, stays ended (bytes ++ piece) (none_left (Bad (converted.Text f))) (inl (as_file (bytes ++ piece) false (after_rows st.rows (none_left (Bad (converted.Text f)))) (t bytes st.rows st.read))))
@@ -156,11 +156,11 @@ module _ {K : Type 0} (takes : K → List ℕ → K → Type 0) (failures : K �
 
   -- ---- the end of the input
 
-  come_last : (ended : Type 0) (is_ended : ended) (rows : List Row) (left : Reading Converted) → ComeNext true r rows left → IsReadAs file ended (bytes ++ []) (after_rows (st.rows ++ rows) left)
+  come_last : (ended : Type 0) (is_ended : ended) (rows : List Row) (left : RowsRead Converted) → ComeNext true r rows left → IsReadAs file ended (bytes ++ []) (after_rows (st.rows ++ rows) left)
   come_last ended is_ended rows left next = inr (is_ended, ap (λ (b : List ℕ). at file true b) (append-nil bytes) ∙ as_file bytes true (after_rows (st.rows ++ rows) left) (next bytes st.rows st.read))
 
-  pub end_steps : (ended : Type 0) (is_ended : ended) (s : Stop) (r'' : RowReader) (out' : List ℕ) (sink' : K) → Ends takes failures to r out sink s out' sink' → Steps takes failures file to ended start (bytes ++ []) st.text (Err s) r'' out' sink'
-  unfolding put_behind
+  pub end_steps : (ended : Type 0) (is_ended : ended) (s : Stop Converted) (r'' : RowReader) (out' : List ℕ) (sink' : K) → EndConverts takes failures to r out sink s out' sink' → StepConverts takes failures file to ended start (bytes ++ []) st.text (Err s) r'' out' sink'
+  unfolding put_after
   end_steps ended is_ended (stop.Answer c) r'' out' sink' p =
       let text = st.text ++ flat_map (row_of to) p.3.rows in
       let puts = puts_then takes failures [] start st.text out sink (flat_map (row_of to) p.3.rows) (Ok tt) p.2 sink' st.put p.3.put in (
@@ -174,17 +174,17 @@ module _ {K : Type 0} (takes : K → List ℕ → K → Type 0) (failures : K �
         },
       )
   end_steps ended is_ended stop.Memory r'' out' sink' p =
-      let put = put_behind true ended (bytes ++ []) r p.0 (Ok tt) out' sink' p.1 (come_last ended is_ended p.1.rows p.0 p.1.come_next) in
+      let put = put_after true ended (bytes ++ []) r p.0 (Ok tt) out' sink' p.1 (come_last ended is_ended p.1.rows p.0 p.1.come_next) in
       (p.0, put, (flat_map (row_of to) p.1.rows, refl))
   end_steps ended is_ended stop.SourceFailed r'' out' sink' p = absurd p
-  end_steps ended is_ended stop.SinkFailed r'' out' sink' p = (p.0, p.1, put_behind true ended (bytes ++ []) r p.0 (Err p.1) out' sink' p.2 (come_last ended is_ended p.2.rows p.0 p.2.come_next))
+  end_steps ended is_ended stop.SinkFailed r'' out' sink' p = (p.0, p.1, put_after true ended (bytes ++ []) r p.0 (Err p.1) out' sink' p.2 (come_last ended is_ended p.2.rows p.0 p.2.come_next))
   end_steps ended is_ended stop.Endless r'' out' sink' p = absurd p
 
 -- where a step leads from every place where the work stands
-abbrev pub StepsAnywhere : {K : Type 0} → (K → List ℕ → K → Type 0) → (K → ℕ) → Type 0 → RowReader → List ℕ → K → List ℕ → Result Unit Stop → RowReader → List ℕ → K → Format → Type 0
-StepsAnywhere {K} takes failures ended r out sink piece result r' out' sink' to = (file : FileReading) (start : K) (bytes : List ℕ) (stands : Stands takes failures file to start bytes r out sink) → Steps takes failures file to ended start (bytes ++ piece) stands.text result r' out' sink'
+abbrev pub StepsAnywhere : {K : Type 0} → (K → List ℕ → K → Type 0) → (K → ℕ) → Type 0 → RowReader → List ℕ → K → List ℕ → Result Unit (Stop Converted) → RowReader → List ℕ → K → Format → Type 0
+StepsAnywhere {K} takes failures ended r out sink piece result r' out' sink' to = (file : FileReading) (start : K) (bytes : List ℕ) (stands : HasConverted takes failures file to start bytes r out sink) → StepConverts takes failures file to ended start (bytes ++ piece) stands.text result r' out' sink'
 
-pub steps_for : {K : Type 0} (takes : K → List ℕ → K → Type 0) (failures : K → ℕ) (ended : Type 0) (r : RowReader) (out : List ℕ) (sink : K) (piece : List ℕ) (result : Result Unit Stop) (r' : RowReader) (out' : List ℕ) (sink' : K) (to to' : Format) → to ≡ to'
+pub steps_for : {K : Type 0} (takes : K → List ℕ → K → Type 0) (failures : K → ℕ) (ended : Type 0) (r : RowReader) (out : List ℕ) (sink : K) (piece : List ℕ) (result : Result Unit (Stop Converted)) (r' : RowReader) (out' : List ℕ) (sink' : K) (to to' : Format) → to ≡ to'
     → StepsAnywhere takes failures ended r out sink piece result r' out' sink' to → StepsAnywhere takes failures ended r out sink piece result r' out' sink' to'
 steps_for takes failures ended r out sink piece result r' out' sink' to to' e s = subst (λ (t : Format). StepsAnywhere takes failures ended r out sink piece result r' out' sink' t) e s
 
@@ -194,9 +194,9 @@ pub record Runs {S K : Type 0} (gives : S → List ℕ → S → Type 0) (source
   pub received : FoldsTo gives source pieces source'
   pub counted : length pieces ≡ count
   pub sound : source_failures source' ≡ source_failures source
-  pub stands : Stands takes failures file to sink (concat pieces) r out sink'
+  pub stands : HasConverted takes failures file to sink (concat pieces) r out sink'
 
-source_of : (ended : Type 0) (old mid new : ℕ) (pieces : List (List ℕ)) (s : Stop) → mid ≡ old → StepsSource ended mid new (Err s) → HaltsSource ended old new pieces s
+source_of : (ended : Type 0) (old mid new : ℕ) (pieces : List (List ℕ)) (s : Stop Converted) → mid ≡ old → StepsSource ended mid new (Err s) → StopsSource ended old new pieces s
 source_of ended old mid new pieces (stop.Answer converted.Whole) e s = (s.0, s.1 ∙ e)
 source_of ended old mid new pieces (stop.Answer (converted.Text f)) e s = s ∙ e
 source_of ended old mid new pieces (stop.Answer (converted.Binary f)) e s = s ∙ e
@@ -207,8 +207,8 @@ source_of ended old mid new pieces stop.SinkFailed e s = s ∙ e
 source_of ended old mid new pieces stop.Endless e s = absurd s
 
 -- nothing was read, and nothing is at fault
-pub nothing_read : (r : RowReader) → HasReadBy r [] [] → ended_of r ≡ false → (ending : Ending Converted) × IsGood ending × (file_by r false [] ≡ after_rows [] (none_left ending))
-unfolding text_reading.reading file_reading.binary_reading file_reading.head_at file_reading.fixed_at file_reading.signature_at
+pub nothing_read : (r : RowReader) → HasReadBy r [] [] → ended_of r ≡ false → (ending : RowsEnding Converted) × IsGood ending × (file_by r false [] ≡ after_rows [] (none_left ending))
+unfolding text.text_reading binary.binary_reading binary.head_at binary.fixed_at binary.signature_at
 nothing_read (reader.Text s) h on = (Open [], tt, refl)
 nothing_read (reader.Binary s) h on = (Open [], tt, refl)
 
@@ -217,7 +217,7 @@ head_within : (to : Format) → length (head_of to) ≤ most_collected
 head_within format.Text = omega arith
 head_within format.Binary = omega arith
 
-pub stands_first : {K : Type 0} (takes : K → List ℕ → K → Type 0) (failures : K → ℕ) (to : Format) (start : K) (r : RowReader) (out : List ℕ) → out ≡ head_of to → HasReadBy r [] [] → ended_of r ≡ false → Stands takes failures (file_by r) to start [] r out start
+pub stands_first : {K : Type 0} (takes : K → List ℕ → K → Type 0) (failures : K → ℕ) (to : Format) (start : K) (r : RowReader) (out : List ℕ) → out ≡ head_of to → HasReadBy r [] [] → ended_of r ≡ false → HasConverted takes failures (file_by r) to start [] r out start
 stands_first takes failures to start r out e h on =
     let nothing = nothing_read r h on in
     record {
@@ -236,34 +236,34 @@ stands_first takes failures to start r out e h on =
     }
 
 module _ {S K : Type 0} (gives : S → List ℕ → S → Type 0) (source_failures : S → ℕ) (takes : K → List ℕ → K → Type 0) (failures : K → ℕ) (file : FileReading) (to : Format) where
-  pub runs_none : (source : S) (sink : K) (r : RowReader) (out : List ℕ) → Stands takes failures file to sink [] r out sink → Runs gives source_failures takes failures file to source sink 0 source r out sink
+  pub runs_none : (source : S) (sink : K) (r : RowReader) (out : List ℕ) → HasConverted takes failures file to sink [] r out sink → Runs gives source_failures takes failures file to source sink 0 source r out sink
   runs_none source sink r out st = record { pieces = []; received = refl; counted = refl; sound = refl; stands = st }
 
   pub runs_more : (source : S) (sink : K) (n : ℕ) (source' : S) (r : RowReader) (out : List ℕ) (sink' : K) (piece : List ℕ) (source'' : S) (r' : RowReader) (out' : List ℕ) (sink'' : K) (ended : Type 0) (runs : Runs gives source_failures takes failures file to source sink n source' r out sink')
-      → gives source' piece source'' → source_failures source'' ≡ source_failures source' → Steps takes failures file to ended sink (concat runs.pieces ++ piece) runs.stands.text (Ok tt) r' out' sink''
+      → gives source' piece source'' → source_failures source'' ≡ source_failures source' → StepConverts takes failures file to ended sink (concat runs.pieces ++ piece) runs.stands.text (Ok tt) r' out' sink''
       → Runs gives source_failures takes failures file to source sink (n + 1) source'' r' out' sink''
   runs_more source sink n source' r out sink' piece source'' r' out' sink'' ended runs p same next = record {
     pieces = runs.pieces ++ piece ∷ [];
     received = one_more gives source runs.pieces source' piece source'' runs.received p;
     counted = length-append runs.pieces (piece ∷ []) ∙ ap (λ (k : ℕ). k + 1) runs.counted;
     sound = same ∙ runs.sound;
-    stands = subst (λ (bytes : List ℕ). Stands takes failures file to sink bytes r' out' sink'') (joined runs.pieces piece) next;
+    stands = subst (λ (bytes : List ℕ). HasConverted takes failures file to sink bytes r' out' sink'') (joined runs.pieces piece) next;
   }
 
   -- what stood before the last piece
-  stood_before : (sink : K) (earlier last bytes : List ℕ) (r : RowReader) (out : List ℕ) (sink' : K) (st : Stands takes failures file to sink earlier r out sink') → bytes ≡ earlier ++ last → length last ≤ longest_piece → AreConvertedBefore file to bytes st.text
+  stood_before : (sink : K) (earlier last bytes : List ℕ) (r : RowReader) (out : List ℕ) (sink' : K) (st : HasConverted takes failures file to sink earlier r out sink') → bytes ≡ earlier ++ last → length last ≤ longest_piece → AreConvertedBefore file to bytes st.text
   stood_before sink earlier last bytes r out sink' st whole fits = record { earlier = earlier; last = last; whole = whole; a_piece = fits; all_converted = all_converted takes failures file to sink earlier r out sink' st }
 
-  pub run_halts : (ended : Type 0) (source : S) (sink : K) (n : ℕ) (source' : S) (r : RowReader) (out : List ℕ) (sink' : K) (piece : List ℕ) (source'' : S) (s : Stop) (r' : RowReader) (out' : List ℕ) (sink'' : K) (runs : Runs gives source_failures takes failures file to source sink n source' r out sink')
-      → length piece ≤ longest_piece → gives source' piece source'' → StepsSource ended (source_failures source') (source_failures source'') (Err s) → Steps takes failures file to ended sink (concat runs.pieces ++ piece) runs.stands.text (Err s) r' out' sink''
+  pub run_stops : (ended : Type 0) (source : S) (sink : K) (n : ℕ) (source' : S) (r : RowReader) (out : List ℕ) (sink' : K) (piece : List ℕ) (source'' : S) (s : Stop Converted) (r' : RowReader) (out' : List ℕ) (sink'' : K) (runs : Runs gives source_failures takes failures file to source sink n source' r out sink')
+      → length piece ≤ longest_piece → gives source' piece source'' → StepsSource ended (source_failures source') (source_failures source'') (Err s) → StepConverts takes failures file to ended sink (concat runs.pieces ++ piece) runs.stands.text (Err s) r' out' sink''
       → HasRun gives source_failures ended takes failures file to source sink s source'' out' sink''
-  run_halts ended source sink n source' r out sink' piece source'' s r' out' sink'' runs fits p src halts = record {
+  run_stops ended source sink n source' r out sink' piece source'' s r' out' sink'' runs fits p src stops = record {
     pieces = runs.pieces ++ piece ∷ [];
     received = one_more gives source runs.pieces source' piece source'' runs.received p;
     before = runs.stands.text;
     converted_before = stood_before sink (concat runs.pieces) piece (concat (runs.pieces ++ piece ∷ [])) r out sink' runs.stands (sym (joined runs.pieces piece)) fits;
-    halts = subst (λ (bytes : List ℕ). Halts takes failures file to ended sink bytes runs.stands.text s out' sink'') (joined runs.pieces piece) halts;
-    halts_source = source_of ended _ _ _ _ s runs.sound src;
+    stops = subst (λ (bytes : List ℕ). Stops takes failures file to ended sink bytes runs.stands.text s out' sink'') (joined runs.pieces piece) stops;
+    stops_source = source_of ended _ _ _ _ s runs.sound src;
   }
 
   pub run_endless : (ended : Type 0) (source : S) (sink : K) (n : ℕ) (source' : S) (r : RowReader) (out : List ℕ) (sink' : K) → n ≡ most_receives → Runs gives source_failures takes failures file to source sink n source' r out sink' → HasRun gives source_failures ended takes failures file to source sink stop.Endless source' out sink'
@@ -272,6 +272,6 @@ module _ {S K : Type 0} (gives : S → List ℕ → S → Type 0) (source_failur
     received = runs.received;
     before = runs.stands.text;
     converted_before = stood_before sink (concat runs.pieces) [] (concat runs.pieces) r out sink' runs.stands (sym (append-nil (concat runs.pieces))) (omega arith);
-    halts = (runs.stands.ending, runs.stands.good, stands_put takes failures file to sink (concat runs.pieces) r out sink' runs.stands);
-    halts_source = runs.counted ∙ e;
+    stops = (runs.stands.ending, runs.stands.good, stands_put takes failures file to sink (concat runs.pieces) r out sink' runs.stands);
+    stops_source = runs.counted ∙ e;
   }

@@ -2,20 +2,20 @@
 use Rattle.std.proofs.Common.{◌≡◌, ℕ, ◌<◌, Bool, true, false, List, [], ◌∷◌, ◌++◌, None, Result, Ok, Err, refl, sym, ap, subst, ◌∙◌, append-nil, append_assoc, length, length-append, arith}
 use Rattle.std.specs.List.{flat_map, AllByRecursion}
 use Rattle.std.proofs.lemmas.Grind.{flat_map-append}
-use Rattle.pg_copy.specs.Reading.{Reading, Bad, after_rows}
+use Rattle.pg_copy.specs.Reading.{RowsRead, Bad, after_rows}
 use Rattle.pg_copy.specs.Row.{Row}
 use Rattle.pg_wire.specs.link.LinkFault.{LinkFault}
 use Rattle.pgpipe_convert.specs.declared.convert.Converted.{Converted}
 use Rattle.pgpipe_convert.specs.declared.convert.Converted.TheVariants as converted
-use Rattle.pgpipe_convert.specs.declared.convert.Stop.{Stop}
-use Rattle.pgpipe_convert.specs.declared.convert.Stop.TheVariants as stop
+use Rattle.pgpipe_base.specs.declared.stop.Stop.{Stop}
+use Rattle.pgpipe_base.specs.declared.stop.Stop.TheVariants as stop
 use Rattle.pgpipe_convert.specs.declared.copy_rows.RowReader.{RowReader}
 use Rattle.pgpipe_convert.specs.declared.copy_rows.RowReader.TheVariants as reader
 use Rattle.pgpipe_convert.specs.declared.format.Format.{Format}
 use Rattle.pgpipe_convert.specs.Convert.{FileReading, answered, none_left, IsWritable, row_of}
-use Rattle.pgpipe_convert.specs.Private.Conversion.{file_by, ended_of, left_of, HasReadBy, ComeNext, GoesOn, GivesRow, PutsRow, RowsArePut, PutsRows}
-use Rattle.pgpipe_base.specs.Sending.{StaysWithin}
-use Rattle.pgpipe_base.specs.Sending.{Puts}
+use Rattle.pgpipe_convert.specs.Private.Converting.{file_by, ended_of, rows_left, HasReadBy, ComeNext, ReadsOn, GivesRow, PutsRow, RowsArePut, PutsRows}
+use Rattle.pgpipe_base.specs.Outbox.{StaysWithin}
+use Rattle.pgpipe_base.specs.Outbox.{Puts}
 use Rattle.pgpipe_base.proofs.Pieces.{puts_none, puts_then}
 use Rattle.pgpipe_convert.proofs.Readers.{reading_of}
 
@@ -25,39 +25,39 @@ one_more_writable to [] row all one = (one, tt)
 one_more_writable to (r ∷ rows) row all one = (all.0, one_more_writable to rows row all.1 one)
 
 -- what was given is the beginning of the file, and the rest is left
-pub is_first : (at_end : Bool) (r : RowReader) (bytes : List ℕ) (given : List Row) → (at_end ≡ false → ended_of r ≡ false) → HasReadBy r bytes given → file_by r at_end bytes ≡ after_rows given (left_of at_end r)
+pub is_first : (at_end : Bool) (r : RowReader) (bytes : List ℕ) (given : List Row) → (at_end ≡ false → ended_of r ≡ false) → HasReadBy r bytes given → file_by r at_end bytes ≡ after_rows given (rows_left at_end r)
 is_first false (reader.Text s) bytes given begun h = ap (λ (l : List ℕ). file_by (reader.Text s) false l) (sym (append-nil bytes)) ∙ ap (answered converted.Text) (h.so_far (begun refl) [])
 is_first true (reader.Text s) bytes given begun h = ap (answered converted.Text) h.in_all
 is_first false (reader.Binary s) bytes given begun h = ap (λ (l : List ℕ). file_by (reader.Binary s) false l) (sym (append-nil bytes)) ∙ ap (answered converted.Binary) (h.so_far (begun refl) [])
 is_first true (reader.Binary s) bytes given begun h = ap (answered converted.Binary) h.in_all
 
--- Rows were put, and the reader goes on behind them.
+-- Rows were put, and the reader goes on after them.
 pub record Grows {K : Type 0} (takes : K → List ℕ → K → Type 0) (failures : K → ℕ) (at_end : Bool) (to : Format) (r : RowReader) (out : List ℕ) (sink : K) (r' : RowReader) (out' : List ℕ) (sink' : K) : Type 0 where
   pub rows : List Row
   pub each_writable : AllByRecursion (IsWritable to) rows
-  pub goes_on : GoesOn at_end r rows r'
+  pub goes_on : ReadsOn at_end r rows r'
   pub put : Puts {A = Unit {0}} takes failures out sink (flat_map (row_of to) rows) (Ok tt) out' sink'
   pub within : StaysWithin out out'
 
-abbrev in_front : List Row → Reading Converted → Reading Converted
+abbrev in_front : List Row → RowsRead Converted → RowsRead Converted
 in_front rows left = record { rows = rows ++ left.rows; ending = left.ending }
 
-abbrev of_file : (Bool → List ℕ → Reading Converted) → Bool → List ℕ → Reading Converted
+abbrev of_file : (Bool → List ℕ → RowsRead Converted) → Bool → List ℕ → RowsRead Converted
 of_file file at_end bytes = file at_end bytes
 
--- what comes next at one reader comes behind the rows that lead to it
-pub come_behind : (at_end : Bool) (r : RowReader) (rows : List Row) (r' : RowReader) (more : List Row) (left : Reading Converted) → GoesOn at_end r rows r' → ComeNext at_end r' more left → ComeNext at_end r (rows ++ more) left
-come_behind at_end r rows r' more left on next bytes given h =
+-- what comes next at one reader comes after the rows that lead to it
+pub come_after : (at_end : Bool) (r : RowReader) (rows : List Row) (r' : RowReader) (more : List Row) (left : RowsRead Converted) → ReadsOn at_end r rows r' → ComeNext at_end r' more left → ComeNext at_end r (rows ++ more) left
+come_after at_end r rows r' more left on next bytes given h =
     ap (λ (f : FileReading). of_file f at_end bytes) (sym on.same) ∙ next bytes (given ++ rows) (on.read bytes given h) ∙ ap (λ (l : List Row). in_front l left) (append_assoc given rows more)
 
--- what is left comes next, behind no row
-pub left_next : (at_end : Bool) (r : RowReader) (rows : List Row) (r' : RowReader) → (at_end ≡ false → ended_of r ≡ false) → GoesOn at_end r rows r' → ComeNext at_end r rows (left_of at_end r')
+-- what is left comes next, after no row
+pub left_next : (at_end : Bool) (r : RowReader) (rows : List Row) (r' : RowReader) → (at_end ≡ false → ended_of r ≡ false) → ReadsOn at_end r rows r' → ComeNext at_end r rows (rows_left at_end r')
 left_next at_end r rows r' begun on bytes given h = ap (λ (f : FileReading). of_file f at_end bytes) (sym on.same) ∙ is_first at_end r' bytes (given ++ rows) on.may_go_on (on.read bytes given h)
 
-pub goes_on_none : (at_end : Bool) (r : RowReader) → (at_end ≡ false → ended_of r ≡ false) → GoesOn at_end r [] r
+pub goes_on_none : (at_end : Bool) (r : RowReader) → (at_end ≡ false → ended_of r ≡ false) → ReadsOn at_end r [] r
 goes_on_none at_end r begun = record { same = refl; may_go_on = begun; read = λ bytes given h. subst (λ (l : List Row). HasReadBy r bytes l) (sym (append-nil given)) h }
 
-pub goes_on_then : (at_end : Bool) (r : RowReader) (rows : List Row) (r' : RowReader) (more : List Row) (r'' : RowReader) → GoesOn at_end r rows r' → GoesOn at_end r' more r'' → GoesOn at_end r (rows ++ more) r''
+pub goes_on_then : (at_end : Bool) (r : RowReader) (rows : List Row) (r' : RowReader) (more : List Row) (r'' : RowReader) → ReadsOn at_end r rows r' → ReadsOn at_end r' more r'' → ReadsOn at_end r (rows ++ more) r''
 goes_on_then at_end r rows r' more r'' on on' = record {
   same = on'.same ∙ on.same;
   may_go_on = on'.may_go_on;
@@ -65,11 +65,11 @@ goes_on_then at_end r rows r' more r'' on on' = record {
 }
 
 -- a row fewer is left
-pub fewer_left : (at_end : Bool) (r : RowReader) (row : Row) (r' : RowReader) (bytes : List ℕ) (given : List Row) → (at_end ≡ false → ended_of r ≡ false) → HasReadBy r bytes given → GoesOn at_end r (row ∷ []) r' → length (left_of at_end r').rows < length (left_of at_end r).rows
+pub fewer_left : (at_end : Bool) (r : RowReader) (row : Row) (r' : RowReader) (bytes : List ℕ) (given : List Row) → (at_end ≡ false → ended_of r ≡ false) → HasReadBy r bytes given → ReadsOn at_end r (row ∷ []) r' → length (rows_left at_end r').rows < length (rows_left at_end r).rows
 fewer_left at_end r row r' bytes given begun h on =
     let before = is_first at_end r bytes given begun h in
     let after = left_next at_end r (row ∷ []) r' begun on bytes given h in
-    omega (arith, ap (λ (x : Reading Converted). length x.rows) (sym before ∙ after), length-append given (left_of at_end r).rows, length-append (given ++ row ∷ []) (left_of at_end r').rows, length-append given (row ∷ []))
+    omega (arith, ap (λ (x : RowsRead Converted). length x.rows) (sym before ∙ after), length-append given (rows_left at_end r).rows, length-append (given ++ row ∷ []) (rows_left at_end r').rows, length-append given (row ∷ []))
 
 module _ {K : Type 0} (takes : K → List ℕ → K → Type 0) (failures : K → ℕ) (at_end : Bool) (to : Format) (r : RowReader) (out : List ℕ) (sink : K) where
   spelled-append : (xs ys : List Row) → flat_map (row_of to) xs ++ flat_map (row_of to) ys ≡ flat_map (row_of to) (xs ++ ys)
@@ -86,7 +86,7 @@ module _ {K : Type 0} (takes : K → List ℕ → K → Type 0) (failures : K �
       → Puts {A = A} takes failures out sink (flat_map (row_of to) (rows ++ row ∷ [])) result out'' sink''
   put_more {A} rows row out' sink' result out'' sink'' p q = subst (λ (t : List ℕ). Puts {A = A} takes failures out sink t result out'' sink'') (spelled_one rows row) (puts_then takes failures out sink (flat_map (row_of to) rows) out' sink' (row_of to row) result out'' sink'' p q)
 
-  pub grows_more : (r' : RowReader) (out' : List ℕ) (sink' : K) (row : Row) (r'' : RowReader) (out'' : List ℕ) (sink'' : K) → Grows takes failures at_end to r out sink r' out' sink' → GoesOn at_end r' (row ∷ []) r'' → PutsRow takes failures to row out' sink' (Ok tt) out'' sink''
+  pub grows_more : (r' : RowReader) (out' : List ℕ) (sink' : K) (row : Row) (r'' : RowReader) (out'' : List ℕ) (sink'' : K) → Grows takes failures at_end to r out sink r' out' sink' → ReadsOn at_end r' (row ∷ []) r'' → PutsRow takes failures to row out' sink' (Ok tt) out'' sink''
       → Grows takes failures at_end to r out sink r'' out'' sink''
   grows_more r' out' sink' row r'' out'' sink'' g on p = record {
     rows = g.rows ++ row ∷ [];
@@ -97,11 +97,11 @@ module _ {K : Type 0} (takes : K → List ℕ → K → Type 0) (failures : K �
   }
 
   -- what was put before the work stops
-  were_put : (r' : RowReader) (out' : List ℕ) (sink' : K) (left : Reading Converted) → Grows takes failures at_end to r out sink r' out' sink' → ComeNext at_end r' [] left → RowsArePut {A = Unit {0}} takes failures at_end to r out sink left (Ok tt) out' sink'
+  were_put : (r' : RowReader) (out' : List ℕ) (sink' : K) (left : RowsRead Converted) → Grows takes failures at_end to r out sink r' out' sink' → ComeNext at_end r' [] left → RowsArePut {A = Unit {0}} takes failures at_end to r out sink left (Ok tt) out' sink'
   were_put r' out' sink' left g next = record {
     rows = g.rows;
     each_writable = g.each_writable;
-    come_next = subst (λ (l : List Row). ComeNext at_end r l left) (append-nil g.rows) (come_behind at_end r g.rows r' [] left g.goes_on next);
+    come_next = subst (λ (l : List Row). ComeNext at_end r l left) (append-nil g.rows) (come_after at_end r g.rows r' [] left g.goes_on next);
     put = g.put;
     within = g.within;
   }
@@ -111,32 +111,32 @@ module _ {K : Type 0} (takes : K → List ℕ → K → Type 0) (failures : K �
   unfolding were_put
   rows_end r' out' sink' r'' g n =
       let put = were_put r' out' sink' (none_left n.1) g n.3 in
-      (n.1, n.2, put, subst (λ (l : List Row). GoesOn at_end r l r'') (append-nil g.rows) (goes_on_then at_end r g.rows r' [] r'' g.goes_on n.0))
+      (n.1, n.2, put, subst (λ (l : List Row). ReadsOn at_end r l r'') (append-nil g.rows) (goes_on_then at_end r g.rows r' [] r'' g.goes_on n.0))
 
   -- the reader answers no row
-  pub rows_stop : (r' : RowReader) (out' : List ℕ) (sink' : K) (s : Stop) (r'' : RowReader) → (at_end ≡ false → ended_of r ≡ false) → Grows takes failures at_end to r out sink r' out' sink' → GivesRow at_end r' (Err s) r'' → PutsRows takes failures at_end to r out sink (Err s) r'' out' sink'
+  pub rows_stop : (r' : RowReader) (out' : List ℕ) (sink' : K) (s : Stop Converted) (r'' : RowReader) → (at_end ≡ false → ended_of r ≡ false) → Grows takes failures at_end to r out sink r' out' sink' → GivesRow at_end r' (Err s) r'' → PutsRows takes failures at_end to r out sink (Err s) r'' out' sink'
   rows_stop r' out' sink' (stop.Answer converted.Whole) r'' begun g n = n
   rows_stop r' out' sink' (stop.Answer (converted.Text f)) r'' begun g n = (none_left (Bad (converted.Text f)), refl, were_put r' out' sink' (none_left (Bad (converted.Text f))) g n)
   rows_stop r' out' sink' (stop.Answer (converted.Binary f)) r'' begun g n = (none_left (Bad (converted.Binary f)), refl, were_put r' out' sink' (none_left (Bad (converted.Binary f))) g n)
   rows_stop r' out' sink' (stop.Answer (converted.Row f)) r'' begun g n = absurd n
-  rows_stop r' out' sink' stop.Memory r'' begun g n = (left_of at_end r', record { rows = g.rows; each_writable = g.each_writable; come_next = left_next at_end r g.rows r' begun g.goes_on; put = g.put; within = g.within })
+  rows_stop r' out' sink' stop.Memory r'' begun g n = (rows_left at_end r', record { rows = g.rows; each_writable = g.each_writable; come_next = left_next at_end r g.rows r' begun g.goes_on; put = g.put; within = g.within })
   rows_stop r' out' sink' stop.SourceFailed r'' begun g n = n
   rows_stop r' out' sink' stop.SinkFailed r'' begun g n = absurd n
   rows_stop r' out' sink' stop.Endless r'' begun g n = n
 
   -- a row is not put
-  pub row_stops : (r' : RowReader) (out' : List ℕ) (sink' : K) (row : Row) (r'' : RowReader) (s : Stop) (out'' : List ℕ) (sink'' : K) → (at_end ≡ false → ended_of r ≡ false) → Grows takes failures at_end to r out sink r' out' sink' → GoesOn at_end r' (row ∷ []) r''
+  pub row_stops : (r' : RowReader) (out' : List ℕ) (sink' : K) (row : Row) (r'' : RowReader) (s : Stop Converted) (out'' : List ℕ) (sink'' : K) → (at_end ≡ false → ended_of r ≡ false) → Grows takes failures at_end to r out sink r' out' sink' → ReadsOn at_end r' (row ∷ []) r''
       → PutsRow takes failures to row out' sink' (Err s) out'' sink'' → PutsRows takes failures at_end to r out sink (Err s) r'' out'' sink''
   row_stops r' out' sink' row r'' (stop.Answer converted.Whole) out'' sink'' begun g on p = p
   row_stops r' out' sink' row r'' (stop.Answer (converted.Text f)) out'' sink'' begun g on p = absurd p
   row_stops r' out' sink' row r'' (stop.Answer (converted.Binary f)) out'' sink'' begun g on p = absurd p
   row_stops r' out' sink' row r'' (stop.Answer (converted.Row f)) out'' sink'' begun g on p =
-      let left = after_rows (row ∷ []) (left_of at_end r'') in
-      let next : ComeNext at_end r' [] left = λ bytes given h. left_next at_end r' (row ∷ []) r'' g.goes_on.may_go_on on bytes given h ∙ ap (λ (l : List Row). reading_of l (left_of at_end r'').ending) (append_assoc given (row ∷ []) (left_of at_end r'').rows ∙ ap (λ (l : List Row). l ++ (row ∷ (left_of at_end r'').rows)) (sym (append-nil given))) in
-      (left, (row, left_of at_end r'', refl, p.0), rw (p.1, p.2) (were_put r' out' sink' left g next))
-  row_stops r' out' sink' row r'' stop.Memory out'' sink'' begun g on p = (left_of at_end r', rw (p.1, p.2) (record { rows = g.rows; each_writable = g.each_writable; come_next = left_next at_end r g.rows r' begun g.goes_on; put = g.put; within = g.within }))
+      let left = after_rows (row ∷ []) (rows_left at_end r'') in
+      let next : ComeNext at_end r' [] left = λ bytes given h. left_next at_end r' (row ∷ []) r'' g.goes_on.may_go_on on bytes given h ∙ ap (λ (l : List Row). reading_of l (rows_left at_end r'').ending) (append_assoc given (row ∷ []) (rows_left at_end r'').rows ∙ ap (λ (l : List Row). l ++ (row ∷ (rows_left at_end r'').rows)) (sym (append-nil given))) in
+      (left, (row, rows_left at_end r'', refl, p.0), rw (p.1, p.2) (were_put r' out' sink' left g next))
+  row_stops r' out' sink' row r'' stop.Memory out'' sink'' begun g on p = (rows_left at_end r', rw (p.1, p.2) (record { rows = g.rows; each_writable = g.each_writable; come_next = left_next at_end r g.rows r' begun g.goes_on; put = g.put; within = g.within }))
   row_stops r' out' sink' row r'' stop.SourceFailed out'' sink'' begun g on p = p
   row_stops r' out' sink' row r'' stop.SinkFailed out'' sink'' begun g on p =
       let more = goes_on_then at_end r g.rows r' (row ∷ []) r'' g.goes_on on in
-      (left_of at_end r'', p.1, record { rows = g.rows ++ row ∷ []; each_writable = one_more_writable to g.rows row g.each_writable p.0; come_next = left_next at_end r (g.rows ++ row ∷ []) r'' begun more; put = put_more g.rows row out' sink' (Err p.1) out'' sink'' g.put p.2; within = tt })
+      (rows_left at_end r'', p.1, record { rows = g.rows ++ row ∷ []; each_writable = one_more_writable to g.rows row g.each_writable p.0; come_next = left_next at_end r (g.rows ++ row ∷ []) r'' begun more; put = put_more g.rows row out' sink' (Err p.1) out'' sink'' g.put p.2; within = tt })
   row_stops r' out' sink' row r'' stop.Endless out'' sink'' begun g on p = p

@@ -10,36 +10,36 @@ use Rattle.pg_copy.specs.declared.text_reader.TextStage.{TextStage}
 use Rattle.pg_copy.specs.declared.text_reader.TextStage.TheVariants as stages
 use Rattle.pg_copy.specs.declared.binary_reader.BinaryStage.{BinaryStage}
 use Rattle.pg_copy.specs.declared.binary_reader.BinaryStage.TheVariants as binary_stages
-use Rattle.pg_copy.specs.BinaryReader.{BinaryState, HasReadBinary, stage_reading, kept_of, IsReading, PushesBinary, binary_ending}
-use Rattle.pg_copy.specs.BinaryReading as binary
-use Rattle.pg_copy.specs.Reading.{Reading, Ending, Open, Done, Ended, Bad, IsGood, Gives, after_rows, given_by}
+use Rattle.pg_copy.specs.BinaryReader.{BinaryState, HasReadBinary, binary_stage_reading, kept_of, IsReading, PushesBinary, binary_ending}
+use Rattle.pg_copy.specs.BinaryPart.{binary_file_reading, binary_reading}
+use Rattle.pg_copy.specs.Reading.{RowsRead, RowsEnding, Open, Done, Ended, Bad, IsGood, AnswersNext, after_rows, given_by}
 use Rattle.pg_copy.specs.Row.{Row}
-use Rattle.pg_copy.specs.Text as text
-use Rattle.pg_copy.specs.TextReader.{TextState, HasRead, ending_at, last_ending_at}
-use Rattle.pgpipe_convert.specs.declared.convert.Stop.{Stop}
+use Rattle.pg_copy.specs.Text.{text_file_reading, text_reading}
+use Rattle.pg_copy.specs.TextReader.{TextState, HasReadText, text_ending, last_text_ending}
+use Rattle.pgpipe_base.specs.declared.stop.Stop.{Stop}
 use Rattle.pgpipe_convert.specs.declared.convert.Converted.{Converted}
 use Rattle.pgpipe_convert.specs.declared.convert.Converted.TheVariants as converted
 use Rattle.pgpipe_convert.specs.declared.copy_rows.RowReader.{RowReader}
 use Rattle.pgpipe_convert.specs.declared.copy_rows.RowReader.TheVariants as reader
 use Rattle.pgpipe_convert.specs.Convert.{FileReading, text_file, binary_file, answered, answered_ending, none_left, IsEnd}
-use Rattle.pgpipe_convert.specs.Private.Conversion.{text_stop, binary_stop, stopped, file_by, ended_of, HasReadBy, ComeNext, EndsAs, TakesPiece, GivesRow}
+use Rattle.pgpipe_convert.specs.Private.Converting.{text_stop, binary_stop, stopped, file_by, ended_of, HasReadBy, ComeNext, EndsAs, TakesPiece, GivesRow}
 
-abbrev pub reading_of : List Row → Ending Converted → Reading Converted
+abbrev pub reading_of : List Row → RowsEnding Converted → RowsRead Converted
 reading_of rows ending = record { rows = rows; ending = ending }
 
 -- a file that is read whole, as its answer is given
-none_answered : {F : Type 0} (answer : F → Converted) (file : Reading F) (given : List Row) (ending : Ending F) → file ≡ record { rows = given; ending = ending } → answered answer file ≡ after_rows (given ++ []) (none_left (answered_ending answer ending))
+none_answered : {F : Type 0} (answer : F → Converted) (file : RowsRead F) (given : List Row) (ending : RowsEnding F) → file ≡ record { rows = given; ending = ending } → answered answer file ≡ after_rows (given ++ []) (none_left (answered_ending answer ending))
 none_answered answer file given ending e = ap (answered answer) e ∙ ap (λ (rows : List Row). reading_of rows (answered_ending answer ending)) (sym (append-nil (given ++ []) ∙ append-nil given))
 
-good_answer : {F : Type 0} (answer : F → Converted) (ending : Ending F) → IsGood ending → IsGood (answered_ending answer ending)
+good_answer : {F : Type 0} (answer : F → Converted) (ending : RowsEnding F) → IsGood ending → IsGood (answered_ending answer ending)
 good_answer answer (Open rest) g = tt
 good_answer answer Done g = tt
 good_answer answer Ended g = tt
 good_answer answer (Bad f) g = absurd g
 
 -- What a call gives whose answer speaks of this file and this ending.
-module _ {F : Type 0} (memory : F) (answer : F → Converted) (at_end : Bool) (old new : RowReader) (file : List ℕ → Reading F) (ending : Ending F) (is_file : (bytes : List ℕ) → answered answer (file bytes) ≡ file_by old at_end bytes) where
-  pub gives_fault : (f : F) → ((p : List ℕ) (g : List Row) → HasReadBy old p g → Gives memory (file p) g ending (Err f)) → (f ≡ memory → ⊥) → ComeNext at_end old [] (none_left (Bad (answer f)))
+module _ {F : Type 0} (memory : F) (answer : F → Converted) (at_end : Bool) (old new : RowReader) (file : List ℕ → RowsRead F) (ending : RowsEnding F) (is_file : (bytes : List ℕ) → answered answer (file bytes) ≡ file_by old at_end bytes) where
+  pub gives_fault : (f : F) → ((p : List ℕ) (g : List Row) → HasReadBy old p g → AnswersNext memory (file p) g ending (Err f)) → (f ≡ memory → ⊥) → ComeNext at_end old [] (none_left (Bad (answer f)))
   gives_fault f gives other p g h = by_cases (gives p g h)
     where
       by_cases : (f ≡ memory) ⊎ ((ending ≡ Bad f) × (file p ≡ record { rows = g; ending = Bad f })) → file_by old at_end p ≡ after_rows (g ++ []) (none_left (Bad (answer f)))
@@ -48,14 +48,14 @@ module _ {F : Type 0} (memory : F) (answer : F → Converted) (at_end : Bool) (o
 
   pub gives_row : (row : Option Row) (bytes : List ℕ) (given : List Row) → HasReadBy old bytes given → file_by new ≡ file_by old → (at_end ≡ false → ended_of new ≡ false)
       → ((p : List ℕ) (g : List Row) → HasReadBy old p g → HasReadBy new p (g ++ given_by {F = F} (Ok row)))
-      → ((p : List ℕ) (g : List Row) → HasReadBy old p g → Gives memory (file p) g ending (Ok row))
+      → ((p : List ℕ) (g : List Row) → HasReadBy old p g → AnswersNext memory (file p) g ending (Ok row))
       → (row ≡ None → IsGood ending → EndsAs at_end (answered_ending answer ending)) → GivesRow at_end old (Ok row) new
   gives_row (Some row) bytes given h same on read gives end = record { same = same; may_go_on = on; read = read }
   gives_row None bytes given h same on read gives end = (record { same = same; may_go_on = on; read = read }, answered_ending answer ending, end refl (gives bytes given h).0, λ p g k. sym (is_file p) ∙ none_answered answer (file p) g ending (gives p g k).1)
 
 -- ---- text
 
-text_end : (stage : TextStage) → IsGood (last_ending_at stage) → IsEnd (answered_ending converted.Text (last_ending_at stage))
+text_end : (stage : TextStage) → IsGood (last_text_ending stage) → IsEnd (answered_ending converted.Text (last_text_ending stage))
 text_end stages.Lines g = tt
 text_end stages.Marked g = tt
 text_end (stages.Failed f) g = absurd g
@@ -66,28 +66,28 @@ text_stops at_end old new text_fault.LoneBackslash come memory = come (λ e. abs
 text_stops at_end old new (text_fault.Columns n) come memory = come (λ e. absurd cc)
 text_stops at_end old new text_fault.Memory come memory = memory refl
 
-pub next_text : (old new : TextState) (r : Result (Option Row) TextFault) (bytes : List ℕ) (given : List Row) → HasRead old bytes given → new.columns ≡ old.columns → new.ended ≡ false
-    → ((p : List ℕ) (g : List Row) → HasRead old p g → HasRead new p (g ++ given_by r))
-    → ((p : List ℕ) (g : List Row) → HasRead old p g → Gives text_fault.Memory (text.reading new.columns p) g (ending_at new.stage new.kept) r)
+pub next_text : (old new : TextState) (r : Result (Option Row) TextFault) (bytes : List ℕ) (given : List Row) → HasReadText old bytes given → new.columns ≡ old.columns → new.ended ≡ false
+    → ((p : List ℕ) (g : List Row) → HasReadText old p g → HasReadText new p (g ++ given_by r))
+    → ((p : List ℕ) (g : List Row) → HasReadText old p g → AnswersNext text_fault.Memory (text_reading new.columns p) g (text_ending new.stage new.kept) r)
     → (r ≡ Err text_fault.Memory → new ≡ old) → GivesRow false (reader.Text old) (stopped text_stop r) (reader.Text new)
 next_text old new (Ok row) bytes given h same on read gives memory =
-    gives_row text_fault.Memory converted.Text false (reader.Text old) (reader.Text new) (λ p. text.reading new.columns p) (ending_at new.stage new.kept) (λ p. ap (λ (c : Option ℕ). text_file c false p) same)
-    row bytes given h (ap text_file same) (λ e. on) read gives (λ e. good_answer converted.Text (ending_at new.stage new.kept))
+    gives_row text_fault.Memory converted.Text false (reader.Text old) (reader.Text new) (λ p. text_reading new.columns p) (text_ending new.stage new.kept) (λ p. ap (λ (c : Option ℕ). text_file c false p) same)
+    row bytes given h (ap text_file same) (λ e. on) read gives (λ e. good_answer converted.Text (text_ending new.stage new.kept))
 next_text old new (Err f) bytes given h same on read gives memory =
     text_stops false (reader.Text old) (reader.Text new) f
-    (gives_fault text_fault.Memory converted.Text false (reader.Text old) (reader.Text new) (λ p. text.reading new.columns p) (ending_at new.stage new.kept) (λ p. ap (λ (c : Option ℕ). text_file c false p) same) f gives)
+    (gives_fault text_fault.Memory converted.Text false (reader.Text old) (reader.Text new) (λ p. text_reading new.columns p) (text_ending new.stage new.kept) (λ p. ap (λ (c : Option ℕ). text_file c false p) same) f gives)
     (λ e. ap reader.Text (memory (ap Err e)))
 
-pub finish_text : (old new : TextState) (r : Result (Option Row) TextFault) (bytes : List ℕ) (given : List Row) → HasRead old bytes given → new.columns ≡ old.columns
-    → ((p : List ℕ) (g : List Row) → HasRead old p g → HasRead new p (g ++ given_by r))
-    → ((p : List ℕ) (g : List Row) → HasRead old p g → Gives text_fault.Memory (text.file_reading new.columns p) g (last_ending_at new.stage) r)
+pub finish_text : (old new : TextState) (r : Result (Option Row) TextFault) (bytes : List ℕ) (given : List Row) → HasReadText old bytes given → new.columns ≡ old.columns
+    → ((p : List ℕ) (g : List Row) → HasReadText old p g → HasReadText new p (g ++ given_by r))
+    → ((p : List ℕ) (g : List Row) → HasReadText old p g → AnswersNext text_fault.Memory (text_file_reading new.columns p) g (last_text_ending new.stage) r)
     → (r ≡ Err text_fault.Memory → new ≡ old) → GivesRow true (reader.Text old) (stopped text_stop r) (reader.Text new)
 finish_text old new (Ok row) bytes given h same read gives memory =
-    gives_row text_fault.Memory converted.Text true (reader.Text old) (reader.Text new) (λ p. text.file_reading new.columns p) (last_ending_at new.stage) (λ p. ap (λ (c : Option ℕ). text_file c true p) same)
+    gives_row text_fault.Memory converted.Text true (reader.Text old) (reader.Text new) (λ p. text_file_reading new.columns p) (last_text_ending new.stage) (λ p. ap (λ (c : Option ℕ). text_file c true p) same)
     row bytes given h (ap text_file same) (λ e. absurd cc) read gives (λ e. text_end new.stage)
 finish_text old new (Err f) bytes given h same read gives memory =
     text_stops true (reader.Text old) (reader.Text new) f
-    (gives_fault text_fault.Memory converted.Text true (reader.Text old) (reader.Text new) (λ p. text.file_reading new.columns p) (last_ending_at new.stage) (λ p. ap (λ (c : Option ℕ). text_file c true p) same) f gives)
+    (gives_fault text_fault.Memory converted.Text true (reader.Text old) (reader.Text new) (λ p. text_file_reading new.columns p) (last_text_ending new.stage) (λ p. ap (λ (c : Option ℕ). text_file c true p) same) f gives)
     (λ e. ap reader.Text (memory (ap Err e)))
 
 -- ---- binary
@@ -110,26 +110,26 @@ same_file old new same = ap (λ (c : ℕ). binary_file c new.limit) same.0 ∙ a
 
 pub next_binary : (old new : BinaryState) (r : Result (Option Row) BinaryFault) (bytes : List ℕ) (given : List Row) → HasReadBinary old bytes given → (new.columns ≡ old.columns) × (new.limit ≡ old.limit) → new.ended ≡ false
     → ((p : List ℕ) (g : List Row) → HasReadBinary old p g → HasReadBinary new p (g ++ given_by r))
-    → ((p : List ℕ) (g : List Row) → HasReadBinary old p g → Gives binary_fault.Memory (binary.binary_reading new.columns new.limit p) g (binary_ending new.stage new.kept) r)
+    → ((p : List ℕ) (g : List Row) → HasReadBinary old p g → AnswersNext binary_fault.Memory (binary_reading new.columns new.limit p) g (binary_ending new.stage new.kept) r)
     → (r ≡ Err binary_fault.Memory → new ≡ old) → GivesRow false (reader.Binary old) (stopped binary_stop r) (reader.Binary new)
 next_binary old new (Ok row) bytes given h same on read gives memory =
-    gives_row binary_fault.Memory converted.Binary false (reader.Binary old) (reader.Binary new) (λ p. binary.binary_reading new.columns new.limit p) (binary_ending new.stage new.kept) (λ p. ap (λ (f : FileReading). f false p) (same_file old new same))
+    gives_row binary_fault.Memory converted.Binary false (reader.Binary old) (reader.Binary new) (λ p. binary_reading new.columns new.limit p) (binary_ending new.stage new.kept) (λ p. ap (λ (f : FileReading). f false p) (same_file old new same))
     row bytes given h (same_file old new same) (λ e. on) read gives (λ e. good_answer converted.Binary (binary_ending new.stage new.kept))
 next_binary old new (Err f) bytes given h same on read gives memory =
     binary_stops false (reader.Binary old) (reader.Binary new) f
-    (gives_fault binary_fault.Memory converted.Binary false (reader.Binary old) (reader.Binary new) (λ p. binary.binary_reading new.columns new.limit p) (binary_ending new.stage new.kept) (λ p. ap (λ (f : FileReading). f false p) (same_file old new same)) f gives)
+    (gives_fault binary_fault.Memory converted.Binary false (reader.Binary old) (reader.Binary new) (λ p. binary_reading new.columns new.limit p) (binary_ending new.stage new.kept) (λ p. ap (λ (f : FileReading). f false p) (same_file old new same)) f gives)
     (λ e. ap reader.Binary (memory (ap Err e)))
 
 pub finish_binary : (old new : BinaryState) (r : Result (Option Row) BinaryFault) (bytes : List ℕ) (given : List Row) → HasReadBinary old bytes given → (new.columns ≡ old.columns) × (new.limit ≡ old.limit) → (r ≡ Ok None → new.stage ≡ binary_stages.Closed)
     → ((p : List ℕ) (g : List Row) → HasReadBinary old p g → HasReadBinary new p (g ++ given_by r))
-    → ((p : List ℕ) (g : List Row) → HasReadBinary old p g → Gives binary_fault.Memory (binary.file_reading new.columns new.limit p) g (binary_ending new.stage new.kept) r)
+    → ((p : List ℕ) (g : List Row) → HasReadBinary old p g → AnswersNext binary_fault.Memory (binary_file_reading new.columns new.limit p) g (binary_ending new.stage new.kept) r)
     → (r ≡ Err binary_fault.Memory → new ≡ old) → GivesRow true (reader.Binary old) (stopped binary_stop r) (reader.Binary new)
 finish_binary old new (Ok row) bytes given h same closed read gives memory =
-    gives_row binary_fault.Memory converted.Binary true (reader.Binary old) (reader.Binary new) (λ p. binary.file_reading new.columns new.limit p) (binary_ending new.stage new.kept) (λ p. ap (λ (f : FileReading). f true p) (same_file old new same))
+    gives_row binary_fault.Memory converted.Binary true (reader.Binary old) (reader.Binary new) (λ p. binary_file_reading new.columns new.limit p) (binary_ending new.stage new.kept) (λ p. ap (λ (f : FileReading). f true p) (same_file old new same))
     row bytes given h (same_file old new same) (λ e. absurd cc) read gives (λ e g. binary_end new.stage new.kept (closed (ap Ok e)))
 finish_binary old new (Err f) bytes given h same closed read gives memory =
     binary_stops true (reader.Binary old) (reader.Binary new) f
-    (gives_fault binary_fault.Memory converted.Binary true (reader.Binary old) (reader.Binary new) (λ p. binary.file_reading new.columns new.limit p) (binary_ending new.stage new.kept) (λ p. ap (λ (f : FileReading). f true p) (same_file old new same)) f gives)
+    (gives_fault binary_fault.Memory converted.Binary true (reader.Binary old) (reader.Binary new) (λ p. binary_file_reading new.columns new.limit p) (binary_ending new.stage new.kept) (λ p. ap (λ (f : FileReading). f true p) (same_file old new same)) f gives)
     (λ e. ap reader.Binary (memory (ap Err e)))
 
 -- a piece that a reader of a binary file is given
@@ -144,7 +144,7 @@ stops_at old new piece binary_fault.Truncated come same = come (λ e. absurd cc)
 stops_at old new piece binary_fault.AfterTrailer come same = come (λ e. absurd cc)
 stops_at old new piece binary_fault.Memory come same = ap reader.Binary same
 
-pub push_binary : (old new : BinaryState) (piece : List ℕ) (r : Result Unit BinaryFault) (out : Result Unit Stop) → old.ended ≡ false → PushesBinary old piece r new
+pub push_binary : (old new : BinaryState) (piece : List ℕ) (r : Result Unit BinaryFault) (out : Result Unit (Stop Converted)) → old.ended ≡ false → PushesBinary old piece r new
     → OnOk r ((p : List ℕ) (g : List Row) → HasReadBinary old p g → HasReadBinary new (p ++ piece) g)
     → MatchResult r (λ x. out ≡ Ok x) (λ f. IsErrAnd out (λ s. s ≡ binary_stop f)) → TakesPiece (reader.Binary old) piece out (reader.Binary new)
 push_binary old new piece (Ok x) out going h read made =
@@ -157,5 +157,5 @@ push_binary old new piece (Err f) out going h read made =
     come other p g k = by_cases h.0
       where
         by_cases : (old.stage ≡ binary_stages.Failed f) ⊎ ((f ≡ binary_fault.Memory) × IsReading old.stage × (0 < length (kept_of old.stage piece))) → file_by (reader.Binary old) false (p ++ piece) ≡ after_rows g (none_left (Bad (converted.Binary f)))
-        by_cases (inl e) = ap (answered converted.Binary) (k.so_far going piece ∙ ap (λ (t : BinaryStage). after_rows g (stage_reading t old.columns old.limit (old.kept ++ piece))) e)
+        by_cases (inl e) = ap (answered converted.Binary) (k.so_far going piece ∙ ap (λ (t : BinaryStage). after_rows g (binary_stage_reading t old.columns old.limit (old.kept ++ piece))) e)
         by_cases (inr m) = absurd (other m.0)

@@ -3,65 +3,70 @@ use Rattle.std.specs.Prelude.{ℕ, ◌≡◌, ◌≤◌, ◌+◌, ◌++◌, ◌�
 use Rattle.std.specs.List.{flat_map, AllByRecursion}
 use Rattle.pg_copy.specs.declared.fault.RowFault.{RowFault}
 use Rattle.pg_copy.specs.Binary.{binary_row, written_head, trailer}
-use Rattle.pg_copy.specs.BinaryReading as binary
-use Rattle.pg_copy.specs.Reading.{Reading, Ending, Open, Done, Ended, Bad, IsGood, after_rows}
+use Rattle.pg_copy.specs.BinaryPart.{binary_file_reading, binary_reading}
+use Rattle.pg_copy.specs.Reading.{RowsRead, RowsEnding, Open, Done, Ended, Bad, IsGood, after_rows}
 use Rattle.pg_copy.specs.Row.{Row, text_fault, binary_fault}
-use Rattle.pg_copy.specs.Text as text
-use Rattle.pg_wire.specs.Direction.{longest}
+use Rattle.pg_copy.specs.Text.{text_file_reading, text_reading, written_row}
 use Rattle.pgpipe_convert.specs.declared.convert.Converted.{Converted}
 use Rattle.pgpipe_convert.specs.declared.convert.Converted.TheVariants as converted
 use Rattle.pgpipe_convert.specs.declared.format.Format.{Format}
 use Rattle.pgpipe_convert.specs.declared.format.Format.TheVariants as format
 use Rattle.pgpipe_base.specs.declared.fault.ToolFault.{ToolFault}
 use Rattle.pgpipe_base.specs.declared.fault.ToolFault.TheVariants as fault
-use Rattle.pgpipe_base.specs.Sending.{most_collected, Begins}
+use Rattle.pgpipe_base.specs.Outbox.{most_collected}
+use mathlib.Core.List.{IsPrefix}
 use Rattle.pgpipe_base.specs.Receiving.{longest_piece}
 
 -- ---- the file that is read
 
 -- an ending whose fault is the answer for it
-abbrev pub answered_ending : {F : Type 0} → (F → Converted) → Ending F → Ending Converted
+abbrev pub answered_ending : {F : Type 0} → (F → Converted) → RowsEnding F → RowsEnding Converted
 answered_ending answer (Open rest) = Open rest
 answered_ending answer Done = Done
 answered_ending answer Ended = Ended
 answered_ending answer (Bad f) = Bad (answer f)
 
 -- a reading whose fault is the answer for it
-abbrev pub answered : {F : Type 0} → (F → Converted) → Reading F → Reading Converted
+abbrev pub answered : {F : Type 0} → (F → Converted) → RowsRead F → RowsRead Converted
 answered answer r = record { rows = r.rows; ending = answered_ending answer r.ending }
 
 -- What bytes are read as: as the beginning of a file or, where true is given, as a whole one.
 abbrev pub FileReading : Type 0
-FileReading = Bool → List ℕ → Reading Converted
+FileReading = Bool → List ℕ → RowsRead Converted
 
 -- a file of text, with so many columns or with any number of them
 abbrev pub text_file : Option ℕ → FileReading
-text_file columns false bytes = answered converted.Text (text.reading columns bytes)
-text_file columns true bytes = answered converted.Text (text.file_reading columns bytes)
+text_file columns false bytes = answered converted.Text (text_reading columns bytes)
+text_file columns true bytes = answered converted.Text (text_file_reading columns bytes)
 
 -- a binary file with so many columns, and values of at most so many bytes
 abbrev pub binary_file : ℕ → ℕ → FileReading
-binary_file columns most false bytes = answered converted.Binary (binary.binary_reading columns most bytes)
-binary_file columns most true bytes = answered converted.Binary (binary.file_reading columns most bytes)
+binary_file columns most false bytes = answered converted.Binary (binary_reading columns most bytes)
+binary_file columns most true bytes =
+    answered converted.Binary (binary_file_reading columns most bytes)
+
+-- the most bytes that a value of a binary file may have
+abbrev pub value_limit : ℕ
+value_limit = 1073741823
 
 -- a file of this format, with so many columns
 abbrev pub file_of : Format → ℕ → FileReading
 file_of format.Text columns = text_file (Some columns)
-file_of format.Binary columns = binary_file columns longest
+file_of format.Binary columns = binary_file columns value_limit
 
 -- nothing is left but this ending
-abbrev pub none_left : Ending Converted → Reading Converted
+abbrev pub none_left : RowsEnding Converted → RowsRead Converted
 none_left ending = record { rows = []; ending = ending }
 
 -- an ending of a whole file
-abbrev pub IsEnd : Ending Converted → Type 0
+abbrev pub IsEnd : RowsEnding Converted → Type 0
 IsEnd (Open rest) = ⊥
 IsEnd Done = Unit {0}
 IsEnd Ended = Unit {0}
 IsEnd (Bad f) = ⊥
 
 -- The bytes are read as this: as the beginning of a file or, if the input has ended, as a whole one.
-abbrev pub IsReadAs : FileReading → Type 0 → List ℕ → Reading Converted → Type 0
+abbrev pub IsReadAs : FileReading → Type 0 → List ℕ → RowsRead Converted → Type 0
 IsReadAs file ended bytes r = (file false bytes ≡ r) ⊎ (ended × (file true bytes ≡ r))
 
 -- ---- the file that is written
@@ -77,7 +82,7 @@ IsWritable to row = row_fault to row ≡ None
 
 -- what is written for a row
 abbrev pub row_of : Format → Row → List ℕ
-row_of format.Text row = text.written_row row
+row_of format.Text row = written_row row
 row_of format.Binary row = binary_row row
 
 -- what stands before the rows: in text nothing
@@ -85,12 +90,12 @@ abbrev pub head_of : Format → List ℕ
 head_of format.Text = []
 head_of format.Binary = written_head
 
--- what stands behind the rows: in text nothing
+-- what stands after the rows: in text nothing
 abbrev pub trailer_of : Format → List ℕ
 trailer_of format.Text = []
 trailer_of format.Binary = trailer
 
--- a trailer stands only behind all the rows of a whole file
+-- a trailer stands only after all the rows of a whole file
 abbrev pub trailer_for : Format → Converted → List ℕ
 trailer_for to converted.Whole = trailer_of to
 trailer_for to _ = []
@@ -99,7 +104,7 @@ trailer_for to _ = []
 
 -- The text is the head and the rows of these bytes, each of which can be written, and this is left of the file.
 pub record AreConverted (file : FileReading) (to : Format) (ended : Type 0) (bytes : List ℕ)
-    (left : Reading Converted) (text : List ℕ) : Type 0 where
+    (left : RowsRead Converted) (text : List ℕ) : Type 0 where
   pub rows : List Row
   pub read : IsReadAs file ended bytes (after_rows rows left)
   pub each_writable : AllByRecursion (IsWritable to) rows
@@ -107,25 +112,25 @@ pub record AreConverted (file : FileReading) (to : Format) (ended : Type 0) (byt
 
 -- The answer that is given where this is left of the file: Whole where nothing is; a row's fault where it stands first; and
 -- else the fault that stands in the place of a row.
-abbrev pub IsAnswerFor : Format → Reading Converted → Converted → Type 0
-IsAnswerFor to left converted.Whole = (ending : Ending Converted) × IsEnd ending
+abbrev pub IsAnswerFor : Format → RowsRead Converted → Converted → Type 0
+IsAnswerFor to left converted.Whole = (ending : RowsEnding Converted) × IsEnd ending
     × (left ≡ none_left ending)
-IsAnswerFor to left (converted.Row f) = (row : Row) × (later : Reading Converted)
+IsAnswerFor to left (converted.Row f) = (row : Row) × (later : RowsRead Converted)
     × (left ≡ after_rows (row ∷ []) later) × (row_fault to row ≡ Some f)
 IsAnswerFor to left c = left ≡ none_left (Bad c)
 
 -- The text is the file that is written where this is the answer.
 pub record IsOutput (file : FileReading) (to : Format) (ended : Type 0) (bytes : List ℕ)
     (c : Converted) (text : List ℕ) : Type 0 where
-  pub left : Reading Converted
+  pub left : RowsRead Converted
   pub answer : IsAnswerFor to left c
   pub before : List ℕ
   pub are_converted : AreConverted file to ended bytes left before
   pub with_trailer : text ≡ before ++ trailer_for to c
 
--- The text is the head and all the rows of these bytes, behind which no fault stands.
+-- The text is the head and all the rows of these bytes, after which no fault stands.
 pub record AreAllConverted (file : FileReading) (to : Format) (bytes text : List ℕ) : Type 0 where
-  pub ending : Ending Converted
+  pub ending : RowsEnding Converted
   pub good : IsGood ending
   pub are_converted : AreConverted file to ⊥ bytes (none_left ending) text
 
@@ -143,17 +148,17 @@ pub record AreMostlyConverted (file : FileReading) (to : Format) (ended : Type 0
     (bytes text : List ℕ) : Type 0 where
   pub before : List ℕ
   pub converted_before : AreConvertedBefore file to bytes before
-  pub begins : Begins before text
-  pub left : Reading Converted
+  pub begins : IsPrefix before text
+  pub left : RowsRead Converted
   pub are_converted : AreConverted file to ended bytes left text
 
--- The text is a beginning of what is written for these bytes.
+-- The text is a prefix of what is written for these bytes.
 abbrev pub ArePartlyConverted : FileReading → Format → Type 0 → List ℕ → List ℕ → Type 0
-ArePartlyConverted file to ended bytes text = (all : List ℕ) × Begins text all
-    × (((left : Reading Converted) × AreConverted file to ended bytes left all)
+ArePartlyConverted file to ended bytes text = (all : List ℕ) × IsPrefix text all
+    × (((left : RowsRead Converted) × AreConverted file to ended bytes left all)
     ⊎ IsOutput file to ended bytes converted.Whole all)
 
--- What is written for these bytes but the last piece is no more than the text and what may be collected behind it.
+-- What is written for these bytes but the last piece is no more than the text and what may be collected after it.
 abbrev pub IsConvertedAtOnce : FileReading → Format → List ℕ → List ℕ → Type 0
 IsConvertedAtOnce file to bytes text = (before : List ℕ) × AreConvertedBefore file to bytes before
     × (length before ≤ most_collected + length text)
@@ -161,18 +166,19 @@ IsConvertedAtOnce file to bytes text = (before : List ℕ) × AreConvertedBefore
 -- ---- the answer
 
 -- The answer for the bytes that were received, and the text that was sent. Where memory was refused, no row is missing of what
--- came before the last piece, unless it was refused at once. Device says that the sink broke, and then a beginning was sent and
+-- came before the last piece, unless it was refused at once. Device says that the sink broke, and then a prefix was sent and
 -- little more was received, or that the source stopped, and then the head and all rows were sent.
-abbrev pub Answers : Type 0 → Type 0 → Type 0 → FileReading → Format → List ℕ → List ℕ
+abbrev pub ConvertAnswers : Type 0 → Type 0 → Type 0 → FileReading → Format → List ℕ → List ℕ
     → Result Converted ToolFault → Type 0
-Answers stopped broke ended file to bytes text (Ok c) = IsOutput file to ended bytes c text
-Answers stopped broke ended file to bytes text (Err fault.Memory) = ((bytes ≡ []) × (text ≡ []))
+ConvertAnswers stopped broke ended file to bytes text (Ok c) = IsOutput file to ended bytes c text
+ConvertAnswers stopped broke ended file to bytes text (Err fault.Memory) =
+    ((bytes ≡ []) × (text ≡ []))
     ⊎ AreMostlyConverted file to ended bytes text
-Answers stopped broke ended file to bytes text (Err fault.Device) = (broke
+ConvertAnswers stopped broke ended file to bytes text (Err fault.Device) = (broke
     × ArePartlyConverted file to ended bytes text × IsConvertedAtOnce file to bytes text)
     ⊎ (stopped × AreAllConverted file to bytes text)
 
 -- Where the file is whole, the source has ended.
-abbrev pub EndsWith : Type 0 → Result Converted ToolFault → Type 0
-EndsWith ended (Ok converted.Whole) = ended
-EndsWith ended _ = Unit {0}
+abbrev pub EndsFile : Type 0 → Result Converted ToolFault → Type 0
+EndsFile ended (Ok converted.Whole) = ended
+EndsFile ended _ = Unit {0}

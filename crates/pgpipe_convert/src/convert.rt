@@ -4,16 +4,15 @@ ghost use Rattle.std.specs.Prelude.{◌≡◌, ◌<◌, ◌≤◌, ◌++◌, ℕ
 ghost use Rattle.std.specs.List.{FoldsTo, concat};
 ghost use Rattle.pg_wire.specs.Link.{HasRisen};
 ghost use Rattle.pgpipe_base.specs.Receiving.{longest_piece, HasStopped, CountsNoFailure};
-ghost use Rattle.pgpipe_convert.specs.Convert.{FileReading, file_of, head_of, Answers, EndsWith};
-ghost use Rattle.pgpipe_convert.specs.Private.Conversion.{file_by, ended_of, HasReadBy, Stands, IsAtStep, Steps, StepsSource, Ends, HasRun, Settles, answer_of};
+ghost use Rattle.pgpipe_convert.specs.Convert.{FileReading, file_of, head_of, ConvertAnswers, EndsFile};
+ghost use Rattle.pgpipe_convert.specs.Private.Converting.{file_by, ended_of, HasReadBy, HasConverted, IsAtStep, StepConverts, StepsSource, EndConverts, HasRun};
 
 use crate::copy_rows::{RowReader, put_rows};
 use crate::format::Format;
 use pg_copy::{BinaryFault, RowFault, TextFault};
-use pg_wire::{LinkFault, Sink, Source};
-use pgpipe_base::ToolFault;
-use pgpipe_base::bounds::{MOST_RECEIVES, PIECE};
-use pgpipe_base::outbox::send;
+use pg_wire::{Sink, Source};
+use pgpipe_base::receiving::{MOST_RECEIVES, PIECE};
+use pgpipe_base::{Stop, ToolFault};
 use std::alloc::Global;
 
 /// How a conversion ended.
@@ -29,21 +28,9 @@ pub enum Converted {
     Row(RowFault),
 }
 
-/// Why the work stops.
-#[derive(Clone, Copy)]
-pub(crate) enum Stop {
-    /// It has this answer.
-    Answer(Converted),
-    Memory,
-    SourceFailed,
-    SinkFailed,
-    /// The source gave no end in as many receives as are made.
-    Endless,
-}
-
 // What the work is done with.
 #[derive(Drop)]
-struct Work {
+struct Converting {
     reader: RowReader,
     to: Format,
     // what is to be sent
@@ -53,17 +40,21 @@ struct Work {
     ghost a_piece: { length into.items ≡ longest_piece },
 }
 
-impl Work {
+impl Converting {
     // Receives a piece, and puts the rows that wait then.
-    fn step<S: Source, K: Sink>(&mut self, source: &mut S, sink: &mut K) -> Result<(), Stop>
+    fn step<S: Source, K: Sink>(
+        &mut self,
+        source: &mut S,
+        sink: &mut K,
+    ) -> Result<(), Stop<Converted>>
         requires at { IsAtStep self.old.reader }
         ensures to { self.new.to ≡ self.old.to }
         ensures steps { (piece : List ℕ) × (length piece ≤ longest_piece)
             × S.gives source.old piece source.new
             × ((file : FileReading) (start : K) (bytes : List ℕ)
-            (stands : Stands K.takes K.failures file self.old.to start bytes self.old.reader
+            (stands : HasConverted K.takes K.failures file self.old.to start bytes self.old.reader
             self.old.out.items sink.old)
-            → Steps K.takes K.failures file self.old.to (S.has_ended source.new) start (bytes
+            → StepConverts K.takes K.failures file self.old.to (S.has_ended source.new) start (bytes
             ++ piece) stands.text result self.new.reader self.new.out.items sink.new) }
         ensures source { StepsSource (S.has_ended source.new) (S.failures source.old)
             (S.failures source.new) result }
@@ -78,10 +69,10 @@ impl Work {
     }
 
     // Puts what is left at the end of the input.
-    fn end<K: Sink>(&mut self, sink: &mut K) -> Stop
+    fn end<K: Sink>(&mut self, sink: &mut K) -> Stop<Converted>
         requires at { IsAtStep self.old.reader }
         ensures to { self.new.to ≡ self.old.to }
-        ensures ends { Ends K.takes K.failures self.old.to self.old.reader self.old.out.items
+        ensures ends { EndConverts K.takes K.failures self.old.to self.old.reader self.old.out.items
             sink.old result self.new.out.items sink.new }
     {
         match put_rows(&mut self.reader, true, self.to, &mut self.out, sink) {
@@ -94,8 +85,8 @@ impl Work {
     }
 
     // Goes on until there is no more to do.
-    fn run<S: Source, K: Sink>(&mut self, source: &mut S, sink: &mut K) -> Stop
-        requires { Stands K.takes K.failures
+    fn run<S: Source, K: Sink>(&mut self, source: &mut S, sink: &mut K) -> Stop<Converted>
+        requires { HasConverted K.takes K.failures
             (file_by self.old.reader) self.old.to sink.old [] self.old.reader self.old.out.items
             sink.old }
         ensures { HasRun S.gives S.failures (S.has_ended source.new) K.takes K.failures
@@ -109,34 +100,10 @@ impl Work {
         }
         Stop::Endless
     }
-
-    // Sends what was put, unless the sink has failed.
-    fn settle<K: Sink>(&mut self, stop: Stop, sink: &mut K) -> Result<(), LinkFault>
-        ensures { Settles K.takes K.failures stop self.old.out.items sink.old result
-            self.new.out.items sink.new }
-    {
-        match stop {
-            Stop::SinkFailed => Err(LinkFault),
-            Stop::Answer(_) | Stop::Memory | Stop::SourceFailed | Stop::Endless => {
-                send(&mut self.out, sink)
-            }
-        }
-    }
-}
-
-// The answer where the work stopped so and all was sent.
-fn answer_of(stop: Stop) -> Result<Converted, ToolFault>
-    ensures { result ≡ answer_of stop }
-{
-    match stop {
-        Stop::Answer(converted) => Ok(converted),
-        Stop::Memory => Err(ToolFault::Memory),
-        Stop::SourceFailed | Stop::SinkFailed | Stop::Endless => Err(ToolFault::Device),
-    }
 }
 
 // What stands before the first piece.
-fn begin(alloc: Global, from: Format, to: Format, columns: u16) -> Result<Work, ToolFault>
+fn begin(alloc: Global, from: Format, to: Format, columns: u16) -> Result<Converting, ToolFault>
     requires { (0 < columns) × (columns ≤ 32767) }
     ensures begun { IfOk result (λ work. (work.to ≡ to) × (work.out.items ≡ head_of to)
         × (file_by work.reader ≡ file_of from columns) × HasReadBy work.reader [] []
@@ -149,7 +116,7 @@ fn begin(alloc: Global, from: Format, to: Format, columns: u16) -> Result<Work, 
         Err(_) => return Err(ToolFault::Memory),
     }
     match vec![in alloc; 0; PIECE] {
-        Ok(into) => Ok(Work {
+        Ok(into) => Ok(Converting {
             reader: RowReader::new(alloc, from, columns),
             to,
             out,
@@ -161,16 +128,16 @@ fn begin(alloc: Global, from: Format, to: Format, columns: u16) -> Result<Work, 
 
 /// Writes the rows of a COPY file of the one format, of so many columns, 1 to 32,767, as a file of the other, or the same,
 /// format: each in its canonical form, in binary between the head and the trailer. Values of a binary file may have up to
-/// 1,073,741,823 bytes. The source is read to its end, also behind the end mark of a text file.
+/// 1,073,741,823 bytes. The source is read to its end, also after the end mark of a text file.
 ///
 /// The head and the rows before a fault, or before a row that the format can't have, are sent, and no trailer. `Device` is
 /// answered where
-/// - the sink failed in this call: a beginning of the file was sent, and what is written for all that was received but the
+/// - the sink failed in this call: a prefix of the file was sent, and what is written for all that was received but the
 ///   last piece is at most 65,536 bytes more; or
 /// - the source failed in this call or gave no end in 1,099,511,627,776 receives: the head and the rows in all that was
 ///   received were sent.
 ///
-/// `Memory` is answered where memory was refused: nothing was received and sent, or whole rows were sent behind the head, and
+/// `Memory` is answered where memory was refused: nothing was received and sent, or whole rows were sent after the head, and
 /// none is missing of what came before the last piece, of at most 65,536 bytes.
 pub fn convert<S: Source, K: Sink>(
     alloc: Global,
@@ -184,19 +151,19 @@ pub fn convert<S: Source, K: Sink>(
     // what was received, what was sent, and the answer for them, where the source may have stopped and the sink broken
     ensures converted { (received sent : List (List ℕ))
         × FoldsTo S.gives source.old received source.new
-        × FoldsTo K.takes sink.old sent sink.new × Answers
+        × FoldsTo K.takes sink.old sent sink.new × ConvertAnswers
         (HasStopped (S.failures source.old) (S.failures source.new) received)
         (HasRisen (K.failures sink.old) (K.failures sink.new)) (S.has_ended source.new)
         (file_of from columns) to (concat received) (concat sent) result }
-    ensures ended { EndsWith (S.has_ended source.new) result }
+    ensures ended { EndsFile (S.has_ended source.new) result }
     // where the answer isn't Device, neither failed
     ensures source { CountsNoFailure (S.failures source.old) result (S.failures source.new) }
     ensures sink { CountsNoFailure (K.failures sink.old) result (K.failures sink.new) }
 {
     let mut work = begin(alloc, from, to, columns)?;
     let stop = work.run(source, sink);
-    match work.settle(stop, sink) {
-        Ok(()) => answer_of(stop),
+    match stop.settle(work.out.as_slice(), sink) {
+        Ok(()) => stop.answer(),
         Err(_) => Err(ToolFault::Device),
     }
 }

@@ -1,19 +1,23 @@
-//! The rows of a file of either format, read from pieces and written behind what is to be sent.
+//! The rows of a file of either format, read from pieces and written after what is to be sent.
 
 ghost use Rattle.std.specs.Prelude.{◌≡◌, ◌<◌, ◌≤◌, [], ℕ, List, false, true};
 ghost use Rattle.pg_copy.specs.Row.{Row};
 ghost use Rattle.pg_copy.specs.BinaryReader.{HasReadBinary};
-ghost use Rattle.pg_copy.specs.TextReader.{HasRead};
+ghost use Rattle.pg_copy.specs.TextReader.{HasReadText};
 ghost use Rattle.pgpipe_convert.specs.Convert.{file_of};
 ghost use Rattle.pgpipe_convert.specs.declared.copy_rows.RowReader.TheVariants.{Text, Binary};
-ghost use Rattle.pgpipe_convert.specs.Private.Conversion.{file_by, ended_of, HasReadBy, text_stop, binary_stop, stopped, TakesPiece, GivesRow, PutsRow, PutsRows};
+ghost use Rattle.pgpipe_convert.specs.Private.Converting.{file_by, ended_of, HasReadBy, text_stop, binary_stop, stopped, TakesPiece, GivesRow, PutsRow, PutsRows};
 
-use crate::convert::{Converted, Stop};
+use crate::convert::Converted;
 use crate::format::Format;
 use pg_copy::{BinaryFault, BinaryReader, Row, RowFault, TextFault, TextReader};
-use pg_wire::{LONGEST, Sink};
+use pg_wire::Sink;
+use pgpipe_base::Stop;
 use pgpipe_base::outbox::{ROOM, send};
 use std::alloc::Global;
+
+// The most bytes that a value of a binary file may have.
+const VALUE_LIMIT: u32 = 1_073_741_823;
 
 /// A reader of a file of either format.
 #[derive(Drop)]
@@ -22,7 +26,8 @@ pub enum RowReader {
     Binary(BinaryReader),
 }
 
-fn text_stop(fault: TextFault) -> Stop
+// Why the work stops where a reader of text answers a fault.
+fn text_stop(fault: TextFault) -> Stop<Converted>
     ensures { result ≡ text_stop fault }
 {
     match fault {
@@ -31,7 +36,8 @@ fn text_stop(fault: TextFault) -> Stop
     }
 }
 
-fn binary_stop(fault: BinaryFault) -> Stop
+// Why the work stops where a reader of a binary file answers a fault.
+fn binary_stop(fault: BinaryFault) -> Stop<Converted>
     ensures { result ≡ binary_stop fault }
 {
     match fault {
@@ -50,12 +56,12 @@ impl RowReader {
     {
         match from {
             Format::Text => RowReader::Text(TextReader::new(alloc, Some(columns))),
-            Format::Binary => RowReader::Binary(BinaryReader::new(alloc, columns, LONGEST)),
+            Format::Binary => RowReader::Binary(BinaryReader::new(alloc, columns, VALUE_LIMIT)),
         }
     }
 
     /// Takes the next piece of the file.
-    pub fn push(&mut self, piece: &[u8]) -> Result<(), Stop>
+    pub fn push(&mut self, piece: &[u8]) -> Result<(), Stop<Converted>>
         requires { ended_of self.old ≡ false }
         ensures { TakesPiece self.old piece.now result self.new }
     {
@@ -66,7 +72,7 @@ impl RowReader {
     }
 
     /// The next row that waits, or, at the end of the input, the next that is left.
-    fn next(&mut self, at_end: bool) -> Result<Option<Row>, Stop>
+    fn next(&mut self, at_end: bool) -> Result<Option<Row>, Stop<Converted>>
         requires begun { at_end ≡ false → ended_of self.old ≡ false }
         requires read { (bytes : List ℕ) × (given : List Row) × HasReadBy self.old bytes given }
         ensures { GivesRow at_end self.old result self.new }
@@ -79,9 +85,9 @@ impl RowReader {
 }
 
 // The next row of a text file.
-fn next_of_text(reader: &mut TextReader, at_end: bool) -> Result<Option<Row>, Stop>
+fn next_of_text(reader: &mut TextReader, at_end: bool) -> Result<Option<Row>, Stop<Converted>>
     requires begun { at_end ≡ false → reader.old.ended ≡ false }
-    requires read { (bytes : List ℕ) × (given : List Row) × HasRead reader.old bytes given }
+    requires read { (bytes : List ℕ) × (given : List Row) × HasReadText reader.old bytes given }
     ensures { GivesRow at_end (Text reader.old) result (Text reader.new) }
 {
     if at_end {
@@ -91,7 +97,7 @@ fn next_of_text(reader: &mut TextReader, at_end: bool) -> Result<Option<Row>, St
 }
 
 // The next row of a binary file.
-fn next_of_binary(reader: &mut BinaryReader, at_end: bool) -> Result<Option<Row>, Stop>
+fn next_of_binary(reader: &mut BinaryReader, at_end: bool) -> Result<Option<Row>, Stop<Converted>>
     requires begun { at_end ≡ false → reader.old.ended ≡ false }
     requires read { (bytes : List ℕ) × (given : List Row) × HasReadBinary reader.old bytes given }
     ensures { GivesRow at_end (Binary reader.old) result (Binary reader.new) }
@@ -102,7 +108,7 @@ fn next_of_binary(reader: &mut BinaryReader, at_end: bool) -> Result<Option<Row>
     binary_row(reader.next())
 }
 
-fn text_row(answer: Result<Option<Row>, TextFault>) -> Result<Option<Row>, Stop>
+fn text_row(answer: Result<Option<Row>, TextFault>) -> Result<Option<Row>, Stop<Converted>>
     ensures { result ≡ stopped text_stop answer }
 {
     match answer {
@@ -111,7 +117,7 @@ fn text_row(answer: Result<Option<Row>, TextFault>) -> Result<Option<Row>, Stop>
     }
 }
 
-fn binary_row(answer: Result<Option<Row>, BinaryFault>) -> Result<Option<Row>, Stop>
+fn binary_row(answer: Result<Option<Row>, BinaryFault>) -> Result<Option<Row>, Stop<Converted>>
     ensures { result ≡ stopped binary_stop answer }
 {
     match answer {
@@ -121,7 +127,12 @@ fn binary_row(answer: Result<Option<Row>, BinaryFault>) -> Result<Option<Row>, S
 }
 
 // Puts a row, and sends what was put where it is much.
-fn put_row<K: Sink>(to: Format, row: &Row, out: &mut Vec<u8>, sink: &mut K) -> Result<(), Stop>
+fn put_row<K: Sink>(
+    to: Format,
+    row: &Row,
+    out: &mut Vec<u8>,
+    sink: &mut K,
+) -> Result<(), Stop<Converted>>
     ensures { PutsRow K.takes K.failures to row.now out.old.items sink.old result out.new.items
         sink.new }
 {
@@ -146,7 +157,7 @@ pub fn put_rows<K: Sink>(
     to: Format,
     out: &mut Vec<u8>,
     sink: &mut K,
-) -> Result<(), Stop>
+) -> Result<(), Stop<Converted>>
     requires begun { at_end ≡ false → ended_of reader.old ≡ false }
     requires read { (bytes : List ℕ) × (given : List Row) × HasReadBy reader.old bytes given }
     ensures { PutsRows K.takes K.failures at_end to reader.old out.old.items sink.old result

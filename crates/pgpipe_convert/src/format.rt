@@ -37,7 +37,7 @@ impl Format {
         }
     }
 
-    /// Appends what stands behind the rows. A refusal leaves `buf` as it was.
+    /// Appends what stands after the rows. A refusal leaves `buf` as it was.
     pub fn write_trailer(self, buf: &mut Vec<u8>) -> Result<(), RowFault>
         ensures { Writes None (trailer_of self) buf.old.items result buf.new.items }
     {

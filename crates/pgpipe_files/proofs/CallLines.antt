@@ -6,11 +6,11 @@ use Rattle.pg_copy.specs.Row.{Row}
 use Rattle.pgpipe_files.specs.declared.calls_file.Group.{Group}
 use Rattle.pgpipe_files.specs.declared.verb.CallVerb.{CallVerb}
 use Rattle.pgpipe_files.specs.declared.verb.StepVerb.{StepVerb}
-use Rattle.pgpipe_files.specs.Fields.{◌>>=◌}
-use Rattle.pgpipe_files.specs.CallsFile.{CallsSoFar, call_line, calls_line, line_by, path, step_or_sync, sync_said}
+use Rattle.pgpipe_files.specs.Arguments.{◌>>=◌}
+use Rattle.pgpipe_files.specs.CallsFile.{CallsSoFar, call_line, calls_line, calls_line_by, path, step_or_sync, sync_said}
 use Rattle.pgpipe_files.proofs.Words.{differs, is_false, no-call_verb, no-step_verb}
 
-by_none : (group : Option Group) (s : CallsSoFar) (n : ℕ) (word : List ℕ) (fields : Row) → (IsUtf8 word → ⊥) → line_by group s n word fields ≡ None
+by_none : (group : Option Group) (s : CallsSoFar) (n : ℕ) (word : List ℕ) (fields : Row) → (IsUtf8 word → ⊥) → calls_line_by group s n word fields ≡ None
 unfolding lib.Utf8.encode
 by_none None s n word fields h = ap (λ (v : Option CallVerb). v >>= λ w. call_line s n w fields) (no-call_verb word h)
 by_none (Some group) s n word fields h =

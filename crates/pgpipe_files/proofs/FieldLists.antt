@@ -2,7 +2,7 @@
 use Rattle.std.proofs.Common.{◌≡◌, ℕ, List, [], ◌∷◌, ◌++◌, Option, Some, None, refl, sym, ap, ◌∙◌, append_assoc}
 use Rattle.pg_copy.specs.Row.{Row}
 use Rattle.pg_wire.specs.value.ErrorField.{ErrorField}
-use Rattle.pgpipe_files.specs.Fields.{◌>>=◌, byte_of, error_fields_of, number, numbers_of, read_at, text_at, texts_of}
+use Rattle.pgpipe_files.specs.Arguments.{◌>>=◌, byte_of, error_fields_of, number, numbers_of, read_at, text_at, texts_of}
 
 -- what is read so far stands in front of what is read of the rest
 abbrev pub onto : {A : Type 0} → List A → Option (List A) → Option (List A)

@@ -1,7 +1,7 @@
 -- What a refusal says of what is read.
 use Rattle.std.proofs.Common.{◌≡◌, Option, None}
-use Rattle.pgpipe_files.specs.declared.line_fault.Refusal.{Refusal}
-use Rattle.pgpipe_files.specs.declared.line_fault.Refusal.TheVariants.{Wrong, Memory}
+use Rattle.pgpipe_files.specs.declared.fault.Refusal.{Refusal}
+use Rattle.pgpipe_files.specs.declared.fault.Refusal.TheVariants.{Wrong, Memory}
 use Rattle.pgpipe_files.specs.Private.Reads.{Fails}
 
 -- where nothing is read, any refusal is right

@@ -13,8 +13,8 @@ use Rattle.pg_backend.specs.script.ScriptPart.TheVariants as part
 use Rattle.pg_pair.specs.declared.event.Call.TheVariants as call
 use Rattle.pg_pair.specs.declared.event.Event.TheVariants as event
 use Rattle.hex.proofs.OnLiterals.{hex_on_literals}
-use Rattle.pgpipe_files.specs.Fields.{number_of, numbers_of, texts_of}
-use Rattle.pgpipe_files.specs.FileLines.{in_the_end, with_rows}
+use Rattle.pgpipe_files.specs.Arguments.{number_of, numbers_of, texts_of}
+use Rattle.pgpipe_files.specs.Lines.{in_the_end, with_rows}
 use Rattle.pgpipe_files.specs.CallsFile.{CallsSaid, Happens, calls_line, calls_said, no_calls}
 use Rattle.pgpipe_files.specs.AnswerFile.{answer_line, text_column}
 use Rattle.pgpipe_files.specs.ScriptFile.{auth_of, no_script, script_line, script_said}
@@ -24,7 +24,7 @@ abbrev row : List (List ℕ) → Row
 row [] = []
 row (text ∷ texts) = Some text ∷ row texts
 
--- what rows are read as, where no fault stands behind them
+-- what rows are read as, where no fault stands after them
 abbrev calls : List Row → Result CallsSaid ℕ
 calls rows = in_the_end (with_rows calls_line no_calls 1 rows Ended) calls_said
 
@@ -42,7 +42,7 @@ pub a_session : calls (row (codes "user" ∷ codes "u" ∷ []) ∷ row (codes "p
 unfolding with_rows calls_line
 a_session = refl
 
--- a setting behind start: the third row, behind one that is skipped
+-- a setting after start: the third row, after one that is skipped
 pub late_setting : calls (row (codes "start" ∷ []) ∷ row ([] ∷ []) ∷ row (codes "user" ∷ codes "u" ∷ []) ∷ []) ≡ Err 3
 unfolding with_rows calls_line
 late_setting = refl
@@ -90,7 +90,7 @@ pub two_answers : script (row (codes "answer" ∷ codes "I" ∷ []) ∷ row (cod
 unfolding with_rows script_line answer_line texts_of
 two_answers = refl
 
--- a row behind a command
+-- a row after a command
 pub row_of_nothing : script (row (codes "answer" ∷ codes "I" ∷ []) ∷ row (codes "command" ∷ codes "SET" ∷ []) ∷ row (codes "row" ∷ codes "1" ∷ []) ∷ []) ≡ Err 3
 unfolding with_rows script_line answer_line
 row_of_nothing = refl
@@ -106,7 +106,7 @@ pub a_description : script (row (codes "answer" ∷ codes "E" ∷ []) ∷ row (c
 unfolding with_rows script_line answer_line texts_of numbers_of
 a_description = refl
 
--- paramtypes as the last line, and with another line behind it
+-- paramtypes as the last line, and with another line after it
 pub open_types : script (row (codes "answer" ∷ codes "I" ∷ []) ∷ row (codes "paramtypes" ∷ []) ∷ []) ≡ Err 2
 unfolding with_rows script_line answer_line numbers_of
 open_types = refl

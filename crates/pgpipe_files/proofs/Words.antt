@@ -2,7 +2,7 @@
 use Rattle.std.proofs.Common.{◌≡◌, ℕ, Bool, true, false, if◌then◌else◌, List, Option, None, codes, refl, ap, subst, sym, ◌∙◌}
 use Rattle.std.specs.Str.{bytes_eq, IsUtf8}
 use Rattle.std.proofs.lemmas.Slice.Eq.{bytes_eq-Decides}
-use Rattle.pgpipe_files.specs.Verbs.{answer_verb, call_verb, script_verb, step_verb}
+use Rattle.pgpipe_files.specs.Verb.{answer_verb, call_verb, script_verb, step_verb}
 
 pub is_false : (b : Bool) → (b ≡ true → ⊥) → b ≡ false
 is_false true h = absurd (h refl)

@@ -12,7 +12,7 @@ use Rattle.pg_backend.specs.script.Load.{Load}
 use Rattle.pg_backend.specs.script.Load.TheVariants as load
 use Rattle.pg_backend.specs.script.ScriptPart.{ScriptPart}
 use Rattle.pg_backend.specs.script.ScriptPart.TheVariants as part
-use Rattle.pgpipe_files.specs.declared.answer_file.Open.{Open}
+use Rattle.pgpipe_files.specs.declared.answer_file.OpenAnswer.{OpenAnswer}
 use Rattle.pgpipe_files.specs.declared.answer_file.Types.{Types}
 use Rattle.pgpipe_files.specs.declared.verb.AnswerVerb.{AnswerVerb}
 use Rattle.pgpipe_files.specs.declared.verb.AnswerVerb.TheVariants as verb
@@ -20,27 +20,31 @@ use Rattle.pgpipe_files.specs.declared.verb.EndWay.{EndWay}
 use Rattle.pgpipe_files.specs.declared.verb.EndWay.TheVariants as ends
 use Rattle.pgpipe_files.specs.declared.verb.LoadWay.{LoadWay}
 use Rattle.pgpipe_files.specs.declared.verb.LoadWay.TheVariants as loads
-use Rattle.pgpipe_files.specs.Verbs.{end_way, load_way}
-use Rattle.pgpipe_files.specs.Fields.{◌>>=◌, text_at, read_at, copy_head_at, number, signed_number, if_all, nothing_of, text_of, pair_of, numbers_of, texts_of, error_fields_of}
+use Rattle.pgpipe_files.specs.Verb.{end_way, load_way}
+use Rattle.pgpipe_files.specs.Arguments.{◌>>=◌, text_at, read_at, copy_head_at, number, signed_number, if_all, nothing_of, text_of, pair_of, numbers_of, texts_of, error_fields_of}
 
 -- ---- an answer of which lines are read: what it is without its last part, that part, and the types of the parameters of the
 -- `described` in the next line
 
 -- an answer with this status and nothing else
-abbrev pub new_answer : Status → Open
-new_answer status = record { answer = record { before = []; parts = []; error = None; status = status }; last = None; types = None }
+abbrev pub new_answer : Status → OpenAnswer
+new_answer status = record {
+  answer = record { before = []; parts = []; error = None; status = status };
+  last = None;
+  types = None;
+}
 
--- the last part stands behind the others
+-- the last part stands after the others
 abbrev pub with_part : Option ScriptPart → Answer → Answer
 with_part None answer = answer
 with_part (Some p) answer = record answer { parts = answer.parts ++ p ∷ [] }
 
 -- with one part more
-abbrev pub begins : Open → ScriptPart → Open
-begins o p = record o { answer = with_part o.last o.answer; last = Some p }
+abbrev pub begins_part : OpenAnswer → ScriptPart → OpenAnswer
+begins_part o p = record o { answer = with_part o.last o.answer; last = Some p }
 
 -- with one thing more that is said before the answer
-abbrev pub says_before : Open → Aside → Open
+abbrev pub says_before : OpenAnswer → Aside → OpenAnswer
 says_before o a = record o { answer = record o.answer { before = o.answer.before ++ a ∷ [] } }
 
 -- ---- what fields say
@@ -102,12 +106,12 @@ with_chunk (Some (part.CopyOut head chunks tag)) bytes = Some (part.CopyOut head
 with_chunk _ bytes = None
 
 -- the answer with its last part grown to this, where the line could be read so
-abbrev pub grows : Open → Option ScriptPart → Option Open
+abbrev pub grows : OpenAnswer → Option ScriptPart → Option OpenAnswer
 grows o read = read >>= λ p. Some (record o { last = Some p })
 
 -- a part whose line is its verb alone
-abbrev pub begins_alone : Open → Row → ScriptPart → Option Open
-begins_alone o fields p = nothing_of fields >>= λ _. Some (begins o p)
+abbrev pub begins_alone : OpenAnswer → Row → ScriptPart → Option OpenAnswer
+begins_alone o fields p = nothing_of fields >>= λ _. Some (begins_part o p)
 
 -- where nothing stands yet
 abbrev pub if_none : {A : Type 0} → Option A → Option Unit
@@ -115,12 +119,13 @@ if_none None = Some tt
 if_none (Some x) = None
 
 -- what a Describe is answered, with these types of parameters where they were told
-abbrev pub described : Open → Option (List ℕ) → Row → Option Open
+abbrev pub described : OpenAnswer → Option (List ℕ) → Row → Option OpenAnswer
 described o parameters fields =
-    text_columns fields >>= λ columns. Some (begins o (part.Described parameters (if_any columns)))
+    text_columns fields
+    >>= λ columns. Some (begins_part o (part.Described parameters (if_any columns)))
 
 -- a line in the row of this number, where no `paramtypes` stands in the line before
-abbrev pub part_line : Open → ℕ → AnswerVerb → Row → Option Open
+abbrev pub part_line : OpenAnswer → ℕ → AnswerVerb → Row → Option OpenAnswer
 part_line o n verb.Notice fields = error_fields_of fields
     >>= λ f. Some (says_before o (aside.Notice f))
 part_line o n verb.Set fields = pair_of fields
@@ -130,38 +135,41 @@ part_line o n verb.Notify fields =
     >>= λ p. Some (says_before o (aside.Notification i.0 p.0 p.1))
 part_line o n verb.Rows fields =
     text_at fields >>= λ t. text_columns t.1
-    >>= λ columns. Some (begins o (part.Rows columns [] t.0))
+    >>= λ columns. Some (begins_part o (part.Rows columns [] t.0))
 part_line o n verb.Row fields = grows o (with_values o.last fields)
-part_line o n verb.Command fields = text_of fields >>= λ tag. Some (begins o (part.Command tag))
+part_line o n verb.Command fields =
+    text_of fields >>= λ tag. Some (begins_part o (part.Command tag))
 part_line o n verb.Empty fields = begins_alone o fields part.Empty
 part_line o n verb.CopyOut fields =
     text_at fields >>= λ t. copy_head_at t.1 >>= λ h. if_all h.0 h.1
-    >>= λ head. Some (begins o (part.CopyOut head [] t.0))
+    >>= λ head. Some (begins_part o (part.CopyOut head [] t.0))
 part_line o n verb.Chunk fields = grows o (text_of fields >>= λ bytes. with_chunk o.last bytes)
 part_line o n verb.CopyIn fields =
-    copy_head_at fields >>= λ h. load_of h.1 >>= λ l. Some (begins o (part.CopyIn h.0 l))
+    copy_head_at fields >>= λ h. load_of h.1 >>= λ l. Some (begins_part o (part.CopyIn h.0 l))
 part_line o n verb.Parsed fields = begins_alone o fields part.Parsed
 part_line o n verb.Bound fields = begins_alone o fields part.Bound
 part_line o n verb.ParamTypes fields =
-    numbers_of fields >>= λ types. Some (record o { types = Some (record { row = n; types = types }) })
+    numbers_of fields
+    >>= λ types. Some (record o { types = Some (record { row = n; types = types }) })
 part_line o n verb.Described fields = described o None fields
-part_line o n verb.Executed fields = end_of fields >>= λ e. Some (begins o (part.Executed [] e))
+part_line o n verb.Executed fields =
+    end_of fields >>= λ e. Some (begins_part o (part.Executed [] e))
 part_line o n verb.Shut fields = begins_alone o fields part.Shut
 part_line o n verb.Error fields =
     if_none o.answer.error >>= λ _. error_fields_of fields
     >>= λ f. Some (record o { answer = record o.answer { error = Some f } })
 
--- behind `paramtypes` only `described` can stand
-abbrev pub line_behind : Option Types → Open → ℕ → AnswerVerb → Row → Option Open
-line_behind None o n v fields = part_line o n v fields
-line_behind (Some types) o n verb.Described fields = described o (Some types.types) fields
-line_behind (Some types) o n v fields = None
+-- after `paramtypes` only `described` can stand
+abbrev pub line_after : Option Types → OpenAnswer → ℕ → AnswerVerb → Row → Option OpenAnswer
+line_after None o n v fields = part_line o n v fields
+line_after (Some types) o n verb.Described fields = described o (Some types.types) fields
+line_after (Some types) o n v fields = None
 
 -- a line in the row of this number, in its place; a `paramtypes` waits for the next line alone
-unfoldable pub answer_line : Open → ℕ → AnswerVerb → Row → Option Open
-answer_line o n v fields = line_behind o.types (record o { types = None }) n v fields
+unfoldable pub answer_line : OpenAnswer → ℕ → AnswerVerb → Row → Option OpenAnswer
+answer_line o n v fields = line_after o.types (record o { types = None }) n v fields
 
 -- an answer is whole where no `paramtypes` was its last line
-abbrev pub whole_answer : Open → Option Types → Option Answer
+abbrev pub whole_answer : OpenAnswer → Option Types → Option Answer
 whole_answer o None = Some (with_part o.last o.answer)
 whole_answer o (Some types) = None

@@ -18,9 +18,9 @@ use Rattle.pgpipe_files.specs.declared.verb.CallVerb.{CallVerb}
 use Rattle.pgpipe_files.specs.declared.verb.CallVerb.TheVariants as verb
 use Rattle.pgpipe_files.specs.declared.verb.StepVerb.{StepVerb}
 use Rattle.pgpipe_files.specs.declared.verb.StepVerb.TheVariants as step_line
-use Rattle.pgpipe_files.specs.Verbs.{call_verb, step_verb, target_of}
-use Rattle.pgpipe_files.specs.Fields.{◌>>=◌, text_at, read_at, pair_at, signed_number, if_all, nothing_of, text_of, pair_of, number_of, numbers_of}
-use Rattle.pgpipe_files.specs.FileLines.{with_file, in_the_end}
+use Rattle.pgpipe_files.specs.Verb.{call_verb, step_verb, target_of}
+use Rattle.pgpipe_files.specs.Arguments.{◌>>=◌, text_at, read_at, pair_at, signed_number, if_all, nothing_of, text_of, pair_of, number_of, numbers_of}
+use Rattle.pgpipe_files.specs.Lines.{with_file, in_the_end}
 
 -- What a line says that happens: an event, a flow, or that the bytes of the file of this path are handed over.
 pub data Said : Type 0 where
@@ -69,14 +69,17 @@ path bytes = if is_utf8 bytes then Some bytes else None
 -- a line in the row of this number
 abbrev pub call_line : CallsSoFar → ℕ → CallVerb → Row → Option CallsSoFar
 call_line s n verb.User fields = set s (text_of fields) (λ user. record s.settings { user = user })
-call_line s n verb.Database fields = set s (text_of fields) (λ name. record s.settings { database = Some name })
+call_line s n verb.Database fields =
+    set s (text_of fields) (λ name. record s.settings { database = Some name })
 call_line s n verb.Parameter fields =
     set s (pair_of fields) (λ pair. record s.settings { pairs = s.settings.pairs ++ pair ∷ [] })
 call_line s n verb.Password fields =
     set s (text_of fields) (λ password. record s.settings { password = Some password })
 call_line s n verb.Start fields =
-    nothing_of fields >>= λ _. Some (record (says s (Happens (event.Call call.Start))) { started = true })
-call_line s n verb.Query fields = called s (text_of fields) (λ text. event.Call (call.Request (request.Query text)))
+    nothing_of fields
+    >>= λ _. Some (record (says s (Happens (event.Call call.Start))) { started = true })
+call_line s n verb.Query fields =
+    called s (text_of fields) (λ text. event.Call (call.Request (request.Query text)))
 call_line s n verb.Group fields =
     nothing_of fields >>= λ _. Some (record s { group = Some (record { row = n; steps = [] }) })
 call_line s n verb.Chunk fields = called s (text_of fields) (λ bytes. event.Call (call.Chunk bytes))
@@ -110,13 +113,16 @@ step_of step_line.Close fields = named_of fields >>= λ named. Some (step.Close 
 
 -- `sync` ends the group: it is a request of its steps
 abbrev pub sync_said : CallsSoFar → Group → Row → Option CallsSoFar
-sync_said s group fields = called s (nothing_of fields) (λ _. event.Call (call.Request (request.Group group.steps)))
+sync_said s group fields =
+    called s (nothing_of fields) (λ _. event.Call (call.Request (request.Group group.steps)))
 
 -- a line in a group: a step, or the `sync` that ends it
 abbrev pub step_or_sync : CallsSoFar → Group → Option StepVerb → List ℕ → Row → Option CallsSoFar
 step_or_sync s group (Some v) word fields =
-    step_of v fields >>= λ st. Some (record s { group = Some (record group { steps = group.steps ++ st ∷ [] }) })
-step_or_sync s group None word fields = if bytes_eq word (codes "sync") then sync_said s group fields else None
+    step_of v fields
+    >>= λ st. Some (record s { group = Some (record group { steps = group.steps ++ st ∷ [] }) })
+step_or_sync s group None word fields =
+    if bytes_eq word (codes "sync") then sync_said s group fields else None
 
 -- a line with this word first, in a group
 abbrev pub in_group : CallsSoFar → Group → List ℕ → Row → Option CallsSoFar
@@ -129,13 +135,13 @@ abbrev pub in_no_group : CallsSoFar → ℕ → List ℕ → Row → Option Call
 in_no_group s n word fields = call_verb word >>= λ v. call_line s n v fields
 
 -- a line by where it stands: in a group or in none
-abbrev pub line_by : Option Group → CallsSoFar → ℕ → List ℕ → Row → Option CallsSoFar
-line_by (Some group) s n word fields = in_group s group word fields
-line_by None s n word fields = in_no_group s n word fields
+abbrev pub calls_line_by : Option Group → CallsSoFar → ℕ → List ℕ → Row → Option CallsSoFar
+calls_line_by (Some group) s n word fields = in_group s group word fields
+calls_line_by None s n word fields = in_no_group s n word fields
 
 -- a line with this word first, in its place; where a group was open, its line says whether it still is
 unfoldable pub calls_line : CallsSoFar → ℕ → List ℕ → Row → Option CallsSoFar
-calls_line s n word fields = line_by s.group (record s { group = None }) n word fields
+calls_line s n word fields = calls_line_by s.group (record s { group = None }) n word fields
 
 -- before the first line: no user is an empty one, and the limit is the greatest that a client takes
 abbrev pub no_calls : CallsSoFar
@@ -151,7 +157,7 @@ abbrev pub closed_calls : CallsSoFar → Option Group → Result CallsSaid ℕ
 closed_calls s None = Ok (record { settings = s.settings; lines = s.lines })
 closed_calls s (Some group) = Err group.row
 
--- behind the last line: a group that is open is refused at its own line
+-- after the last line: a group that is open is refused at its own line
 abbrev pub calls_said : CallsSoFar → Result CallsSaid ℕ
 calls_said s = closed_calls s s.group
 

@@ -1,8 +1,8 @@
 -- What a reader must believe: what each line of CALLS and of SCRIPT is read as in its place, the files that calls name, and what stands
 -- in their place.
-pub mod Verbs
-pub mod Fields
-pub mod FileLines
+pub mod Verb
+pub mod Arguments
+pub mod Lines
 pub mod CallsFile
 pub mod AnswerFile
 pub mod ScriptFile

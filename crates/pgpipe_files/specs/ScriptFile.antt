@@ -11,15 +11,15 @@ use Rattle.pg_backend.specs.script.Auth.{Auth}
 use Rattle.pg_backend.specs.script.Auth.TheVariants as auth
 use Rattle.pg_backend.specs.script.Key.{Key}
 use Rattle.pg_backend.specs.script.Script.{Script}
-use Rattle.pgpipe_files.specs.declared.answer_file.Open.{Open}
+use Rattle.pgpipe_files.specs.declared.answer_file.OpenAnswer.{OpenAnswer}
 use Rattle.pgpipe_files.specs.declared.answer_file.Types.{Types}
 use Rattle.pgpipe_files.specs.declared.verb.AuthWay.{AuthWay}
 use Rattle.pgpipe_files.specs.declared.verb.AuthWay.TheVariants as way
 use Rattle.pgpipe_files.specs.declared.verb.ScriptVerb.{ScriptVerb}
 use Rattle.pgpipe_files.specs.declared.verb.ScriptVerb.TheVariants as verb
-use Rattle.pgpipe_files.specs.Verbs.{answer_verb, auth_way, script_verb}
-use Rattle.pgpipe_files.specs.Fields.{◌>>=◌, read_at, signed_number, if_all, nothing_of, text_of, pair_of}
-use Rattle.pgpipe_files.specs.FileLines.{with_file, in_the_end}
+use Rattle.pgpipe_files.specs.Verb.{answer_verb, auth_way, script_verb}
+use Rattle.pgpipe_files.specs.Arguments.{◌>>=◌, read_at, signed_number, if_all, nothing_of, text_of, pair_of}
+use Rattle.pgpipe_files.specs.Lines.{with_file, in_the_end}
 use Rattle.pgpipe_files.specs.AnswerFile.{answer_line, if_none, new_answer, whole_answer, with_part}
 
 -- what was read of SCRIPT so far: what stands before the answers, the answers that are whole, and the one that lines are read of
@@ -28,7 +28,7 @@ pub record ScriptSoFar : Type 0 where
   pub pairs : List (List ℕ × List ℕ)
   pub key : Option Key
   pub answers : List Answer
-  pub begun : Option Open
+  pub begun : Option OpenAnswer
 
 -- ---- what fields say
 
@@ -53,8 +53,8 @@ key_of fields =
     >>= λ s. if_all (record { process = p.0; secret = s.0 }) s.1
 
 -- the status that a letter stands for
-abbrev pub status_of : List ℕ → Option Status
-status_of letter =
+abbrev pub status_named : List ℕ → Option Status
+status_named letter =
     if bytes_eq letter (codes "I") then Some status.Idle
     else if bytes_eq letter (codes "T") then Some status.InBlock
     else if bytes_eq letter (codes "E") then Some status.Failed
@@ -62,13 +62,13 @@ status_of letter =
 
 -- ---- lines
 
--- the answer that lines are read of, if there is one, stands behind the others
-abbrev pub closed_by : Option Open → ScriptSoFar → Option ScriptSoFar
+-- the answer that lines are read of, if there is one, stands after the others
+abbrev pub closed_by : Option OpenAnswer → ScriptSoFar → Option ScriptSoFar
 closed_by None s = Some s
 closed_by (Some o) s =
     whole_answer o o.types >>= λ a. Some (record s { answers = s.answers ++ a ∷ []; begun = None })
 
--- the answer that lines are read of is whole, and stands behind the others
+-- the answer that lines are read of is whole, and stands after the others
 abbrev pub closed : ScriptSoFar → Option ScriptSoFar
 closed s = closed_by s.begun s
 
@@ -83,24 +83,24 @@ own_line s verb.Key fields =
     if_none s.begun >>= λ _. key_of fields >>= λ k. if_none s.key
     >>= λ _. Some (record s { key = Some k })
 own_line s verb.Answer fields =
-    text_of fields >>= λ letter. status_of letter >>= λ st. closed s
+    text_of fields >>= λ letter. status_named letter >>= λ st. closed s
     >>= λ next. Some (record next { begun = Some (new_answer st) })
 
 -- a line with this word first, that stands in an answer
-abbrev pub in_answer : ScriptSoFar → Option Open → ℕ → List ℕ → Row → Option ScriptSoFar
+abbrev pub in_answer : ScriptSoFar → Option OpenAnswer → ℕ → List ℕ → Row → Option ScriptSoFar
 in_answer s None n word fields = None
 in_answer s (Some o) n word fields =
     answer_verb word >>= λ v. answer_line o n v fields
     >>= λ next. Some (record s { begun = Some next })
 
 -- a line whose word is one of those that stand in no answer, or another one
-abbrev pub line_by : Option ScriptVerb → ScriptSoFar → ℕ → List ℕ → Row → Option ScriptSoFar
-line_by (Some v) s n word fields = own_line s v fields
-line_by None s n word fields = in_answer s s.begun n word fields
+abbrev pub script_line_by : Option ScriptVerb → ScriptSoFar → ℕ → List ℕ → Row → Option ScriptSoFar
+script_line_by (Some v) s n word fields = own_line s v fields
+script_line_by None s n word fields = in_answer s s.begun n word fields
 
 -- a line with this word first, in its place
 unfoldable pub script_line : ScriptSoFar → ℕ → List ℕ → Row → Option ScriptSoFar
-script_line s n word fields = line_by (script_verb word) s n word fields
+script_line s n word fields = script_line_by (script_verb word) s n word fields
 
 -- ---- the file
 
@@ -110,19 +110,20 @@ no_script = record { auth = None; pairs = []; key = None; answers = []; begun = 
 
 -- without a line `auth` each client is let in
 abbrev pub script_with : ScriptSoFar → List Answer → Script
-script_with s answers = record { auth = unwrap_or s.auth auth.Trust; pairs = s.pairs; key = s.key; answers = answers }
+script_with s answers =
+    record { auth = unwrap_or s.auth auth.Trust; pairs = s.pairs; key = s.key; answers = answers }
 
 -- the script with its last answer; a line `paramtypes` that still waits is refused
-abbrev pub answer_said : ScriptSoFar → Open → Option Types → Result Script ℕ
+abbrev pub answer_said : ScriptSoFar → OpenAnswer → Option Types → Result Script ℕ
 answer_said s o None = Ok (script_with s (s.answers ++ with_part o.last o.answer ∷ []))
 answer_said s o (Some types) = Err types.row
 
 -- the script with the answer that lines were read of last, if there is one
-abbrev pub said_by : Option Open → ScriptSoFar → Result Script ℕ
+abbrev pub said_by : Option OpenAnswer → ScriptSoFar → Result Script ℕ
 said_by None s = Ok (script_with s s.answers)
 said_by (Some o) s = answer_said s o o.types
 
--- behind the last line: `paramtypes` without its `described` is refused at its own line
+-- after the last line: `paramtypes` without its `described` is refused at its own line
 abbrev pub script_said : ScriptSoFar → Result Script ℕ
 script_said s = said_by s.begun s
 

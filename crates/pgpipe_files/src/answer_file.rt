@@ -1,11 +1,11 @@
 //! Reading the lines of SCRIPT that stand in an answer.
 
 ghost use Rattle.std.specs.Prelude.{◌≡◌, option_map};
-ghost use Rattle.pgpipe_files.specs.AnswerFile.{answer_line, begins, begins_alone, described, end_of, load_of, new_answer, part_line, says_before, text_column, text_columns, with_part, whole_answer};
-ghost use Rattle.pgpipe_files.specs.Private.Reads.{Gives, Leaves};
+ghost use Rattle.pgpipe_files.specs.AnswerFile.{answer_line, begins_part, begins_alone, described, end_of, load_of, new_answer, part_line, says_before, text_column, text_columns, with_part, whole_answer};
+ghost use Rattle.pgpipe_files.specs.Private.Reads.{ReadsAs, Leaves};
 
 use crate::arguments::Arguments;
-use crate::line_fault::Refusal;
+use crate::fault::Refusal;
 use crate::verb::{AnswerVerb, EndWay, LoadWay};
 use pg_backend::{Answer, Load, ScriptPart};
 use pg_wire::{Aside, Column, ExecEnd, Seq, Status};
@@ -13,7 +13,7 @@ use std::alloc::Global;
 
 /// An answer of which lines are read.
 #[derive(Drop)]
-pub struct Open {
+pub struct OpenAnswer {
     // without its last part
     answer: Answer,
     last: Option<ScriptPart>,
@@ -29,12 +29,12 @@ pub struct Types {
     pub types: Seq<u32>,
 }
 
-impl Open {
+impl OpenAnswer {
     /// An answer that ends with this status.
-    pub fn new(alloc: Global, status: Status) -> Open
+    pub fn new(alloc: Global, status: Status) -> OpenAnswer
         ensures { result ≡ new_answer status }
     {
-        Open {
+        OpenAnswer {
             answer: Answer {
                 before: Seq::new(Vec::new(alloc)),
                 parts: Seq::new(Vec::new(alloc)),
@@ -48,7 +48,7 @@ impl Open {
 
     /// The answer, of which no more lines come.
     pub fn answer(mut self) -> Result<Answer, Refusal>
-        ensures { Gives result (whole_answer self self.types) }
+        ensures { ReadsAs result (whole_answer self self.types) }
     {
         if self.types.is_some() {
             return Err(Refusal::Wrong);
@@ -70,7 +70,7 @@ impl Open {
     }
 
     fn part(&mut self, part: ScriptPart) -> Result<(), Refusal>
-        ensures { Leaves result self.new (Some (begins self.old part)) }
+        ensures { Leaves result self.new (Some (begins_part self.old part)) }
     {
         self.close()?;
         self.last = Some(part);
@@ -292,9 +292,9 @@ impl Open {
     }
 }
 
-// What becomes of a copy from the client, by the fields behind its head.
+// What becomes of a copy from the client, by the fields after its head.
 fn load_of(mut arguments: Arguments) -> Result<Load, Refusal>
-    ensures { Gives result (load_of arguments) }
+    ensures { ReadsAs result (load_of arguments) }
 {
     let word = arguments.text()?;
     match LoadWay::named(word.as_slice()).ok_or(Refusal::Wrong)? {
@@ -309,7 +309,7 @@ fn load_of(mut arguments: Arguments) -> Result<Load, Refusal>
 
 // How a run ended, by the fields of its line.
 fn end_of(mut arguments: Arguments) -> Result<ExecEnd, Refusal>
-    ensures { Gives result (end_of arguments) }
+    ensures { ReadsAs result (end_of arguments) }
 {
     let word = arguments.text()?;
     match EndWay::named(word.as_slice()).ok_or(Refusal::Wrong)? {
@@ -327,7 +327,7 @@ fn end_of(mut arguments: Arguments) -> Result<ExecEnd, Refusal>
 
 // The columns of the names that are left.
 fn text_columns(alloc: Global, arguments: Arguments) -> Result<Seq<Column>, Refusal>
-    ensures { Gives result (text_columns arguments) }
+    ensures { ReadsAs result (text_columns arguments) }
 {
     let mut columns = Seq::new(Vec::new(alloc));
     for name in arguments.texts()? {

@@ -2,11 +2,11 @@
 
 ghost use Rattle.std.specs.Prelude.{◌≡◌, ◌≢◌, ◌↔◌, ◌⊎◌, [], IsTrue, IfOk, OnErr, Some, slice_index};
 ghost use Rattle.std.specs.Str.{IsUtf8};
-ghost use Rattle.pgpipe_files.specs.declared.line_fault.Refusal.TheVariants.{Memory};
-ghost use Rattle.pgpipe_files.specs.Fields.{byte_of, copy_head, copy_head_at, error_fields_of, nothing_of, number, number_of, numbers_of, pair_at, pair_of, read_at, short_number, signed_number, text_at, text_of, texts_of};
-ghost use Rattle.pgpipe_files.specs.Private.Reads.{Gives, TakesOff};
+ghost use Rattle.pgpipe_files.specs.declared.fault.Refusal.TheVariants.{Memory};
+ghost use Rattle.pgpipe_files.specs.Arguments.{byte_of, copy_head, copy_head_at, error_fields_of, nothing_of, number, number_of, numbers_of, pair_at, pair_of, read_at, short_number, signed_number, text_at, text_of, texts_of};
+ghost use Rattle.pgpipe_files.specs.Private.Reads.{ReadsAs, TakesOff};
 
-use crate::line_fault::Refusal;
+use crate::fault::Refusal;
 use crate::verb::{CopyFormat, format_of};
 use pg_copy::Row;
 use pg_wire::{CopyHead, ErrorField, Fields, Seq, Values};
@@ -99,7 +99,7 @@ impl Arguments {
 
     /// The fields that are left: texts.
     pub fn texts(mut self) -> Result<Seq<Seq<u8>>, Refusal>
-        ensures { Gives result (texts_of self) }
+        ensures { ReadsAs result (texts_of self) }
     {
         let mut texts = Seq::new(Vec::new(self.alloc));
         while !self.is_empty() {
@@ -110,7 +110,7 @@ impl Arguments {
 
     /// The fields that are left: numbers in decimal.
     pub fn numbers(mut self) -> Result<Seq<u32>, Refusal>
-        ensures { Gives result (numbers_of self) }
+        ensures { ReadsAs result (numbers_of self) }
     {
         let mut numbers = Seq::new(Vec::new(self.alloc));
         while !self.is_empty() {
@@ -121,14 +121,14 @@ impl Arguments {
 
     /// The fields that are left: values, of which any may be null.
     pub fn values(self) -> Result<Values, Refusal>
-        ensures { Gives result (Some self) }
+        ensures { ReadsAs result (Some self) }
     {
         Ok(self.fields.collect(self.alloc)?)
     }
 
     /// The fields that are left: those of an error or a notice, each a code of one byte and a value.
     pub fn error_fields(mut self) -> Result<Fields, Refusal>
-        ensures { Gives result (error_fields_of self) }
+        ensures { ReadsAs result (error_fields_of self) }
     {
         let mut fields = Seq::new(Vec::new(self.alloc));
         while !self.is_empty() {
@@ -142,7 +142,7 @@ impl Arguments {
 
     /// The one field that is left, which is a text.
     pub fn only_text(mut self) -> Result<Seq<u8>, Refusal>
-        ensures text { Gives result (text_of self) }
+        ensures text { ReadsAs result (text_of self) }
         ensures at_once { result ≡ Err Memory → ⊥ }
     {
         let text = self.text()?;
@@ -152,7 +152,7 @@ impl Arguments {
 
     /// The two fields that are left, which are texts.
     pub fn only_pair(mut self) -> Result<(Seq<u8>, Seq<u8>), Refusal>
-        ensures pair { Gives result (pair_of self) }
+        ensures pair { ReadsAs result (pair_of self) }
         ensures at_once { result ≡ Err Memory → ⊥ }
     {
         let pair = self.pair()?;
@@ -162,7 +162,7 @@ impl Arguments {
 
     /// The one field that is left, which is a number in decimal.
     pub fn only_number(mut self) -> Result<u32, Refusal>
-        ensures { Gives result (number_of self) }
+        ensures { ReadsAs result (number_of self) }
     {
         let number = self.number()?;
         self.end()?;
@@ -171,7 +171,7 @@ impl Arguments {
 
     /// Nothing is left.
     pub fn end(mut self) -> Result<(), Refusal>
-        ensures all { Gives result (nothing_of self) }
+        ensures all { ReadsAs result (nothing_of self) }
         ensures at_once { result ≡ Err Memory → ⊥ }
     {
         match self.fields.next() {
@@ -196,7 +196,7 @@ fn copy_head(alloc: Global, format: CopyFormat, columns: u16) -> Result<CopyHead
 
 // The number that a text says in decimal, with `-` where it is negative.
 fn signed_number(text: &[u8]) -> Result<i32, Refusal>
-    ensures { Gives result (signed_number text.now) }
+    ensures { ReadsAs result (signed_number text.now) }
 {
     match number_text(text)?.parse::<i32>() {
         Ok(number) => Ok(number),
@@ -206,7 +206,7 @@ fn signed_number(text: &[u8]) -> Result<i32, Refusal>
 
 // The number that a text says in decimal.
 fn number(text: &[u8]) -> Result<u32, Refusal>
-    ensures { Gives result (number text.now) }
+    ensures { ReadsAs result (number text.now) }
 {
     match number_text(text)?.parse::<u32>() {
         Ok(number) => Ok(number),
@@ -216,7 +216,7 @@ fn number(text: &[u8]) -> Result<u32, Refusal>
 
 // The number that a text says in decimal, which is at most 65,535.
 fn short_number(text: &[u8]) -> Result<u16, Refusal>
-    ensures { Gives result (short_number text.now) }
+    ensures { ReadsAs result (short_number text.now) }
 {
     match number_text(text)?.parse::<u16>() {
         Ok(number) => Ok(number),
@@ -237,7 +237,7 @@ fn number_text(text: &[u8]) -> Result<&str, Refusal>
 
 // The byte of a text that has one.
 fn one_byte(text: &[u8]) -> Result<u8, Refusal>
-    ensures { Gives result (byte_of text.now) }
+    ensures { ReadsAs result (byte_of text.now) }
 {
     match text {
         [byte] => Ok(*byte),

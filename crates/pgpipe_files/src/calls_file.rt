@@ -2,17 +2,17 @@
 
 ghost use Rattle.std.specs.Prelude.{◌≡◌, ◌<◌, ℕ, ◌+◌, length, Some, Ok, Err, IfOk, OnOk, OnErr, IsSome};
 ghost use Rattle.std.specs.Option.{option_copied};
-ghost use Rattle.pgpipe_files.specs.declared.line_fault.LineFault.TheVariants.{Line};
+ghost use Rattle.pgpipe_files.specs.declared.fault.LineFault.TheVariants.{Line};
 ghost use Rattle.pgpipe_files.specs.CallsFile.{Happens, call_line, called, calls_line, calls_of, calls_said, if_before_start, in_group, in_no_group, line_said, no_calls, path, says, what_is_said};
-ghost use Rattle.pgpipe_files.specs.Fields.{nothing_of};
+ghost use Rattle.pgpipe_files.specs.Arguments.{nothing_of};
 ghost use Rattle.pgpipe_files.specs.Filling.{chunk_lines, filled, files, next_file};
 ghost use Rattle.pgpipe_files.specs.Private.Files.{file_place, path_of};
-ghost use Rattle.pgpipe_files.specs.Private.Reads.{Answers, Gives, GivesText, Leaves};
+ghost use Rattle.pgpipe_files.specs.Private.Reads.{ReadsFileAs, ReadsAs, GivesText, Leaves};
 
 use crate::arguments::Arguments;
-use crate::file_lines::{TakesLines, take_lines};
-use crate::line_fault::{LineFault, Refusal};
-use crate::step_lines::step_of;
+use crate::fault::{LineFault, Refusal};
+use crate::lines::{TakesLines, take_lines};
+use crate::steps::step_of;
 use crate::verb::{CallVerb, StepVerb};
 use pg_client::Settings;
 use pg_pair::{Call, Event};
@@ -140,7 +140,7 @@ pub fn read_calls(alloc: Global, bytes: &[u8]) -> Result<Calls, LineFault>
     ensures memory { result ≡ Err LineFault.Memory → 0 < length bytes.now }
     ensures limit { IfOk result (λ calls. calls.settings.limit ≡ 1073741823) }
 {
-    let mut draft = Draft::new(alloc);
+    let mut draft = CallsDraft::new(alloc);
     take_lines(alloc, bytes, &mut draft)?;
     draft.calls()
 }
@@ -156,7 +156,7 @@ pub struct Group {
 
 // Calls of which lines are read.
 #[derive(Drop)]
-struct Draft {
+struct CallsDraft {
     alloc: Global,
     user: Seq<u8>,
     database: Option<Seq<u8>>,
@@ -167,7 +167,7 @@ struct Draft {
     group: Option<Group>,
 }
 
-impl Model for Draft {
+impl Model for CallsDraft {
     ghost use Rattle.std.specs.Prelude.{map};
     ghost use Rattle.pgpipe_files.specs.CallsFile.{CallsSoFar, line_said};
 
@@ -181,7 +181,7 @@ impl Model for Draft {
     } };
 }
 
-impl TakesLines for Draft {
+impl TakesLines for CallsDraft {
     ghost line = { calls_line };
 
     #[tactic(auto, using(crate::proofs::CallLines::no_calls_line), unfolding(crate::specs::CallsFile::calls_line))]
@@ -197,11 +197,11 @@ impl TakesLines for Draft {
     }
 }
 
-impl Draft {
-    fn new(alloc: Global) -> Draft
+impl CallsDraft {
+    fn new(alloc: Global) -> CallsDraft
         ensures { result ≡ no_calls }
     {
-        Draft {
+        CallsDraft {
             alloc,
             user: Seq::new(Vec::new(alloc)),
             database: None,
@@ -264,7 +264,7 @@ impl Draft {
 
     // The calls, of which no more lines come.
     fn calls(self) -> Result<Calls, LineFault>
-        ensures calls { Answers what_is_said result (calls_said self) }
+        ensures calls { ReadsFileAs what_is_said result (calls_said self) }
         ensures at_once { result ≡ Err LineFault.Memory → ⊥ }
         ensures limit { IfOk result (λ calls. calls.settings.limit ≡ 1073741823) }
     {
@@ -306,7 +306,7 @@ impl Draft {
 
     // A setting, which stands before `start`.
     fn before_start(&self) -> Result<(), Refusal>
-        ensures { Gives result (if_before_start self.now) }
+        ensures { ReadsAs result (if_before_start self.now) }
     {
         if self.started {
             return Err(Refusal::Wrong);

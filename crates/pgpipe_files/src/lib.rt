@@ -4,12 +4,12 @@
 mod answer_file;
 mod arguments;
 mod calls_file;
-mod file_lines;
-mod line_fault;
+mod fault;
+mod lines;
 mod script_file;
-mod step_lines;
+mod steps;
 mod verb;
 
 pub use calls_file::{CallLine, Calls, read_calls};
-pub use line_fault::LineFault;
+pub use fault::LineFault;
 pub use script_file::read_script;

@@ -1,17 +1,17 @@
 //! Reading SCRIPT: what a backend answers.
 
 ghost use Rattle.std.specs.Prelude.{◌≡◌, ◌<◌, ℕ, length, Some, Ok, Err, IfOk, OnErr, IsSome};
-ghost use Rattle.pgpipe_files.specs.declared.line_fault.LineFault.TheVariants.{Line};
-ghost use Rattle.pgpipe_files.specs.declared.line_fault.Refusal.TheVariants.{Memory};
+ghost use Rattle.pgpipe_files.specs.declared.fault.LineFault.TheVariants.{Line};
+ghost use Rattle.pgpipe_files.specs.declared.fault.Refusal.TheVariants.{Memory};
 ghost use Rattle.pgpipe_files.specs.AnswerFile.{if_none};
 ghost use Rattle.pgpipe_files.specs.Private.Begun.{row_left_open};
-ghost use Rattle.pgpipe_files.specs.Private.Reads.{Answers, Gives, Leaves};
-ghost use Rattle.pgpipe_files.specs.ScriptFile.{auth_of, closed, in_answer, key_of, no_script, own_line, salt_of, script_line, script_of, script_said, status_of};
+ghost use Rattle.pgpipe_files.specs.Private.Reads.{ReadsFileAs, ReadsAs, Leaves};
+ghost use Rattle.pgpipe_files.specs.ScriptFile.{auth_of, closed, in_answer, key_of, no_script, own_line, salt_of, script_line, script_of, script_said, status_named};
 
-use crate::answer_file::Open;
+use crate::answer_file::OpenAnswer;
 use crate::arguments::Arguments;
-use crate::file_lines::{TakesLines, take_lines};
-use crate::line_fault::{LineFault, Refusal};
+use crate::fault::{LineFault, Refusal};
+use crate::lines::{TakesLines, take_lines};
 use crate::verb::{AnswerVerb, AuthWay, ScriptVerb};
 use hex::FromHex;
 use pg_backend::{Answer, Auth, Key, Script};
@@ -51,24 +51,24 @@ pub fn read_script(alloc: Global, bytes: &[u8]) -> Result<Script, LineFault>
     ensures refused { (n : ℕ) → result ≡ Err (Line n) → script_of bytes.now ≡ Err n }
     ensures memory { result ≡ Err LineFault.Memory → 0 < length bytes.now }
 {
-    let mut draft = Draft::new(alloc);
+    let mut draft = ScriptDraft::new(alloc);
     take_lines(alloc, bytes, &mut draft)?;
     draft.script()
 }
 
 // A script of which lines are read.
 #[derive(Drop)]
-struct Draft {
+struct ScriptDraft {
     alloc: Global,
     auth: Option<Auth>,
     pairs: Seq<(Seq<u8>, Seq<u8>)>,
     key: Option<Key>,
     // the answers before the one that lines are read of
     answers: Seq<Answer>,
-    begun: Option<Open>,
+    begun: Option<OpenAnswer>,
 }
 
-impl Model for Draft {
+impl Model for ScriptDraft {
     ghost use Rattle.pgpipe_files.specs.ScriptFile.{ScriptSoFar};
 
     ghost Value = { ScriptSoFar };
@@ -76,7 +76,7 @@ impl Model for Draft {
     ghost view = { λ d. record { auth = d.auth; pairs = d.pairs; key = d.key; answers = d.answers; begun = d.begun } };
 }
 
-impl TakesLines for Draft {
+impl TakesLines for ScriptDraft {
     ghost line = { script_line };
 
     #[tactic(auto, using(crate::proofs::ScriptLines::no_script_line), unfolding(crate::specs::ScriptFile::script_line))]
@@ -92,11 +92,11 @@ impl TakesLines for Draft {
     }
 }
 
-impl Draft {
-    fn new(alloc: Global) -> Draft
+impl ScriptDraft {
+    fn new(alloc: Global) -> ScriptDraft
         ensures { result ≡ no_script }
     {
-        Draft {
+        ScriptDraft {
             alloc,
             auth: None,
             pairs: Seq::new(Vec::new(alloc)),
@@ -132,7 +132,7 @@ impl Draft {
 
     // The script, of which no more lines come.
     fn script(mut self) -> Result<Script, LineFault>
-        ensures script { Answers (λ script. script) result (script_said self) }
+        ensures script { ReadsFileAs (λ script. script) result (script_said self) }
         ensures memory { result ≡ Err LineFault.Memory → IsSome self.begun }
     {
         if let Some(row) = self.row_left_open() {
@@ -159,7 +159,7 @@ impl Draft {
 
     // A line that stands before the answers.
     fn before_answers(&self) -> Result<(), Refusal>
-        ensures { Gives result (if_none self.now.begun) }
+        ensures { ReadsAs result (if_none self.now.begun) }
     {
         match self.begun {
             None => Ok(()),
@@ -203,9 +203,9 @@ impl Draft {
         ensures { Leaves result self.new (own_line self.old ScriptVerb.Answer arguments) }
     {
         let letter = arguments.only_text()?;
-        let status = status_of(letter.as_slice())?;
+        let status = status_named(letter.as_slice())?;
         self.close()?;
-        self.begun = Some(Open::new(self.alloc, status));
+        self.begun = Some(OpenAnswer::new(self.alloc, status));
         Ok(())
     }
 
@@ -223,7 +223,7 @@ impl Draft {
 
 // How a line `auth` with these fields has a client let in.
 fn auth_of(mut arguments: Arguments) -> Result<Auth, Refusal>
-    ensures auth { Gives result (auth_of arguments) }
+    ensures auth { ReadsAs result (auth_of arguments) }
     ensures at_once { result ≡ Err Memory → ⊥ }
 {
     let word = arguments.text()?;
@@ -243,7 +243,7 @@ fn auth_of(mut arguments: Arguments) -> Result<Auth, Refusal>
 
 // The salt that 8 hexadecimal digits stand for.
 fn salt_of(digits: &[u8]) -> Result<[u8; 4], Refusal>
-    ensures salt { Gives result (salt_of digits.now) }
+    ensures salt { ReadsAs result (salt_of digits.now) }
     ensures at_once { result ≡ Err Memory → ⊥ }
 {
     <[u8; 4]>::from_hex(digits).map_err(|_| Refusal::Wrong)
@@ -251,7 +251,7 @@ fn salt_of(digits: &[u8]) -> Result<[u8; 4], Refusal>
 
 // The key of these fields.
 fn key_of(mut arguments: Arguments) -> Result<Key, Refusal>
-    ensures { Gives result (key_of arguments) }
+    ensures { ReadsAs result (key_of arguments) }
 {
     let process = arguments.signed()?;
     let secret = arguments.signed()?;
@@ -260,8 +260,8 @@ fn key_of(mut arguments: Arguments) -> Result<Key, Refusal>
 }
 
 // The status that a letter stands for.
-fn status_of(letter: &[u8]) -> Result<Status, Refusal>
-    ensures { Gives result (status_of letter.now) }
+fn status_named(letter: &[u8]) -> Result<Status, Refusal>
+    ensures { ReadsAs result (status_named letter.now) }
 {
     match letter {
         b"I" => Ok(Status::Idle),

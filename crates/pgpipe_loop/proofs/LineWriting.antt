@@ -8,8 +8,8 @@ use Rattle.pg_copy.specs.Row.{Row, most_fields}
 use Rattle.pg_copy.specs.Text.{delimiter, newline, written_field, written_fields}
 use Rattle.pg_backend.specs.script.Logged.{Logged}
 use Rattle.pgpipe_files.proofs.Lists.{take-least}
-use Rattle.pgpipe_loop.specs.LoopLines.{text_line, text_lines, most_chunks, loaded_row, loaded_rows_of, loaded_rows}
-use Rattle.pgpipe_loop.specs.Private.LineWriting.{LineState, whole_lines, separator, with_field, with_fields, with_end, with_row, with_rows}
+use Rattle.pgpipe_loop.specs.Lines.{text_line, text_lines, most_chunks, loaded_row, loaded_rows_of, loaded_rows}
+use Rattle.pgpipe_loop.specs.Private.Lines.{LineState, whole_lines, separator, with_field, with_fields, with_end, with_row, with_rows}
 
 -- ---- one field
 
@@ -44,7 +44,7 @@ pub line_ended : (inside s : LineState) (b : List ℕ) → inside ≡ s → b �
 unfolding with_end
 line_ended inside s b e h = ap (λ (x : List ℕ). record { text = x; fields = 0 }) h ∙ ap with_end e
 
--- ---- fields and lines that are put one behind the other
+-- ---- fields and lines that are put one after the other
 
 pub with_fields-append : (s : LineState) (xs ys : Row) → with_fields s (xs ++ ys) ≡ with_fields (with_fields s xs) ys
 with_fields-append s [] ys = refl
@@ -91,7 +91,7 @@ lines_more f s now new xs i x lt is h k =
 pub two_fields : (s mid new : LineState) (a : Option (List ℕ)) (b c : List ℕ) → mid ≡ with_field s a → new ≡ with_field mid (Some b) → b ≡ c → new ≡ with_field (with_field s a) (Some c)
 two_fields s mid new a b c h k e = k ∙ ap (λ (x : List ℕ). with_field mid (Some x)) e ∙ ap (λ (m : LineState). with_field m (Some c)) h
 
--- lines behind others
+-- lines after others
 pub behind : (s mid new : LineState) (xs ys : List Row) → mid ≡ with_rows s xs → new ≡ with_rows mid ys → new ≡ with_rows s (xs ++ ys)
 behind s mid new xs ys h k = k ∙ ap (λ (t : LineState). with_rows t ys) h ∙ sym (with_rows-append s xs ys)
 
@@ -107,7 +107,7 @@ five_put old s1 s2 s3 s4 new first last xs ys zs h1 h2 h3 h4 h5 =
 
 -- ---- a line
 
--- the fields behind the first, each behind its delimiter
+-- the fields after the first, each after its delimiter
 abbrev tails : Row → List ℕ
 tails [] = []
 tails (field ∷ fields) = (delimiter ∷ written_field field) ++ tails fields

@@ -13,18 +13,17 @@ use Rattle.pg_pair.specs.declared.event.Event.{Event}
 use Rattle.pg_pair.specs.declared.event.Event.TheVariants as event
 use Rattle.pg_pair.specs.Breaking.{Breaks, BreaksIf, BreaksUnless, is_closed, is_shut, TellsClient}
 use Rattle.pg_pair.specs.Calling.{CallsClient}
-use Rattle.pg_pair.specs.Carrying.{delivered, is_bad}
+use Rattle.pg_pair.specs.Carrying.{Carrying, delivered, is_bad}
 use Rattle.pg_pair.specs.Delivering.{ArrivesAt, begins, DeliversUnless, EndsWithPiece, Goes, goes_on, Pushing}
 use Rattle.pg_pair.specs.Event.{Applies}
 use Rattle.pg_pair.specs.Stepping.{StepsOnce, StepsUnlessClosed}
 use Rattle.pg_pair.specs.View.{PairView}
-use Rattle.pgpipe_loop.specs.Looping.{Carries}
 
 -- No settled group is lost.
 abbrev Keeps : {C : Type 0} → PairView C → PairView C → Type 0
 Keeps p q = length p.settled ≤ length q.settled
 
-module _ {C : Type 0} (carries : Carries C) where
+module _ {C : Type 0} (carries : Carrying C) where
   same_keeps : (p q : PairView C) → q ≡ p → Keeps p q
   same_keeps p q e = let n = ap (λ (x : PairView C). length x.settled) e in omega (arith, n)
 

@@ -15,7 +15,7 @@ use Rattle.pg_backend.specs.phase.BackPhase.TheVariants as back
 use Rattle.pg_backend.specs.declared.fault.BackendFault.TheVariants as backend
 use Rattle.pg_backend.specs.Opening.{wrong_password}
 use Rattle.pg_pair.specs.declared.event.Applied.TheVariants as applied
-use Rattle.pgpipe_loop.specs.LoopLines.{closing_rows, event_rows, loaded_row, text_line, text_lines}
+use Rattle.pgpipe_loop.specs.Lines.{closing_rows, event_rows, loaded_row, text_line, text_lines}
 
 -- settled<tab>query<tab>SELECT 1 / rows<tab>SELECT 1<tab>n / row<tab>1 / status<tab>I
 pub one_row : text_lines (event_rows (record { request = Query (codes "SELECT 1"); outcome = record { parts = part.Rows (record { name = codes "n"; table_oid = 0; attribute = pos 0; type_oid = 25; size = negsuc 0; modifier = negsuc 0; format = pos 0 } ∷ []) ((Some (codes "1") ∷ []) ∷ []) (codes "SELECT 1") ∷ []; error = None; status = status.Idle; asides = [] } } ∷ []) applied.Done None)

@@ -4,7 +4,7 @@ use Rattle.pg_pair.specs.declared.event.Applied.TheVariants as applied
 use Rattle.pg_pair.specs.declared.event.Event.TheVariants as event
 use Rattle.pg_pair.specs.View.{Stream, PairView}
 use Rattle.pgpipe_files.specs.declared.calls_file.CallLine.TheVariants as calls
-use Rattle.pgpipe_loop.specs.Looping.{line_doings, came_to_nothing, left_of}
+use Rattle.pgpipe_loop.specs.RunLoop.{line_doings, came_to_nothing, left_to_happen}
 
 -- so many bytes of ten have reached the other end
 stream : ℕ → Stream
@@ -29,11 +29,11 @@ no_step_taken : {C : Type 0} (p q : PairView C) → came_to_nothing event.Step p
 no_step_taken p q = refl
 
 -- what came to something is done again, as often as is left
-done_again : left_of false (record { event = event.Step; again = 2 }) ≡ record { event = event.Step; again = 1 } ∷ []
+done_again : left_to_happen false (record { event = event.Step; again = 2 }) ≡ record { event = event.Step; again = 1 } ∷ []
 done_again = refl
 
-never_again : left_of true (record { event = event.Step; again = 2 }) ≡ []
+never_again : left_to_happen true (record { event = event.Step; again = 2 }) ≡ []
 never_again = refl
 
-last_time : left_of false (record { event = event.Step; again = 0 }) ≡ []
+last_time : left_to_happen false (record { event = event.Step; again = 0 }) ≡ []
 last_time = refl

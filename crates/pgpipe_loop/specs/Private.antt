@@ -1,3 +1,3 @@
 -- Words of private functions. No public contract cites them.
-pub mod Loops
-pub mod LineWriting
+pub mod Running
+pub mod Lines

@@ -2,9 +2,7 @@
 //! ([`event_lines`]).
 #![tactic(auto)]
 
-mod each;
-pub mod event_lines;
-mod line_buffer;
+mod lines;
 pub mod run_loop;
-mod settled_lines;
-mod short_lines;
+
+pub use lines::{closing_lines, event_lines};

@@ -9,14 +9,14 @@ ghost use Rattle.pg_pair.specs.Beginning.{IsBegun};
 ghost use Rattle.pg_pair.specs.View.{PairView};
 ghost use Rattle.pg_pair.specs.declared.event.Event.TheVariants as event;
 ghost use Rattle.pgpipe_files.specs.Filling.{next_file};
-ghost use Rattle.pgpipe_loop.specs.LoopLines.{event_rows, text_lines};
-ghost use Rattle.pgpipe_loop.specs.Looping.{Doing, times, most_times, flow_once, line_doings, doings, is_carrier, is_nothing, Answers};
-ghost use Rattle.pgpipe_loop.specs.Private.Loops.{at, delivery, SendsLines, Prints, Stands, DoesAll, DoesOnce, Closes, Ends, answer_of};
+ghost use Rattle.pgpipe_loop.specs.Lines.{event_rows, text_lines};
+ghost use Rattle.pgpipe_loop.specs.RunLoop.{Doing, times, most_times, flow_once, line_doings, doings, is_carrier, is_nothing, LoopAnswers};
+ghost use Rattle.pgpipe_loop.specs.Private.Running.{at, delivery, SendsLines, Prints, HasDone, DoesAll, DoesOnce, Closes, EndsLoop};
 ghost use Rattle.pgpipe_base.specs.Receiving.{CountsNoFailure};
 
-use crate::event_lines::{closing_lines, event_lines};
+use crate::lines::{closing_lines, event_lines};
 use pg_backend::Script;
-use pg_pair::{Applied, Carry, Event, Pair, PairFault, Way};
+use pg_pair::{Applied, Carry, Event, Pair, Way};
 use pg_wire::{Seq, Sink};
 use pgpipe_base::ToolFault;
 use pgpipe_base::outbox::send;
@@ -35,51 +35,27 @@ pub enum Ran {
 // How often an event of a flow happens at most: each time but the last moves a byte or handles a message.
 const MOST_TIMES: u64 = u64::MAX;
 
-// Why the work stops.
-#[derive(Clone, Copy, PartialEq, Eq)]
-enum Stop {
-    Memory,
-    SinkFailed,
-}
-
-impl From<AllocError> for Stop {
-    ghost use Rattle.pgpipe_loop.specs.declared.run_loop.Stop.TheVariants.{Memory};
-
-    ghost from_gives = { λ _ stop. stop ≡ Memory };
-
-    fn from(_e: AllocError) -> Stop {
-        Stop::Memory
-    }
-}
-
-impl From<PairFault> for Stop {
-    ghost use Rattle.pgpipe_loop.specs.declared.run_loop.Stop.TheVariants.{Memory};
-
-    ghost from_gives = { λ _ stop. stop ≡ Memory };
-
-    fn from(_e: PairFault) -> Stop {
-        Stop::Memory
-    }
-}
-
 // A pair, and whether its carrier has failed or given other bytes.
 #[derive(Drop)]
-struct Work<C: Carry> {
+struct Running<C: Carry> {
     alloc: Global,
     pair: Pair<C>,
     carrier_failed: bool,
 }
 
-impl<C: Carry> Work<C> {
+impl<C: Carry> Running<C> {
     // Applies an event, and sends its lines.
-    fn apply<K: Sink>(&mut self, event: Event, sink: &mut K) -> Result<Applied, Stop>
+    fn apply<K: Sink>(&mut self, event: Event, sink: &mut K) -> Result<Applied, ToolFault>
         ensures { Prints C.carries K.takes K.failures event
             (at self.old.pair self.old.carrier_failed sink.old) result
             (at self.new.pair self.new.carrier_failed sink.new) }
     {
         let settled = self.pair.settled().len();
         let lost = self.pair.loss().is_some();
-        let answer = self.pair.apply(event)?;
+        let answer = match self.pair.apply(event) {
+            Ok(answer) => answer,
+            Err(_) => return Err(ToolFault::Memory),
+        };
         self.carrier_failed |= is_carrier(&answer);
         let lines = self.lines_since(settled, lost, &answer)?;
         send_lines(lines, sink)?;
@@ -104,7 +80,12 @@ impl<C: Carry> Work<C> {
     }
 
     // Delivers at most so many bytes, and answers whether no byte was moved.
-    fn deliver_once<K: Sink>(&mut self, way: Way, count: u32, sink: &mut K) -> Result<bool, Stop>
+    fn deliver_once<K: Sink>(
+        &mut self,
+        way: Way,
+        count: u32,
+        sink: &mut K,
+    ) -> Result<bool, ToolFault>
         ensures { DoesOnce C.carries K.takes K.failures (delivery way count)
             (at self.old.pair self.old.carrier_failed sink.old) result
             (at self.new.pair self.new.carrier_failed sink.new) }
@@ -115,7 +96,7 @@ impl<C: Carry> Work<C> {
     }
 
     // Makes a step, and answers whether nothing whole waited.
-    fn step_once<K: Sink>(&mut self, sink: &mut K) -> Result<bool, Stop>
+    fn step_once<K: Sink>(&mut self, sink: &mut K) -> Result<bool, ToolFault>
         ensures { DoesOnce C.carries K.takes K.failures event.Step
             (at self.old.pair self.old.carrier_failed sink.old) result
             (at self.new.pair self.new.carrier_failed sink.new) }
@@ -125,7 +106,7 @@ impl<C: Carry> Work<C> {
     }
 
     // Delivers so many bytes at a time, until none is moved.
-    fn deliver<K: Sink>(&mut self, way: Way, count: u32, sink: &mut K) -> Result<(), Stop>
+    fn deliver<K: Sink>(&mut self, way: Way, count: u32, sink: &mut K) -> Result<(), ToolFault>
         ensures { DoesAll C.carries K.takes K.failures (times most_times (delivery way count))
             (at self.old.pair self.old.carrier_failed sink.old) result
             (at self.new.pair self.new.carrier_failed sink.new) }
@@ -139,7 +120,7 @@ impl<C: Carry> Work<C> {
     }
 
     // Has the backend step, until nothing whole waits.
-    fn step<K: Sink>(&mut self, sink: &mut K) -> Result<(), Stop>
+    fn step<K: Sink>(&mut self, sink: &mut K) -> Result<(), ToolFault>
         ensures { DoesAll C.carries K.takes K.failures (times most_times event.Step)
             (at self.old.pair self.old.carrier_failed sink.old) result
             (at self.new.pair self.new.carrier_failed sink.new) }
@@ -153,7 +134,7 @@ impl<C: Carry> Work<C> {
     }
 
     // All that waits goes to the backend, it steps, and all that waits goes to the client.
-    fn flow_once<K: Sink>(&mut self, cut: u32, sink: &mut K) -> Result<(), Stop>
+    fn flow_once<K: Sink>(&mut self, cut: u32, sink: &mut K) -> Result<(), ToolFault>
         ensures { DoesAll C.carries K.takes K.failures (flow_once cut)
             (at self.old.pair self.old.carrier_failed sink.old) result
             (at self.new.pair self.new.carrier_failed sink.new) }
@@ -164,7 +145,7 @@ impl<C: Carry> Work<C> {
     }
 
     // Does a line of the calls.
-    fn line<K: Sink>(&mut self, line: CallLine, cut: u32, sink: &mut K) -> Result<(), Stop>
+    fn line<K: Sink>(&mut self, line: CallLine, cut: u32, sink: &mut K) -> Result<(), ToolFault>
         ensures { DoesAll C.carries K.takes K.failures (line_doings cut line)
             (at self.old.pair self.old.carrier_failed sink.old) result
             (at self.new.pair self.new.carrier_failed sink.new) }
@@ -184,7 +165,12 @@ impl<C: Carry> Work<C> {
     }
 
     // Does the lines, one after the other.
-    fn lines<K: Sink>(&mut self, lines: Seq<CallLine>, cut: u32, sink: &mut K) -> Result<(), Stop>
+    fn lines<K: Sink>(
+        &mut self,
+        lines: Seq<CallLine>,
+        cut: u32,
+        sink: &mut K,
+    ) -> Result<(), ToolFault>
         ensures { DoesAll C.carries K.takes K.failures (doings cut lines)
             (at self.old.pair self.old.carrier_failed sink.old) result
             (at self.new.pair self.new.carrier_failed sink.new) }
@@ -196,7 +182,7 @@ impl<C: Carry> Work<C> {
     }
 
     // Sends the closing lines.
-    fn close<K: Sink>(&self, sink: &mut K) -> Result<(), Stop>
+    fn close<K: Sink>(&self, sink: &mut K) -> Result<(), ToolFault>
         ensures { Closes K.takes K.failures self.now.pair sink.old result sink.new }
     {
         let (client, backend) = (self.pair.client(), self.pair.backend());
@@ -205,11 +191,16 @@ impl<C: Carry> Work<C> {
     }
 
     // Does the lines, and sends the closing ones.
-    fn run<K: Sink>(&mut self, lines: Seq<CallLine>, cut: u32, sink: &mut K) -> Result<Ran, Stop>
+    fn run<K: Sink>(
+        &mut self,
+        lines: Seq<CallLine>,
+        cut: u32,
+        sink: &mut K,
+    ) -> Result<Ran, ToolFault>
         ensures { (start : K) (begun : PairView C) (all : List Doing)
-            → Stands C.carries K.takes K.failures start begun all
+            → HasDone C.carries K.takes K.failures start begun all
             (at self.old.pair self.old.carrier_failed sink.old) (doings cut lines)
-            → Ends C.carries K.takes K.failures start begun all result sink.new }
+            → EndsLoop C.carries K.takes K.failures start begun all result sink.new }
     {
         self.lines(lines, cut, sink)?;
         self.close(sink)?;
@@ -242,29 +233,18 @@ fn delivery(way: Way, count: u32) -> Event
     }
 }
 
-fn send_lines<K: Sink>(lines: Vec<u8>, sink: &mut K) -> Result<(), Stop>
+fn send_lines<K: Sink>(lines: Vec<u8>, sink: &mut K) -> Result<(), ToolFault>
     ensures { SendsLines K.takes K.failures sink.old lines.items result sink.new }
 {
     let mut lines = lines;
-    send(&mut lines, sink).map_err(|_| Stop::SinkFailed)
-}
-
-// The answer where the work ended so.
-fn answer_of(ended: Result<Ran, Stop>) -> Result<Ran, ToolFault>
-    ensures { result ≡ answer_of ended }
-{
-    match ended {
-        Ok(ran) => Ok(ran),
-        Err(Stop::Memory) => Err(ToolFault::Memory),
-        Err(Stop::SinkFailed) => Err(ToolFault::Device),
-    }
+    send(&mut lines, sink).map_err(|_| ToolFault::Device)
 }
 
 /// Runs the lines of `calls` over a client with their settings and a backend with `script`, between which `carrier` carries, and sends
 /// the lines of each event, in order, and then the closing lines. In a flow `cut` bytes are delivered at a time. The script has to be
 /// checked, each file of the calls filled in, and the limit of the settings to be from 64 to 1,073,741,823.
 ///
-/// `Device` is answered where the sink failed in this call; a beginning of the lines was then sent. `Memory` is answered where memory
+/// `Device` is answered where the sink failed in this call; a prefix of the lines was then sent. `Memory` is answered where memory
 /// was refused; the lines of the events before were then sent.
 pub fn run_loop<C: Carry, K: Sink>(
     alloc: Global,
@@ -280,15 +260,16 @@ pub fn run_loop<C: Carry, K: Sink>(
     // the pair as it begins, what was sent, and the answer for what has happened
     ensures ran { (begun : PairView C) × (sent : List (List ℕ))
         × IsBegun calls.settings script carrier begun × FoldsTo K.takes sink.old sent sink.new
-        × Answers (HasRisen (K.failures sink.old) (K.failures sink.new)) C.carries begun (doings cut calls.lines) (concat sent) result }
+        × LoopAnswers (HasRisen (K.failures sink.old) (K.failures sink.new)) C.carries begun
+        (doings cut calls.lines) (concat sent) result }
     // where the answer isn't Device, the sink didn't fail
     ensures sink { CountsNoFailure (K.failures sink.old) result (K.failures sink.new) }
 {
     let Calls { settings, lines } = calls;
-    let mut work = Work {
+    let mut running = Running {
         alloc,
         pair: Pair::new(alloc, settings, script, carrier),
         carrier_failed: false,
     };
-    answer_of(work.run(lines, cut, sink))
+    running.run(lines, cut, sink)
 }

@@ -1,6 +1,6 @@
 pub mod MessageLines
 pub mod PacketLines
-pub mod Stages
+pub mod Decodings
 pub mod Runs
 pub mod Settling
 pub mod Rows

@@ -9,19 +9,21 @@ use Rattle.pg_wire.specs.link.LinkFault.{LinkFault}
 use Rattle.pg_wire.specs.Decoder.{DecoderState, Takes}
 use Rattle.pg_wire.specs.Direction.{Direction, spelling}
 use Rattle.pg_wire.specs.Stream.{IsStream, IsWithin, IsOpen, IsFaulty}
-use Rattle.pgpipe_show.specs.declared.halt.Halt.{Halt}
-use Rattle.pgpipe_show.specs.declared.halt.Halt.TheVariants as halt
-use Rattle.pgpipe_show.specs.Lines.{line, lines}
-use Rattle.pgpipe_base.specs.Sending.{Puts}
+use Rattle.pgpipe_base.specs.declared.stop.Stop.{Stop}
+use Rattle.pgpipe_base.specs.declared.stop.Stop.TheVariants as stop
+use Rattle.pgpipe_show.specs.declared.show.Shown.{Shown}
+use Rattle.pgpipe_show.specs.declared.show.Shown.TheVariants as shown
+use Rattle.pgpipe_show.specs.Messages.{line, lines}
+use Rattle.pgpipe_base.specs.Outbox.{Puts}
 use Rattle.pgpipe_show.specs.Show.{limit}
-use Rattle.pgpipe_show.specs.Private.Work.{IsSound, HasPut, Breaks, PutsMessages, StepsSource, PutsLine, halt_of}
+use Rattle.pgpipe_show.specs.Private.Showing.{IsSound, HasPut, Breaks, PutsMessages, StepsSource, PutsLine, fault_stop}
 use Rattle.pgpipe_base.proofs.Pieces.{puts_none, puts_then}
 
 pub each_append : {X : Type 0} (P : X → Type 0) (xs ys : List X) → AllByRecursion P xs → AllByRecursion P ys → AllByRecursion P (xs ++ ys)
 each_append P [] ys all more = more
 each_append P (x ∷ xs) ys all more = (all.0, each_append P xs ys all.1 more)
 
--- messages behind messages
+-- messages after messages
 pub stream_append : {M : Type 0} (D : Direction M) (bytes : List ℕ) (ms : List M) (rest : List ℕ) (ns : List M) (rest' : List ℕ) → IsStream D limit bytes ms rest → IsStream D limit rest ns rest' → IsStream D limit bytes (ms ++ ns) rest'
 stream_append D bytes ms rest ns rest' s t = record {
   whole = s.whole ∙ ap (λ (u : List ℕ). flat_map (spelling D) ms ++ u) t.whole ∙ sym (append_assoc (flat_map (spelling D) ms) (flat_map (spelling D) ns) rest') ∙ ap (λ (u : List ℕ). u ++ rest') (sym (flat_map-append (spelling D) ms ns));
@@ -76,7 +78,7 @@ module _ {K M : Type 0} (D : Direction M) (takes : K → List ℕ → K → Type
         subst (λ (e : DecoderState). PutsMessages takes failures D c0 s0 bytes (Ok e) c s) (sym t.1) (sound, h, is_open)
 
     -- the rest is faulty, or memory was refused
-    pub at_fault : (f : WireFault) (d' : DecoderState) → Takes D d (Err f) d' → PutsMessages takes failures D c0 s0 bytes (Err (halt_of f)) c s
+    pub at_fault : (f : WireFault) (d' : DecoderState) → Takes D d (Err f) d' → PutsMessages takes failures D c0 s0 bytes (Err (fault_stop f)) c s
     at_fault wire.Memory d' t = (d.kept, h)
     at_fault (wire.UnknownTag b) d' t = (d.kept, h, subst (λ (l : ℕ). IsFaulty D l d.kept (wire.UnknownTag b)) sound.limited (found_now D d (wire.UnknownTag b) d' sound.no_fault t))
     at_fault (wire.ShortLength n) d' t = (d.kept, h, subst (λ (l : ℕ). IsFaulty D l d.kept (wire.ShortLength n)) sound.limited (found_now D d (wire.ShortLength n) d' sound.no_fault t))
@@ -94,19 +96,20 @@ module _ {K M : Type 0} (D : Direction M) (takes : K → List ℕ → K → Type
         let within : IsWithin D limit m = subst (λ (l : ℕ). IsWithin D l m) sound.limited t.1 in
         (record { limited = ap (λ (e : DecoderState). e.limit) t.3 ∙ sound.limited; no_fault = ap (λ (e : DecoderState). e.fault) t.3 ∙ sound.no_fault }, has_put_more d.kept c s m d'.kept c' s' h t.2 within p)
 
-    -- the work halted in it
-    pub at_halt : (o : Option M) (d' : DecoderState) (m : M) (w : Halt) (c' : List ℕ) (s' : K) → o ≡ Some m → Takes D d (Ok o) d' → PutsLine takes failures c s (line D m) (Err w) c' s' → PutsMessages takes failures D c0 s0 bytes (Err w) c' s'
-    at_halt o d' m halt.Memory c' s' some got p =
+    -- the work stopped in it
+    pub at_stop : (o : Option M) (d' : DecoderState) (m : M) (w : Stop Shown) (c' : List ℕ) (s' : K) → o ≡ Some m → Takes D d (Ok o) d' → PutsLine takes failures c s (line D m) (Err w) c' s' → PutsMessages takes failures D c0 s0 bytes (Err w) c' s'
+    at_stop o d' m stop.Memory c' s' some got p =
         (d.kept, subst (λ (k : List ℕ). HasPut takes failures D c0 s0 bytes d.kept k s') (sym p.0) (subst (λ (k : K). HasPut takes failures D c0 s0 bytes d.kept c k) (sym p.1) h))
-    at_halt o d' m halt.SinkFailed c' s' some got p =
+    at_stop o d' m stop.SinkFailed c' s' some got p =
         let t = subst (λ (x : Option M). Takes D d (Ok x) d') some got in
         breaks_more d.kept c s m d'.kept c' s' p.0 h t.2 (subst (λ (l : ℕ). IsWithin D l m) sound.limited t.1) p.1
-    at_halt o d' m (halt.Ended n) c' s' some got p = absurd p
-    at_halt o d' m (halt.Faulty f) c' s' some got p = absurd p
-    at_halt o d' m halt.SourceFailed c' s' some got p = absurd p
-    at_halt o d' m halt.Endless c' s' some got p = absurd p
+    at_stop o d' m (stop.Answer shown.Whole) c' s' some got p = absurd p
+    at_stop o d' m (stop.Answer (shown.Rest n)) c' s' some got p = absurd p
+    at_stop o d' m (stop.Answer (shown.Fault f)) c' s' some got p = absurd p
+    at_stop o d' m stop.SourceFailed c' s' some got p = absurd p
+    at_stop o d' m stop.Endless c' s' some got p = absurd p
 
-pub faults_leave_source : (A : Type 0) (ended : Type 0) (n : ℕ) (f : WireFault) → StepsSource {A = A} ended n n (Err (halt_of f))
+pub faults_leave_source : (A : Type 0) (ended : Type 0) (n : ℕ) (f : WireFault) → StepsSource {A = A} ended n n (Err (fault_stop f))
 faults_leave_source A ended n wire.Memory = refl
 faults_leave_source A ended n (wire.UnknownTag b) = refl
 faults_leave_source A ended n (wire.ShortLength b) = refl

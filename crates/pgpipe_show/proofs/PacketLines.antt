@@ -12,14 +12,15 @@ use Rattle.pg_wire.specs.message.First.{First}
 use Rattle.pg_wire.specs.message.First.TheVariants as first
 use Rattle.pg_wire.specs.First.{packet, longest_packet, packet_length, packet_has_zero, packet_has_no_name, packet_fault, IsPacket, is_last, EndsIn, IsBeginning, IsFaultyPacket, IsOpenPacket, BeginsNoPacket}
 use Rattle.pg_wire.specs.FirstDecoder.{FirstState, FirstTakes, NoMorePackets}
-use Rattle.pgpipe_show.specs.declared.halt.Halt.{Halt}
-use Rattle.pgpipe_show.specs.declared.halt.Halt.TheVariants as halt
+use Rattle.pgpipe_show.specs.Packets.{packet_line, packet_lines, after, next_after, have_ended}
+use Rattle.pgpipe_base.specs.declared.stop.Stop.{Stop}
+use Rattle.pgpipe_base.specs.declared.stop.Stop.TheVariants as stop
+use Rattle.pgpipe_show.specs.declared.show.Shown.{Shown}
+use Rattle.pgpipe_show.specs.declared.show.Shown.TheVariants as shown
 use Rattle.pgpipe_show.specs.declared.packets.Next.{Next}
 use Rattle.pgpipe_show.specs.declared.packets.Next.TheVariants as next
-use Rattle.pgpipe_show.specs.Lines.{packet_line, packet_lines}
-use Rattle.pgpipe_base.specs.Sending.{Puts}
-use Rattle.pgpipe_show.specs.Show.{after, next_after, have_ended}
-use Rattle.pgpipe_show.specs.Private.Work.{HasPutPackets, PutsPackets, PutsLine, halt_of}
+use Rattle.pgpipe_base.specs.Outbox.{Puts}
+use Rattle.pgpipe_show.specs.Private.Showing.{HasPutPackets, PutsPackets, PutsLine, fault_stop}
 use Rattle.pgpipe_show.proofs.MessageLines.{each_append}
 use Rattle.pgpipe_base.proofs.Pieces.{puts_none, puts_then}
 
@@ -40,7 +41,7 @@ packet_is_short p e =
     let named : Option EncodeFault = cond (packet_has_no_name p) (Some faults.EmptyName) too_long in
     ltb-false _ _ (is_short long faults.TooLong (passes (packet_has_no_name p) faults.EmptyName too_long (passes (packet_has_zero p) faults.HasZero named e)))
 
--- ---- packets behind packets
+-- ---- packets after packets
 
 pub next_append : (ps qs : List First) → next_after ps ≡ next.Packet → next_after (ps ++ qs) ≡ next_after qs
 next_append [] qs e = refl
@@ -94,7 +95,7 @@ module _ {K : Type 0} (takes : K → List ℕ → K → Type 0) (failures : K �
         subst (λ (e : FirstState). PutsPackets takes failures c0 s0 bytes (Ok next.Packet) e c s) (sym t.1) (more, sound, h, is_open.0)
 
     -- the rest is faulty, or memory was refused
-    pub at_fault : (f : WireFault) (d' : FirstState) → FirstTakes d (Err f) d' → PutsPackets takes failures c0 s0 bytes (Err (halt_of f)) d' c s
+    pub at_fault : (f : WireFault) (d' : FirstState) → FirstTakes d (Err f) d' → PutsPackets takes failures c0 s0 bytes (Err (fault_stop f)) d' c s
     at_fault wire.Memory d' t = (d.kept, h)
     at_fault (wire.UnknownTag b) d' t = (d.kept, h, found_now d (wire.UnknownTag b) d' sound t)
     at_fault (wire.ShortLength n) d' t = (d.kept, h, found_now d (wire.ShortLength n) d' sound t)
@@ -128,21 +129,22 @@ module _ {K : Type 0} (takes : K → List ℕ → K → Type 0) (failures : K �
         },
       )
 
-      -- the work halted in it
-      pub at_halt : (w : Halt) (c' : List ℕ) (s' : K) → PutsLine takes failures c s (packet_line p) (Err w) c' s' → PutsPackets takes failures c0 s0 bytes (Err w) d' c' s'
-      at_halt halt.Memory c' s' q =
+      -- the work stopped in it
+      pub at_stop : (w : Stop Shown) (c' : List ℕ) (s' : K) → PutsLine takes failures c s (packet_line p) (Err w) c' s' → PutsPackets takes failures c0 s0 bytes (Err w) d' c' s'
+      at_stop stop.Memory c' s' q =
           (d.kept, subst (λ (k : List ℕ). HasPutPackets takes failures c0 s0 bytes next.Packet d.kept k s') (sym q.0) (subst (λ (k : K). HasPutPackets takes failures c0 s0 bytes next.Packet d.kept c k) (sym q.1) h))
-      at_halt halt.SinkFailed c' s' q = record {
+      at_stop stop.SinkFailed c' s' q = record {
         fault = q.0;
         packets = h.packets ++ p ∷ [];
         rest = d'.kept;
         beginning = subst (λ (n : Next). IsBeginning bytes (h.packets ++ p ∷ []) (have_ended n) d'.kept) (sym next_is) begins;
         put = subst (λ (t : List ℕ). Puts {A = Unit {0}} takes failures c0 s0 t (Err q.0) c' s') (sym (lines_then h.packets p)) (puts_then takes failures c0 s0 (packet_lines h.packets) c s (packet_line p) (Err q.0) c' s' h.put q.1);
       }
-      at_halt (halt.Ended n) c' s' q = absurd q
-      at_halt (halt.Faulty f) c' s' q = absurd q
-      at_halt halt.SourceFailed c' s' q = absurd q
-      at_halt halt.Endless c' s' q = absurd q
+      at_stop (stop.Answer shown.Whole) c' s' q = absurd q
+      at_stop (stop.Answer (shown.Rest n)) c' s' q = absurd q
+      at_stop (stop.Answer (shown.Fault f)) c' s' q = absurd q
+      at_stop stop.SourceFailed c' s' q = absurd q
+      at_stop stop.Endless c' s' q = absurd q
 
       -- it was the last packet
       pub at_last : (n : Next) (c' : List ℕ) (s' : K) → n ≡ after p → (n ≡ next.Packet → ⊥) → PutsLine takes failures c s (packet_line p) (Ok tt) c' s' → PutsPackets takes failures c0 s0 bytes (Ok n) d' c' s'

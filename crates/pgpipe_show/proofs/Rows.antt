@@ -21,10 +21,11 @@ use Rattle.pg_wire.proofs.BackMessages.{is_tag, no_tag}
 use Rattle.pg_wire.proofs.Rests.{short_open, partial_open}
 use Rattle.pgpipe_show.specs.declared.packets.Next.TheVariants as next
 use Rattle.pgpipe_show.specs.declared.show.Shown.TheVariants as shown
+use Rattle.pgpipe_show.specs.Packets.{packet_line}
 use Rattle.pgpipe_base.specs.declared.fault.ToolFault.TheVariants as fault
-use Rattle.pgpipe_base.specs.Lines.{body_text, line_of}
-use Rattle.pgpipe_show.specs.Lines.{line, packet_line}
-use Rattle.pgpipe_show.specs.Show.{limit, AreMessages, IsClientSide, AreShownBefore, Answers}
+use Rattle.pgpipe_base.specs.Outbox.{body_text, line_of}
+use Rattle.pgpipe_show.specs.Messages.{line}
+use Rattle.pgpipe_show.specs.Show.{limit, AreMessages, IsClientSide, AreShownBefore, ShowAnswers}
 
 -- a line by the text of its length
 by_length : (name : List ℕ) (n : ℕ) (bytes digits : List ℕ) → decimal n ≡ digits → line_of name n bytes ≡ name ++ (32 ∷ []) ++ digits ++ (32 ∷ []) ++ body_text bytes ++ (10 ∷ [])
@@ -88,7 +89,7 @@ as_lists a b c = ap (λ (t : List ℕ). a ++ b ++ t) (sym (append-nil c)) ∙ ap
 pub a_client : IsClientSide (packet first.Ssl ++ packet user ++ spelling frontend select) (packet_line first.Ssl ++ packet_line user ++ line frontend select) next.Message []
 a_client = record {
   packets = first.Ssl ∷ user ∷ [];
-  behind = spelling frontend select;
+  following = spelling frontend select;
   later = line frontend select ++ [];
   beginning = record { whole = refl; each = (record { of_type = tt; no_fault = refl }, (record { of_type = tt; no_fault = refl }, tt)); last = (refl, refl) };
   next_is = refl;
@@ -99,11 +100,11 @@ a_client = record {
 abbrev canceled : First
 canceled = first.Cancel (pos 1) (pos 2)
 
--- behind a Cancel, whatever comes is the rest
+-- after a Cancel, whatever comes is the rest
 cancel_and : (rest : List ℕ) → IsClientSide (packet canceled ++ rest) (packet_line canceled) next.Nothing rest
 cancel_and rest = record {
   packets = canceled ∷ [];
-  behind = rest;
+  following = rest;
   later = [];
   beginning = record { whole = refl; each = (record { of_type = (omega (arith, ints), omega (arith, ints)); no_fault = refl }, tt); last = refl };
   next_is = refl;
@@ -111,13 +112,13 @@ cancel_and rest = record {
   each_line = sym (append-nil (packet_line canceled ++ []) ∙ append-nil (packet_line canceled));
 }
 
-pub a_cancel : Answers ⊥ ⊥ true (packet canceled) (packet_line canceled) (Ok shown.Whole)
+pub a_cancel : ShowAnswers ⊥ ⊥ true (packet canceled) (packet_line canceled) (Ok shown.Whole)
 a_cancel = (next.Nothing, cancel_and [])
 
-pub byte_behind_a_cancel : Answers ⊥ ⊥ true (packet canceled ++ 0 ∷ []) (packet_line canceled) (Ok (shown.Rest 1))
-byte_behind_a_cancel = (next.Nothing, 0 ∷ [], cancel_and (0 ∷ []), tt, refl, omega arith)
+pub byte_after_a_cancel : ShowAnswers ⊥ ⊥ true (packet canceled ++ 0 ∷ []) (packet_line canceled) (Ok (shown.Rest 1))
+byte_after_a_cancel = (next.Nothing, 0 ∷ [], cancel_and (0 ∷ []), tt, refl, omega arith)
 
--- a ReadyForQuery, and what stands behind it
+-- a ReadyForQuery, and what stands after it
 ready_and : (rest : List ℕ) → AreMessages backend (spelling backend (Ready Idle) ++ rest) (line backend (Ready Idle)) rest
 ready_and rest = record {
   messages = Ready Idle ∷ [];
@@ -131,14 +132,14 @@ no_message = 0x21 ∷ 0 ∷ 0 ∷ 0 ∷ 4 ∷ []
 unknown : IsFaulty backend limit no_message (wire.UnknownTag 33)
 unknown = (pos 4, record { there = omega arith; tag_is = refl; length_is = refl }, no_tag 33 refl)
 
-pub unknown_tag : Answers ⊥ ⊥ false (spelling backend (Ready Idle) ++ no_message) (line backend (Ready Idle)) (Ok (shown.Fault (wire.UnknownTag 33)))
+pub unknown_tag : ShowAnswers ⊥ ⊥ false (spelling backend (Ready Idle) ++ no_message) (line backend (Ready Idle)) (Ok (shown.Fault (wire.UnknownTag 33)))
 unknown_tag = (next.Message, no_message, (refl, ready_and no_message), unknown)
 
 -- a ReadyForQuery without its last byte
 abbrev five_bytes : List ℕ
 five_bytes = 0x5A ∷ 0 ∷ 0 ∷ 0 ∷ 5 ∷ []
 
-pub cut_off : Answers ⊥ ⊥ false five_bytes [] (Ok (shown.Rest 5))
+pub cut_off : ShowAnswers ⊥ ⊥ false five_bytes [] (Ok (shown.Rest 5))
 cut_off = (
   next.Message,
   five_bytes,
@@ -149,7 +150,7 @@ cut_off = (
 )
 
 -- the sink failed at once: no more than a piece was received
-pub broken_at_once : (broke : Type 0) → broke → Answers ⊥ broke false (spelling backend (Ready Idle)) [] (Err fault.Device)
+pub broken_at_once : (broke : Type 0) → broke → ShowAnswers ⊥ broke false (spelling backend (Ready Idle)) [] (Err fault.Device)
 broken_at_once broke is =
     let before : AreShownBefore false (spelling backend (Ready Idle)) [] = record {
       earlier = [];

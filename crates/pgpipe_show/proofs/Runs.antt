@@ -2,35 +2,37 @@
 use Rattle.std.proofs.Common.{◌≡◌, ℕ, ◌+◌, ◌*◌, ◌<◌, ◌≤◌, ◌^◌, Bool, List, [], ◌∷◌, ◌++◌, Ok, Err, refl, sym, ap, subst, ◌∙◌, append-nil, length, length-append, arith}
 use Rattle.std.specs.List.{FoldsTo, concat}
 use Rattle.pg_wire.specs.Link.{HasRisen}
-use Rattle.pgpipe_show.specs.declared.halt.Halt.{Halt}
-use Rattle.pgpipe_show.specs.declared.halt.Halt.TheVariants as halt
-use Rattle.pgpipe_show.specs.declared.stage.Stage.{Stage}
+use Rattle.pgpipe_base.specs.declared.stop.Stop.{Stop}
+use Rattle.pgpipe_base.specs.declared.stop.Stop.TheVariants as stop
+use Rattle.pgpipe_show.specs.declared.show.Shown.{Shown}
+use Rattle.pgpipe_show.specs.declared.show.Shown.TheVariants as shown
+use Rattle.pgpipe_show.specs.declared.decoding.Decoding.{Decoding}
 use Rattle.pgpipe_base.specs.Receiving.{most_receives, longest_piece}
 use Rattle.pgpipe_show.specs.Show.{AreAllShown, AreShownBefore}
-use Rattle.pgpipe_show.specs.Private.Work.{is_front, kept_of, Stands, Steps, Halts, HaltsSource, HasRun, StepsSource}
+use Rattle.pgpipe_show.specs.Private.Showing.{is_front, unshown, HasShown, StepShows, Stops, StopsSource, HasRun, StepsSource}
 use Rattle.pgpipe_base.proofs.Pieces.{joined, one_more}
-use Rattle.pgpipe_show.proofs.Stages.{all_shown, at_any_time, kept_within}
+use Rattle.pgpipe_show.proofs.Decodings.{all_shown, at_any_time, kept_within}
 
 -- So many pieces were received, and the work stands where it can go on.
-pub record Runs {S K : Type 0} (gives : S → List ℕ → S → Type 0) (source_failures : S → ℕ) (takes : K → List ℕ → K → Type 0) (failures : K → ℕ) (front : Bool) (source : S) (sink : K) (count : ℕ) (source' : S) (at : Stage) (collected : List ℕ) (sink' : K) : Type 0 where
+pub record Runs {S K : Type 0} (gives : S → List ℕ → S → Type 0) (source_failures : S → ℕ) (takes : K → List ℕ → K → Type 0) (failures : K → ℕ) (front : Bool) (source : S) (sink : K) (count : ℕ) (source' : S) (at : Decoding) (collected : List ℕ) (sink' : K) : Type 0 where
   pub pieces : List (List ℕ)
   pub received : FoldsTo gives source pieces source'
   pub counted : length pieces ≡ count
   pub within : length (concat pieces) ≤ longest_piece * count
   pub sound : source_failures source' ≡ source_failures source
   pub side : is_front at ≡ front
-  pub stands : Stands takes failures sink (concat pieces) at collected sink'
+  pub stands : HasShown takes failures sink (concat pieces) at collected sink'
 
 -- a piece more is within a piece's bound more
 within_more : (pieces : List (List ℕ)) (piece : List ℕ) (n : ℕ) → length (concat pieces) ≤ longest_piece * n → length piece ≤ longest_piece → length (concat (pieces ++ piece ∷ [])) ≤ longest_piece * (n + 1)
 within_more pieces piece n all one = omega (arith, ap (λ (l : List ℕ). length l) (joined pieces piece), length-append (concat pieces) piece)
 
 module _ {S K : Type 0} (gives : S → List ℕ → S → Type 0) (source_failures : S → ℕ) (takes : K → List ℕ → K → Type 0) (failures : K → ℕ) (front : Bool) where
-  pub runs_none : (source : S) (sink : K) (at : Stage) (c : List ℕ) → is_front at ≡ front → Stands takes failures sink [] at c sink → Runs gives source_failures takes failures front source sink 0 source at c sink
+  pub runs_none : (source : S) (sink : K) (at : Decoding) (c : List ℕ) → is_front at ≡ front → HasShown takes failures sink [] at c sink → Runs gives source_failures takes failures front source sink 0 source at c sink
   runs_none source sink at c side st = record { pieces = []; received = refl; counted = refl; within = omega arith; sound = refl; side = side; stands = st }
 
-  pub runs_more : (source : S) (sink : K) (n : ℕ) (source' : S) (at : Stage) (c : List ℕ) (sink' : K) (piece : List ℕ) (source'' : S) (at' : Stage) (c' : List ℕ) (sink'' : K) (r : Runs gives source_failures takes failures front source sink n source' at c sink')
-      → length piece ≤ longest_piece → gives source' piece source'' → source_failures source'' ≡ source_failures source' → Steps takes failures (is_front at) sink (concat r.pieces ++ piece) r.stands.text (Ok at') c' sink''
+  pub runs_more : (source : S) (sink : K) (n : ℕ) (source' : S) (at : Decoding) (c : List ℕ) (sink' : K) (piece : List ℕ) (source'' : S) (at' : Decoding) (c' : List ℕ) (sink'' : K) (r : Runs gives source_failures takes failures front source sink n source' at c sink')
+      → length piece ≤ longest_piece → gives source' piece source'' → source_failures source'' ≡ source_failures source' → StepShows takes failures (is_front at) sink (concat r.pieces ++ piece) r.stands.text (Ok at') c' sink''
       → Runs gives source_failures takes failures front source sink (n + 1) source'' at' c' sink''
   runs_more source sink n source' at c sink' piece source'' at' c' sink'' r fits p same next = record {
     pieces = r.pieces ++ piece ∷ [];
@@ -39,15 +41,15 @@ module _ {S K : Type 0} (gives : S → List ℕ → S → Type 0) (source_failur
     within = within_more r.pieces piece n r.within fits;
     sound = same ∙ r.sound;
     side = next.0 ∙ r.side;
-    stands = subst (λ (bytes : List ℕ). Stands takes failures sink bytes at' c' sink'') (joined r.pieces piece) next.1;
+    stands = subst (λ (bytes : List ℕ). HasShown takes failures sink bytes at' c' sink'') (joined r.pieces piece) next.1;
   }
 
   -- there is room for one more piece
-  pub has_room : (source : S) (sink : K) (n : ℕ) (source' : S) (at : Stage) (c : List ℕ) (sink' : K) → n < most_receives → Runs gives source_failures takes failures front source sink n source' at c sink' → kept_of at + longest_piece < 2 ^ 64
+  pub has_room : (source : S) (sink : K) (n : ℕ) (source' : S) (at : Decoding) (c : List ℕ) (sink' : K) → n < most_receives → Runs gives source_failures takes failures front source sink n source' at c sink' → unshown at + longest_piece < 2 ^ 64
   has_room source sink n source' at c sink' few r = omega (arith, r.within, kept_within takes failures sink (concat r.pieces) c sink' at r.stands)
 
   -- what stood before the last piece
-  stood_before : (sink : K) (earlier last bytes : List ℕ) (at : Stage) (c : List ℕ) (sink' : K) (st : Stands takes failures sink earlier at c sink') → is_front at ≡ front → bytes ≡ earlier ++ last → length last ≤ longest_piece → AreShownBefore front bytes st.text
+  stood_before : (sink : K) (earlier last bytes : List ℕ) (at : Decoding) (c : List ℕ) (sink' : K) (st : HasShown takes failures sink earlier at c sink') → is_front at ≡ front → bytes ≡ earlier ++ last → length last ≤ longest_piece → AreShownBefore front bytes st.text
   stood_before sink earlier last bytes at c sink' st side whole fits = record {
     earlier = earlier;
     last = last;
@@ -56,32 +58,33 @@ module _ {S K : Type 0} (gives : S → List ℕ → S → Type 0) (source_failur
     shown = subst (λ (f : Bool). AreAllShown f earlier st.text) side (all_shown takes failures sink earlier c sink' at st);
   }
 
-  source_of : (ended : Type 0) (old mid new : ℕ) (pieces : List (List ℕ)) (h : Halt) → mid ≡ old → StepsSource {A = Stage} ended mid new (Err h) → HaltsSource ended old new pieces h
-  source_of ended old mid new pieces (halt.Ended n) e s = (s.0, s.1 ∙ e)
-  source_of ended old mid new pieces (halt.Faulty f) e s = s ∙ e
-  source_of ended old mid new pieces halt.Memory e s = s ∙ e
-  source_of ended old mid new pieces halt.SourceFailed e s = subst (λ (n : ℕ). HasRisen n new) e s
-  source_of ended old mid new pieces halt.SinkFailed e s = s ∙ e
-  source_of ended old mid new pieces halt.Endless e s = absurd s
+  source_of : (ended : Type 0) (old mid new : ℕ) (pieces : List (List ℕ)) (h : Stop Shown) → mid ≡ old → StepsSource {A = Decoding} ended mid new (Err h) → StopsSource ended old new pieces h
+  source_of ended old mid new pieces (stop.Answer shown.Whole) e s = (s.0, s.1 ∙ e)
+  source_of ended old mid new pieces (stop.Answer (shown.Rest n)) e s = (s.0, s.1 ∙ e)
+  source_of ended old mid new pieces (stop.Answer (shown.Fault f)) e s = s ∙ e
+  source_of ended old mid new pieces stop.Memory e s = s ∙ e
+  source_of ended old mid new pieces stop.SourceFailed e s = subst (λ (n : ℕ). HasRisen n new) e s
+  source_of ended old mid new pieces stop.SinkFailed e s = s ∙ e
+  source_of ended old mid new pieces stop.Endless e s = absurd s
 
-  pub run_halts : (ended : Type 0) (source : S) (sink : K) (n : ℕ) (source' : S) (at : Stage) (c : List ℕ) (sink' : K) (piece : List ℕ) (source'' : S) (h : Halt) (c' : List ℕ) (sink'' : K) (r : Runs gives source_failures takes failures front source sink n source' at c sink')
-      → length piece ≤ longest_piece → gives source' piece source'' → StepsSource {A = Stage} ended (source_failures source') (source_failures source'') (Err h) → Halts takes failures (is_front at) sink (concat r.pieces ++ piece) r.stands.text h c' sink''
+  pub run_stops : (ended : Type 0) (source : S) (sink : K) (n : ℕ) (source' : S) (at : Decoding) (c : List ℕ) (sink' : K) (piece : List ℕ) (source'' : S) (h : Stop Shown) (c' : List ℕ) (sink'' : K) (r : Runs gives source_failures takes failures front source sink n source' at c sink')
+      → length piece ≤ longest_piece → gives source' piece source'' → StepsSource {A = Decoding} ended (source_failures source') (source_failures source'') (Err h) → Stops takes failures (is_front at) sink (concat r.pieces ++ piece) r.stands.text h c' sink''
       → HasRun gives source_failures ended takes failures front source sink h source'' c' sink''
-  run_halts ended source sink n source' at c sink' piece source'' h c' sink'' r fits p s halts = record {
+  run_stops ended source sink n source' at c sink' piece source'' h c' sink'' r fits p s stops = record {
     pieces = r.pieces ++ piece ∷ [];
     received = one_more gives source r.pieces source' piece source'' r.received p;
     before = r.stands.text;
     shown_before = stood_before sink (concat r.pieces) piece (concat (r.pieces ++ piece ∷ [])) at c sink' r.stands r.side (sym (joined r.pieces piece)) fits;
-    halts = subst (λ (f : Bool). Halts takes failures f sink (concat (r.pieces ++ piece ∷ [])) r.stands.text h c' sink'') r.side (subst (λ (bytes : List ℕ). Halts takes failures (is_front at) sink bytes r.stands.text h c' sink'') (joined r.pieces piece) halts);
-    halts_source = source_of ended _ _ _ _ h r.sound s;
+    stops = subst (λ (f : Bool). Stops takes failures f sink (concat (r.pieces ++ piece ∷ [])) r.stands.text h c' sink'') r.side (subst (λ (bytes : List ℕ). Stops takes failures (is_front at) sink bytes r.stands.text h c' sink'') (joined r.pieces piece) stops);
+    stops_source = source_of ended _ _ _ _ h r.sound s;
   }
 
-  pub run_endless : (ended : Type 0) (source : S) (sink : K) (n : ℕ) (source' : S) (at : Stage) (c : List ℕ) (sink' : K) → n ≡ most_receives → Runs gives source_failures takes failures front source sink n source' at c sink' → HasRun gives source_failures ended takes failures front source sink halt.Endless source' c sink'
+  pub run_endless : (ended : Type 0) (source : S) (sink : K) (n : ℕ) (source' : S) (at : Decoding) (c : List ℕ) (sink' : K) → n ≡ most_receives → Runs gives source_failures takes failures front source sink n source' at c sink' → HasRun gives source_failures ended takes failures front source sink stop.Endless source' c sink'
   run_endless ended source sink n source' at c sink' e r = record {
     pieces = r.pieces;
     received = r.received;
     before = r.stands.text;
     shown_before = stood_before sink (concat r.pieces) [] (concat r.pieces) at c sink' r.stands r.side (sym (append-nil (concat r.pieces))) (omega arith);
-    halts = subst (λ (f : Bool). Halts takes failures f sink (concat r.pieces) r.stands.text halt.Endless c sink') r.side (at_any_time takes failures sink (concat r.pieces) c sink' at r.stands);
-    halts_source = r.counted ∙ e;
+    stops = subst (λ (f : Bool). Stops takes failures f sink (concat r.pieces) r.stands.text stop.Endless c sink') r.side (at_any_time takes failures sink (concat r.pieces) c sink' at r.stands);
+    stops_source = r.counted ∙ e;
   }

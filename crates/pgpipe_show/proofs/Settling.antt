@@ -1,24 +1,27 @@
 -- What stands once all is sent.
-use Rattle.std.proofs.Common.{◌≡◌, ℕ, zero, suc, Bool, true, false, List, [], ◌∷◌, ◌++◌, Result, Ok, Err, refl, sym, ap, subst, ◌∙◌, inl, inr, append-nil, length, arith}
+use Rattle.std.proofs.Common.{◌≡◌, ℕ, Bool, true, false, List, [], ◌∷◌, ◌++◌, Result, Ok, Err, refl, sym, ap, subst, ◌∙◌, inl, inr, append-nil, length, arith}
 use Rattle.std.specs.List.{FoldsTo, concat}
 use Rattle.pg_wire.specs.link.LinkFault.{LinkFault}
 use Rattle.pg_wire.specs.Link.{HasRisen}
-use Rattle.pgpipe_show.specs.declared.halt.Halt.{Halt}
-use Rattle.pgpipe_show.specs.declared.halt.Halt.TheVariants as halt
+use Rattle.pgpipe_base.specs.declared.stop.Stop.{Stop}
+use Rattle.pgpipe_base.specs.declared.stop.Stop.TheVariants as stop
 use Rattle.pgpipe_show.specs.declared.packets.Next.{Next}
 use Rattle.pgpipe_show.specs.declared.packets.Next.TheVariants as next
 use Rattle.pgpipe_show.specs.declared.show.Shown.{Shown}
+use Rattle.pgpipe_show.specs.declared.show.Shown.TheVariants as shown
 use Rattle.pgpipe_base.specs.declared.fault.ToolFault.{ToolFault}
 use Rattle.pgpipe_base.specs.declared.fault.ToolFault.TheVariants as fault
-use Rattle.pgpipe_base.specs.Sending.{Begins, Puts}
-use Rattle.pgpipe_show.specs.Show.{limit, AreShown, AreAllShown, AreShownBefore, AreMostlyShown, ArePartlyShown, IsShownAtOnce, IsOpenFor, Answers}
+use Rattle.pgpipe_base.specs.Outbox.{Puts}
+use Rattle.pgpipe_base.specs.Stop.{Settles, answer_of}
+use mathlib.Core.List.{IsPrefix}
+use Rattle.pgpipe_show.specs.Show.{limit, AreShown, AreAllShown, AreShownBefore, AreMostlyShown, ArePartlyShown, IsShownAtOnce, ShowAnswers}
 use Rattle.pgpipe_base.specs.Receiving.{HasStopped, CountsNoFailure}
-use Rattle.pgpipe_show.specs.Private.Work.{ArePut, IsBroken, Halts, HaltsSource, Settles, answer_of}
+use Rattle.pgpipe_show.specs.Private.Showing.{ArePut, IsBroken, Stops, StopsSource}
 use Rattle.pg_wire.specs.Backend.{backend}
 use Rattle.pg_wire.proofs.Rests.{short_open}
 use Rattle.pg_wire.proofs.Packets.{short_open as short_packet_open}
 use Rattle.pgpipe_base.proofs.Pieces.{puts_then, sent_at_once}
-use Rattle.pgpipe_show.proofs.Stages.{client_begins}
+use Rattle.pgpipe_show.proofs.Decodings.{client_begins}
 
 nothing : (xs : List ℕ) → 0 ≡ length xs → xs ≡ []
 nothing [] e = refl
@@ -37,46 +40,46 @@ module _ {K : Type 0} (takes : K → List ℕ → K → Type 0) (failures : K �
       let sent : put.text ≡ concat all.pieces = sym (append-nil put.text) ∙ all.sent ∙ ap (λ (t : List ℕ). concat all.pieces ++ t) none ∙ append-nil (concat all.pieces) in
       ((all.pieces, all.calls, (sent, subst (λ (t : List ℕ). AreShown front bytes t n rest) sent put.shown)), all.counted)
 
-  -- the sink failed: a beginning was sent, little more was received, and the failure was counted
+  -- the sink failed: a prefix was sent, little more was received, and the failure was counted
   abbrev pub Fails : K → List ℕ → K → Type 0
   Fails start bytes s = Sends start (λ text. ArePartlyShown front bytes text × IsShownAtOnce front bytes text) s × HasRisen (failures start) (failures s)
 
   partly : (start : K) (bytes before : List ℕ) (n : Next) (rest c : List ℕ) (s : K) (f : LinkFault) (c' : List ℕ) (s' : K) → AreShownBefore front bytes before → ArePut takes failures front start bytes before n rest c s → Puts {A = Unit {0}} takes failures c s [] (Err f) c' s' → Fails start bytes s'
   partly start bytes before n rest c s f c' s' b h p =
       let all = puts_then takes failures [] start h.text c s [] (Err f) c' s' h.put p in
-      ((all.pieces, all.calls, ((h.text, rest, n, h.shown, (all.sent.0, sym (append-nil h.text) ∙ all.sent.1)), (before, b, sent_at_once takes failures start before h.text c s [] (Err f) c' s' h.put p h.begins h.within))), all.counted)
+      ((all.pieces, all.calls, ((h.text, rest, n, h.shown, (all.sent.0, all.sent.1 ∙ append-nil h.text)), (before, b, sent_at_once takes failures start before h.text c s [] (Err f) c' s' h.put p h.begins h.within))), all.counted)
 
   broken : (start : K) (bytes before c : List ℕ) (s : K) → AreShownBefore front bytes before → IsBroken takes failures front start bytes before c s → Fails start bytes s
   broken start bytes before c s b h = ((h.put.pieces, h.put.calls, ((h.text, h.rest, h.n, h.shown, (h.put.sent.0, h.put.sent.1)), (before, b, h.at_once))), h.put.counted)
 
   -- where all was sent, the answer speaks of the source alone
   module _ (received : List (List ℕ)) (old new : ℕ) (broke : Type 0) (start : K) (bytes before : List ℕ) where
-    abbrev pub Answered : List ℕ → Halt → Type 0
-    Answered text h = Answers (HasStopped old new received) broke front bytes text (answer_of h)
+    abbrev pub Answered : List ℕ → Stop Shown → Type 0
+    Answered text h = ShowAnswers (HasStopped old new received) broke front bytes text (answer_of h)
 
-    ended : (text : List ℕ) (n : Next) (rest : List ℕ) (size : ℕ) → size ≡ length rest → AreShown front bytes text n rest → IsOpenFor front n rest → Answered text (halt.Ended size)
-    ended text n rest zero e a o = (n, subst (λ (r : List ℕ). AreShown front bytes text n r) (nothing rest e) a)
-    ended text n rest (suc k) e a o = (n, rest, a, o, e, omega arith)
-
-    pub settled : (ends : Type 0) (h : Halt) (c : List ℕ) (s : K) (c' : List ℕ) (s' : K) → AreShownBefore front bytes before → Halts takes failures front start bytes before h c s → HaltsSource ends old new received h → Settles takes failures h c s (Ok tt) c' s'
+    pub settled : (ends : Type 0) (h : Stop Shown) (c : List ℕ) (s s' : K) → AreShownBefore front bytes before → Stops takes failures front start bytes before h c s → StopsSource ends old new received h → Settles takes failures h c s (Ok tt) s'
         → Sends start (λ text. Answered text h) s' × (failures s' ≡ failures start)
-    settled _ (halt.Ended size) c s c' s' b hs why st = let w = whole start bytes before hs.0 hs.1 c s c' s' hs.2 st.0 st.1 in ((w.0.0, w.0.1, ended (concat w.0.0) hs.0 hs.1 size hs.4 w.0.2.1 hs.3), w.1)
-    settled _ (halt.Faulty f) c s c' s' b hs why st = let w = whole start bytes before hs.0 hs.1 c s c' s' hs.2 st.0 st.1 in ((w.0.0, w.0.1, (hs.0, hs.1, w.0.2.1, hs.3)), w.1)
-    settled _ halt.Memory c s c' s' b hs why st =
-        let w = whole start bytes before hs.0 hs.1 c s c' s' hs.2 st.0 st.1 in
-        ((w.0.0, w.0.1, record { before = before; shown_before = b; begins = subst (λ (t : List ℕ). Begins before t) w.0.2.0 hs.2.begins; n = hs.0; rest = hs.1; shown = w.0.2.1 }), w.1)
-    settled _ halt.SourceFailed c s c' s' b hs why st = let w = whole start bytes before hs.0 hs.1 c s c' s' hs.2 st.0 st.1 in ((w.0.0, w.0.1, inr (inl why, record { n = hs.0; rest = hs.1; shown = w.0.2.1; is_open = hs.3 })), w.1)
-    settled _ halt.SinkFailed c s c' s' b hs why st = absurd cc
-    settled _ halt.Endless c s c' s' b hs why st = let w = whole start bytes before hs.0 hs.1 c s c' s' hs.2 st.0 st.1 in ((w.0.0, w.0.1, inr (inr why, record { n = hs.0; rest = hs.1; shown = w.0.2.1; is_open = hs.3 })), w.1)
+    settled _ (stop.Answer shown.Whole) c s s' b hs why st =
+        let w = whole start bytes before hs.0 hs.1 c s [] s' hs.2 st refl in
+        ((w.0.0, w.0.1, (hs.0, subst (λ (r : List ℕ). AreShown front bytes (concat w.0.0) hs.0 r) (nothing hs.1 hs.4) w.0.2.1)), w.1)
+    settled _ (stop.Answer (shown.Rest size)) c s s' b hs why st = let w = whole start bytes before hs.0 hs.1 c s [] s' hs.2 st refl in ((w.0.0, w.0.1, (hs.0, hs.1, w.0.2.1, hs.3, hs.4, hs.5)), w.1)
+    settled _ (stop.Answer (shown.Fault f)) c s s' b hs why st = let w = whole start bytes before hs.0 hs.1 c s [] s' hs.2 st refl in ((w.0.0, w.0.1, (hs.0, hs.1, w.0.2.1, hs.3)), w.1)
+    settled _ stop.Memory c s s' b hs why st =
+        let w = whole start bytes before hs.0 hs.1 c s [] s' hs.2 st refl in
+        ((w.0.0, w.0.1, record { before = before; shown_before = b; begins = subst (λ (t : List ℕ). IsPrefix before t) w.0.2.0 hs.2.begins; n = hs.0; rest = hs.1; shown = w.0.2.1 }), w.1)
+    settled _ stop.SourceFailed c s s' b hs why st = let w = whole start bytes before hs.0 hs.1 c s [] s' hs.2 st refl in ((w.0.0, w.0.1, inr (inl why, record { n = hs.0; rest = hs.1; shown = w.0.2.1; is_open = hs.3 })), w.1)
+    settled _ stop.SinkFailed c s s' b hs why st = absurd cc
+    settled _ stop.Endless c s s' b hs why st = let w = whole start bytes before hs.0 hs.1 c s [] s' hs.2 st refl in ((w.0.0, w.0.1, inr (inr why, record { n = hs.0; rest = hs.1; shown = w.0.2.1; is_open = hs.3 })), w.1)
 
   -- the sink failed
-  pub unsettled : (start : K) (bytes before : List ℕ) (h : Halt) (c : List ℕ) (s : K) (f : LinkFault) (c' : List ℕ) (s' : K) → AreShownBefore front bytes before → Halts takes failures front start bytes before h c s → Settles takes failures h c s (Err f) c' s' → Fails start bytes s'
-  unsettled start bytes before (halt.Ended size) c s f c' s' b hs st = partly start bytes before hs.0 hs.1 c s f c' s' b hs.2 st.0
-  unsettled start bytes before (halt.Faulty g) c s f c' s' b hs st = partly start bytes before hs.0 hs.1 c s f c' s' b hs.2 st.0
-  unsettled start bytes before halt.Memory c s f c' s' b hs st = partly start bytes before hs.0 hs.1 c s f c' s' b hs.2 st.0
-  unsettled start bytes before halt.SourceFailed c s f c' s' b hs st = partly start bytes before hs.0 hs.1 c s f c' s' b hs.2 st.0
-  unsettled start bytes before halt.SinkFailed c s f c' s' b hs st = subst (λ (k : K). Fails start bytes k) (sym st.1) (broken start bytes before c s b hs)
-  unsettled start bytes before halt.Endless c s f c' s' b hs st = partly start bytes before hs.0 hs.1 c s f c' s' b hs.2 st.0
+  pub unsettled : (start : K) (bytes before : List ℕ) (h : Stop Shown) (c : List ℕ) (s : K) (f : LinkFault) (s' : K) → AreShownBefore front bytes before → Stops takes failures front start bytes before h c s → Settles takes failures h c s (Err f) s' → Fails start bytes s'
+  unsettled start bytes before (stop.Answer shown.Whole) c s f s' b hs st = partly start bytes before hs.0 hs.1 c s f [] s' b hs.2 st
+  unsettled start bytes before (stop.Answer (shown.Rest size)) c s f s' b hs st = partly start bytes before hs.0 hs.1 c s f [] s' b hs.2 st
+  unsettled start bytes before (stop.Answer (shown.Fault g)) c s f s' b hs st = partly start bytes before hs.0 hs.1 c s f [] s' b hs.2 st
+  unsettled start bytes before stop.Memory c s f s' b hs st = partly start bytes before hs.0 hs.1 c s f [] s' b hs.2 st
+  unsettled start bytes before stop.SourceFailed c s f s' b hs st = partly start bytes before hs.0 hs.1 c s f [] s' b hs.2 st
+  unsettled start bytes before stop.SinkFailed c s f s' b hs st = subst (λ (k : K). Fails start bytes k) (sym st.1) (broken start bytes before c s b hs)
+  unsettled start bytes before stop.Endless c s f s' b hs st = partly start bytes before hs.0 hs.1 c s f [] s' b hs.2 st
 
 -- a count that stayed
 pub counts_none : (old : ℕ) (r : Result Shown ToolFault) (new : ℕ) → new ≡ old → CountsNoFailure old r new
@@ -84,13 +87,14 @@ counts_none old (Ok x) new e = e
 counts_none old (Err fault.Memory) new e = e
 counts_none old (Err fault.Device) new e = tt
 
-pub source_counts : (ended : Type 0) (old new : ℕ) (pieces : List (List ℕ)) (h : Halt) → HaltsSource ended old new pieces h → CountsNoFailure old (answer_of h) new
-source_counts ended old new pieces (halt.Ended size) s = counts_none old (answer_of (halt.Ended size)) new s.1
-source_counts ended old new pieces (halt.Faulty f) s = s
-source_counts ended old new pieces halt.Memory s = s
-source_counts ended old new pieces halt.SourceFailed s = tt
-source_counts ended old new pieces halt.SinkFailed s = tt
-source_counts ended old new pieces halt.Endless s = tt
+pub source_counts : (ended : Type 0) (old new : ℕ) (pieces : List (List ℕ)) (h : Stop Shown) → StopsSource ended old new pieces h → CountsNoFailure old (answer_of h) new
+source_counts ended old new pieces (stop.Answer shown.Whole) s = s.1
+source_counts ended old new pieces (stop.Answer (shown.Rest size)) s = s.1
+source_counts ended old new pieces (stop.Answer (shown.Fault f)) s = s
+source_counts ended old new pieces stop.Memory s = s
+source_counts ended old new pieces stop.SourceFailed s = tt
+source_counts ended old new pieces stop.SinkFailed s = tt
+source_counts ended old new pieces stop.Endless s = tt
 
 -- of no bytes no line is shown
 all_of_nothing : (front : Bool) → AreAllShown front [] []

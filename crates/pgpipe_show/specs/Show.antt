@@ -1,8 +1,7 @@
 -- What is shown of a backend's stream, and of what a client sends.
-use Rattle.std.specs.Prelude.{ℕ, ◌≡◌, ◌<◌, ◌≤◌, ◌+◌, ◌++◌, ◌∷◌, ◌⊎◌, Bool, true, false, List, [], length, Result, Ok, Err}
+use Rattle.std.specs.Prelude.{ℕ, ◌≡◌, ◌<◌, ◌≤◌, ◌+◌, ◌++◌, ◌⊎◌, Bool, true, false, List, [], length, Result, Ok, Err}
 use Rattle.pg_wire.specs.declared.fault.WireFault.{WireFault}
 use Rattle.pg_wire.specs.message.First.{First}
-use Rattle.pg_wire.specs.message.First.TheVariants as first
 use Rattle.pg_wire.specs.Backend.{backend}
 use Rattle.pg_wire.specs.Direction.{Direction, longest}
 use Rattle.pg_wire.specs.First.{IsBeginning, IsOpenPacket, IsFaultyPacket}
@@ -14,9 +13,11 @@ use Rattle.pgpipe_show.specs.declared.show.Shown.{Shown}
 use Rattle.pgpipe_show.specs.declared.show.Shown.TheVariants as shown
 use Rattle.pgpipe_base.specs.declared.fault.ToolFault.{ToolFault}
 use Rattle.pgpipe_base.specs.declared.fault.ToolFault.TheVariants as fault
-use Rattle.pgpipe_show.specs.Lines.{lines, packet_lines}
+use Rattle.pgpipe_show.specs.Messages.{lines}
+use Rattle.pgpipe_show.specs.Packets.{packet_lines, next_after, have_ended}
 use Rattle.pgpipe_base.specs.Receiving.{longest_piece}
-use Rattle.pgpipe_base.specs.Sending.{Begins, most_collected}
+use Rattle.pgpipe_base.specs.Outbox.{most_collected}
+use mathlib.Core.List.{IsPrefix}
 
 -- the greatest length field
 abbrev pub limit : ℕ
@@ -32,48 +33,29 @@ pub record AreMessages {M : Type 0} (d : Direction M) (bytes text rest : List �
 
 -- ---- what a client sends
 
--- what comes behind a packet
-abbrev pub after : First → Next
-after (first.Startup pairs) = next.Message
-after (first.Cancel process secret) = next.Nothing
-after first.Ssl = next.Packet
-after first.Gss = next.Packet
+-- What stands after the packets, the lines for it, and its rest: messages after a Startup, and else a rest alone.
+abbrev pub ComesAfter : Next → List ℕ → List ℕ → List ℕ → Type 0
+ComesAfter next.Message following text rest = AreMessages frontend following text rest
+ComesAfter _ following text rest = (text ≡ []) × (rest ≡ following)
 
--- what comes behind packets, which the last of them says
-abbrev pub next_after : List First → Next
-next_after [] = next.Packet
-next_after (p ∷ []) = after p
-next_after (p ∷ q ∷ packets) = next_after (q ∷ packets)
-
--- no packet is to come
-abbrev pub have_ended : Next → Bool
-have_ended next.Packet = false
-have_ended next.Message = true
-have_ended next.Nothing = true
-
--- What stands behind the packets, the lines for it, and its rest: messages behind a Startup, and else a rest alone.
-abbrev pub IsBehind : Next → List ℕ → List ℕ → List ℕ → Type 0
-IsBehind next.Message behind text rest = AreMessages frontend behind text rest
-IsBehind _ behind text rest = (text ≡ []) × (rest ≡ behind)
-
--- The bytes are packets, what comes behind them and this rest, and the text is the packets' lines and the messages' lines.
+-- The bytes are packets, what comes after them and this rest, and the text is the packets' lines and the messages' lines.
 pub record IsClientSide (bytes text : List ℕ) (n : Next) (rest : List ℕ) : Type 0 where
   pub packets : List First
-  pub behind : List ℕ
+  pub following : List ℕ
   pub later : List ℕ
-  pub beginning : IsBeginning bytes packets (have_ended n) behind
+  pub beginning : IsBeginning bytes packets (have_ended n) following
   pub next_is : next_after packets ≡ n
-  pub follows : IsBehind n behind later rest
+  pub follows : ComesAfter n following later rest
   pub each_line : text ≡ packet_lines packets ++ later
 
 -- ---- either side
 
--- The text is the lines for these bytes but the rest, behind which this is to come. Of a backend messages are.
+-- The text is the lines for these bytes but the rest, after which this is to come. Of a backend messages are.
 abbrev pub AreShown : Bool → List ℕ → List ℕ → Next → List ℕ → Type 0
 AreShown false bytes text n rest = (n ≡ next.Message) × AreMessages backend bytes text rest
 AreShown true bytes text n rest = IsClientSide bytes text n rest
 
--- The rest is no whole packet or message yet, and has no fault. Behind a Cancel it may be anything.
+-- The rest is no whole packet or message yet, and has no fault. After a Cancel it may be anything.
 abbrev pub IsOpenFor : Bool → Next → List ℕ → Type 0
 IsOpenFor false n rest = IsOpen backend limit rest
 IsOpenFor true next.Packet rest = IsOpenPacket rest
@@ -108,17 +90,17 @@ pub record AreShownBefore (front : Bool) (bytes text : List ℕ) : Type 0 where
 pub record AreMostlyShown (front : Bool) (bytes text : List ℕ) : Type 0 where
   pub before : List ℕ
   pub shown_before : AreShownBefore front bytes before
-  pub begins : Begins before text
+  pub begins : IsPrefix before text
   pub n : Next
   pub rest : List ℕ
   pub shown : AreShown front bytes text n rest
 
--- The text is a beginning of the lines for these bytes.
+-- The text is a prefix of the lines for these bytes.
 abbrev pub ArePartlyShown : Bool → List ℕ → List ℕ → Type 0
 ArePartlyShown front bytes text = (all rest : List ℕ) × (n : Next) × AreShown front bytes all n rest
-    × Begins text all
+    × IsPrefix text all
 
--- The lines for all of these bytes but the last piece are no more than the text and what may be collected behind it.
+-- The lines for all of these bytes but the last piece are no more than the text and what may be collected after it.
 abbrev pub IsShownAtOnce : Bool → List ℕ → List ℕ → Type 0
 IsShownAtOnce front bytes text = (before : List ℕ) × AreShownBefore front bytes before
     × (length before ≤ most_collected + length text)
@@ -126,21 +108,22 @@ IsShownAtOnce front bytes text = (before : List ℕ) × AreShownBefore front byt
 -- ---- the answer
 
 -- The answer for the bytes that were received, of a client or else of a backend, and the text that was sent. Where memory was
--- refused, no line is missing for what came before the last piece. Device says that the sink broke, and then a beginning of the
+-- refused, no line is missing for what came before the last piece. Device says that the sink broke, and then a prefix of the
 -- lines was sent and little more was received, or that the source stopped, and then all of them were sent.
-abbrev pub Answers : Type 0 → Type 0 → Bool → List ℕ → List ℕ → Result Shown ToolFault → Type 0
-Answers stopped broke front bytes text (Ok shown.Whole) = (n : Next)
+abbrev pub ShowAnswers : Type 0 → Type 0 → Bool → List ℕ → List ℕ → Result Shown ToolFault → Type 0
+ShowAnswers stopped broke front bytes text (Ok shown.Whole) = (n : Next)
     × AreShown front bytes text n []
-Answers stopped broke front bytes text (Ok (shown.Rest size)) = (n : Next) × (rest : List ℕ)
+ShowAnswers stopped broke front bytes text (Ok (shown.Rest size)) = (n : Next) × (rest : List ℕ)
     × AreShown front bytes text n rest × IsOpenFor front n rest × (size ≡ length rest) × (0 < size)
-Answers stopped broke front bytes text (Ok (shown.Fault f)) = (n : Next) × (rest : List ℕ)
+ShowAnswers stopped broke front bytes text (Ok (shown.Fault f)) = (n : Next) × (rest : List ℕ)
     × AreShown front bytes text n rest × IsFaultyFor front n rest f
-Answers stopped broke front bytes text (Err fault.Memory) = AreMostlyShown front bytes text
-Answers stopped broke front bytes text (Err fault.Device) = (broke × ArePartlyShown front bytes text
+ShowAnswers stopped broke front bytes text (Err fault.Memory) = AreMostlyShown front bytes text
+ShowAnswers stopped broke front bytes text (Err fault.Device) =
+    (broke × ArePartlyShown front bytes text
     × IsShownAtOnce front bytes text) ⊎ (stopped × AreAllShown front bytes text)
 
 -- Where the stream is whole or has an open rest, the source has ended.
-abbrev pub EndsWith : Type 0 → Result Shown ToolFault → Type 0
-EndsWith ended (Ok shown.Whole) = ended
-EndsWith ended (Ok (shown.Rest n)) = ended
-EndsWith ended _ = Unit {0}
+abbrev pub EndsStream : Type 0 → Result Shown ToolFault → Type 0
+EndsStream ended (Ok shown.Whole) = ended
+EndsStream ended (Ok (shown.Rest n)) = ended
+EndsStream ended _ = Unit {0}

@@ -3,13 +3,15 @@
 ghost use Rattle.std.specs.Prelude.{◌≡◌, ◌≤◌, ◌^◌, ◌-◌, ◌++◌, [], ◌∷◌, length, drop, slice_index};
 ghost use Rattle.pg_wire.specs.Encoder.{Encodes};
 ghost use Rattle.pg_wire.specs.Stream.{IsWithin};
-ghost use Rattle.pgpipe_show.specs.Lines.{line};
-ghost use Rattle.pgpipe_base.specs.Lines.{line_of};
+ghost use Rattle.pgpipe_show.specs.Messages.{line};
+ghost use Rattle.pgpipe_base.specs.Outbox.{line_of};
 ghost use Rattle.pgpipe_show.specs.Show.{limit};
-ghost use Rattle.pgpipe_show.specs.Private.Work.{IsSound, PutsLine, PutsMessages, LeavesSource};
+ghost use Rattle.pgpipe_show.specs.Private.Showing.{IsSound, PutsLine, PutsMessages, LeavesSource};
 
-use crate::halt::{Halt, halt_of};
+use crate::show::Shown;
+use crate::stop::fault_stop;
 use pg_wire::{Decoder, EncodeFault, Message, Sink};
+use pgpipe_base::Stop;
 use pgpipe_base::outbox::Outbox;
 
 // Spells a message, and lets it go.
@@ -21,7 +23,11 @@ fn spell<M: Message>(message: M, spelled: &mut Vec<u8>) -> Result<(), EncodeFaul
 }
 
 // Puts the line of a message that is spelled so.
-fn put_spelled<K: Sink>(spelled: &[u8], outbox: &mut Outbox, sink: &mut K) -> Result<(), Halt>
+fn put_spelled<K: Sink>(
+    spelled: &[u8],
+    outbox: &mut Outbox,
+    sink: &mut K,
+) -> Result<(), Stop<Shown>>
     requires { (5 ≤ length spelled.now) × (length spelled.now ≤ 2 ^ 32) }
     ensures { PutsLine K.takes K.failures outbox.old sink.old
         (line_of (slice_index spelled.now 0 ∷ []) (length spelled.now - 1) (drop 5 spelled.now))
@@ -30,7 +36,7 @@ fn put_spelled<K: Sink>(spelled: &[u8], outbox: &mut Outbox, sink: &mut K) -> Re
     let size = (spelled.len() - 1) as u32;
     match outbox.put_line(&[spelled[0]], size, spelled.split_at(5).1, sink) {
         Ok(()) => Ok(()),
-        Err(_) => Err(Halt::SinkFailed),
+        Err(_) => Err(Stop::SinkFailed),
     }
 }
 
@@ -40,14 +46,14 @@ fn put_message<M: Message, K: Sink>(
     spelled: &mut Vec<u8>,
     outbox: &mut Outbox,
     sink: &mut K,
-) -> Result<(), Halt>
+) -> Result<(), Stop<Shown>>
     requires { IsWithin M.direction limit message }
     ensures { PutsLine K.takes K.failures outbox.old sink.old
         (line M.direction message) result outbox.new sink.new }
 {
     match spell(message, spelled) {
         Ok(()) => put_spelled(spelled.as_slice(), outbox, sink),
-        Err(_) => Err(Halt::Memory),
+        Err(_) => Err(Stop::Memory),
     }
 }
 
@@ -57,7 +63,7 @@ pub fn put_messages<M: Message, K: Sink>(
     spelled: &mut Vec<u8>,
     outbox: &mut Outbox,
     sink: &mut K,
-) -> Result<Decoder<M>, Halt>
+) -> Result<Decoder<M>, Stop<Shown>>
     requires { IsSound decoder }
     ensures puts { PutsMessages K.takes K.failures M.direction outbox.old sink.old decoder.kept
         result outbox.new sink.new }
@@ -68,7 +74,7 @@ pub fn put_messages<M: Message, K: Sink>(
         match reader.next() {
             Ok(None) => return Ok(reader),
             Ok(Some(message)) => put_message(message, spelled, outbox, sink)?,
-            Err(fault) => return Err(halt_of(fault)),
+            Err(fault) => return Err(fault_stop(fault)),
         }
     }
 }
@@ -80,7 +86,7 @@ pub fn take_messages<M: Message, K: Sink>(
     spelled: &mut Vec<u8>,
     outbox: &mut Outbox,
     sink: &mut K,
-) -> Result<Decoder<M>, Halt>
+) -> Result<Decoder<M>, Stop<Shown>>
     requires { IsSound decoder }
     ensures puts { PutsMessages K.takes K.failures M.direction outbox.old sink.old (decoder.kept
         ++ piece.now) result outbox.new sink.new }
@@ -89,6 +95,6 @@ pub fn take_messages<M: Message, K: Sink>(
     let mut reader = decoder;
     match reader.push(piece) {
         Ok(()) => put_messages(reader, spelled, outbox, sink),
-        Err(_) => Err(Halt::Memory),
+        Err(_) => Err(Stop::Memory),
     }
 }

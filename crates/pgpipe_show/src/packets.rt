@@ -3,14 +3,15 @@
 ghost use Rattle.std.specs.Prelude.{◌≡◌, ◌≤◌, ◌++◌, [], length, drop, false, None};
 ghost use Rattle.pg_wire.specs.Encoder.{EncodesPacket};
 ghost use Rattle.pg_wire.specs.First.{IsPacket};
-ghost use Rattle.pgpipe_show.specs.Lines.{word, packet_line};
-ghost use Rattle.pgpipe_base.specs.Lines.{line_of};
-ghost use Rattle.pgpipe_show.specs.Show.{after};
-ghost use Rattle.pgpipe_show.specs.Private.Work.{PutsLine, PutsPackets, LeavesSource};
+ghost use Rattle.pgpipe_show.specs.Packets.{word, packet_line, after};
+ghost use Rattle.pgpipe_base.specs.Outbox.{line_of};
+ghost use Rattle.pgpipe_show.specs.Private.Showing.{PutsLine, PutsPackets, LeavesSource};
 
-use crate::halt::{Halt, halt_of};
+use crate::show::Shown;
+use crate::stop::fault_stop;
 use pg_wire::frontend::encode_first;
 use pg_wire::{EncodeFault, First, FirstDecoder, Sink};
+use pgpipe_base::Stop;
 use pgpipe_base::outbox::Outbox;
 
 /// What a client sends next.
@@ -24,7 +25,7 @@ pub enum Next {
     Nothing,
 }
 
-// What comes behind a packet.
+// What comes after a packet.
 fn after(packet: &First) -> Next
     ensures { result ≡ after packet.now }
 {
@@ -62,7 +63,7 @@ fn put_spelled<K: Sink>(
     spelled: &[u8],
     outbox: &mut Outbox,
     sink: &mut K,
-) -> Result<(), Halt>
+) -> Result<(), Stop<Shown>>
     requires word { length word.now ≤ 7 }
     requires spelled { (4 ≤ length spelled.now) × (length spelled.now ≤ 10000) }
     ensures { PutsLine K.takes K.failures outbox.old sink.old
@@ -70,7 +71,7 @@ fn put_spelled<K: Sink>(
 {
     match outbox.put_line(word, spelled.len() as u32, spelled.split_at(4).1, sink) {
         Ok(()) => Ok(()),
-        Err(_) => Err(Halt::SinkFailed),
+        Err(_) => Err(Stop::SinkFailed),
     }
 }
 
@@ -80,14 +81,14 @@ fn put_packet<K: Sink>(
     spelled: &mut Vec<u8>,
     outbox: &mut Outbox,
     sink: &mut K,
-) -> Result<(), Halt>
+) -> Result<(), Stop<Shown>>
     requires { IsPacket packet }
     ensures { PutsLine K.takes K.failures outbox.old sink.old
         (packet_line packet) result outbox.new sink.new }
 {
     match spell(&packet, spelled) {
         Ok(()) => put_spelled(word(&packet), spelled.as_slice(), outbox, sink),
-        Err(_) => Err(Halt::Memory),
+        Err(_) => Err(Stop::Memory),
     }
 }
 
@@ -97,7 +98,7 @@ pub fn put_packets<K: Sink>(
     spelled: &mut Vec<u8>,
     outbox: &mut Outbox,
     sink: &mut K,
-) -> Result<Next, Halt>
+) -> Result<Next, Stop<Shown>>
     requires { (first.old.ended ≡ false) × (first.old.fault ≡ None) }
     ensures puts { PutsPackets K.takes K.failures outbox.old sink.old first.old.kept result
         first.new outbox.new sink.new }
@@ -114,7 +115,7 @@ pub fn put_packets<K: Sink>(
                     Next::Message | Next::Nothing => return Ok(next),
                 }
             }
-            Err(fault) => return Err(halt_of(fault)),
+            Err(fault) => return Err(fault_stop(fault)),
         }
     }
 }

@@ -3,7 +3,7 @@ use Rattle.std.proofs.Common.{◌≡◌, ℕ, List, Result, Ok, Err, refl, inr}
 use Rattle.pgpipe_files.specs.declared.calls_file.Calls.{Calls}
 use Rattle.pgpipe_files.specs.CallsFile.{calls_of, what_is_said}
 use Rattle.pgpipe_words.specs.declared.failure.Failure.{Failure}
-use Rattle.pgpipe_words.specs.Reading.{calls_limit, Fills, nothing, one_more, ReadsFiles, ReadsCalls}
+use Rattle.pgpipe_words.specs.LoopFiles.{calls_limit, Fills, nothing, one_more, ReadsFiles, ReadsCalls}
 
 module _ (holds : List ℕ → List ℕ → Type 0) (fails : List ℕ → Failure → Type 0) where
   pub keeps_settings : (read calls : Calls) → Fills holds fails read calls → calls.settings ≡ read.settings

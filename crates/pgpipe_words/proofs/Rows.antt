@@ -7,8 +7,8 @@ use Rattle.clap.proofs.OnLiterals.{clap_on_literals}
 use Rattle.std.specs.Borrow.{Bor}
 use Rattle.pgpipe_convert.specs.declared.format.Format.{Format}
 use Rattle.pgpipe_convert.specs.declared.format.Format.TheVariants as format
-use Rattle.pgpipe_words.specs.declared.words.Task.{Task}
-use Rattle.pgpipe_words.specs.declared.words.Task.TheVariants as task
+use Rattle.pgpipe_words.specs.declared.tasks.Task.{Task}
+use Rattle.pgpipe_words.specs.declared.tasks.Task.TheVariants as task
 use Rattle.pgpipe_words.specs.CommandLine.{command_line}
 use Rattle.pgpipe_words.specs.Tasks.{IsAskedFor}
 

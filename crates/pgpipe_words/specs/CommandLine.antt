@@ -7,7 +7,8 @@ use Rattle.clap.specs.declared.builder.value_parser.ValueParser.TheVariants as p
 
 -- the parser that takes the names of the two formats, and no other text
 abbrev pub IsFormats : ValueParser → Type 0
-IsFormats (parser.Names names) = map (λ name. name.now) names.now ≡ codes "text" ∷ codes "binary" ∷ []
+IsFormats (parser.Names names) =
+    map (λ name. name.now) names.now ≡ codes "text" ∷ codes "binary" ∷ []
 IsFormats _ = ⊥
 
 -- `--front`, which has no value
@@ -16,7 +17,8 @@ front = record (new_rule (codes "front")) { long = Some (codes "front"); action 
 
 -- an option with one value, `--name VALUE`
 abbrev pub option : Text → ValueParser → Rule
-option name values = record (new_rule name) { long = Some name; value_names = 1; parser = Some values }
+option name values =
+    record (new_rule name) { long = Some name; value_names = 1; parser = Some values }
 
 -- an argument that has to be given
 abbrev pub required : Rule → Rule
@@ -33,7 +35,7 @@ convert formats = (with_rule (with_rule (with_rule (new_app (codes "convert"))
     (required (option (codes "to") formats)))
     (required (option (codes "columns") (parser.Signed (pos 1) (pos 32767))))).top
 
--- the paths of both files stand behind the options, SCRIPT first
+-- the paths of both files stand after the options, SCRIPT first
 abbrev pub loop : Shape
 loop = (with_rule (with_rule (with_rule (new_app (codes "loop"))
     (option (codes "cut") (parser.Signed (pos 1) (pos 4096))))
@@ -42,4 +44,6 @@ loop = (with_rule (with_rule (with_rule (new_app (codes "loop"))
 
 -- the whole command line: `pgpipe` with its three subcommands
 abbrev pub command_line : ValueParser → App
-command_line formats = with_subcommand (with_subcommand (with_subcommand (new_app (codes "pgpipe")) show) (convert formats)) loop
+command_line formats =
+    with_subcommand
+    (with_subcommand (with_subcommand (new_app (codes "pgpipe")) show) (convert formats)) loop

@@ -1,8 +1,9 @@
--- What a reader must believe: the command line, the tasks that its words ask for, what is done for them, and how it ends.
+-- What a reader must believe: the command line, the tasks that its words ask for, how a loop's files are read, what is done for
+-- a task, and how it ends.
 pub mod CommandLine
 pub mod Tasks
-pub mod Failing
-pub mod Reading
+pub mod Failure
+pub mod LoopFiles
 pub mod Doing
 -- Words of private functions, which no public contract cites.
 pub mod Private

@@ -7,8 +7,8 @@ use Rattle.clap.specs.declared.builder.value_parser.ValueParser.{ValueParser}
 use Rattle.clap.specs.declared.error.Error.{Error}
 use Rattle.pgpipe_convert.specs.declared.format.Format.{Format}
 use Rattle.pgpipe_convert.specs.declared.format.Format.TheVariants as format
-use Rattle.pgpipe_words.specs.declared.words.Task.{Task}
-use Rattle.pgpipe_words.specs.declared.words.Task.TheVariants as task
+use Rattle.pgpipe_words.specs.declared.tasks.Task.{Task}
+use Rattle.pgpipe_words.specs.declared.tasks.Task.TheVariants as task
 use Rattle.pgpipe_words.specs.CommandLine.{IsFormats, command_line}
 
 -- a task that can be done: a row has at least one field, and at most 32,767, and a delivery 1 to 4,096 bytes
@@ -45,14 +45,16 @@ IsShowOf found _ = ⊥
 
 -- a conversion between the formats that were named, with as many columns as were named
 abbrev pub IsConversionOf : List Row → Task → Type 0
-IsConversionOf found (task.Convert from to columns) = (from ≡ format_named (first_of (codes "from") found))
+IsConversionOf found (task.Convert from to columns) =
+    (from ≡ format_named (first_of (codes "from") found))
     × (to ≡ format_named (first_of (codes "to") found))
     × ((n : ℕ) → IsNumber (one_of (codes "columns") found) n → 0 < n → n ≤ 32767 → columns ≡ n)
 IsConversionOf found _ = ⊥
 
 -- a loop over the files that were named, and with deliveries of as many bytes as were named, 4,096 where no number was
 abbrev pub IsLoopOf : List Row → Task → Type 0
-IsLoopOf found (task.Loop cut script calls) = (string_bytes script ≡ unwrap_or (first_of (codes "SCRIPT") found) [])
+IsLoopOf found (task.Loop cut script calls) =
+    (string_bytes script ≡ unwrap_or (first_of (codes "SCRIPT") found) [])
     × (string_bytes calls ≡ unwrap_or (first_of (codes "CALLS") found) [])
     × ((n : ℕ) → IsNumber (one_of (codes "cut") found) n → 0 < n → n ≤ 4096 → cut ≡ n)
     × (one_of (codes "cut") found ≡ None → cut ≡ 4096)

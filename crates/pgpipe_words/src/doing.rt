@@ -3,14 +3,14 @@
 ghost use Rattle.std.specs.Prelude.{◌≡◌, ◌<◌, ◌≤◌, MatchResult};
 ghost use Rattle.std.specs.Process.{exit_status};
 ghost use Rattle.clap.specs.Words.{kind_of};
-ghost use Rattle.pgpipe_words.specs.Doing.{Does, DoesShow, DoesConvert};
-ghost use Rattle.pgpipe_words.specs.Failing.{status_of, Explains};
+ghost use Rattle.pgpipe_words.specs.Doing.{DoesTask, DoesShow, DoesConvert};
+ghost use Rattle.pgpipe_words.specs.Failure.{failure_status, Explains};
 ghost use Rattle.pgpipe_words.specs.Tasks.{IsTask};
 
-use crate::failure::{Failure, conversion_result_of, result_of};
+use crate::failure::{Failure, conversion_result_of, show_result_of};
 use crate::files::FileStore;
 use crate::loop_files::run_files;
-use crate::words::Task;
+use crate::tasks::Task;
 use clap::error::ErrorKind;
 use pg_pair::Carry;
 use pg_wire::{Sink, Source};
@@ -30,7 +30,7 @@ fn do_show<S: Source, K: Sink>(
     ensures { DoesShow S.gives S.failures S.has_ended K.takes K.failures front source.old sink.old
         result source.new sink.new }
 {
-    result_of(show(alloc, front, source, sink))
+    show_result_of(show(alloc, front, source, sink))
 }
 
 // Converts what the source gives.
@@ -59,9 +59,8 @@ pub fn do_task<F: FileStore, C: Carry, S: Source, K: Sink>(
     sink: &mut K,
 ) -> Result<(), Failure>
     requires { IsTask task }
-    ensures { Does (F.holds files.now)
-        (F.fails files.now) C.carries S.gives S.failures S.has_ended K.takes K.failures carrier task
-        source.old sink.old result source.new sink.new }
+    ensures { DoesTask S.gives S.failures S.has_ended K.takes K.failures (F.holds files.now)
+        (F.fails files.now) C.carries carrier task source.old sink.old result source.new sink.new }
 {
     match task {
         Task::Show { front } => do_show(alloc, front, source, sink),
@@ -96,7 +95,7 @@ pub fn explain<R: Print + Eprint>(rt: &R, error: &clap::Error) -> Result<ExitCod
 /// The status that the program ends with.
 pub fn exit_code(ended: &Result<ExitCode, Failure>) -> ExitCode
     ensures { MatchResult ended.now (λ code. result ≡ code) (λ failure. exit_status result
-        ≡ status_of failure) }
+        ≡ failure_status failure) }
 {
     match ended {
         Ok(code) => *code,

@@ -2,7 +2,7 @@
 
 ghost use Rattle.std.specs.Prelude.{◌≡◌, ◌≢◌};
 ghost use Rattle.std.specs.IoError.{error_kind};
-ghost use Rattle.pgpipe_words.specs.Failing.{status_of, Results, ConversionResults, LoopResults, script_failure, calls_failure, check_failure};
+ghost use Rattle.pgpipe_words.specs.Failure.{failure_status, ShowResults, ConversionResults, LoopResults, script_failure, calls_failure, check_failure};
 
 use pg_backend::ScriptFault;
 use pg_copy::{BinaryFault, RowFault, TextFault};
@@ -57,7 +57,7 @@ pub enum Failure {
 impl Failure {
     /// The exit status.
     pub fn status(&self) -> u8
-        ensures { result ≡ status_of self.now }
+        ensures { result ≡ failure_status self.now }
     {
         match self {
             Failure::NotUtf8 => 1,
@@ -87,8 +87,8 @@ pub fn words_failure(error: &io::Error) -> Failure
 }
 
 /// What an answer of `show` means for the program: only a whole stream is a success.
-pub fn result_of(answer: Result<Shown, ToolFault>) -> Result<(), Failure>
-    ensures { Results answer result }
+pub fn show_result_of(answer: Result<Shown, ToolFault>) -> Result<(), Failure>
+    ensures { ShowResults answer result }
 {
     match answer {
         Ok(Shown::Whole) => Ok(()),

@@ -3,7 +3,7 @@
 ghost use Rattle.std.specs.Prelude.{◌≡◌};
 ghost use Rattle.pgpipe_files.specs.Filling.{next_file};
 ghost use Rattle.pgpipe_words.specs.Doing.{RunsFiles, RunsCalls};
-ghost use Rattle.pgpipe_words.specs.Reading.{ReadsScript, ReadsCalls, ReadsFiles, calls_limit};
+ghost use Rattle.pgpipe_words.specs.LoopFiles.{ReadsScript, ReadsCalls, ReadsFiles, calls_limit};
 
 use crate::failure::{Failure, calls_failure, check_failure, loop_result_of, script_failure};
 use crate::files::FileStore;

@@ -26,7 +26,7 @@ pub enum Cut {
     Nowhere,
     /// A byte at a time.
     Everywhere,
-    /// In two, behind so many bytes.
+    /// In two, after so many bytes.
     At(usize),
 }
 

@@ -129,24 +129,24 @@ impl Binary {
 
 /// A part of a file that is written.
 #[derive(Drop)]
-pub enum Part<'a> {
+pub enum FilePart<'a> {
     Head,
     Binary(&'a Row),
     Trailer,
     Text(&'a Row),
 }
 
-fn write(part: &Part<'_>, buf: &mut Vec<u8>) -> Result<(), RowFault> {
+fn write(part: &FilePart<'_>, buf: &mut Vec<u8>) -> Result<(), RowFault> {
     match part {
-        Part::Head => write_binary_head(buf),
-        Part::Binary(row) => write_binary_row(row, buf),
-        Part::Trailer => write_binary_trailer(buf),
-        Part::Text(row) => write_text_row(row, buf),
+        FilePart::Head => write_binary_head(buf),
+        FilePart::Binary(row) => write_binary_row(row, buf),
+        FilePart::Trailer => write_binary_trailer(buf),
+        FilePart::Text(row) => write_text_row(row, buf),
     }
 }
 
 /// Appends to a buffer, which a refusal leaves as it was.
-pub fn write_again(part: &Part<'_>, buf: &mut Vec<u8>, refused: &mut Refused) -> Result<()> {
+pub fn write_again(part: &FilePart<'_>, buf: &mut Vec<u8>, refused: &mut Refused) -> Result<()> {
     let before = buf.len();
     match write(part, buf) {
         Err(RowFault::Memory) => refused.row = true,

@@ -5,7 +5,7 @@
 
 mod again;
 
-use again::{Binary, Part, Refused, Text, write_again};
+use again::{Binary, FilePart, Refused, Text, write_again};
 use anyhow::Result;
 use std::alloc::Global;
 use std::io::{Read, Write};
@@ -17,23 +17,23 @@ const PIECE: usize = 100;
 fn to_binary(alloc: Global, text: &[u8], refused: &mut Refused) -> Result<Vec<u8>> {
     let mut reader = Text::new(alloc);
     let mut out = Vec::new(alloc);
-    write_again(&Part::Head, &mut out, refused)?;
+    write_again(&FilePart::Head, &mut out, refused)?;
     for piece in text.chunks(PIECE) {
         reader.push(piece, refused)?;
         for _ in 0..u64::MAX {
             let Some(row) = reader.next(refused)? else {
                 break;
             };
-            write_again(&Part::Binary(&row), &mut out, refused)?;
+            write_again(&FilePart::Binary(&row), &mut out, refused)?;
         }
     }
     for _ in 0..u64::MAX {
         let Some(row) = reader.finish(refused)? else {
             break;
         };
-        write_again(&Part::Binary(&row), &mut out, refused)?;
+        write_again(&FilePart::Binary(&row), &mut out, refused)?;
     }
-    write_again(&Part::Trailer, &mut out, refused)?;
+    write_again(&FilePart::Trailer, &mut out, refused)?;
     Ok(out)
 }
 
@@ -47,14 +47,14 @@ fn to_text(alloc: Global, binary: &[u8], refused: &mut Refused) -> Result<Vec<u8
             let Some(row) = reader.next(refused)? else {
                 break;
             };
-            write_again(&Part::Text(&row), &mut out, refused)?;
+            write_again(&FilePart::Text(&row), &mut out, refused)?;
         }
     }
     for _ in 0..u64::MAX {
         let Some(row) = reader.finish(refused)? else {
             break;
         };
-        write_again(&Part::Text(&row), &mut out, refused)?;
+        write_again(&FilePart::Text(&row), &mut out, refused)?;
     }
     Ok(out)
 }

@@ -1,2 +1,2 @@
 -- The definitions of this crate.
-pub mod Acts
+pub mod Entry

@@ -3,15 +3,15 @@
 //! send what was recorded.
 #![tactic(auto)]
 
-mod act;
+mod entry;
 mod print;
 mod replay;
 mod words;
 
-use act::Act;
 use anyhow::{Context, Result, bail};
+use entry::Entry;
 use print::print;
-use replay::{Cut, Ending, replay};
+use replay::{Cut, SessionEnd, replay};
 use std::alloc::Global;
 use std::io;
 use std::io::{BufRead, BufReader, BufWriter, Write};
@@ -22,7 +22,7 @@ use words::{write_ending, write_words};
 struct Session {
     /// The program that the client was.
     name: String,
-    acts: Vec<Act>,
+    entries: Vec<Entry>,
 }
 
 fn read_sessions(alloc: Global, input: impl BufRead + Drop) -> Result<Vec<Session>> {
@@ -32,13 +32,13 @@ fn read_sessions(alloc: Global, input: impl BufRead + Drop) -> Result<Vec<Sessio
         if let Some(name) = line.as_str().strip_prefix("session ") {
             sessions.push(Session {
                 name: String::from_str(alloc, name)?,
-                acts: Vec::new(alloc),
+                entries: Vec::new(alloc),
             })?;
         } else {
-            let act = Act::of_line(alloc, line.as_str()).context(format_args!("in {line:?}"))?;
+            let entry = Entry::of_line(alloc, line.as_str()).context(format_args!("in {line:?}"))?;
             match sessions.last_mut() {
-                Some(session) => session.acts.push(act)?,
-                None => bail!("an act stands in a session"),
+                Some(session) => session.entries.push(entry)?,
+                None => bail!("an entry stands in a session"),
             }
         }
     }
@@ -46,14 +46,14 @@ fn read_sessions(alloc: Global, input: impl BufRead + Drop) -> Result<Vec<Sessio
 }
 
 // Replays the session in all ways, which have to end the same.
-fn replay_cut(alloc: Global, acts: &[Act]) -> Result<Ending> {
-    let ending = replay(alloc, acts, Cut::Nowhere)?;
-    if replay(alloc, acts, Cut::Everywhere)? != ending {
+fn replay_cut(alloc: Global, entries: &[Entry]) -> Result<SessionEnd> {
+    let ending = replay(alloc, entries, Cut::Nowhere)?;
+    if replay(alloc, entries, Cut::Everywhere)? != ending {
         bail!("a byte at a time settles something else");
     }
-    let longest = acts.iter().map(Act::server_bytes).max().unwrap_or(0);
+    let longest = entries.iter().map(Entry::server_bytes).max().unwrap_or(0);
     for place in 0..longest {
-        if replay(alloc, acts, Cut::At(place))? != ending {
+        if replay(alloc, entries, Cut::At(place))? != ending {
             bail!("cut at {place} it settles something else");
         }
     }
@@ -66,7 +66,9 @@ fn main(rt: HostRuntime) -> Result<()> {
     let mut out = BufWriter::new(alloc, io::writer(&rt))?;
     for session in &sessions {
         let name = session.name.as_str();
-        let ending = replay_cut(alloc, session.acts.as_slice()).context(format_args!("in {name}"))?;
+        let ending = replay_cut(alloc, session.entries.as_slice()).context(format_args!(
+            "in {name}"
+        ))?;
         writeln!(out, "session {name}")?;
         if name == "psql" {
             for group in &ending.settled {

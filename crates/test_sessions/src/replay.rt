@@ -1,9 +1,9 @@
 //! A session made again with a client.
 
 ghost use Rattle.std.specs.Prelude.{◌≡◌, IfOk, option_copied};
-ghost use Rattle.test_sessions.specs.Acts.{password_of};
+ghost use Rattle.test_sessions.specs.Entry.{password_of};
 
-use crate::act::Act;
+use crate::entry::Entry;
 use anyhow::{Result, bail};
 use pg_client::{Cause, Client, FeedFault, Loss, Phase, Settings, Settled};
 use pg_wire::{Part, Request, Seq, Step};
@@ -17,13 +17,13 @@ pub enum Cut {
     Nowhere,
     /// A byte at a time.
     Everywhere,
-    /// In two, behind so many bytes.
+    /// In two, after so many bytes.
     At(usize),
 }
 
 /// What came of a session.
 #[derive(Debug, PartialEq, Drop)]
-pub struct Ending {
+pub struct SessionEnd {
     pub settled: Vec<Settled>,
     pub loss: Loss,
     /// Why the client wasn't let in.
@@ -83,7 +83,7 @@ impl Running {
         }
     }
 
-    // Notes why the client isn't let in. Bytes that come behind that, or behind a Terminate, are refused.
+    // Notes why the client isn't let in. Bytes that come after that, or after a Terminate, are refused.
     fn feed_piece(&mut self, piece: &[u8]) -> Result<()> {
         let closed = matches!(self.client.phase(), Phase::Closed(_));
         match self.client.feed(piece, &mut self.out) {
@@ -114,33 +114,33 @@ impl Running {
         Ok(())
     }
 
-    fn make(&mut self, alloc: Global, act: &Act, cut: Cut) -> Result<()> {
+    fn make(&mut self, alloc: Global, entry: &Entry, cut: Cut) -> Result<()> {
         let Running {
             client,
             steps,
             out,
             ..
         } = self;
-        match act {
-            Act::Start(_) => client.start(out)?,
-            Act::Password(_) => {}
-            Act::Query(text) => request(client, Request::Query(text.clone()?), out)?,
-            Act::Step(step) => steps.push(step.clone()?)?,
-            Act::Sync => {
+        match entry {
+            Entry::Start(_) => client.start(out)?,
+            Entry::Password(_) => {}
+            Entry::Query(text) => request(client, Request::Query(text.clone()?), out)?,
+            Entry::Step(step) => steps.push(step.clone()?)?,
+            Entry::Sync => {
                 let steps = mem::replace(steps, Vec::new(alloc));
                 request(client, Request::Group(Seq::new(steps)), out)?;
             }
-            Act::Chunk(bytes) => client.copy_chunk(bytes.as_slice(), out)?,
-            Act::Done => client.copy_done(out)?,
-            Act::Fail(reason) => client.copy_fail(reason.as_slice(), out)?,
-            Act::Terminate => client.terminate(out)?,
-            Act::Sent(bytes) => {
+            Entry::Chunk(bytes) => client.copy_chunk(bytes.as_slice(), out)?,
+            Entry::Done => client.copy_done(out)?,
+            Entry::Fail(reason) => client.copy_fail(reason.as_slice(), out)?,
+            Entry::Terminate => client.terminate(out)?,
+            Entry::Sent(bytes) => {
                 if out.as_slice() != bytes.as_slice() {
                     bail!("the client sends other bytes than {:?}", bytes);
                 }
                 out.clear();
             }
-            Act::Bytes(bytes) => self.feed(bytes.as_slice(), cut)?,
+            Entry::Bytes(bytes) => self.feed(bytes.as_slice(), cut)?,
         }
         Ok(())
     }
@@ -169,7 +169,7 @@ impl Running {
         Ok(())
     }
 
-    fn end(self) -> Result<Ending> {
+    fn end(self) -> Result<SessionEnd> {
         self.check_end()?;
         let Running {
             mut client,
@@ -178,7 +178,7 @@ impl Running {
             ..
         } = self;
         let loss = client.lost();
-        Ok(Ending {
+        Ok(SessionEnd {
             settled,
             loss,
             refusal,
@@ -187,21 +187,21 @@ impl Running {
 }
 
 // The password that the client has, if it has one.
-fn password_of(acts: &[Act]) -> Option<&Seq<u8>>
-    ensures { option_copied result ≡ password_of acts.now }
+fn password_of(entries: &[Entry]) -> Option<&Seq<u8>>
+    ensures { option_copied result ≡ password_of entries.now }
 {
-    match acts {
-        [_, Act::Password(password), ..] => Some(password),
+    match entries {
+        [_, Entry::Password(password), ..] => Some(password),
         _ => None,
     }
 }
 
 // The settings that a startup packet's parameters say: the user, maybe the database, and others.
-fn settings_of(alloc: Global, acts: &[Act]) -> Result<Settings>
+fn settings_of(alloc: Global, entries: &[Entry]) -> Result<Settings>
     ensures limit { IfOk result (λ settings. settings.limit ≡ 65536) }
-    ensures password { IfOk result (λ settings. settings.password ≡ password_of acts.now) }
+    ensures password { IfOk result (λ settings. settings.password ≡ password_of entries.now) }
 {
-    let Some(Act::Start(parameters)) = acts.first() else {
+    let Some(Entry::Start(parameters)) = entries.first() else {
         bail!("a session begins with its start");
     };
     let mut user = None;
@@ -217,7 +217,7 @@ fn settings_of(alloc: Global, acts: &[Act]) -> Result<Settings>
     let Some(user) = user else {
         bail!("a startup names the user");
     };
-    let password = match password_of(acts) {
+    let password = match password_of(entries) {
         Some(password) => Some(password.clone()?),
         None => None,
     };
@@ -231,10 +231,10 @@ fn settings_of(alloc: Global, acts: &[Act]) -> Result<Settings>
 }
 
 /// Makes the session again.
-pub fn replay(alloc: Global, acts: &[Act], cut: Cut) -> Result<Ending> {
-    let mut running = Running::new(alloc, settings_of(alloc, acts)?);
-    for act in acts {
-        running.make(alloc, act, cut)?;
+pub fn replay(alloc: Global, entries: &[Entry], cut: Cut) -> Result<SessionEnd> {
+    let mut running = Running::new(alloc, settings_of(alloc, entries)?);
+    for entry in entries {
+        running.make(alloc, entry, cut)?;
         running.settle()?;
     }
     running.end()

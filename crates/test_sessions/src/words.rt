@@ -1,6 +1,6 @@
 //! A settled group in words: a line for each message of its whole results or answers, and what is known beside them.
 
-use crate::replay::Ending;
+use crate::replay::SessionEnd;
 use pg_client::{FeedFault, Settled};
 use pg_wire::{Aside, Column, CopyHead, ExecEnd, Fields, Outcome, Part, Seq, Status, Values};
 use std::io;
@@ -197,7 +197,7 @@ pub fn write_words(settled: &Settled, out: &mut impl Write) -> io::Result<()> {
 }
 
 /// Writes why the client wasn't let in, if so, and whether a request was left unsettled.
-pub fn write_ending(ending: &Ending, out: &mut impl Write) -> io::Result<()> {
+pub fn write_ending(ending: &SessionEnd, out: &mut impl Write) -> io::Result<()> {
     match &ending.refusal {
         Some(FeedFault::StartupError(fields)) => write_fields(b"refused", fields, out)?,
         Some(fault) => writeln!(out, "refused {fault}")?,

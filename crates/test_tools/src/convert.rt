@@ -152,7 +152,7 @@ fn a_source_that_fails(rt: HostRuntime) {
     }
 }
 
-/// Whether a beginning of the row's file is written, where the sink fails behind so many sends.
+/// Whether a beginning of the row's file is written, where the sink fails after so many sends.
 fn converts_to(alloc: Global, sends: u8) -> bool {
     let mut source = source_of(TEXT_ROW, 5, 0);
     let mut sink = sheet(alloc, u64::from(sends) + 1);

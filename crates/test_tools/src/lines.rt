@@ -4,7 +4,7 @@ use pg_pair::Applied;
 use pg_wire::{
     EncodeFault, ErrorField, ExecEnd, Fields, Outcome, Part, Request, Seq, Status, Step, WireFault,
 };
-use pgpipe_loop::event_lines::{closing_lines, event_lines};
+use pgpipe_loop::{closing_lines, event_lines};
 use std::alloc::{AllocError, Global};
 use std::test::Fail;
 use test_libraries::values::{asides, bad, columns, head, none, query, row, row_and_null, text};

@@ -80,7 +80,7 @@ pub(crate) fn sheet(alloc: Global, fails_at: u64) -> Paper {
     }
 }
 
-/// Whether what was taken is what a sink took that failed behind so many sends of this text.
+/// Whether what was taken is what a sink took that failed after so many sends of this text.
 pub(crate) fn broke_behind(paper: &Paper, sends: u8, text: &[u8]) -> bool {
     paper.text.len() == 7 * usize::from(sends) && text.starts_with(paper.text.as_slice())
 }

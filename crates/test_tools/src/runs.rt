@@ -6,14 +6,14 @@ use pgpipe_loop::run_loop::{Ran, run_loop};
 use std::alloc::{AllocError, Global};
 use std::test::Fail;
 
-/// A file with these bytes behind others.
+/// A file with these bytes after others.
 fn file(alloc: Global, before: &[u8], bytes: &[u8]) -> Result<Vec<u8>, AllocError> {
     let mut file = Vec::from_slice(alloc, before)?;
     file.extend_from_slice(bytes)?;
     Ok(file)
 }
 
-/// How a loop of a script and calls behind the start ends, and what it prints, where the sink fails at this call.
+/// How a loop of a script and calls after the start ends, and what it prints, where the sink fails at this call.
 fn run<C: Carry>(
     alloc: Global,
     files: (&[u8], &[u8]),
@@ -75,7 +75,7 @@ fn runs(rt: HostRuntime) -> Result<(), Fail> {
 
 const READY: &[u8] = b"client\tready\nbackend\tready\n";
 
-// The lines of a script and of calls behind `auth trust` and behind `user u`, `start`, `flow`; what a loop prints of them, and its
+// The lines of a script and of calls after `auth trust` and after `user u`, `start`, `flow`; what a loop prints of them, and its
 // closing lines.
 const RUNS: [((&[u8], &[u8]), &[u8], &[u8]); 6] = [
     (ROW, ROW_LINES, READY),
@@ -198,7 +198,7 @@ const COPIES: [((&[u8], &[u8]), &[u8], &[u8]); 11] = [
         b"settled\tquery\tCOPY\nerror\tC\tXX000\tM\tbad\nstatus\tI\n",
         READY,
     ),
-    // the error has come, and of the ReadyForQuery behind it all but a byte
+    // the error has come, and of the ReadyForQuery after it all but a byte
     (
         (
             REFUSED_COPY,

@@ -119,7 +119,7 @@ fn a_client_that_fails(rt: HostRuntime) {
     }
 }
 
-/// Whether a beginning of these lines is sent of these bytes, five at a time, where the sink fails behind so many sends.
+/// Whether a beginning of these lines is sent of these bytes, five at a time, where the sink fails after so many sends.
 fn shows_to(alloc: Global, front: bool, bytes: &[u8], sends: u8, lines: &[u8]) -> bool {
     let mut source = source_of(bytes, 5, 0);
     let mut sink = sheet(alloc, u64::from(sends) + 1);

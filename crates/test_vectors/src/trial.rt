@@ -9,19 +9,19 @@ use thiserror::Error;
 
 /// What a decoder answers for the bytes of a vector.
 #[derive(Debug, PartialEq, Drop)]
-pub enum Reading<M> {
+pub enum Decoded<M> {
     /// More bytes are to come.
     Open,
     Message(M),
     Refused(WireFault),
 }
 
-impl<M: Debug> fmt::Display for Reading<M> {
+impl<M: Debug> fmt::Display for Decoded<M> {
     fn fmt<W: fmt::Write>(&self, f: &mut fmt::Formatter<W>) -> fmt::Result {
         match self {
-            Reading::Open => write!(f, "open"),
-            Reading::Message(message) => write!(f, "ok {message:?}"),
-            Reading::Refused(fault) => write!(f, "bad {fault}"),
+            Decoded::Open => write!(f, "open"),
+            Decoded::Message(message) => write!(f, "ok {message:?}"),
+            Decoded::Refused(fault) => write!(f, "bad {fault}"),
         }
     }
 }
@@ -64,33 +64,33 @@ pub enum Flaw {
 }
 
 /// The reading of what a decoder answers next.
-fn reading_of<M>(answer: Result<Option<M>, WireFault>) -> Result<Reading<M>, Flaw> {
+fn decoded_of<M>(answer: Result<Option<M>, WireFault>) -> Result<Decoded<M>, Flaw> {
     match answer {
-        Ok(None) => Ok(Reading::Open),
-        Ok(Some(message)) => Ok(Reading::Message(message)),
+        Ok(None) => Ok(Decoded::Open),
+        Ok(Some(message)) => Ok(Decoded::Message(message)),
         Err(WireFault::Memory) => Err(Flaw::Memory),
-        Err(fault) => Ok(Reading::Refused(fault)),
+        Err(fault) => Ok(Decoded::Refused(fault)),
     }
 }
 
 /// What the decoder answers once it has this piece too.
-fn feed<D: Subject>(decoder: &mut D, piece: &[u8]) -> Result<Reading<D::Item>, Flaw> {
+fn feed<D: Subject>(decoder: &mut D, piece: &[u8]) -> Result<Decoded<D::Item>, Flaw> {
     match decoder.push(piece) {
-        Ok(()) => reading_of(decoder.next()),
-        Err(fault) => reading_of(Err(fault)),
+        Ok(()) => decoded_of(decoder.next()),
+        Err(fault) => decoded_of(Err(fault)),
     }
 }
 
-/// Gives the decoder a piece behind which more is to come, so that it has no answer yet.
+/// Gives the decoder a piece after which more is to come, so that it has no answer yet.
 fn feed_part<D: Subject>(decoder: &mut D, piece: &[u8], cut: Cut) -> Result<(), Flaw> {
     match feed(decoder, piece)? {
-        Reading::Open => Ok(()),
+        Decoded::Open => Ok(()),
         _ => Err(Flaw::Early(cut)),
     }
 }
 
 /// What a new decoder answers with the last of the bytes, and not before.
-fn read<D: Subject>(decoder: &mut D, bytes: &[u8], cut: Cut) -> Result<Reading<D::Item>, Flaw> {
+fn read<D: Subject>(decoder: &mut D, bytes: &[u8], cut: Cut) -> Result<Decoded<D::Item>, Flaw> {
     match cut {
         Cut::Nowhere => feed(decoder, bytes),
         Cut::At(place) => {
@@ -110,29 +110,29 @@ fn read<D: Subject>(decoder: &mut D, bytes: &[u8], cut: Cut) -> Result<Reading<D
     }
 }
 
-/// Demands that the decoder keeps nothing behind a message, and answers a fault for good.
+/// Demands that the decoder keeps nothing after a message, and answers a fault for good.
 fn check_end<D: Subject>(
     decoder: &mut D,
-    found: &Reading<D::Item>,
+    found: &Decoded<D::Item>,
     len: usize,
     cut: Cut,
 ) -> Result<(), Flaw> {
     let (kept, later) = match found {
-        Reading::Open => (len, Reading::Open),
-        Reading::Message(_) => (0, Reading::Open),
-        Reading::Refused(fault) => (len, Reading::Refused(*fault)),
+        Decoded::Open => (len, Decoded::Open),
+        Decoded::Message(_) => (0, Decoded::Open),
+        Decoded::Refused(fault) => (len, Decoded::Refused(*fault)),
     };
     if decoder.kept() != kept {
         return Err(Flaw::Keeps(cut, decoder.kept()));
     }
-    if reading_of(decoder.next())? != later || feed(decoder, &[])? != later {
+    if decoded_of(decoder.next())? != later || feed(decoder, &[])? != later {
         return Err(Flaw::Unsteady(cut));
     }
     Ok(())
 }
 
 /// Reads the bytes by a new decoder.
-fn read_cut<D: Subject>(alloc: Global, bytes: &[u8], cut: Cut) -> Result<Reading<D::Item>, Flaw> {
+fn read_cut<D: Subject>(alloc: Global, bytes: &[u8], cut: Cut) -> Result<Decoded<D::Item>, Flaw> {
     let mut decoder = D::begin(alloc);
     let found = read(&mut decoder, bytes, cut)?;
     check_end(&mut decoder, &found, bytes.len(), cut)?;
@@ -151,7 +151,7 @@ fn check_spelling<D: Subject>(alloc: Global, message: &D::Item, bytes: &[u8]) ->
 }
 
 /// The one reading of the bytes, whole and however they are cut. A message is encoded as the very bytes.
-pub fn judge<D: Subject>(alloc: Global, bytes: &[u8]) -> Result<Reading<D::Item>, Flaw> {
+pub fn judge<D: Subject>(alloc: Global, bytes: &[u8]) -> Result<Decoded<D::Item>, Flaw> {
     let whole = read_cut::<D>(alloc, bytes, Cut::Nowhere)?;
     if read_cut::<D>(alloc, bytes, Cut::Everywhere)? != whole {
         return Err(Flaw::Differs(Cut::Everywhere));
@@ -161,7 +161,7 @@ pub fn judge<D: Subject>(alloc: Global, bytes: &[u8]) -> Result<Reading<D::Item>
             return Err(Flaw::Differs(Cut::At(place)));
         }
     }
-    if let Reading::Message(message) = &whole {
+    if let Decoded::Message(message) = &whole {
         check_spelling::<D>(alloc, message, bytes)?;
     }
     Ok(whole)

@@ -28,7 +28,7 @@ pub struct Vector {
 
 /// Why a line holds no vector.
 #[derive(Debug, Drop, Error)]
-pub enum LineFault {
+pub enum VectorFault {
     #[error("a vector begins with back, front or first")]
     NoSide,
     #[error("{0}")]
@@ -58,7 +58,7 @@ fn without_comment(line: &str) -> &str {
 
 impl Vector {
     /// The vector of a line, or None where it has nothing but a comment.
-    pub fn of_line(alloc: Global, line: &str) -> Result<Option<Vector>, LineFault> {
+    pub fn of_line(alloc: Global, line: &str) -> Result<Option<Vector>, VectorFault> {
         let text = without_comment(line);
         if text.is_empty() {
             return Ok(None);
@@ -70,9 +70,9 @@ impl Vector {
         } else if let Some(digits) = text.strip_prefix("first") {
             (Side::First, digits)
         } else {
-            return Err(LineFault::NoSide);
+            return Err(VectorFault::NoSide);
         };
-        let bytes = bytes_of(alloc, digits).map_err(LineFault::NoBytes)?;
+        let bytes = bytes_of(alloc, digits).map_err(VectorFault::NoBytes)?;
         Ok(Some(Vector { side, bytes }))
     }
 }

@@ -8,14 +8,14 @@ use Rattle.pg_copy.specs.declared.binary_part.NoRow.{NoRow}
 use Rattle.pg_copy.specs.declared.binary_part.NoRow.TheVariants as no_row
 use Rattle.pg_copy.specs.declared.binary_part.Walk.{Walk}
 use Rattle.pg_copy.specs.declared.binary_part.Look.{Look}
-use Rattle.pg_copy.specs.declared.binary_part.Part.{Part}
-use Rattle.pg_copy.specs.declared.binary_part.Part.TheVariants as parts
+use Rattle.pg_copy.specs.declared.binary_part.RowOrTrailer.{RowOrTrailer}
+use Rattle.pg_copy.specs.declared.binary_part.RowOrTrailer.TheVariants as parts
 use Rattle.pg_copy.specs.declared.binary_reader.BinaryStage.{BinaryStage}
 use Rattle.pg_copy.specs.declared.binary_reader.BinaryStage.TheVariants.{Head, Extension, Rows, Closed, Failed}
 use Rattle.pg_copy.specs.Row.{Row}
 use Rattle.pg_copy.specs.Reading.{RowWaits}
-use Rattle.pg_copy.specs.BinaryReading.{NoPart, Incomplete, Faulty, ◌>>=◌, number_at, bytes_at, fixed_at, head_at, values_at, row_at}
-use Rattle.pg_copy.specs.BinaryReader.{BinaryState, left}
+use Rattle.pg_copy.specs.BinaryPart.{NoPart, Incomplete, Faulty, ◌>>=◌, number_at, bytes_at, fixed_at, head_at, values_at, row_at}
+use Rattle.pg_copy.specs.BinaryReader.{BinaryState, binary_left}
 
 -- a function's reason why it read no part, as reading has it
 abbrev pub no_part : Stop → NoPart
@@ -23,11 +23,11 @@ no_part stops.Incomplete = Incomplete
 no_part (stops.Faulty fault) = Faulty fault
 
 -- what a function returned, seen by view, is what reading gives
-abbrev pub Gives : {X Y : Type 0} → (X → Y) → Result X Stop → Result Y NoPart → Type 0
-Gives view (Ok x) read = read ≡ Ok (view x)
-Gives view (Err stop) read = read ≡ Err (no_part stop)
+abbrev pub ReadsPart : {X Y : Type 0} → (X → Y) → Result X Stop → Result Y NoPart → Type 0
+ReadsPart view (Ok x) read = read ≡ Ok (view x)
+ReadsPart view (Err stop) read = read ≡ Err (no_part stop)
 
--- the bytes behind what was read
+-- the bytes after what was read
 abbrev pub rest_of : {A : Type 0} → Result (A × List ℕ) NoPart → Result (List ℕ) NoPart
 rest_of (Ok x) = Ok x.1
 rest_of (Err stop) = Err stop
@@ -35,35 +35,41 @@ rest_of (Err stop) = Err stop
 -- ---- a walk over a row
 
 -- Where a walk was begun, the number of values is that of the columns, and so many values stand before its place.
-pub record IsBegun (columns limit : ℕ) (bytes : List ℕ) (w : Walk) : Type 0 where
+pub record IsWalkBegun (columns limit : ℕ) (bytes : List ℕ) (w : Walk) : Type 0 where
   pub count : number_at w16 bytes ≡ Ok (columns, drop 2 bytes)
   pub in_range : w.at ≤ length bytes
   pub few : w.left ≤ columns
   pub values : rest_of (values_at limit (columns - w.left) (drop 2 bytes)) ≡ Ok (drop w.at bytes)
 
-abbrev pub IsWalked : ℕ → ℕ → List ℕ → Walk → Type 0
-IsWalked columns limit bytes w = 0 < w.at → IsBegun columns limit bytes w
+-- A walk that hasn't begun says nothing.
+abbrev pub IsRowWalked : ℕ → ℕ → List ℕ → Walk → Type 0
+IsRowWalked columns limit bytes w = 0 < w.at → IsWalkBegun columns limit bytes w
 
-abbrev pub Finds : ℕ → ℕ → List ℕ → Result Part Stop → Walk → Type 0
-Finds columns limit bytes (Ok parts.Row) w = (0 < w.at) × (w.left ≡ 0)
-Finds columns limit bytes (Ok parts.Trailer) w = row_at columns limit bytes
+-- What a walk over a row finds: a row, all of whose values it has walked over, the trailer, or why there is neither.
+abbrev pub FindsRow : ℕ → ℕ → List ℕ → Result RowOrTrailer Stop → Walk → Type 0
+FindsRow columns limit bytes (Ok parts.Row) w = (0 < w.at) × (w.left ≡ 0)
+FindsRow columns limit bytes (Ok parts.Trailer) w = row_at columns limit bytes
     ≡ Ok (None, drop 2 bytes)
-Finds columns limit bytes (Err stop) w = row_at columns limit bytes ≡ Err (no_part stop)
+FindsRow columns limit bytes (Err stop) w = row_at columns limit bytes ≡ Err (no_part stop)
 
 -- ---- the next part of a file, by what was read before
 
+-- the end of a file, after its trailer
 abbrev pub closed_at : List ℕ → Result ((Option Row × BinaryStage) × List ℕ) NoPart
 closed_at [] = Ok ((None, Closed), [])
 closed_at (b ∷ bs) = Err (Faulty AfterTrailer)
 
+-- a row, or the trailer, and where the reader stands after it
 abbrev pub row_or_trailer : Option Row → List ℕ
     → Result ((Option Row × BinaryStage) × List ℕ) NoPart
 row_or_trailer None rest = closed_at rest
 row_or_trailer (Some row) rest = Ok ((Some row, Rows), rest)
 
+-- the row or the trailer at the front of the bytes
 unfoldable pub body_at : ℕ → ℕ → List ℕ → Result ((Option Row × BinaryStage) × List ℕ) NoPart
 body_at columns limit bytes = row_at columns limit bytes >>= λ r. row_or_trailer r.0 r.1
 
+-- the next row or the trailer, where a reader stands there
 unfoldable pub part_at : BinaryStage → ℕ → ℕ → List ℕ
     → Result ((Option Row × BinaryStage) × List ℕ) NoPart
 part_at Head columns limit bytes = head_at bytes >>= λ h. body_at columns limit h.1
@@ -74,11 +80,12 @@ part_at (Failed fault) columns limit bytes = Err (Faulty fault)
 
 -- ---- a look at the next part
 
--- what stands behind the head, where it is still to be read
+-- what stands after the head, where it is still to be read
 abbrev pub IsBehindHead : Bool → List ℕ → List ℕ → Type 0
 IsBehindHead true bytes rest = rest_of (head_at bytes) ≡ Ok rest
 IsBehindHead false bytes rest = bytes ≡ rest
 
+-- Where the row begins, or why the head in front of it isn't whole.
 abbrev pub StartsRow : Bool → List ℕ → ℕ → Result ℕ Stop → Type 0
 StartsRow in_head bytes start (Ok n) = (n ≤ length bytes)
     × IsBehindHead in_head bytes (drop n bytes)
@@ -87,26 +94,31 @@ StartsRow in_head bytes start (Ok n) = (n ≤ length bytes)
 StartsRow in_head bytes start (Err stop) = (in_head ≡ true) × (start ≡ 0)
     × (head_at bytes ≡ Err (no_part stop))
 
+-- How far the next part was looked over: where the row begins, and the walk over it.
 pub record IsLooked (in_head : Bool) (columns limit : ℕ) (bytes : List ℕ) (l : Look) : Type 0 where
   pub in_range : l.start ≤ length bytes
   pub head : (in_head ≡ false) ⊎ (0 < l.start) → IsBehindHead in_head bytes (drop l.start bytes)
   pub fresh : in_head ≡ true → l.start ≡ 0 → l.walk.at ≡ 0
   pub none : in_head ≡ false → l.start ≡ 0
-  pub walk : IsWalked columns limit (drop l.start bytes) l.walk
+  pub walk : IsRowWalked columns limit (drop l.start bytes) l.walk
 
+-- where a reader stands, by whether the head is still to be read
 abbrev pub stage_of : Bool → BinaryStage
 stage_of true = Head
 stage_of false = Rows
 
-abbrev pub FindsPart : Bool → ℕ → ℕ → List ℕ → Result Part Stop → Look → Type 0
+-- What a look at the next part finds: a row, the trailer, or why there is neither.
+abbrev pub FindsPart : Bool → ℕ → ℕ → List ℕ → Result RowOrTrailer Stop → Look → Type 0
 FindsPart in_head columns limit bytes (Ok parts.Row) l = (0 < l.walk.at) × (l.walk.left ≡ 0)
     × IsBehindHead in_head bytes (drop l.start bytes)
-FindsPart in_head columns limit bytes (Ok parts.Trailer) l = part_at (stage_of in_head) columns limit bytes ≡ Ok ((None, Closed), [])
+FindsPart in_head columns limit bytes (Ok parts.Trailer) l =
+    part_at (stage_of in_head) columns limit bytes ≡ Ok ((None, Closed), [])
 FindsPart in_head columns limit bytes (Err stop) l = (part_at (stage_of in_head) columns limit bytes
     ≡ Err (no_part stop)) × (in_head ≡ true → l.start ≡ 0 → head_at bytes ≡ Err (no_part stop))
 
 -- ---- a reader
 
+-- the head is still to be read
 abbrev pub is_head : BinaryStage → Bool
 is_head Head = true
 is_head (Extension n) = false
@@ -115,7 +127,7 @@ is_head Closed = false
 is_head (Failed fault) = false
 
 -- what is kept of a reader
-pub record IsReader (columns limit : ℕ) (kept : List ℕ) (look : Look)
+pub record IsBinaryReader (columns limit : ℕ) (kept : List ℕ) (look : Look)
     (stage : BinaryStage) : Type 0 where
   pub columns_few : columns ≤ 32767
   pub looked : IsLooked (is_head stage) columns limit kept look
@@ -123,10 +135,10 @@ pub record IsReader (columns limit : ℕ) (kept : List ℕ) (look : Look)
   pub closed : stage ≡ Closed → kept ≡ []
   pub skips : (n : ℕ) → stage ≡ Extension n → (0 < n) × (kept ≡ [])
 
--- how much of an extension is to come, behind its length and what is there of it
-abbrev pub left_of : Result (ℕ × List ℕ) NoPart → Option ℕ
-left_of (Ok n) = Some (n.0 - length n.1)
-left_of (Err stop) = None
+-- how much of an extension is to come, after its length and what is there of it
+abbrev pub extension_left : Result (ℕ × List ℕ) NoPart → Option ℕ
+extension_left (Ok n) = Some (n.0 - length n.1)
+extension_left (Err stop) = None
 
 -- a head that isn't whole goes off where only bytes of its extension are to come
 abbrev pub in_extension : Option ℕ → BinaryState → BinaryState
@@ -138,13 +150,16 @@ abbrev pub behind_head : Result (List ℕ × List ℕ) NoPart → BinaryState �
 behind_head (Ok h) stays s = record s { kept = h.1; stage = Rows }
 behind_head (Err stop) stays s = stays
 
+-- a reader that stands there and waits for more bytes
 abbrev pub waiting_at : BinaryStage → BinaryState → BinaryState
-waiting_at Head s = behind_head (head_at s.kept) (in_extension (left_of (fixed_at s.kept)) s) s
+waiting_at Head s =
+    behind_head (head_at s.kept) (in_extension (extension_left (fixed_at s.kept)) s) s
 waiting_at (Extension n) s = behind_head (bytes_at n s.kept) s s
 waiting_at Rows s = s
 waiting_at Closed s = s
 waiting_at (Failed fault) s = s
 
+-- a reader that waits for more bytes
 abbrev pub waiting : BinaryState → BinaryState
 waiting s = waiting_at s.stage s
 
@@ -152,15 +167,18 @@ waiting s = waiting_at s.stage s
 abbrev pub FindsNext : Result (Option Row) NoRow → BinaryState → BinaryState → Type 0
 FindsNext (Ok row) old new = (part_at old.stage old.columns old.limit old.kept
     ≡ Ok ((row, new.stage), new.kept)) × (new ≡ record old { kept = new.kept; stage = new.stage })
-FindsNext (Err no_row.Memory) old new = (new ≡ old) × RowWaits (left old [])
-FindsNext (Err (no_row.NoPart stops.Incomplete)) old new = (part_at old.stage old.columns old.limit old.kept ≡ Err Incomplete) × (new ≡ waiting old)
-FindsNext (Err (no_row.NoPart (stops.Faulty fault))) old new = (part_at old.stage old.columns old.limit old.kept ≡ Err (Faulty fault)) × (new ≡ old)
+FindsNext (Err no_row.Memory) old new = (new ≡ old) × RowWaits (binary_left old [])
+FindsNext (Err (no_row.NoPart stops.Incomplete)) old new =
+    (part_at old.stage old.columns old.limit old.kept ≡ Err Incomplete) × (new ≡ waiting old)
+FindsNext (Err (no_row.NoPart (stops.Faulty fault))) old new =
+    (part_at old.stage old.columns old.limit old.kept ≡ Err (Faulty fault)) × (new ≡ old)
 
 -- the same, where the reader stops at a fault
 abbrev pub TakesPart : Result (Option Row) NoRow → BinaryState → BinaryState → Type 0
 TakesPart (Ok row) old new = FindsNext (Ok row) old new
 TakesPart (Err no_row.Memory) old new = FindsNext (Err no_row.Memory) old new
-TakesPart (Err (no_row.NoPart stops.Incomplete)) old new = FindsNext (Err (no_row.NoPart stops.Incomplete)) old new
+TakesPart (Err (no_row.NoPart stops.Incomplete)) old new =
+    FindsNext (Err (no_row.NoPart stops.Incomplete)) old new
 TakesPart (Err (no_row.NoPart (stops.Faulty fault))) old new = (fault ≡ Memory → ⊥)
     × (part_at old.stage old.columns old.limit old.kept ≡ Err (Faulty fault))
     × (new ≡ record old { kept = []; stage = Failed fault })

@@ -2,33 +2,35 @@
 use Rattle.std.specs.Prelude.{◌≡◌, ℕ, ◌⊎◌, true, List, [], ◌∷◌, length, take, drop, map, Option, Some, None, Result, Ok, Err}
 use Rattle.pg_copy.specs.declared.fault.TextFault.{TextFault}
 use Rattle.pg_copy.specs.declared.fault.TextFault.TheVariants.{Memory}
-use Rattle.pg_copy.specs.declared.text_line.Judged.{Judged}
-use Rattle.pg_copy.specs.declared.text_line.Judged.TheVariants as judged
+use Rattle.pg_copy.specs.declared.text_line.JudgedLine.{JudgedLine}
+use Rattle.pg_copy.specs.declared.text_line.JudgedLine.TheVariants as judged
 use Rattle.pg_copy.specs.declared.text_reader.TextStage.TheVariants as stages
 use Rattle.pg_copy.specs.Row.{Row}
-use Rattle.pg_copy.specs.Reading.{Reading, Done, Bad, after_rows, RowWaits, IsGood}
+use Rattle.pg_copy.specs.Reading.{RowsRead, Done, Bad, after_rows, RowWaits, IsGood}
 use Rattle.pg_copy.specs.Text.{delimiter, parts, field_value, line_reading}
 use Rattle.pg_copy.specs.declared.scan.Scan.{Scan}
 use Rattle.pg_copy.specs.declared.text_reader.TextStage.{TextStage}
-use Rattle.pg_copy.specs.TextReader.{TextState, last, last_ending_at}
+use Rattle.pg_copy.specs.TextReader.{TextState, text_last, last_text_ending}
 use Rattle.pg_copy.specs.Private.Units.{IsScanned}
 
 -- what a line is read as, whatever comes after it
 abbrev pub LineGives : Option ℕ → List ℕ → Row → Type 0
-LineGives columns line row = (after : Reading TextFault)
+LineGives columns line row = (after : RowsRead TextFault)
     → line_reading columns line after ≡ after_rows (row ∷ []) after
 
+-- the line is the end mark: no row comes after it
 abbrev pub LineEnds : Option ℕ → List ℕ → Type 0
-LineEnds columns line = (after : Reading TextFault)
+LineEnds columns line = (after : RowsRead TextFault)
     → line_reading columns line after ≡ record { rows = []; ending = Done }
 
 -- a fault of the line, which isn't want of memory
 pub record LineFails (columns : Option ℕ) (line : List ℕ) (fault : TextFault) : Type 0 where
-  pub is : (after : Reading TextFault)
+  pub is : (after : RowsRead TextFault)
       → line_reading columns line after ≡ record { rows = []; ending = Bad fault }
   pub not_memory : fault ≡ Memory → ⊥
 
-abbrev pub IsJudged : Option ℕ → List ℕ → Judged → Type 0
+-- What a line was judged to be is what it is read as.
+abbrev pub IsJudged : Option ℕ → List ℕ → JudgedLine → Type 0
 IsJudged columns line judged.EndMark = LineEnds columns line
 IsJudged columns line (judged.Row n) = (n ≡ length (parts delimiter line))
     × LineGives columns line (map field_value (parts delimiter line))
@@ -47,24 +49,25 @@ TakesLine len taken old (Err fault) new =
     × (new ≡ record old { kept = []; stage = stages.Failed fault }))
 
 -- the reader after an answer of finish: the input has ended, unless memory was refused
-abbrev pub Ends : Result (Option Row) TextFault → TextState → TextState → Type 0
-Ends (Ok row) mid new = new ≡ record mid { ended = true }
-Ends (Err fault) mid new = ((fault ≡ Memory) × (new ≡ mid))
+abbrev pub EndsInput : Result (Option Row) TextFault → TextState → TextState → Type 0
+EndsInput (Ok row) mid new = new ≡ record mid { ended = true }
+EndsInput (Err fault) mid new = ((fault ≡ Memory) × (new ≡ mid))
     ⊎ ((fault ≡ Memory → ⊥) × (new ≡ record mid { ended = true }))
 
 -- what is kept of a reader: the first line is walked over so far, and no fault is want of memory
-pub record IsReader (kept : List ℕ) (scan : Scan) (stage : TextStage) : Type 0 where
+pub record IsTextReader (kept : List ℕ) (scan : Scan) (stage : TextStage) : Type 0 where
   pub scanned : IsScanned kept scan
   pub not_memory : stage ≡ stages.Failed Memory → ⊥
 
 -- What a call answers at the end of the input, and how it leaves the reader: it gives the first row that is left, or what stands
 -- in its place, and memory is refused only where a row is left.
 abbrev pub TakesLast : TextState → Result (Option Row) TextFault → TextState → Type 0
-TakesLast old (Ok (Some row)) new = (last old ≡ after_rows (row ∷ []) (last new))
+TakesLast old (Ok (Some row)) new = (text_last old ≡ after_rows (row ∷ []) (text_last new))
     × (new ≡ record old { kept = new.kept })
-TakesLast old (Ok None) new = (last old ≡ record { rows = []; ending = last_ending_at new.stage })
-    × IsGood (last_ending_at new.stage) × (new ≡ record old { kept = []; stage = new.stage })
+TakesLast old (Ok None) new =
+    (text_last old ≡ record { rows = []; ending = last_text_ending new.stage })
+    × IsGood (last_text_ending new.stage) × (new ≡ record old { kept = []; stage = new.stage })
 TakesLast old (Err fault) new =
-    ((fault ≡ Memory) × (new ≡ old) × RowWaits (last old))
-    ⊎ ((fault ≡ Memory → ⊥) × (last old ≡ record { rows = []; ending = Bad fault })
+    ((fault ≡ Memory) × (new ≡ old) × RowWaits (text_last old))
+    ⊎ ((fault ≡ Memory → ⊥) × (text_last old ≡ record { rows = []; ending = Bad fault })
     × (new ≡ record old { kept = []; stage = stages.Failed fault }))

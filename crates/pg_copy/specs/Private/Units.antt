@@ -5,12 +5,13 @@ use Rattle.pg_copy.specs.declared.scan.Scan.{Scan}
 use Rattle.pg_copy.specs.declared.text_line.FieldEnd.{FieldEnd}
 use Rattle.pg_copy.specs.Text.{carriage_return, ends_escaped, digits_at, newline, delimiter, backslash, letter_for}
 
--- how many units are the mark alone
+-- how many units are the mark alone; at the start a backslash stood before if escaped
 abbrev pub units_from : Bool → ℕ → List ℕ → ℕ
 units_from escaped mark [] = 0
 units_from true mark (b ∷ bs) = units_from false mark bs
 units_from false mark (b ∷ bs) = (if b == mark then 1 else 0) + units_from (b == backslash) mark bs
 
+-- how many units of the bytes are the mark alone
 abbrev pub units : ℕ → List ℕ → ℕ
 units mark bytes = units_from false mark bytes
 
@@ -30,11 +31,21 @@ pub record IsPlain (b : ℕ) : Type 0 where
   pub no_backslash : (b == backslash) ≡ false
   pub no_letter : letter_for b ≡ None
 
--- the walk behind one byte more
+-- the walk after one byte more
 abbrev pub behind : Scan → ℕ → Scan
 behind s b =
-    if s.escaped then record { at = s.at + 1; escaped = false; delimiters = s.delimiters; returned = s.returned }
-    else record { at = s.at + 1; escaped = b == backslash; delimiters = s.delimiters + (if b == delimiter then 1 else 0); returned = s.returned || b == carriage_return }
+    if s.escaped then record {
+      at = s.at + 1;
+      escaped = false;
+      delimiters = s.delimiters;
+      returned = s.returned;
+    }
+    else record {
+      at = s.at + 1;
+      escaped = b == backslash;
+      delimiters = s.delimiters + (if b == delimiter then 1 else 0);
+      returned = s.returned || b == carriage_return;
+    }
 
 -- the first unit that is the mark stands at place n
 pub record IsUnitAt (mark : ℕ) (bytes : List ℕ) (n : ℕ) : Type 0 where
@@ -57,7 +68,7 @@ NoBackslash [] = Unit {0}
 NoBackslash (b ∷ bs) = ((b == backslash) ≡ false) × NoBackslash bs
 
 -- the bytes up to i have no delimiter, and no backslash where they are plain
-pub record IsWalked (bytes : List ℕ) (i : ℕ) (e p : Bool) : Type 0 where
+pub record IsFieldWalked (bytes : List ℕ) (i : ℕ) (e p : Bool) : Type 0 where
   pub escaped : ends_escaped false (take i bytes) ≡ e
   pub none : units delimiter (take i bytes) ≡ 0
   pub plain : p ≡ true → NoBackslash (take i bytes)

@@ -1,7 +1,8 @@
 -- The row of a `paramtypes` whose `described` has yet to come.
 use Rattle.std.specs.Prelude.{ℕ, Option, Some, None, option_map}
-use Rattle.pgpipe_files.specs.declared.answer_file.Open.{Open}
+use Rattle.pgpipe_files.specs.declared.answer_file.OpenAnswer.{OpenAnswer}
 
-abbrev pub row_left_open : Option Open → Option ℕ
+-- the row that waits, if there is one
+abbrev pub row_left_open : Option OpenAnswer → Option ℕ
 row_left_open None = None
 row_left_open (Some o) = option_map (λ t. t.row) o.types

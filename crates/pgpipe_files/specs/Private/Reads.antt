@@ -3,20 +3,22 @@ use Rattle.std.specs.Prelude.{◌≡◌, ℕ, List, Option, Some, None, Result, 
 use Rattle.pg_copy.specs.declared.fault.TextFault.{TextFault}
 use Rattle.pg_copy.specs.declared.fault.TextFault.TheVariants as text_fault
 use Rattle.pg_copy.specs.Row.{Row}
-use Rattle.pgpipe_files.specs.declared.line_fault.LineFault.{LineFault}
-use Rattle.pgpipe_files.specs.declared.line_fault.LineFault.TheVariants as fault
-use Rattle.pgpipe_files.specs.declared.line_fault.Refusal.{Refusal}
-use Rattle.pgpipe_files.specs.declared.line_fault.Refusal.TheVariants.{Wrong, Memory}
+use Rattle.pgpipe_files.specs.declared.fault.LineFault.{LineFault}
+use Rattle.pgpipe_files.specs.declared.fault.LineFault.TheVariants as fault
+use Rattle.pgpipe_files.specs.declared.fault.Refusal.{Refusal}
+use Rattle.pgpipe_files.specs.declared.fault.Refusal.TheVariants.{Wrong, Memory}
 
+-- A line that is refused as wrong is read as nothing.
 abbrev pub Fails : {A : Type 0} → Refusal → Option A → Type 0
 Fails Memory read = Unit {0}
 Fails Wrong read = read ≡ None
 
-abbrev pub Gives : {A : Type 0} → Result A Refusal → Option A → Type 0
-Gives (Ok x) read = read ≡ Some x
-Gives (Err e) read = Fails e read
+-- a function that answers what the fields of a line are read as
+abbrev pub ReadsAs : {A : Type 0} → Result A Refusal → Option A → Type 0
+ReadsAs (Ok x) read = read ≡ Some x
+ReadsAs (Err e) read = Fails e read
 
--- a function that takes a value off the fields, and leaves those behind it
+-- a function that takes a value off the fields, and leaves those after it
 abbrev pub TakesOff : {A : Type 0} → Result A Refusal → Row → Option (A × Row) → Type 0
 TakesOff (Ok x) left read = read ≡ Some (x, left)
 TakesOff (Err e) left read = Fails e read
@@ -42,10 +44,10 @@ GivesText (Ok x) read = read ≡ Some (string_bytes x)
 GivesText (Err e) read = Fails e read
 
 -- a function that answers what a whole file is read as, seen by view
-abbrev pub Answers : {A B : Type 0} → (A → B) → Result A LineFault → Result B ℕ → Type 0
-Answers view (Ok x) read = read ≡ Ok (view x)
-Answers view (Err (fault.Line n)) read = read ≡ Err n
-Answers view (Err fault.Memory) read = Unit {0}
+abbrev pub ReadsFileAs : {A B : Type 0} → (A → B) → Result A LineFault → Result B ℕ → Type 0
+ReadsFileAs view (Ok x) read = read ≡ Ok (view x)
+ReadsFileAs view (Err (fault.Line n)) read = read ≡ Err n
+ReadsFileAs view (Err fault.Memory) read = Unit {0}
 
 -- a function that reads a whole file, and leaves what was read so
 abbrev pub LeavesAll : {S : Type 0} → Result Unit LineFault → S → Result S ℕ → Type 0

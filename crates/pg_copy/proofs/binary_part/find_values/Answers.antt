@@ -1,5 +1,5 @@
 use Rattle.std.proofs.Common.{sym, ap, ◌∙◌, arith}
-use Rattle.pg_copy.specs.BinaryReading.{value_at}
+use Rattle.pg_copy.specs.BinaryPart.{value_at}
 use Rattle.pg_copy.specs.Private.BinaryPart.{no_part}
 use Rattle.pg_copy.proofs.BinaryWalk.{begun-more, row-stuck}
 use Rattle.pg_copy.proofs.binary_part.find_values.Goals as goal

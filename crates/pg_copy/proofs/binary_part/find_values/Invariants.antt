@@ -1,10 +1,10 @@
 use Rattle.std.proofs.Common.{◌≡◌, ◌<◌, drop}
-use Rattle.pg_copy.specs.Private.BinaryPart.{IsBegun}
+use Rattle.pg_copy.specs.Private.BinaryPart.{IsWalkBegun}
 use Rattle.pg_copy.proofs.binary_part.find_values.Given as goal
 
 abbrev pub invariant-loop-left : goal.invariant-loop-left
 invariant-loop-left l = record {
-  begun : IsBegun l.columns l.limit l.bytes (record { at = l.at; left = l.left });
+  begun : IsWalkBegun l.columns l.limit l.bytes (record { at = l.at; left = l.left });
   some : 0 < l.at;
   rest : l.rest ≡ drop l.at l.bytes;
 }

@@ -1,5 +1,5 @@
 use Rattle.std.proofs.Common.{refl}
-use Rattle.pg_copy.specs.BinaryReading.{values_at}
+use Rattle.pg_copy.specs.BinaryPart.{values_at}
 use Rattle.pg_copy.specs.Private.BinaryPart.{no_part}
 use Rattle.pg_copy.proofs.BinaryLoop.{goes_on, ends, is_done}
 use Rattle.pg_copy.proofs.binary_part.values_of.Goals as goal

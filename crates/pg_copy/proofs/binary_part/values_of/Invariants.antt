@@ -1,5 +1,5 @@
 use Rattle.std.proofs.Common.{◌≡◌, ◌-◌}
-use Rattle.pg_copy.specs.BinaryReading.{values_at}
+use Rattle.pg_copy.specs.BinaryPart.{values_at}
 use Rattle.pg_copy.proofs.BinaryLoop.{with_front}
 use Rattle.pg_copy.proofs.binary_part.values_of.Given as goal
 

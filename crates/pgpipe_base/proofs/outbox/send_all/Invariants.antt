@@ -1,5 +1,5 @@
 use Rattle.std.proofs.Common.{[], length, Ok}
-use Rattle.pgpipe_base.specs.Sending.{Puts}
+use Rattle.pgpipe_base.specs.Outbox.{Puts}
 use Rattle.pgpipe_base.proofs.outbox.send_all.Given as goal
 
 abbrev pub invariant-loop-rest : goal.invariant-loop-rest

@@ -1,6 +1,6 @@
 use Rattle.std.proofs.Common.{Ok, Err, refl}
 use Rattle.std.proofs.lemmas.Result.{err_from_is_err_and}
-use Rattle.pgpipe_files.specs.Fields.{number}
+use Rattle.pgpipe_files.specs.Arguments.{number}
 use Rattle.pgpipe_files.proofs.Refusals.{fails}
 use Rattle.pgpipe_files.proofs.Numbers.{no_digits, number-read}
 use Rattle.pgpipe_files.proofs.arguments.number.Goals as goal

@@ -2,7 +2,7 @@ use Rattle.std.proofs.Common.{Ok, Err}
 use Rattle.std.specs.Int.{w32}
 use Rattle.std.proofs.lemmas.Int.{to_z-of_z}
 use Rattle.std.proofs.lemmas.Result.{err_from_is_err_and}
-use Rattle.pgpipe_files.specs.Fields.{signed_number}
+use Rattle.pgpipe_files.specs.Arguments.{signed_number}
 use Rattle.pgpipe_files.proofs.Refusals.{fails}
 use Rattle.pgpipe_files.proofs.Numbers.{no_signed, signed-fits, signed-read}
 use Rattle.pgpipe_files.proofs.arguments.signed_number.Goals as goal

@@ -1,5 +1,5 @@
 use Rattle.std.proofs.Common.{length}
-use Rattle.pgpipe_show.specs.Private.Work.{IsSound, HasPut}
+use Rattle.pgpipe_show.specs.Private.Showing.{IsSound, HasPut}
 use Rattle.pgpipe_show.proofs.messages.put_messages.Given as goal
 
 abbrev pub invariant-loop-reader : goal.invariant-loop-reader

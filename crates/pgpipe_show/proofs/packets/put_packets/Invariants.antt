@@ -1,6 +1,6 @@
 use Rattle.std.proofs.Common.{◌≡◌, false, None, length}
 use Rattle.pgpipe_show.specs.declared.packets.Next.TheVariants as next
-use Rattle.pgpipe_show.specs.Private.Work.{HasPutPackets}
+use Rattle.pgpipe_show.specs.Private.Showing.{HasPutPackets}
 use Rattle.pgpipe_show.proofs.packets.put_packets.Given as goal
 
 abbrev pub invariant-loop-packet : goal.invariant-loop-packet

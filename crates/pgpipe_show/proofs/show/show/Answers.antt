@@ -9,24 +9,24 @@ returns-in-Err-clause-shown g c = ([], [], refl, refl, nothing_shown c.args.fron
 
 pub returns-in-Ok-settle-clause-shown : goal.returns-in-Ok-settle-clause-shown
 returns-in-Ok-settle-clause-shown g c =
-    let run = c.run-halt.ensures in
+    let run = c.run-stop.ensures in
     let broke = HasRisen (g.K.Sink.failures c.args.sink.now) (g.K.Sink.failures c.settle.new.sink) in
-    let sent = settled g.K.Sink.takes g.K.Sink.failures _ run.pieces (g.S.Source.failures c.args.source.now) (g.S.Source.failures c.run-halt.new.source) broke c.args.sink.now (concat run.pieces) run.before (g.S.Source.has_ended c.run-halt.new.source) c.run-halt.result c.run-halt.new.self.outbox c.run-halt.new.sink c.settle.new.self.outbox c.settle.new.sink run.shown_before run.halts run.halts_source c.in-Ok-settle.ensures in
-    (run.pieces, sent.0.0, run.received, sent.0.1, rw (c.answer_of.ensures, ← c.begin-2.ensures.side) sent.0.2)
+    let sent = settled g.K.Sink.takes g.K.Sink.failures _ run.pieces (g.S.Source.failures c.args.source.now) (g.S.Source.failures c.run-stop.new.source) broke c.args.sink.now (concat run.pieces) run.before (g.S.Source.has_ended c.run-stop.new.source) c.run-stop.result c.run-stop.new.self.outbox c.run-stop.new.sink c.settle.new.sink run.shown_before run.stops run.stops_source (rw c.collected.ensures at c.in-Ok-settle.ensures) in
+    (run.pieces, sent.0.0, run.received, sent.0.1, rw (c.answer.ensures, ← c.begin-2.ensures.side) sent.0.2)
 
 pub returns-in-Ok-settle-clause-source : goal.returns-in-Ok-settle-clause-source
 returns-in-Ok-settle-clause-source g c =
-    let run = c.run-halt.ensures in
-    rw c.answer_of.ensures (source_counts (g.S.Source.has_ended c.run-halt.new.source) (g.S.Source.failures c.args.source.now) (g.S.Source.failures c.run-halt.new.source) run.pieces c.run-halt.result run.halts_source)
+    let run = c.run-stop.ensures in
+    rw c.answer.ensures (source_counts (g.S.Source.has_ended c.run-stop.new.source) (g.S.Source.failures c.args.source.now) (g.S.Source.failures c.run-stop.new.source) run.pieces c.run-stop.result run.stops_source)
 
 pub returns-in-Ok-settle-clause-sink : goal.returns-in-Ok-settle-clause-sink
 returns-in-Ok-settle-clause-sink g c =
-    let run = c.run-halt.ensures in
-    let sent = settled g.K.Sink.takes g.K.Sink.failures _ run.pieces (g.S.Source.failures c.args.source.now) (g.S.Source.failures c.run-halt.new.source) ⊥ c.args.sink.now (concat run.pieces) run.before (g.S.Source.has_ended c.run-halt.new.source) c.run-halt.result c.run-halt.new.self.outbox c.run-halt.new.sink c.settle.new.self.outbox c.settle.new.sink run.shown_before run.halts run.halts_source c.in-Ok-settle.ensures in
-    counts_none (g.K.Sink.failures c.args.sink.now) c.answer_of.result (g.K.Sink.failures c.settle.new.sink) sent.1
+    let run = c.run-stop.ensures in
+    let sent = settled g.K.Sink.takes g.K.Sink.failures _ run.pieces (g.S.Source.failures c.args.source.now) (g.S.Source.failures c.run-stop.new.source) ⊥ c.args.sink.now (concat run.pieces) run.before (g.S.Source.has_ended c.run-stop.new.source) c.run-stop.result c.run-stop.new.self.outbox c.run-stop.new.sink c.settle.new.sink run.shown_before run.stops run.stops_source (rw c.collected.ensures at c.in-Ok-settle.ensures) in
+    counts_none (g.K.Sink.failures c.args.sink.now) c.answer.result (g.K.Sink.failures c.settle.new.sink) sent.1
 
 pub returns-clause-shown : goal.returns-clause-shown
 returns-clause-shown g c =
-    let run = c.run-halt.ensures in
-    let failed = unsettled g.K.Sink.takes g.K.Sink.failures _ c.args.sink.now (concat run.pieces) run.before c.run-halt.result c.run-halt.new.self.outbox c.run-halt.new.sink c.in-Err-settle.field-0 c.settle.new.self.outbox c.settle.new.sink run.shown_before run.halts c.in-Err-settle.ensures in
+    let run = c.run-stop.ensures in
+    let failed = unsettled g.K.Sink.takes g.K.Sink.failures _ c.args.sink.now (concat run.pieces) run.before c.run-stop.result c.run-stop.new.self.outbox c.run-stop.new.sink c.in-Err-settle.field-0 c.settle.new.sink run.shown_before run.stops (rw c.collected.ensures at c.in-Err-settle.ensures) in
     (run.pieces, failed.0.0, run.received, failed.0.1, inl (failed.1, rw (← c.begin-2.ensures.side) failed.0.2.0, rw (← c.begin-2.ensures.side) failed.0.2.1))

@@ -1,7 +1,7 @@
 use Rattle.std.proofs.Common.{◌≡◌, rules, subst, sym}
 use Rattle.pgpipe_files.specs.declared.calls_file.Calls.{Calls}
 use Rattle.pgpipe_files.specs.Filling.{filled}
-use Rattle.pgpipe_words.specs.Reading.{Fills, nothing, one_more}
+use Rattle.pgpipe_words.specs.LoopFiles.{Fills, nothing, one_more}
 use Rattle.pgpipe_words.proofs.loop_files.fill.Goals as goal
 
 pub loop-path-init : goal.loop-path-init

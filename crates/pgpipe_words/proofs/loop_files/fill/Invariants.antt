@@ -1,6 +1,6 @@
 -- The files before the next one stand in their places.
 use Rattle.pgpipe_files.specs.Filling.{files}
-use Rattle.pgpipe_words.specs.Reading.{Fills}
+use Rattle.pgpipe_words.specs.LoopFiles.{Fills}
 use Rattle.pgpipe_words.proofs.loop_files.fill.Given as goal
 
 abbrev pub invariant-loop-path : goal.invariant-loop-path

@@ -2,14 +2,14 @@ use Rattle.std.proofs.Common.{Ok, Err, ap, sym, ◌∙◌}
 use Rattle.pg_copy.specs.declared.binary_part.NoPart.TheVariants.{Incomplete, Faulty}
 use Rattle.pg_copy.specs.declared.binary_part.NoRow.TheVariants.{NoPart}
 use Rattle.pg_copy.specs.BinaryReader.{BinaryState}
-use Rattle.pg_copy.proofs.BinaryHistory.{HasRead-next, Gives-next, next-row, next-waits}
+use Rattle.pg_copy.proofs.BinaryHistory.{HasReadBinary-next, AnswersNext-next, next-row, next-waits}
 use Rattle.pg_copy.proofs.binary_reader.BinaryReader.next.Goals as goal
 
 pub returns-in-Ok-clause-read : goal.returns-in-Ok-clause-read
-returns-in-Ok-clause-read c = λ pushed given h. HasRead-next (Ok c.in-Ok.row) c.args.self.now c.read.new.self pushed given c.in-Ok.ensures h
+returns-in-Ok-clause-read c = λ pushed given h. HasReadBinary-next (Ok c.in-Ok.row) c.args.self.now c.read.new.self pushed given c.in-Ok.ensures h
 
 pub returns-in-Ok-clause-gives : goal.returns-in-Ok-clause-gives
-returns-in-Ok-clause-gives c = λ pushed given h. Gives-next (Ok c.in-Ok.row) c.args.self.now c.read.new.self pushed given c.requires c.in-Ok.ensures h
+returns-in-Ok-clause-gives c = λ pushed given h. AnswersNext-next (Ok c.in-Ok.row) c.args.self.now c.read.new.self pushed given c.requires c.in-Ok.ensures h
 
 pub returns-in-Ok-clause-row : goal.returns-in-Ok-clause-row
 returns-in-Ok-clause-row c = λ row e. next-row (Ok c.in-Ok.row) c.args.self.now c.read.new.self c.in-Ok.ensures row e
@@ -17,22 +17,22 @@ returns-in-Ok-clause-row c = λ row e. next-row (Ok c.in-Ok.row) c.args.self.now
 pub returns-in-Err-NoPart-Incomplete-clause-read : goal.returns-in-Err-NoPart-Incomplete-clause-read
 returns-in-Err-NoPart-Incomplete-clause-read c = λ pushed given h.
     let w = c.in-Err-NoPart-Incomplete in
-    HasRead-next (Err (NoPart Incomplete)) c.args.self.now c.read.new.self pushed given (rw (w.field-0-is, w.field-0-0-is) at w.ensures) h
+    HasReadBinary-next (Err (NoPart Incomplete)) c.args.self.now c.read.new.self pushed given (rw (w.field-0-is, w.field-0-0-is) at w.ensures) h
 
 pub returns-in-Err-NoPart-Incomplete-clause-gives : goal.returns-in-Err-NoPart-Incomplete-clause-gives
 returns-in-Err-NoPart-Incomplete-clause-gives c = λ pushed given h.
     let w = c.in-Err-NoPart-Incomplete in
-    Gives-next (Err (NoPart Incomplete)) c.args.self.now c.read.new.self pushed given c.requires (rw (w.field-0-is, w.field-0-0-is) at w.ensures) h
+    AnswersNext-next (Err (NoPart Incomplete)) c.args.self.now c.read.new.self pushed given c.requires (rw (w.field-0-is, w.field-0-0-is) at w.ensures) h
 
 pub returns-in-Err-NoPart-Faulty-clause-read : goal.returns-in-Err-NoPart-Faulty-clause-read
 returns-in-Err-NoPart-Faulty-clause-read c = λ pushed given h.
     let w = c.in-Err-NoPart-Faulty in
-    HasRead-next (Err (NoPart (Faulty w.fault))) c.args.self.now c.read.new.self pushed given (rw (w.field-0-is, w.field-0-0-is) at w.ensures) h
+    HasReadBinary-next (Err (NoPart (Faulty w.fault))) c.args.self.now c.read.new.self pushed given (rw (w.field-0-is, w.field-0-0-is) at w.ensures) h
 
 pub returns-in-Err-NoPart-Faulty-clause-gives : goal.returns-in-Err-NoPart-Faulty-clause-gives
 returns-in-Err-NoPart-Faulty-clause-gives c = λ pushed given h.
     let w = c.in-Err-NoPart-Faulty in
-    Gives-next (Err (NoPart (Faulty w.fault))) c.args.self.now c.read.new.self pushed given c.requires (rw (w.field-0-is, w.field-0-0-is) at w.ensures) h
+    AnswersNext-next (Err (NoPart (Faulty w.fault))) c.args.self.now c.read.new.self pushed given c.requires (rw (w.field-0-is, w.field-0-0-is) at w.ensures) h
 
 pub returns-in-Ok-clause-waits : goal.returns-in-Ok-clause-waits
 returns-in-Ok-clause-waits c = λ e.

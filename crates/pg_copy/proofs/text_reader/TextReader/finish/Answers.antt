@@ -1,5 +1,5 @@
-use Rattle.pg_copy.proofs.TextReads.{HasRead-finish}
+use Rattle.pg_copy.proofs.TextReads.{HasReadText-finish}
 use Rattle.pg_copy.proofs.text_reader.TextReader.finish.Goals as goal
 
 pub returns-in-Lines-clause-read : goal.returns-in-Lines-clause-read
-returns-in-Lines-clause-read c = λ pushed given h. HasRead-finish c.args.self.now c.last_line-answer.new.self c.end.new.self c.last_line-answer.result pushed given c.last_line-answer.ensures c.end.ensures h
+returns-in-Lines-clause-read c = λ pushed given h. HasReadText-finish c.args.self.now c.last_line-answer.new.self c.end.new.self c.last_line-answer.result pushed given c.last_line-answer.ensures c.end.ensures h

@@ -1,7 +1,7 @@
 use Rattle.std.proofs.Common.{◌++◌, [], ◌∷◌, List, ℕ}
 use Rattle.std.specs.Fmt.{decimal}
 use Rattle.std.proofs.lemmas.Result.{err_from_is_err_and}
-use Rattle.pgpipe_base.specs.Lines.{body_text}
+use Rattle.pgpipe_base.specs.Outbox.{body_text}
 use Rattle.pgpipe_base.proofs.Pieces.{puts_then, puts_fails, puts_collected}
 use Rattle.pgpipe_base.proofs.outbox.Outbox.put_line.Goals as goal
 

@@ -2,7 +2,7 @@ use Rattle.std.proofs.Common.{◌≡◌, [], List, Some, None, ap, ◌∙◌, ap
 use Rattle.std.proofs.lemmas.Result.{err_from_is_err_and}
 use Rattle.pg_copy.specs.Row.{Row}
 use Rattle.pg_wire.specs.value.ErrorField.{ErrorField}
-use Rattle.pgpipe_files.specs.Fields.{byte_of, error_fields_of, text_at}
+use Rattle.pgpipe_files.specs.Arguments.{byte_of, error_fields_of, text_at}
 use Rattle.pgpipe_files.proofs.Refusals.{fails-by}
 use Rattle.pgpipe_files.proofs.FieldLists.{onto, code-none, fields-more, fields-none, value-none}
 use Rattle.pgpipe_files.proofs.arguments.Arguments.error_fields.Goals as goal

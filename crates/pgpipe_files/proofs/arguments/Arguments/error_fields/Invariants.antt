@@ -1,5 +1,5 @@
 use Rattle.std.proofs.Common.{◌≡◌, length}
-use Rattle.pgpipe_files.specs.Fields.{error_fields_of}
+use Rattle.pgpipe_files.specs.Arguments.{error_fields_of}
 use Rattle.pgpipe_files.proofs.FieldLists.{onto}
 use Rattle.pgpipe_files.proofs.arguments.Arguments.error_fields.Given as goal
 

@@ -1,7 +1,7 @@
 use Rattle.std.proofs.Common.{◌≡◌, [], ℕ, List, Some, None, ap, ◌∙◌, append-nil, arith}
 use Rattle.std.proofs.lemmas.Result.{err_from_is_err_and}
 use Rattle.pg_copy.specs.Row.{Row}
-use Rattle.pgpipe_files.specs.Fields.{numbers_of, read_at, number}
+use Rattle.pgpipe_files.specs.Arguments.{numbers_of, read_at, number}
 use Rattle.pgpipe_files.proofs.Refusals.{fails-by}
 use Rattle.pgpipe_files.proofs.FieldLists.{onto, numbers-more, numbers-none}
 use Rattle.pgpipe_files.proofs.arguments.Arguments.numbers.Goals as goal

@@ -1,5 +1,5 @@
 use Rattle.std.proofs.Common.{◌≡◌, length}
-use Rattle.pgpipe_files.specs.Fields.{numbers_of}
+use Rattle.pgpipe_files.specs.Arguments.{numbers_of}
 use Rattle.pgpipe_files.proofs.FieldLists.{onto}
 use Rattle.pgpipe_files.proofs.arguments.Arguments.numbers.Given as goal
 

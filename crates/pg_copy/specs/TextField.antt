@@ -1,0 +1,40 @@
+-- What a field of a text file spells, by the kinds of its units (PostgreSQL documentation, page COPY, "Text Format").
+use Rattle.std.specs.Prelude.{◌≡◌, ℕ, ◌<◌, ◌≤◌, ◌%◌, ◌⊎◌, List, [], ◌∷◌, ◌++◌, length, Option, Some, None}
+use Rattle.std.specs.List.{AllByRecursion}
+use Rattle.std.specs.Char.{digit_value}
+use Rattle.pg_copy.specs.Text.{backslash, null_mark, letter_value, digits_value}
+
+-- no digit of the base stands first
+abbrev pub NoDigit : ℕ → List ℕ → Type 0
+NoDigit base [] = Unit {0}
+NoDigit base (c ∷ bs) = base ≤ digit_value c
+
+-- Digits of a base, as many as there are, and at most so many: where there are fewer, none comes after them.
+pub record IsNumeral (base most : ℕ) (digits rest : List ℕ) : Type 0 where
+  pub each : AllByRecursion (λ c. digit_value c < base) digits
+  pub some : 0 < length digits
+  pub few : length digits ≤ most
+  pub all : (length digits ≡ most) ⊎ NoDigit base rest
+
+-- These bytes after a backslash stand for a byte, where the rest comes after them.
+pub data IsEscape : List ℕ → List ℕ → ℕ → Type 0 where
+  octal : (digits rest : List ℕ) → IsNumeral 8 3 digits rest
+      → IsEscape digits rest (digits_value 8 digits % 256)
+  hexadecimal : (digits rest : List ℕ) → IsNumeral 16 2 digits rest
+      → IsEscape (120 ∷ digits) rest (digits_value 16 digits)
+  bare_x : (rest : List ℕ) → NoDigit 16 rest → IsEscape (120 ∷ []) rest 120
+  letter : (c : ℕ) (rest : List ℕ) → 8 ≤ digit_value c → (c ≡ 120 → ⊥)
+      → IsEscape (c ∷ []) rest (letter_value c)
+
+-- The bytes spell the text: each is itself, or an escape stands there.
+pub data IsText : List ℕ → List ℕ → Type 0 where
+  nothing : IsText [] []
+  plain : (b : ℕ) (bs text : List ℕ) → (b ≡ backslash → ⊥) → IsText bs text
+      → IsText (b ∷ bs) (b ∷ text)
+  escaped : (escape bs : List ℕ) (b : ℕ) (text : List ℕ) → IsEscape escape bs b → IsText bs text
+      → IsText (backslash ∷ (escape ++ bs)) (b ∷ text)
+
+-- The bytes spell the field. Null is looked at before any escape.
+abbrev pub IsField : List ℕ → Option (List ℕ) → Type 0
+IsField bytes None = bytes ≡ null_mark
+IsField bytes (Some text) = (bytes ≡ null_mark → ⊥) × IsText bytes text

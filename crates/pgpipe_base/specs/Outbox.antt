@@ -1,0 +1,44 @@
+-- Lines as text, and text that is collected and then sent.
+use Rattle.std.specs.Prelude.{ℕ, ◌≡◌, ◌≤◌, List, [], ◌∷◌, ◌++◌, length, Result, Ok, Err}
+use Rattle.std.specs.Fmt.{decimal}
+use Rattle.std.specs.List.{FoldsTo, concat}
+use Rattle.pg_wire.specs.link.LinkFault.{LinkFault}
+use Rattle.pg_wire.specs.Link.{Counts}
+use Rattle.pgpipe_base.specs.Digits.{hexadecimal}
+use mathlib.Core.List.{IsPrefix}
+
+-- ---- a line: a name, a length in decimal and bytes in hexadecimal, parted by spaces
+
+-- bytes in hexadecimal, or `-` for none
+abbrev pub body_text : List ℕ → List ℕ
+body_text [] = 45 ∷ []
+body_text (b ∷ bytes) = hexadecimal (b ∷ bytes)
+
+-- the line for a name, a length and bytes
+abbrev pub line_of : List ℕ → ℕ → List ℕ → List ℕ
+line_of name n bytes = name ++ (32 ∷ []) ++ decimal n ++ (32 ∷ []) ++ body_text bytes ++ (10 ∷ [])
+
+-- ---- text that is collected and sent
+
+-- at most so many bytes are collected before they are sent
+abbrev pub most_collected : ℕ
+most_collected = 65536
+
+-- All was sent but what is collected still; where the sink failed, a prefix of all was sent.
+abbrev pub IsSentBut : {A : Type 0} → Result A LinkFault → List ℕ → List ℕ → List ℕ → Type 0
+IsSentBut (Ok x) all sent collected = all ≡ sent ++ collected
+IsSentBut (Err fault) all sent collected = IsPrefix sent all
+
+-- Text was put after what was collected, and pieces were sent: from the old collected text and sink to the new.
+pub record Puts {K A : Type 0} (takes : K → List ℕ → K → Type 0) (failures : K → ℕ)
+    (collected : List ℕ) (sink : K) (text : List ℕ) (result : Result A LinkFault)
+    (collected' : List ℕ) (sink' : K) : Type 0 where
+  pub pieces : List (List ℕ)
+  pub calls : FoldsTo takes sink pieces sink'
+  pub sent : IsSentBut result (collected ++ text) (concat pieces) collected'
+  pub counted : Counts (failures sink) result (failures sink')
+
+-- No more is collected than there is room for, if that was so before.
+abbrev pub StaysWithin : List ℕ → List ℕ → Type 0
+StaysWithin collected collected' = length collected ≤ most_collected
+    → length collected' ≤ most_collected

@@ -1,7 +1,0 @@
-use Rattle.std.proofs.Common.{◌≡◌, take}
-use Rattle.pgpipe_loop.specs.LoopLines.{loaded_rows}
-use Rattle.pgpipe_loop.specs.Private.LineWriting.{with_rows}
-use Rattle.pgpipe_loop.proofs.event_lines.put_loaded.Given as goal
-
-abbrev pub invariant-loop-i : goal.invariant-loop-i
-invariant-loop-i l = l.lines ≡ with_rows l.initial.lines (loaded_rows 1 (take l.i l.log))

@@ -1,0 +1,10 @@
+use Rattle.std.proofs.Common.{◌-◌, Ok}
+use Rattle.pgpipe_loop.specs.RunLoop.{times, most_times}
+use Rattle.pgpipe_loop.specs.Private.Running.{at, delivery, Does}
+use Rattle.pgpipe_loop.proofs.run_loop.Running.deliver.Given as goal
+
+abbrev pub invariant-loop : goal.invariant-loop
+invariant-loop g l =
+    let old = at l.initial.self.pair l.initial.self.carrier_failed l.initial.sink in
+    let now = at l.self.pair l.self.carrier_failed l.sink in
+    Does {A = Unit {0}} g.C.Carry.carries g.K.Sink.takes g.K.Sink.failures (times most_times (delivery l.way l.count)) (λ x. times (most_times - l.counter) (delivery l.way l.count)) old (Ok tt) now

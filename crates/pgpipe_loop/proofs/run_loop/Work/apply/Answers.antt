@@ -1,5 +1,0 @@
-use Rattle.pgpipe_loop.proofs.LoopGroups.{event_keeps}
-use Rattle.pgpipe_loop.proofs.run_loop.Work.apply.Goals as goal
-
-pub lines_since-requires : goal.lines_since-requires
-lines_since-requires g c = rw (c.settled-settled.ensures.value) (event_keeps g.C.Carry.carries c.args.event c.args.self.now.pair c.in_ok-answer.answer c.apply.new.self c.in_ok-answer.ensures.applies)

@@ -1,0 +1,291 @@
+-- The lines of a loop: COPY text, in the order of what happened.
+use Rattle.std.specs.Prelude.{ℕ, zero, suc, ◌+◌, Bool, true, false, List, [], ◌∷◌, ◌++◌, length, map, take, drop, Option, Some, None, codes}
+use Rattle.std.specs.Fmt.{decimal, signed_decimal}
+use Rattle.std.specs.List.{flat_map}
+use Rattle.pg_copy.specs.Row.{Row, most_fields}
+use Rattle.pg_copy.specs.Text.{written_row}
+use Rattle.pg_wire.specs.declared.fault.WireFault.{WireFault}
+use Rattle.pg_wire.specs.declared.fault.WireFault.TheVariants as wire
+use Rattle.pg_wire.specs.value.Column.{Column}
+use Rattle.pg_wire.specs.value.CopyHead.{CopyHead}
+use Rattle.pg_wire.specs.value.ErrorField.{ErrorField}
+use Rattle.pg_wire.specs.value.Status.{Status}
+use Rattle.pg_wire.specs.value.Status.TheVariants as status
+use Rattle.pg_wire.specs.declared.session.Aside.{Aside}
+use Rattle.pg_wire.specs.declared.session.Aside.TheVariants as aside
+use Rattle.pg_wire.specs.declared.session.ExecEnd.{ExecEnd}
+use Rattle.pg_wire.specs.declared.session.ExecEnd.TheVariants as ends
+use Rattle.pg_wire.specs.declared.session.Part.{Part}
+use Rattle.pg_wire.specs.declared.session.Part.TheVariants as part
+use Rattle.pg_wire.specs.declared.session.Request.{Request}
+use Rattle.pg_wire.specs.declared.session.Request.TheVariants as request
+use Rattle.pg_client.specs.declared.fault.CallFault.{CallFault}
+use Rattle.pg_client.specs.declared.fault.CallFault.TheVariants as call
+use Rattle.pg_client.specs.declared.fault.FeedFault.{FeedFault}
+use Rattle.pg_client.specs.declared.fault.FeedFault.TheVariants as feed
+use Rattle.pg_client.specs.declared.phase.Phase.{Phase}
+use Rattle.pg_client.specs.declared.phase.Phase.TheVariants as phase
+use Rattle.pg_client.specs.declared.settled.Loss.{Loss}
+use Rattle.pg_client.specs.declared.settled.Settled.{Settled}
+use Rattle.pg_backend.specs.phase.BackPhase.{BackPhase}
+use Rattle.pg_backend.specs.phase.BackPhase.TheVariants as back_phase
+use Rattle.pg_backend.specs.declared.fault.BackendFault.{BackendFault}
+use Rattle.pg_backend.specs.declared.fault.BackendFault.TheVariants as backend
+use Rattle.pg_backend.specs.script.Logged.{Logged}
+use Rattle.pg_pair.specs.declared.event.Applied.{Applied}
+use Rattle.pg_pair.specs.declared.event.Applied.TheVariants as applied
+
+-- ---- lines
+
+-- the canonical line of a row, of which it has at most the first 32,767 fields
+abbrev pub text_line : Row → List ℕ
+text_line row = written_row (take most_fields row)
+
+-- a line a row
+abbrev pub text_lines : List Row → List ℕ
+text_lines rows = flat_map text_line rows
+
+-- ---- what several lines have
+
+-- pairs of a code of one byte and a value
+abbrev pub error_field : ErrorField → Row
+error_field f = Some (f.code ∷ []) ∷ Some f.value ∷ []
+
+-- the fields of an error or a notice, each as its code and its value
+abbrev pub error_fields : List ErrorField → Row
+error_fields fields = flat_map error_field fields
+
+-- the names of columns, a field each
+abbrev pub column_names : List Column → Row
+column_names columns = map (λ c. Some c.name) columns
+
+-- an error, as a script says one: error and its fields
+abbrev pub error_row : List ErrorField → Row
+error_row fields = Some (codes "error") ∷ error_fields fields
+
+-- the word for the format of a copy: text or binary
+abbrev pub format_word : Bool → List ℕ
+format_word false = codes "text"
+format_word true = codes "binary"
+
+-- the letter of ReadyForQuery: I idle, T in a transaction block, E in a failed one
+abbrev pub status_letter : Status → List ℕ
+status_letter status.Idle = codes "I"
+status_letter status.InBlock = codes "T"
+status_letter status.Failed = codes "E"
+
+-- the formats of a copy: what all of them are, and their number
+abbrev pub head_fields : CopyHead → Row
+head_fields head = Some (format_word head.binary) ∷ Some (decimal (length head.formats)) ∷ []
+
+-- query with its text, or group with the number of its steps
+abbrev pub request_fields : Request → Row
+request_fields (request.Query text) = Some (codes "query") ∷ Some text ∷ []
+request_fields (request.Group steps) = Some (codes "group") ∷ Some (decimal (length steps)) ∷ []
+
+-- ---- a settled group: the request, its asides, its parts, its error and its status, in the form of a script
+
+-- notice with its fields, set with a parameter and its value, or notify with process, channel and
+-- payload
+abbrev pub aside_row : Aside → Row
+aside_row (aside.Notice fields) = Some (codes "notice") ∷ error_fields fields
+aside_row (aside.Parameter name value) = Some (codes "set") ∷ Some name ∷ Some value ∷ []
+aside_row (aside.Notification process channel payload) =
+    Some (codes "notify") ∷ Some (signed_decimal process) ∷ Some channel ∷ Some payload ∷ []
+
+-- a row of results: row and its values
+abbrev pub value_row : Row → Row
+value_row values = Some (codes "row") ∷ values
+
+-- the bytes of one CopyData: chunk and these bytes
+abbrev pub chunk_row : List ℕ → Row
+chunk_row bytes = Some (codes "chunk") ∷ Some bytes ∷ []
+
+-- rows with the tag of its CommandComplete and the names of its columns; the rows stand in lines of
+-- their own after it
+abbrev pub rows_row : List Column → List ℕ → Row
+rows_row columns tag = Some (codes "rows") ∷ Some tag ∷ column_names columns
+
+-- copyout with its tag and what the server said of its formats; the chunks stand in lines of their
+-- own after it
+abbrev pub copy_out_row : CopyHead → List ℕ → Row
+copy_out_row head tag = Some (codes "copyout") ∷ Some tag ∷ head_fields head
+
+-- copyin with what the server said of its formats, and the tag of a copy that was accepted
+abbrev pub copy_in_row : CopyHead → List ℕ → Row
+copy_in_row head tag =
+    Some (codes "copyin") ∷ head_fields head ++ Some (codes "accept") ∷ Some tag ∷ []
+
+-- where the parameters are told, they stand in a line of their own before
+abbrev pub parameter_rows : Option (List ℕ) → List Row
+parameter_rows None = []
+parameter_rows (Some types) =
+    (Some (codes "paramtypes") ∷ map (λ oid. Some (decimal oid)) types) ∷ []
+
+-- described with the names of the columns, or alone where there are no rows
+abbrev pub described_row : Option (List Column) → Row
+described_row None = Some (codes "described") ∷ []
+described_row (Some columns) = Some (codes "described") ∷ column_names columns
+
+-- executed and how the Execute ended: complete with a tag, empty, or suspended
+abbrev pub executed_row : ExecEnd → Row
+executed_row (ends.Complete tag) = Some (codes "executed") ∷ Some (codes "complete") ∷ Some tag ∷ []
+executed_row ends.Empty = Some (codes "executed") ∷ Some (codes "empty") ∷ []
+executed_row ends.Suspended = Some (codes "executed") ∷ Some (codes "suspended") ∷ []
+
+-- the lines of one result
+abbrev pub part_rows : Part → List Row
+part_rows (part.Rows columns rows tag) = rows_row columns tag ∷ map value_row rows
+part_rows (part.Command tag) = (Some (codes "command") ∷ Some tag ∷ []) ∷ []
+part_rows part.Empty = (Some (codes "empty") ∷ []) ∷ []
+part_rows (part.CopyOut head chunks tag) = copy_out_row head tag ∷ map chunk_row chunks
+part_rows (part.CopyIn head tag) = copy_in_row head tag ∷ []
+part_rows part.Parsed = (Some (codes "parsed") ∷ []) ∷ []
+part_rows part.Bound = (Some (codes "bound") ∷ []) ∷ []
+part_rows (part.Described parameters columns) = parameter_rows parameters
+    ++ described_row columns ∷ []
+part_rows (part.Executed rows end) = executed_row end ∷ map value_row rows
+part_rows part.Shut = (Some (codes "shut") ∷ []) ∷ []
+
+-- the line of the error, if there is one
+abbrev pub outcome_error_rows : Option (List ErrorField) → List Row
+outcome_error_rows None = []
+outcome_error_rows (Some fields) = error_row fields ∷ []
+
+-- status and its letter
+abbrev pub status_row : Status → Row
+status_row s = Some (codes "status") ∷ Some (status_letter s) ∷ []
+
+-- the lines of a settled group: what was asked, the asides, the results, the error and the status
+abbrev pub settled_rows : Settled → List Row
+settled_rows s =
+    (Some (codes "settled") ∷ request_fields s.request) ∷ map aside_row s.outcome.asides
+    ++ flat_map part_rows s.outcome.parts ++ outcome_error_rows s.outcome.error
+    ++ status_row s.outcome.status ∷ []
+
+-- ---- refused calls and faults
+
+-- the code of the fault for which the client refused a call
+abbrev pub call_code : CallFault → List ℕ
+call_code (call.NotReady at) = codes "C1"
+call_code (call.NotCopying at) = codes "C2"
+call_code (call.Encode fault) = codes "C3"
+call_code call.NoKey = codes "C4"
+
+-- the code of what a decoder found wrong
+abbrev pub wire_code : WireFault → List ℕ
+wire_code (wire.UnknownTag tag) = codes "W1"
+wire_code (wire.ShortLength size) = codes "W2"
+wire_code (wire.LongLength size) = codes "W3"
+wire_code (wire.BadFirst code) = codes "W5"
+wire_code (wire.BadBody tag) = codes "W4"
+wire_code wire.Memory = codes "W6"
+
+-- the code of a fault of the client's feed, with the decoder's code or the server's error where it
+-- has one
+abbrev pub feed_fields : FeedFault → Row
+feed_fields (feed.Wire fault) = Some (codes "F1") ∷ Some (wire_code fault) ∷ []
+feed_fields (feed.Unexpected tag) = Some (codes "F2") ∷ []
+feed_fields (feed.UnsupportedAuth code) = Some (codes "F3") ∷ []
+feed_fields feed.PasswordWanted = Some (codes "F4") ∷ []
+feed_fields (feed.StartupError fields) = Some (codes "F5") ∷ error_fields fields
+feed_fields (feed.ServerEnd fields) = Some (codes "F6") ∷ error_fields fields
+feed_fields feed.Memory = Some (codes "F7") ∷ []
+feed_fields feed.Closed = Some (codes "F8") ∷ []
+
+-- the code of a fault of the backend's step, with the decoder's code where it has one
+abbrev pub backend_fields : BackendFault → Row
+backend_fields (backend.Wire fault) = Some (codes "K1") ∷ Some (wire_code fault) ∷ []
+backend_fields backend.Memory = Some (codes "K2") ∷ []
+backend_fields backend.Closed = Some (codes "K3") ∷ []
+backend_fields (backend.Unexpected tag) = Some (codes "K4") ∷ []
+
+-- fault and these fields
+abbrev pub fault_row : Row → Row
+fault_row fields = Some (codes "fault") ∷ fields
+
+-- what an event was answered
+abbrev pub answer_rows : Applied → List Row
+answer_rows applied.Done = []
+answer_rows applied.Nothing = []
+answer_rows (applied.Refused back fault) =
+    (Some (codes "refused") ∷ Some (call_code fault) ∷ []) ∷ []
+answer_rows (applied.Client fault) = fault_row (feed_fields fault) ∷ []
+answer_rows (applied.Backend fault) = fault_row (backend_fields fault) ∷ []
+answer_rows applied.Carrier = fault_row (Some (codes "carry") ∷ []) ∷ []
+
+-- ---- a lost connection
+
+-- the request that is lost, or none
+abbrev pub unsettled_fields : Option Request → Row
+unsettled_fields None = Some (codes "none") ∷ []
+unsettled_fields (Some r) = request_fields r
+
+-- whether an error had come for the lost request: error, or clear
+abbrev pub error_word : Bool → List ℕ
+error_word false = codes "clear"
+error_word true = codes "error"
+
+-- lost, whether an error had come, and the request
+abbrev pub lost_row : Loss → Row
+lost_row loss =
+    Some (codes "lost") ∷ Some (error_word loss.seen_error) ∷ unsettled_fields loss.unsettled
+
+-- the line of a loss, if one was told
+abbrev pub loss_rows : Option Loss → List Row
+loss_rows None = []
+loss_rows (Some loss) = lost_row loss ∷ []
+
+-- ---- an event: the groups that it settled, what it was answered, and the loss that it told
+
+-- the lines of an event
+abbrev pub event_rows : List Settled → Applied → Option Loss → List Row
+event_rows settled answer loss = flat_map settled_rows settled ++ answer_rows answer
+    ++ loss_rows loss
+
+-- ---- the end
+
+-- the most chunks of a line
+abbrev pub most_chunks : ℕ
+most_chunks = 32765
+
+-- loaded, the number of the request, counted from 1, and chunks
+abbrev pub loaded_row : ℕ → List (List ℕ) → Row
+loaded_row k chunks = Some (codes "loaded") ∷ Some (decimal k) ∷ map Some chunks
+
+-- the chunks that request k loaded: at most so many a line, and no line where there are none; n is at least their number
+abbrev pub loaded_rows_of : ℕ → ℕ → List (List ℕ) → List Row
+loaded_rows_of zero k chunks = []
+loaded_rows_of (suc n) k [] = []
+loaded_rows_of (suc n) k (c ∷ cs) =
+    loaded_row k (take most_chunks (c ∷ cs)) ∷ loaded_rows_of n k (drop most_chunks (c ∷ cs))
+
+-- for the requests from number k on
+abbrev pub loaded_rows : ℕ → List Logged → List Row
+loaded_rows k [] = []
+loaded_rows k (entry ∷ entries) = loaded_rows_of (length entry.loaded) k entry.loaded
+    ++ loaded_rows (k + 1) entries
+
+-- the word for where the client stands
+abbrev pub client_word : Phase → List ℕ
+client_word phase.New = codes "new"
+client_word phase.Starting = codes "starting"
+client_word phase.Ready = codes "ready"
+client_word phase.Busy = codes "busy"
+client_word phase.CopyingIn = codes "copying"
+client_word (phase.Closed cause) = codes "closed"
+
+-- the word for where the backend stands
+abbrev pub backend_word : BackPhase → List ℕ
+backend_word back_phase.First = codes "first"
+backend_word back_phase.Password = codes "password"
+backend_word back_phase.Ready = codes "ready"
+backend_word back_phase.Grouping = codes "grouping"
+backend_word back_phase.CopyIn = codes "copying"
+backend_word back_phase.Closed = codes "closed"
+
+-- the closing lines: what was loaded, and where both ends stand
+abbrev pub closing_rows : List Logged → Phase → BackPhase → List Row
+closing_rows log client backend =
+    loaded_rows 1 log ++ (Some (codes "client") ∷ Some (client_word client) ∷ [])
+    ∷ (Some (codes "backend") ∷ Some (backend_word backend) ∷ []) ∷ []

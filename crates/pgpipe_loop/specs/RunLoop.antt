@@ -1,0 +1,144 @@
+-- What happens in a loop, and what is sent of it.
+use Rattle.std.specs.Prelude.{◌≡◌, ℕ, zero, suc, ◌-◌, ◌^◌, nat_eq, Bool, true, false, ◌||◌, ◌⊎◌, List, [], ◌∷◌, ◌++◌, length, drop, Option, Some, None, Result, Ok, Err}
+use Rattle.std.specs.List.{flat_map}
+use Rattle.pg_copy.specs.Row.{Row}
+use Rattle.pg_client.specs.declared.settled.Loss.{Loss}
+use Rattle.pg_client.specs.Client as client
+use Rattle.pg_backend.specs.Backend as backend
+use Rattle.pg_pair.specs.Carrying.{Carrying}
+use Rattle.pg_pair.specs.declared.event.Applied.{Applied}
+use Rattle.pg_pair.specs.declared.event.Applied.TheVariants as applied
+use Rattle.pg_pair.specs.declared.event.Event.{Event}
+use Rattle.pg_pair.specs.declared.event.Event.TheVariants as event
+use Rattle.pg_pair.specs.Event.{Applies}
+use Rattle.pg_pair.specs.View.{PairView}
+use Rattle.pgpipe_files.specs.declared.calls_file.CallLine.{CallLine}
+use Rattle.pgpipe_files.specs.declared.calls_file.CallLine.TheVariants as line
+use Rattle.pgpipe_loop.specs.declared.run_loop.Ran.{Ran}
+use Rattle.pgpipe_loop.specs.declared.run_loop.Ran.TheVariants as ran
+use Rattle.pgpipe_base.specs.declared.fault.ToolFault.{ToolFault}
+use Rattle.pgpipe_base.specs.declared.fault.ToolFault.TheVariants as fault
+use Rattle.pgpipe_loop.specs.Lines.{event_rows, closing_rows, text_lines}
+use mathlib.Core.List.{IsPrefix}
+
+-- ---- what is to happen
+
+-- an event, and how often it happens again at most: only where something came of the time before
+pub record Doing : Type 0 where
+  pub event : Event
+  pub again : ℕ
+
+-- an event that happens so often at most
+abbrev pub times : ℕ → Event → List Doing
+times zero e = []
+times (suc n) e = record { event = e; again = n } ∷ []
+
+-- how often an event of a flow happens at most
+abbrev pub most_times : ℕ
+most_times = 2 ^ 64 - 1
+
+-- all that waits is delivered to the backend, it steps while something whole waits, and all that waits is delivered to the client
+abbrev pub flow_once : ℕ → List Doing
+flow_once cut = times most_times (event.ToBackend cut) ++ times most_times event.Step
+    ++ times most_times (event.ToClient cut)
+
+-- what happens for a line of CALLS: its event once, or for a flow what waits, twice over
+abbrev pub line_doings : ℕ → CallLine → List Doing
+line_doings cut (line.Event e) = times 1 e
+line_doings cut line.Flow = flow_once cut ++ flow_once cut
+-- a file that isn't filled in; a loop has none
+line_doings cut (line.File path) = []
+
+-- all that is to happen, where so many bytes are delivered at a time in a flow
+abbrev pub doings : ℕ → List CallLine → List Doing
+doings cut lines = flat_map (line_doings cut) lines
+
+-- ---- what happens
+
+-- the event did nothing
+abbrev pub is_nothing : Applied → Bool
+is_nothing applied.Nothing = true
+is_nothing _ = false
+
+-- the carrier failed or gave other bytes, and the end answered no fault
+abbrev pub is_carrier : Applied → Bool
+is_carrier applied.Carrier = true
+is_carrier _ = false
+
+-- nothing came of an event: a delivery moved no byte, or another event did nothing
+abbrev pub came_to_nothing : {C : Type 0} → Event → PairView C → Applied → PairView C → Bool
+came_to_nothing (event.ToBackend n) p answer q = nat_eq q.to_backend.reached p.to_backend.reached
+came_to_nothing (event.ToClient n) p answer q = nat_eq q.to_client.reached p.to_client.reached
+came_to_nothing e p answer q = is_nothing answer
+
+-- what is left of an event once it has happened
+abbrev pub left_to_happen : Bool → Doing → List Doing
+left_to_happen true d = []
+left_to_happen false d = times d.again d.event
+
+-- the loss that an event told
+abbrev pub new_loss : Option Loss → Option Loss → Option Loss
+new_loss None after = after
+new_loss (Some loss) after = None
+
+-- the rows of an event between these states of the pair
+abbrev pub rows_between : {C : Type 0} → PairView C → Applied → PairView C → List Row
+rows_between p answer q =
+    event_rows (drop (length p.settled) q.settled) answer (new_loss p.loss q.loss)
+
+-- Of all that is to happen the first events have happened, one after the other, and this is left. Their rows are these, and the
+-- carrier has failed at one of them or not.
+pub data Happened {C : Type 0} (carries : Carrying C) (begun : PairView C)
+    (all : List Doing) : PairView C → List Doing → List Row → Bool → Type 0 where
+  nothing : Happened carries begun all begun all [] false
+  one_more : (p q : PairView C) (d : Doing) (left : List Doing) (rows : List Row) (failed : Bool)
+      (answer : Applied)
+      → Happened carries begun all p (d ∷ left) rows failed
+      → Applies carries d.event p (Ok answer) q
+      → Happened carries begun all q (left_to_happen (came_to_nothing d.event p answer q) d ++ left)
+      (rows ++ rows_between p answer q) (failed || is_carrier answer)
+
+-- ---- what is sent
+
+-- The text is the lines of the events that have happened.
+pub record IsTextSoFar {C : Type 0} (carries : Carrying C) (begun : PairView C) (all : List Doing)
+    (text : List ℕ) : Type 0 where
+  pub pair : PairView C
+  pub left : List Doing
+  pub rows : List Row
+  pub failed : Bool
+  pub happened : Happened carries begun all pair left rows failed
+  pub text_is : text ≡ text_lines rows
+
+-- the rows of the closing lines: what the backend loaded, and where both ends stand
+abbrev pub ending_of : {C : Type 0} → PairView C → List Row
+ending_of p =
+    closing_rows p.backend.log (client.phase_of p.client) (backend.phase_of p.backend.stage)
+
+-- All has happened, and the text is the lines of the events, and then the closing lines.
+pub record IsWholeText {C : Type 0} (carries : Carrying C) (begun : PairView C) (all : List Doing)
+    (failed : Bool) (text : List ℕ) : Type 0 where
+  pub pair : PairView C
+  pub rows : List Row
+  pub happened : Happened carries begun all pair [] rows failed
+  pub text_is : text ≡ text_lines (rows ++ ending_of pair)
+
+-- The text is a prefix of these.
+abbrev pub IsPartOfText : {C : Type 0} → Carrying C → PairView C → List Doing → List ℕ → Type 0
+IsPartOfText carries begun all text = (whole : List ℕ) × IsPrefix text whole
+    × (IsTextSoFar carries begun all whole
+    ⊎ ((failed : Bool) × IsWholeText carries begun all failed whole))
+
+-- the answer says that the carrier failed
+abbrev pub says_carrier_failed : Ran → Bool
+says_carrier_failed ran.Whole = false
+says_carrier_failed ran.CarrierFailed = true
+
+-- The answer for what has happened, and the text that was sent. Where memory was refused, no line of that event was sent.
+abbrev pub LoopAnswers : {C : Type 0} → Type 0 → Carrying C → PairView C → List Doing → List ℕ
+    → Result Ran ToolFault → Type 0
+LoopAnswers broke carries begun all text (Ok r) =
+    IsWholeText carries begun all (says_carrier_failed r) text
+LoopAnswers broke carries begun all text (Err fault.Memory) = IsTextSoFar carries begun all text
+LoopAnswers broke carries begun all text (Err fault.Device) =
+    broke × IsPartOfText carries begun all text

@@ -1,0 +1,45 @@
+-- The line of a first packet, and what comes after one: a line is a word for the packet, its length in decimal and the bytes
+-- after the length in hexadecimal, parted by spaces.
+use Rattle.std.specs.Prelude.{ℕ, Bool, true, false, List, [], ◌∷◌, ◌++◌}
+use Rattle.std.specs.Int.{w32, to_be_bytes}
+use Rattle.std.specs.List.{flat_map}
+use Rattle.pg_wire.specs.message.First.{First}
+use Rattle.pg_wire.specs.message.First.TheVariants as first
+use Rattle.pg_wire.specs.First.{packet_length, code, content}
+use Rattle.pgpipe_show.specs.declared.packets.Next.{Next}
+use Rattle.pgpipe_show.specs.declared.packets.Next.TheVariants as next
+use Rattle.pgpipe_base.specs.Outbox.{line_of}
+
+-- the word for a packet: startup, cancel, ssl or gss
+abbrev pub word : First → List ℕ
+word (first.Startup pairs) = 115 ∷ 116 ∷ 97 ∷ 114 ∷ 116 ∷ 117 ∷ 112 ∷ []
+word (first.Cancel process secret) = 99 ∷ 97 ∷ 110 ∷ 99 ∷ 101 ∷ 108 ∷ []
+word first.Ssl = 115 ∷ 115 ∷ 108 ∷ []
+word first.Gss = 103 ∷ 115 ∷ 115 ∷ []
+
+-- the line of a first packet
+abbrev pub packet_line : First → List ℕ
+packet_line p = line_of (word p) (packet_length p) (to_be_bytes w32 (code p) ++ content p)
+
+-- the lines of packets, one for each
+abbrev pub packet_lines : List First → List ℕ
+packet_lines packets = flat_map packet_line packets
+
+-- what comes after a packet
+abbrev pub after : First → Next
+after (first.Startup pairs) = next.Message
+after (first.Cancel process secret) = next.Nothing
+after first.Ssl = next.Packet
+after first.Gss = next.Packet
+
+-- what comes after packets, which the last of them says
+abbrev pub next_after : List First → Next
+next_after [] = next.Packet
+next_after (p ∷ []) = after p
+next_after (p ∷ q ∷ packets) = next_after (q ∷ packets)
+
+-- no packet is to come
+abbrev pub have_ended : Next → Bool
+have_ended next.Packet = false
+have_ended next.Message = true
+have_ended next.Nothing = true

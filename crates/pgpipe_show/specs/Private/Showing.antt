@@ -1,0 +1,265 @@
+-- How far the work has come.
+use Rattle.std.specs.Prelude.{ℕ, zero, suc, ◌≡◌, ◌<◌, ◌≤◌, ◌+◌, Bool, true, false, List, [], length, None, Result, Ok, Err}
+use Rattle.std.specs.List.{FoldsTo, concat}
+use Rattle.pg_wire.specs.declared.fault.WireFault.{WireFault}
+use Rattle.pg_wire.specs.declared.fault.WireFault.TheVariants as wire
+use Rattle.pg_wire.specs.link.LinkFault.{LinkFault}
+use Rattle.pg_wire.specs.message.First.{First}
+use Rattle.pg_wire.specs.Backend.{backend}
+use Rattle.pg_wire.specs.Decoder.{DecoderState}
+use Rattle.pg_wire.specs.Direction.{Direction}
+use Rattle.pg_wire.specs.First.{IsBeginning, IsOpenPacket, IsFaultyPacket}
+use Rattle.pg_wire.specs.FirstDecoder.{FirstState}
+use Rattle.pg_wire.specs.Frontend.{frontend}
+use Rattle.pg_wire.specs.Link.{HasRisen}
+use Rattle.pg_wire.specs.Stream.{IsStream, IsOpen, IsFaulty}
+use Rattle.pgpipe_show.specs.declared.packets.Next.{Next}
+use Rattle.pgpipe_show.specs.declared.packets.Next.TheVariants as next
+use Rattle.pgpipe_show.specs.declared.show.Shown.{Shown}
+use Rattle.pgpipe_show.specs.declared.show.Shown.TheVariants as shown
+use Rattle.pgpipe_show.specs.Packets.{packet_lines, next_after, have_ended}
+use Rattle.pgpipe_base.specs.declared.stop.Stop.{Stop}
+use Rattle.pgpipe_base.specs.declared.stop.Stop.TheVariants as stop
+use Rattle.pgpipe_show.specs.declared.decoding.Decoding.{Decoding}
+use Rattle.pgpipe_show.specs.declared.decoding.Decoding.TheVariants as decoding
+use Rattle.pgpipe_show.specs.Messages.{lines}
+use Rattle.pgpipe_base.specs.Outbox.{most_collected, Puts, StaysWithin}
+use mathlib.Core.List.{IsPrefix}
+use Rattle.pgpipe_show.specs.Show.{limit, AreMessages, IsClientSide, AreShown, IsOpenFor, IsFaultyFor, AreShownBefore}
+use Rattle.pgpipe_base.specs.Receiving.{most_receives}
+
+-- why the work stops where a decoder answers a fault
+abbrev pub fault_stop : WireFault → Stop Shown
+fault_stop wire.Memory = stop.Memory
+fault_stop f = stop.Answer (shown.Fault f)
+
+-- why the work stops where the source has ended, and so many bytes are left
+abbrev pub end_stop : ℕ → Stop Shown
+end_stop zero = stop.Answer shown.Whole
+end_stop (suc n) = stop.Answer (shown.Rest (suc n))
+
+-- A line is put, and no more is collected than there is room for; or memory was refused, and then nothing was put; or the sink
+-- failed.
+abbrev pub PutsLine : {K : Type 0} → (K → List ℕ → K → Type 0) → (K → ℕ) → List ℕ → K → List ℕ
+    → Result Unit (Stop Shown) → List ℕ → K → Type 0
+PutsLine takes failures collected sink text (Ok x) collected' sink' =
+    Puts {A = Unit {0}} takes failures collected sink text (Ok tt) collected' sink'
+    × (length collected' ≤ most_collected)
+PutsLine takes failures collected sink text (Err stop.Memory) collected' sink' = (collected'
+    ≡ collected) × (sink' ≡ sink)
+PutsLine takes failures collected sink text (Err stop.SinkFailed) collected' sink' =
+    (fault : LinkFault)
+    × Puts {A = Unit {0}} takes failures collected sink text (Err fault) collected' sink'
+PutsLine takes failures collected sink text (Err _) collected' sink' = ⊥
+
+-- ---- the messages that a decoder keeps
+
+-- The decoder found no fault, and takes what may be taken.
+pub record IsSound (decoder : DecoderState) : Type 0 where
+  pub limited : decoder.limit ≡ limit
+  pub no_fault : decoder.fault ≡ None
+
+-- Of these bytes the messages are put, but for those that begin the rest.
+pub record HasPut {K M : Type 0} (takes : K → List ℕ → K → Type 0) (failures : K → ℕ)
+    (d : Direction M) (collected : List ℕ) (sink : K) (bytes rest collected' : List ℕ)
+    (sink' : K) : Type 0 where
+  pub messages : List M
+  pub stream : IsStream d limit bytes messages rest
+  pub put : Puts {A = Unit {0}} takes failures collected sink (lines d messages) (Ok tt) collected'
+      sink'
+  pub within : StaysWithin collected collected'
+
+-- The sink failed in the midst of the messages' lines.
+pub record Breaks {K M : Type 0} (takes : K → List ℕ → K → Type 0) (failures : K → ℕ)
+    (d : Direction M) (collected : List ℕ) (sink : K) (bytes collected' : List ℕ)
+    (sink' : K) : Type 0 where
+  pub fault : LinkFault
+  pub messages : List M
+  pub rest : List ℕ
+  pub stream : IsStream d limit bytes messages rest
+  pub put : Puts {A = Unit {0}} takes failures collected sink (lines d messages) (Err fault)
+      collected' sink'
+
+-- The messages in these bytes are put, as far as may be.
+abbrev pub PutsMessages : {K M : Type 0} → (K → List ℕ → K → Type 0) → (K → ℕ) → Direction M
+    → List ℕ → K → List ℕ → Result DecoderState (Stop Shown) → List ℕ → K → Type 0
+PutsMessages takes failures d collected sink bytes (Ok new) collected' sink' = IsSound new
+    × HasPut takes failures d collected sink bytes new.kept collected' sink'
+    × IsOpen d limit new.kept
+PutsMessages takes failures d collected sink bytes (Err (stop.Answer (shown.Fault f))) collected'
+    sink' =
+    (rest : List ℕ) × HasPut takes failures d collected sink bytes rest collected' sink'
+    × IsFaulty d limit rest f
+PutsMessages takes failures d collected sink bytes (Err stop.Memory) collected' sink' =
+    (rest : List ℕ) × HasPut takes failures d collected sink bytes rest collected' sink'
+PutsMessages takes failures d collected sink bytes (Err stop.SinkFailed) collected' sink' =
+    Breaks takes failures d collected sink bytes collected' sink'
+PutsMessages takes failures d collected sink bytes (Err _) collected' sink' = ⊥
+
+-- ---- the packets that a decoder keeps
+
+-- Of these bytes the packets are put, but for those that begin the rest.
+pub record HasPutPackets {K : Type 0} (takes : K → List ℕ → K → Type 0) (failures : K → ℕ)
+    (collected : List ℕ) (sink : K) (bytes : List ℕ) (n : Next) (rest collected' : List ℕ)
+    (sink' : K) : Type 0 where
+  pub packets : List First
+  pub beginning : IsBeginning bytes packets (have_ended n) rest
+  pub next_is : next_after packets ≡ n
+  pub put : Puts {A = Unit {0}} takes failures collected sink (packet_lines packets) (Ok tt)
+      collected' sink'
+  pub within : StaysWithin collected collected'
+
+-- The sink failed in the midst of the packets' lines.
+pub record BreaksPackets {K : Type 0} (takes : K → List ℕ → K → Type 0) (failures : K → ℕ)
+    (collected : List ℕ) (sink : K) (bytes collected' : List ℕ) (sink' : K) : Type 0 where
+  pub fault : LinkFault
+  pub packets : List First
+  pub rest : List ℕ
+  pub beginning : IsBeginning bytes packets (have_ended (next_after packets)) rest
+  pub put : Puts {A = Unit {0}} takes failures collected sink (packet_lines packets) (Err fault)
+      collected' sink'
+
+-- The packets in these bytes are put, as far as may be.
+abbrev pub PutsPackets : {K : Type 0} → (K → List ℕ → K → Type 0) → (K → ℕ) → List ℕ → K → List ℕ
+    → Result Next (Stop Shown) → FirstState → List ℕ → K → Type 0
+PutsPackets takes failures collected sink bytes (Ok next.Packet) new collected' sink' = (new.ended
+    ≡ false) × (new.fault ≡ None)
+    × HasPutPackets takes failures collected sink bytes next.Packet new.kept collected' sink'
+    × IsOpenPacket new.kept
+PutsPackets takes failures collected sink bytes (Ok n) new collected' sink' = (new.fault ≡ None)
+    × HasPutPackets takes failures collected sink bytes n new.kept collected' sink'
+PutsPackets takes failures collected sink bytes (Err (stop.Answer (shown.Fault f))) new collected'
+    sink' =
+    (rest : List ℕ)
+    × HasPutPackets takes failures collected sink bytes next.Packet rest collected' sink'
+    × IsFaultyPacket rest f
+PutsPackets takes failures collected sink bytes (Err stop.Memory) new collected' sink' =
+    (rest : List ℕ)
+    × HasPutPackets takes failures collected sink bytes next.Packet rest collected' sink'
+PutsPackets takes failures collected sink bytes (Err stop.SinkFailed) new collected' sink' =
+    BreaksPackets takes failures collected sink bytes collected' sink'
+PutsPackets takes failures collected sink bytes (Err _) new collected' sink' = ⊥
+
+-- ---- what is read now
+
+-- a client is read
+abbrev pub is_front : Decoding → Bool
+is_front (decoding.Back d) = false
+is_front _ = true
+
+-- how many bytes no line was put for
+abbrev pub unshown : Decoding → ℕ
+unshown (decoding.Back d) = length d.kept
+unshown (decoding.First s) = length s.kept
+unshown (decoding.Front d) = length d.kept
+unshown (decoding.Over n) = n
+
+-- No fault was found in what is read now, and it has not come to its end.
+abbrev pub IsSoundAt : Decoding → Type 0
+IsSoundAt (decoding.Back d) = IsSound d
+IsSoundAt (decoding.First s) = (s.ended ≡ false) × (s.fault ≡ None)
+IsSoundAt (decoding.Front d) = IsSound d
+IsSoundAt (decoding.Over size) = Unit {0}
+
+-- What is read now keeps the open rest of these bytes, and the text is the lines for the others.
+abbrev pub AreAt : List ℕ → List ℕ → Decoding → Type 0
+AreAt bytes text (decoding.Back d) = IsSound d × AreMessages backend bytes text d.kept
+    × IsOpen backend limit d.kept
+AreAt bytes text (decoding.First s) = (s.ended ≡ false) × (s.fault ≡ None)
+    × IsClientSide bytes text next.Packet s.kept × IsOpenPacket s.kept
+AreAt bytes text (decoding.Front d) = IsSound d × IsClientSide bytes text next.Message d.kept
+    × IsOpen frontend limit d.kept
+AreAt bytes text (decoding.Over size) = (rest : List ℕ) × IsClientSide bytes text next.Nothing rest
+    × (size ≡ length rest)
+
+-- The lines for the bytes received are put, and what is read now keeps the open rest.
+pub record HasShown {K : Type 0} (takes : K → List ℕ → K → Type 0) (failures : K → ℕ) (start : K)
+    (bytes : List ℕ) (at : Decoding) (collected : List ℕ) (sink : K) : Type 0 where
+  pub text : List ℕ
+  pub are_at : AreAt bytes text at
+  pub put : Puts {A = Unit {0}} takes failures [] start text (Ok tt) collected sink
+  pub within : length collected ≤ most_collected
+
+-- The lines for the bytes received are put, but for this rest, and this text is a prefix of them.
+pub record ArePut {K : Type 0} (takes : K → List ℕ → K → Type 0) (failures : K → ℕ) (front : Bool)
+    (start : K) (bytes before : List ℕ) (n : Next) (rest collected : List ℕ)
+    (sink : K) : Type 0 where
+  pub text : List ℕ
+  pub begins : IsPrefix before text
+  pub shown : AreShown front bytes text n rest
+  pub put : Puts {A = Unit {0}} takes failures [] start text (Ok tt) collected sink
+  pub within : length collected ≤ most_collected
+
+-- The sink failed in the midst of the lines, and this text is no more than what was sent and what may be collected.
+pub record IsBroken {K : Type 0} (takes : K → List ℕ → K → Type 0) (failures : K → ℕ) (front : Bool)
+    (start : K) (bytes before collected : List ℕ) (sink : K) : Type 0 where
+  pub fault : LinkFault
+  pub text : List ℕ
+  pub n : Next
+  pub rest : List ℕ
+  pub shown : AreShown front bytes text n rest
+  pub put : Puts {A = Unit {0}} takes failures [] start text (Err fault) collected sink
+  pub at_once : length before ≤ most_collected + length (concat put.pieces)
+
+-- What stands where the work stops, in a step before which this text was shown.
+abbrev pub Stops : {K : Type 0} → (K → List ℕ → K → Type 0) → (K → ℕ) → Bool → K → List ℕ → List ℕ
+    → Stop Shown → List ℕ → K → Type 0
+Stops takes failures front start bytes before (stop.Answer shown.Whole) collected sink = (n : Next)
+    × (rest : List ℕ) × ArePut takes failures front start bytes before n rest collected sink
+    × IsOpenFor front n rest × (0 ≡ length rest)
+Stops takes failures front start bytes before (stop.Answer (shown.Rest size)) collected sink =
+    (n : Next) × (rest : List ℕ)
+    × ArePut takes failures front start bytes before n rest collected sink
+    × IsOpenFor front n rest × (size ≡ length rest) × (0 < size)
+Stops takes failures front start bytes before (stop.Answer (shown.Fault f)) collected sink =
+    (n : Next)
+    × (rest : List ℕ) × ArePut takes failures front start bytes before n rest collected sink
+    × IsFaultyFor front n rest f
+Stops takes failures front start bytes before stop.Memory collected sink = (n : Next)
+    × (rest : List ℕ) × ArePut takes failures front start bytes before n rest collected sink
+Stops takes failures front start bytes before stop.SinkFailed collected sink =
+    IsBroken takes failures front start bytes before collected sink
+Stops takes failures front start bytes before _ collected sink = (n : Next) × (rest : List ℕ)
+    × ArePut takes failures front start bytes before n rest collected sink × IsOpenFor front n rest
+
+-- Where a step of the work leads, before which this text was shown.
+abbrev pub StepShows : {K : Type 0} → (K → List ℕ → K → Type 0) → (K → ℕ) → Bool → K → List ℕ
+    → List ℕ
+    → Result Decoding (Stop Shown) → List ℕ → K → Type 0
+StepShows takes failures front start bytes before (Ok s) collected sink = (is_front s ≡ front)
+    × HasShown takes failures start bytes s collected sink
+StepShows takes failures front start bytes before (Err h) collected sink =
+    Stops takes failures front start bytes before h collected sink
+
+-- What a stop says of the source: it has ended, it failed in these calls, it gave no end in so many, or it didn't fail.
+abbrev pub StopsSource : Type 0 → ℕ → ℕ → List (List ℕ) → Stop Shown → Type 0
+StopsSource ended old new pieces (stop.Answer shown.Whole) = ended × (new ≡ old)
+StopsSource ended old new pieces (stop.Answer (shown.Rest size)) = ended × (new ≡ old)
+StopsSource ended old new pieces stop.SourceFailed = HasRisen old new
+StopsSource ended old new pieces stop.Endless = length pieces ≡ most_receives
+StopsSource ended old new pieces _ = new ≡ old
+
+-- Pieces were received until the work stopped, and this is what stands then.
+pub record HasRun {S K : Type 0} (gives : S → List ℕ → S → Type 0) (source_failures : S → ℕ)
+    (ended : Type 0) (takes : K → List ℕ → K → Type 0) (failures : K → ℕ) (front : Bool)
+    (source : S) (start : K) (s : Stop Shown) (source' : S) (collected : List ℕ)
+    (sink : K) : Type 0 where
+  pub pieces : List (List ℕ)
+  pub received : FoldsTo gives source pieces source'
+  pub before : List ℕ
+  pub shown_before : AreShownBefore front (concat pieces) before
+  pub stops : Stops takes failures front start (concat pieces) before s collected sink
+  pub stops_source : StopsSource ended (source_failures source) (source_failures source') pieces s
+
+-- One call of receive gave these bytes, and the work went on with them.
+abbrev pub StepsSource : {A : Type 0} → Type 0 → ℕ → ℕ → Result A (Stop Shown) → Type 0
+StepsSource ended old new (Ok x) = new ≡ old
+StepsSource ended old new (Err (stop.Answer shown.Whole)) = ended × (new ≡ old)
+StepsSource ended old new (Err (stop.Answer (shown.Rest size))) = ended × (new ≡ old)
+StepsSource ended old new (Err stop.SourceFailed) = HasRisen old new
+StepsSource ended old new (Err stop.Endless) = ⊥
+StepsSource ended old new (Err _) = new ≡ old
+
+-- The source plays no part: the stop is none that it makes.
+abbrev pub LeavesSource : {A : Type 0} → Result A (Stop Shown) → Type 0
+LeavesSource result = StepsSource ⊥ 0 0 result

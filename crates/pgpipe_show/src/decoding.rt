@@ -1,0 +1,111 @@
+//! How far the reading has come.
+
+ghost use Rattle.std.specs.Prelude.{◌≡◌, ◌<◌, ◌+◌, ◌^◌, ◌++◌, [], length, true, false, None, ℕ, List};
+ghost use Rattle.pgpipe_show.specs.declared.decoding.Decoding.TheVariants.{First};
+ghost use Rattle.pgpipe_show.specs.Private.Showing.{is_front, unshown, AreAt, IsSoundAt, HasShown, StepShows, LeavesSource};
+
+use crate::messages::{put_messages, take_messages};
+use crate::packets::{Next, put_packets};
+use crate::show::Shown;
+use pg_wire::{BackDecoder, FirstDecoder, FrontDecoder, LONGEST, Sink};
+use pgpipe_base::Stop;
+use pgpipe_base::outbox::Outbox;
+use std::alloc::Global;
+
+/// What is read now.
+#[derive(Drop)]
+pub enum Decoding {
+    /// The messages of a backend.
+    Back(BackDecoder),
+    /// The first packets of a client.
+    First(FirstDecoder),
+    /// The messages of a client.
+    Front(FrontDecoder),
+    /// Nothing after a Cancel: so many bytes came.
+    Over(usize),
+}
+
+// Takes a piece of what a client begins with, and puts the lines of the packets and messages that are whole then.
+fn take_packets<K: Sink>(
+    decoder: FirstDecoder,
+    piece: &[u8],
+    spelled: &mut Vec<u8>,
+    outbox: &mut Outbox,
+    sink: &mut K,
+) -> Result<Decoding, Stop<Shown>>
+    requires { (decoder.ended ≡ false) × (decoder.fault ≡ None) }
+    ensures steps { (start : K) (bytes : List ℕ)
+        (stands : HasShown K.takes K.failures start bytes (First decoder) outbox.old sink.old)
+        → StepShows K.takes K.failures true start (bytes
+        ++ piece.now) stands.text result outbox.new sink.new }
+    ensures source { LeavesSource result }
+{
+    let mut first = decoder;
+    if first.push(piece).is_err() {
+        return Err(Stop::Memory);
+    }
+    match put_packets(&mut first, spelled, outbox, sink)? {
+        Next::Packet => Ok(Decoding::First(first)),
+        Next::Message => {
+            let decoder = put_messages(first.into_front(LONGEST), spelled, outbox, sink)?;
+            Ok(Decoding::Front(decoder))
+        }
+        Next::Nothing => Ok(Decoding::Over(first.kept())),
+    }
+}
+
+impl Decoding {
+    /// Nothing was read yet.
+    pub fn begin(alloc: Global, front: bool) -> Decoding
+        ensures side { is_front result ≡ front }
+        ensures begun { AreAt [] [] result }
+    {
+        if front {
+            Decoding::First(FirstDecoder::new(alloc))
+        } else {
+            Decoding::Back(BackDecoder::new(alloc, LONGEST))
+        }
+    }
+
+    /// How many bytes are left that no line was put for.
+    pub fn kept(&self) -> usize
+        ensures { result ≡ unshown self.now }
+    {
+        match self {
+            Decoding::Back(decoder) => decoder.kept(),
+            Decoding::First(decoder) => decoder.kept(),
+            Decoding::Front(decoder) => decoder.kept(),
+            Decoding::Over(count) => *count,
+        }
+    }
+
+    /// Takes a piece, and puts the lines of the packets and messages that are whole then.
+    pub fn take<K: Sink>(
+        self,
+        piece: &[u8],
+        spelled: &mut Vec<u8>,
+        outbox: &mut Outbox,
+        sink: &mut K,
+    ) -> Result<Decoding, Stop<Shown>>
+        requires sound { IsSoundAt self }
+        requires room { unshown self + length piece.now < 2 ^ 64 }
+        ensures steps { (start : K) (bytes : List ℕ)
+            (stands : HasShown K.takes K.failures start bytes self outbox.old sink.old)
+            → StepShows K.takes K.failures (is_front self) start (bytes
+            ++ piece.now) stands.text result outbox.new sink.new }
+        ensures source { LeavesSource result }
+    {
+        match self {
+            Decoding::Back(decoder) => {
+                let decoder = take_messages(decoder, piece, spelled, outbox, sink)?;
+                Ok(Decoding::Back(decoder))
+            }
+            Decoding::First(decoder) => take_packets(decoder, piece, spelled, outbox, sink),
+            Decoding::Front(decoder) => {
+                let decoder = take_messages(decoder, piece, spelled, outbox, sink)?;
+                Ok(Decoding::Front(decoder))
+            }
+            Decoding::Over(count) => Ok(Decoding::Over(count + piece.len())),
+        }
+    }
+}

@@ -1,0 +1,85 @@
+-- How the program fails.
+use Rattle.std.specs.Prelude.{ℕ, ◌≡◌, ◌≢◌, ◌⊎◌, Result, Ok, Err}
+use Rattle.std.specs.Process.{exit_status}
+use Rattle.std.specs.declared.process.ExitCode.{ExitCode}
+use Rattle.clap.specs.declared.error.kind.ErrorKind.{ErrorKind}
+use Rattle.clap.specs.declared.error.kind.ErrorKind.TheVariants as kind
+use Rattle.pgpipe_words.specs.declared.failure.Failure.{Failure}
+use Rattle.pgpipe_words.specs.declared.failure.Failure.TheVariants as failure
+use Rattle.pgpipe_convert.specs.declared.convert.Converted.{Converted}
+use Rattle.pgpipe_convert.specs.declared.convert.Converted.TheVariants as converted
+use Rattle.pg_backend.specs.fault.ScriptFault.{ScriptFault}
+use Rattle.pg_backend.specs.fault.ScriptFault.TheVariants as check
+use Rattle.pgpipe_files.specs.declared.fault.LineFault.{LineFault}
+use Rattle.pgpipe_files.specs.declared.fault.LineFault.TheVariants as line
+use Rattle.pgpipe_loop.specs.declared.run_loop.Ran.{Ran}
+use Rattle.pgpipe_loop.specs.declared.run_loop.Ran.TheVariants as ran
+use Rattle.pgpipe_show.specs.declared.show.Shown.{Shown}
+use Rattle.pgpipe_show.specs.declared.show.Shown.TheVariants as shown
+use Rattle.pgpipe_base.specs.declared.fault.ToolFault.{ToolFault}
+use Rattle.pgpipe_base.specs.declared.fault.ToolFault.TheVariants as fault
+
+-- the exit status
+abbrev pub failure_status : Failure → ℕ
+failure_status failure.NotUtf8 = 1
+failure_status (failure.Rest n) = 2
+failure_status (failure.Fault f) = 2
+failure_status (failure.Text f) = 2
+failure_status (failure.Binary f) = 2
+failure_status (failure.Row f) = 2
+failure_status (failure.Script n) = 2
+failure_status (failure.Calls n) = 2
+failure_status (failure.Check f) = 2
+failure_status failure.Device = 3
+failure_status failure.Memory = 4
+
+-- what the answer of show means for the program
+abbrev pub ShowResults : Result Shown ToolFault → Result Unit Failure → Type 0
+ShowResults (Ok shown.Whole) r = r ≡ Ok tt
+ShowResults (Ok (shown.Rest n)) r = r ≡ Err (failure.Rest n)
+ShowResults (Ok (shown.Fault f)) r = r ≡ Err (failure.Fault f)
+ShowResults (Err fault.Device) r = r ≡ Err failure.Device
+ShowResults (Err fault.Memory) r = r ≡ Err failure.Memory
+
+-- what the answer of a conversion means for the program
+abbrev pub ConversionResults : Result Converted ToolFault → Result Unit Failure → Type 0
+ConversionResults (Ok converted.Whole) r = r ≡ Ok tt
+ConversionResults (Ok (converted.Text f)) r = r ≡ Err (failure.Text f)
+ConversionResults (Ok (converted.Binary f)) r = r ≡ Err (failure.Binary f)
+ConversionResults (Ok (converted.Row f)) r = r ≡ Err (failure.Row f)
+ConversionResults (Err fault.Device) r = r ≡ Err failure.Device
+ConversionResults (Err fault.Memory) r = r ≡ Err failure.Memory
+
+-- what a fault of SCRIPT means for the program
+abbrev pub script_failure : LineFault → Failure
+script_failure (line.Line n) = failure.Script n
+script_failure line.Memory = failure.Memory
+
+-- what a fault of CALLS means for the program
+abbrev pub calls_failure : LineFault → Failure
+calls_failure (line.Line n) = failure.Calls n
+calls_failure line.Memory = failure.Memory
+
+-- what a fault of the script, once it is read, means for the program
+abbrev pub check_failure : ScriptFault → Failure
+check_failure check.Memory = failure.Memory
+check_failure f = failure.Check f
+
+-- what the answer of a loop means for the program
+abbrev pub LoopResults : Result Ran ToolFault → Result Unit Failure → Type 0
+LoopResults (Ok ran.Whole) r = r ≡ Ok tt
+LoopResults (Ok ran.CarrierFailed) r = r ≡ Err failure.Device
+LoopResults (Err fault.Device) r = r ≡ Err failure.Device
+LoopResults (Err fault.Memory) r = r ≡ Err failure.Memory
+
+-- Help was asked for, and the words are no mistake.
+abbrev pub IsHelp : ErrorKind → Type 0
+IsHelp k = (k ≡ kind.DisplayHelp) ⊎ (k ≡ kind.DisplayVersion)
+
+-- Help ends with status 0, and a mistake in the words with 1; the text may not be printed, and want of memory is told as such.
+abbrev pub Explains : ErrorKind → Result ExitCode Failure → Type 0
+Explains k (Ok code) = (k ≢ kind.OutOfMemory) × (IsHelp k → exit_status code ≡ 0)
+    × ((IsHelp k → ⊥) → exit_status code ≡ 1)
+Explains k (Err failure.Memory) = k ≡ kind.OutOfMemory
+Explains k (Err failure.Device) = k ≢ kind.OutOfMemory
+Explains k (Err _) = ⊥

@@ -1,0 +1,105 @@
+//! The command line, as it is built.
+
+ghost use Rattle.std.specs.Prelude.{◌≡◌, IfOk};
+ghost use Rattle.clap.specs.Words.{app_of, new_rule};
+ghost use Rattle.pgpipe_words.specs.CommandLine.{front, show, convert, loop, command_line, option, required};
+ghost use Rattle.pgpipe_words.specs.Private.CommandLine.{IsArg, IsCommand};
+
+use clap::builder::ValueParser;
+use clap::{Arg, ArgAction, Command, value_parser};
+use std::alloc::{AllocError, Global};
+
+// The flag of a client's side.
+fn front_arg<'a>(alloc: Global) -> Arg<'a>
+    ensures { IsArg front result }
+{
+    Arg::new(alloc, "front")
+        .long("front")
+        .action(ArgAction::SetTrue)
+        .help("Read a client's side: its first packets, and then its messages")
+}
+
+// An option with one value.
+fn option_arg<'a>(
+    alloc: Global,
+    name: &'a str,
+    value: &'a str,
+    values: ValueParser<'a>,
+    help: &'a str,
+) -> Arg<'a>
+    ensures { IsArg (option name.now values.entry) result }
+{
+    Arg::new(alloc, name)
+        .long(name)
+        .value_name(value)
+        .value_parser(values)
+        .help(help)
+}
+
+// A required option with one value.
+fn required_arg<'a>(
+    alloc: Global,
+    name: &'a str,
+    value: &'a str,
+    values: ValueParser<'a>,
+    help: &'a str,
+) -> Arg<'a>
+    ensures { IsArg (required (option name.now values.entry)) result }
+{
+    option_arg(alloc, name, value, values, help).required(true)
+}
+
+// A required path.
+fn path_arg<'a>(alloc: Global, name: &'a str, help: &'a str) -> Arg<'a>
+    ensures { IsArg (required (new_rule name.now)) result }
+{
+    Arg::new(alloc, name).required(true).help(help)
+}
+
+// The subcommand that shows a stream.
+fn show_command<'a>(alloc: Global) -> Result<Command<'a>, AllocError>
+    ensures { IfOk result (IsCommand show) }
+{
+    Command::new(alloc, "show")
+        .about("Print a line for each message of a backend's stream on standard input")
+        .arg(front_arg(alloc))
+}
+
+// The subcommand that converts a file.
+fn convert_command<'a>(alloc: Global, formats: ValueParser<'a>) -> Result<Command<'a>, AllocError>
+    ensures { IfOk result (IsCommand (convert formats.entry)) }
+{
+    let from = required_arg(alloc, "from", "FORMAT", formats, "The format to read");
+    let to = required_arg(alloc, "to", "FORMAT", formats, "The format to write");
+    let numbers = value_parser!(u16).range(1..=32_767);
+    let columns = required_arg(alloc, "columns", "N", numbers, "How many fields a row has");
+    Command::new(alloc, "convert")
+        .about("Convert the COPY file on standard input between the text and the binary format")
+        .arg(from)?
+        .arg(to)?
+        .arg(columns)
+}
+
+// The subcommand that runs a loop.
+fn loop_command<'a>(alloc: Global) -> Result<Command<'a>, AllocError>
+    ensures { IfOk result (IsCommand loop) }
+{
+    let numbers = value_parser!(u32).range(1..=4_096);
+    let help = "How many bytes a flow delivers at a time [default: 4096]";
+    Command::new(alloc, "loop")
+        .about("Run a client's calls against a scripted backend, and print what comes of them")
+        .arg(option_arg(alloc, "cut", "N", numbers, help))?
+        .arg(path_arg(alloc, "SCRIPT", "The file of what the backend answers"))?
+        .arg(path_arg(alloc, "CALLS", "The file of what happens to the client"))
+}
+
+/// The command line, with the parser for the names of the formats.
+pub fn command_line<'a>(alloc: Global, formats: ValueParser<'a>) -> Result<Command<'a>, AllocError>
+    ensures { IfOk result (λ command. app_of command ≡ command_line formats.entry) }
+{
+    Command::new(alloc, "pgpipe")
+        .about("PostgreSQL protocol 3.0 and COPY files on standard input and output")
+        .subcommand(show_command(alloc)?)?
+        .subcommand(convert_command(alloc, formats)?)?
+        .subcommand(loop_command(alloc)?)
+}
