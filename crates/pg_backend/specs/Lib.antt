@@ -1,11 +1,16 @@
--- What a reader must believe: what each call does, and what a backend has handled of its input.
-pub mod Standing
+-- What a reader must believe: where a backend stands, what it went through, and what each call does.
+pub mod Stage
+pub mod Awaited
+pub mod History
 pub mod Backend
 -- Words of private functions, which no public contract cites.
 pub mod Private
 -- What pg_script defines and the contracts here speak of. Who uses pg_backend names it through these lines.
 pub use Rattle.pg_script.specs.Lists
-pub use Rattle.pg_script.specs.Answers
+pub use Rattle.pg_script.specs.OwnError
+pub use Rattle.pg_script.specs.Meaning
+pub use Rattle.pg_script.specs.Outcome
+pub use Rattle.pg_script.specs.Fitting
 pub use Rattle.pg_script.specs.Copies
 pub use Rattle.pg_script.specs.Replies
 pub use Rattle.pg_script.specs.Session

@@ -2,6 +2,6 @@
 pub mod Telling
 pub mod Moves
 pub mod Answering
-pub mod Greeting
-pub mod Sessions
+pub mod Opening
+pub mod Playing
 pub mod Advancing

@@ -1,19 +1,20 @@
 //! Answering one request.
 
-ghost use Rattle.std.specs.Prelude.{◌≡◌, ◌++◌, ◌∷◌, [], map, MatchOption, MatchResult, Ok, Err, Some};
+ghost use Rattle.std.specs.Prelude.{◌≡◌, ◌++◌, ◌∷◌, [], map, MatchOption, MatchResult, Ok, Err};
+ghost use Rattle.std.specs.Prelude.{Some};
 ghost use Rattle.pg_wire.specs.message.BackMessage.TheVariants.{Ready, CopyIn, CommandComplete};
-ghost use Rattle.pg_script.specs.Answers.{parts_of};
-ghost use Rattle.pg_script.specs.Replies.{aside_message, parts_sent, error_sent, end_sent, whole_outcome};
+ghost use Rattle.pg_script.specs.Outcome.{parts_of, whole_outcome};
+ghost use Rattle.pg_script.specs.Replies.{aside_message, parts_sent, error_sent, end_sent};
 ghost use Rattle.pg_script.specs.declared.script.Load.TheVariants.{Refuse};
-ghost use Rattle.pg_backend.specs.Standing.{NotRefused};
-ghost use Rattle.pg_backend.specs.Private.Moves.{before_copy, behind_copy};
+ghost use Rattle.pg_backend.specs.Awaited.{NotRefused};
+ghost use Rattle.pg_backend.specs.Private.Moves.{parts_before, parts_after};
 ghost use Rattle.pg_script.specs.Telling.{Tells};
 ghost use Rattle.pg_backend.specs.Private.Answering.{IsSplit, Gives, BeginsCopy, Opens, Decides};
 
 use crate::fault::BackendFault;
 use crate::stage::Loading;
 use pg_script::outcome::{copy_of_load, outcome, whole_outcome};
-use pg_script::telling::{Told, tell_all, tell_error, worse};
+use pg_script::telling::{Tell, both, tell_all, tell_error};
 use pg_script::{Answer, Load, Logged, ScriptPart};
 use pg_wire::backend::{command_complete, copy_in, encode};
 use pg_wire::{BackMessage, CopyHead, EncodeFault, Fields, Request, Seq, Status};
@@ -33,7 +34,7 @@ pub enum Opened {
 pub enum Split<'a> {
     /// There is none.
     Whole,
-    /// The parts before it, its formats, what becomes of it, the parts behind it.
+    /// The parts before it, its formats, what becomes of it, the parts after it.
     Copies(&'a [ScriptPart], &'a CopyHead, &'a Load, &'a [ScriptPart]),
 }
 
@@ -44,8 +45,8 @@ fn split_at_copy(parts: &[ScriptPart]) -> Split<'_>
     for (i, part) in parts.iter().enumerate() {
         if let ScriptPart::CopyIn { head, load } = part {
             let (before, rest) = parts.split_at(i);
-            let (_, behind) = rest.split_at(1);
-            return Split::Copies(before, head, load, behind);
+            let (_, later) = rest.split_at(1);
+            return Split::Copies(before, head, load, later);
         }
     }
     Split::Whole
@@ -55,24 +56,27 @@ fn split_at_copy(parts: &[ScriptPart]) -> Split<'_>
 fn tell_end(error: &Option<Fields>, status: Status, out: &mut Vec<u8>) -> Result<(), EncodeFault>
     ensures { Tells (error_sent error.now ++ Ready status ∷ []) out.old.items result out.new.items }
 {
-    let told = tell_error(error, out);
-    worse(told, encode(&BackMessage::Ready(status), out))
+    let so_far = tell_error(error, out);
+    both(so_far, encode(&BackMessage::Ready(status), out))
 }
 
 /// These parts, and the end of the answer.
 fn tell_rest(answer: &Answer, parts: &[ScriptPart], out: &mut Vec<u8>) -> Result<(), EncodeFault>
-    ensures { Tells (parts_sent parts.now ++ end_sent answer.now.error answer.now) out.old.items result out.new.items }
+    ensures { Tells (parts_sent parts.now ++ end_sent answer.now.error answer.now)
+        out.old.items result out.new.items }
 {
-    let told = tell_all(parts, out);
-    worse(told, tell_end(&answer.error, answer.status, out))
+    let so_far = tell_all(parts, out);
+    both(so_far, tell_end(&answer.error, answer.status, out))
 }
 
 /// An answer with these parts.
 fn tell_whole(answer: &Answer, parts: &[ScriptPart], out: &mut Vec<u8>) -> Result<(), EncodeFault>
-    ensures { Tells (map aside_message answer.now.before ++ (parts_sent parts.now ++ end_sent answer.now.error answer.now)) out.old.items result out.new.items }
+    ensures { Tells (map aside_message answer.now.before
+        ++ (parts_sent parts.now ++ end_sent answer.now.error answer.now))
+        out.old.items result out.new.items }
 {
-    let told = tell_all(answer.before.as_slice(), out);
-    worse(told, tell_rest(answer, parts, out))
+    let so_far = tell_all(answer.before.as_slice(), out);
+    both(so_far, tell_rest(answer, parts, out))
 }
 
 /// An answer up to a copy from the client.
@@ -82,12 +86,14 @@ fn tell_opening(
     head: &CopyHead,
     out: &mut Vec<u8>,
 ) -> Result<(), EncodeFault>
-    ensures { Tells (map aside_message answer.now.before ++ (parts_sent parts.now ++ CopyIn head.now ∷ [])) out.old.items result out.new.items }
+    ensures { Tells (map aside_message answer.now.before
+        ++ (parts_sent parts.now ++ CopyIn head.now ∷ []))
+        out.old.items result out.new.items }
 {
     let asides = tell_all(answer.before.as_slice(), out);
-    let told = tell_all(parts, out);
-    let told = worse(told, copy_in(head, out));
-    worse(asides, told)
+    let so_far = tell_all(parts, out);
+    let so_far = both(so_far, copy_in(head, out));
+    both(asides, so_far)
 }
 
 /// An answer up to a copy from the client that is refused at once with this error.
@@ -98,30 +104,35 @@ fn tell_refusal(
     error: &Option<Fields>,
     out: &mut Vec<u8>,
 ) -> Result<(), EncodeFault>
-    ensures { Tells (map aside_message answer.now.before ++ (parts_sent parts.now ++ CopyIn head.now ∷ end_sent error.now answer.now)) out.old.items result out.new.items }
+    ensures { Tells (map aside_message answer.now.before
+        ++ (parts_sent parts.now ++ CopyIn head.now ∷ end_sent error.now answer.now))
+        out.old.items result out.new.items }
 {
-    let told = tell_opening(answer, parts, head, out);
-    worse(told, tell_end(error, answer.status, out))
+    let so_far = tell_opening(answer, parts, head, out);
+    both(so_far, tell_end(error, answer.status, out))
 }
 
-/// What comes behind a copy from the client that is complete with this tag.
-fn tell_behind(
+/// What comes after a copy from the client that is complete with this tag.
+fn tell_completion(
     answer: &Answer,
     tag: &[u8],
     parts: &[ScriptPart],
     out: &mut Vec<u8>,
 ) -> Result<(), EncodeFault>
-    ensures { Tells (CommandComplete tag.now ∷ (parts_sent parts.now ++ end_sent answer.now.error answer.now)) out.old.items result out.new.items }
+    ensures { Tells (CommandComplete tag.now
+        ∷ (parts_sent parts.now ++ end_sent answer.now.error answer.now))
+        out.old.items result out.new.items }
 {
-    let told = command_complete(tag, out);
-    worse(told, tell_rest(answer, parts, out))
+    let so_far = command_complete(tag, out);
+    both(so_far, tell_rest(answer, parts, out))
 }
 
-/// Want of memory: a message of a checked script has a spelling.
-pub fn put(told: Result<(), EncodeFault>) -> Result<(), BackendFault>
-    ensures { MatchResult told (λ _. result ≡ Ok record {}) (λ _. result ≡ Err BackendFault.Memory) }
+/// What telling comes to, where its only fault is want of memory: a message of a checked script has a spelling.
+pub fn or_memory(telling: Result<(), EncodeFault>) -> Result<(), BackendFault>
+    ensures { MatchResult telling
+        (λ _. result ≡ Ok record {}) (λ _. result ≡ Err BackendFault.Memory) }
 {
-    match told {
+    match telling {
         Ok(()) => Ok(()),
         Err(_) => Err(BackendFault::Memory),
     }
@@ -134,9 +145,12 @@ fn give_whole(
     answer: &Answer,
     out: &mut Vec<u8>,
 ) -> Result<Logged, BackendFault>
-    ensures { Gives (map aside_message answer.now.before ++ (parts_sent answer.now.parts ++ end_sent answer.now.error answer.now)) (record { request = request; outcome = whole_outcome answer.now; loaded = [] }) out.old.items result out.new.items }
+    ensures { Gives (map aside_message answer.now.before
+        ++ (parts_sent answer.now.parts ++ end_sent answer.now.error answer.now))
+        (record { request = request; outcome = whole_outcome answer.now; loaded = [] })
+        out.old.items result out.new.items }
 {
-    put(tell_whole(answer, answer.parts.as_slice(), out))?;
+    or_memory(tell_whole(answer, answer.parts.as_slice(), out))?;
     Ok(Logged {
         request,
         outcome: whole_outcome(alloc, answer)?,
@@ -154,10 +168,22 @@ fn refuse(
     fields: &Fields,
     out: &mut Vec<u8>,
 ) -> Result<Logged, BackendFault>
-    ensures { Gives (map aside_message answer.now.before ++ (parts_sent before.now ++ CopyIn head.now ∷ end_sent (Some fields.now) answer.now)) (record { request = request; outcome = record { parts = parts_of before.now; error = Some fields.now; status = answer.now.status; asides = answer.now.before }; loaded = [] }) out.old.items result out.new.items }
+    ensures { Gives (map aside_message answer.now.before
+        ++ (parts_sent before.now ++ CopyIn head.now ∷ end_sent (Some fields.now) answer.now))
+        (record {
+          request = request;
+          outcome = record {
+            parts = parts_of before.now;
+            error = Some fields.now;
+            status = answer.now.status;
+            asides = answer.now.before;
+          };
+          loaded = [];
+        })
+        out.old.items result out.new.items }
 {
     let error = Some(fields.clone()?);
-    put(tell_refusal(answer, before, head, &error, out))?;
+    or_memory(tell_refusal(answer, before, head, &error, out))?;
     Ok(Logged {
         request,
         outcome: outcome(alloc, answer, before, error)?,
@@ -175,9 +201,10 @@ fn begin_copy(
     load: &Load,
     out: &mut Vec<u8>,
 ) -> Result<Loading, BackendFault>
-    ensures { BeginsCopy request answer.now before.now head.now load.now out.old.items result out.new.items }
+    ensures { BeginsCopy request answer.now before.now head.now load.now
+        out.old.items result out.new.items }
 {
-    put(tell_opening(answer, before, head, out))?;
+    or_memory(tell_opening(answer, before, head, out))?;
     Ok(Loading {
         request,
         load: copy_of_load(load)?,
@@ -187,7 +214,8 @@ fn begin_copy(
 
 /// The error of a copy that is refused at once.
 fn refused_at_once(load: &Load) -> Option<&Fields>
-    ensures { MatchOption result (NotRefused load.now 0) (λ fields. load.now ≡ Refuse 0 fields.now) }
+    ensures { MatchOption result
+        (NotRefused load.now 0) (λ fields. load.now ≡ Refuse 0 fields.now) }
 {
     match load {
         Load::Accept(_) => None,
@@ -217,18 +245,18 @@ pub fn open(
     }
 }
 
-/// The parts before a copy from the client, and those behind it.
+/// The parts before a copy from the client, and those after it.
 fn around_copy(parts: &[ScriptPart]) -> (&[ScriptPart], &[ScriptPart])
-    ensures before { result.0.now ≡ before_copy parts.now }
-    ensures behind { result.1.now ≡ behind_copy parts.now }
+    ensures before { result.0.now ≡ parts_before parts.now }
+    ensures after { result.1.now ≡ parts_after parts.now }
 {
     match split_at_copy(parts) {
         Split::Whole => (parts, &[]),
-        Split::Copies(before, _, _, behind) => (before, behind),
+        Split::Copies(before, _, _, later) => (before, later),
     }
 }
 
-/// Ends an answer behind a copy from the client that is complete with this tag.
+/// Ends an answer after a copy from the client that is complete with this tag.
 fn complete(
     alloc: Global,
     request: Request,
@@ -239,8 +267,8 @@ fn complete(
 ) -> Result<Logged, BackendFault>
     ensures { Decides request answer.now loaded (Ok tag) out.old.items result out.new.items }
 {
-    let (_, behind) = around_copy(answer.parts.as_slice());
-    put(tell_behind(answer, tag.as_slice(), behind, out))?;
+    let (_, later) = around_copy(answer.parts.as_slice());
+    or_memory(tell_completion(answer, tag.as_slice(), later, out))?;
     Ok(Logged {
         request,
         outcome: whole_outcome(alloc, answer)?,
@@ -261,7 +289,7 @@ fn fail(
 {
     let (before, _) = around_copy(answer.parts.as_slice());
     let error = Some(fields);
-    put(tell_end(&error, answer.status, out))?;
+    or_memory(tell_end(&error, answer.status, out))?;
     Ok(Logged {
         request,
         outcome: outcome(alloc, answer, before, error)?,

@@ -1,23 +1,28 @@
 //! A scripted backend.
 
-ghost use Rattle.std.specs.Prelude.{◌≡◌, ◌≤◌, ◌++◌, ◌∷◌, [], List, ℕ, false, Ok, Err, None, OnOk, MatchResult};
-ghost use Rattle.pg_backend.specs.declared.stage.Stage.{Stage};
-ghost use Rattle.pg_script.specs.Check.{IsChecked};
-ghost use Rattle.pg_script.specs.Input.{Input};
-ghost use Rattle.pg_backend.specs.Backend.{phase_of, lost_stage, IsSound, Stores, Steps, HasHandled, Handles};
-ghost use Rattle.pg_backend.specs.Private.Moves.{move};
-ghost use Rattle.pg_backend.specs.Private.Advancing.{BreaksOff, Advances, AdvancesUnlessClosed, is_refused, TakesEffect, Hands, only_sends, named_effect, packet_effect};
+ghost use Rattle.std.specs.Prelude.{◌≡◌, ◌≤◌, ◌∷◌, [], false, Ok, Err, None, OnOk, MatchResult};
 ghost use Rattle.pg_wire.specs.message.BackMessage.TheVariants.{ErrorResponse};
 ghost use Rattle.pg_wire.specs.Direction.{IsLimit};
 ghost use Rattle.pg_wire.specs.First.{is_last};
-ghost use Rattle.pg_backend.specs.declared.stage.Ending.TheVariants.{Input as ByInput, Memory as ByMemory};
-ghost use Rattle.pg_script.specs.Opening.{No, Says, no_user};
+ghost use Rattle.pg_script.specs.Check.{IsChecked};
+ghost use Rattle.pg_script.specs.Opening.{No, Says};
+ghost use Rattle.pg_script.specs.OwnError.{no_user};
+ghost use Rattle.pg_backend.specs.declared.stage.BackStage.{BackStage};
+ghost use Rattle.pg_backend.specs.declared.stage.ClosedBy.TheVariants.{Input as ByInput};
+ghost use Rattle.pg_backend.specs.declared.stage.ClosedBy.TheVariants.{Memory as ByMemory};
+ghost use Rattle.pg_backend.specs.Stage.{phase_of, lost_stage, IsSound};
+ghost use Rattle.pg_backend.specs.History.{IsHistoryOf, Carries, blank, unchanged, with_pushed};
+ghost use Rattle.pg_backend.specs.Backend.{Stores, Steps, CarriesStep};
+ghost use Rattle.pg_backend.specs.Private.Moves.{move};
+ghost use Rattle.pg_backend.specs.Private.Advancing.{BreaksOff, Advances, AdvancesUnlessClosed};
+ghost use Rattle.pg_backend.specs.Private.Advancing.{is_refused, TakesEffect, Hands, only_sends};
+ghost use Rattle.pg_backend.specs.Private.Advancing.{named_effect, packet_effect};
 
-use crate::answering::put;
+use crate::answering::or_memory;
 use crate::fault::BackendFault;
 use crate::opening::{admit, user};
-use crate::session::Session;
-use crate::stage::{Awaits, Ending, Next, Stage};
+use crate::playing::Playing;
+use crate::stage::{Awaits, BackStage, ClosedBy, Next};
 use pg_script::own_error::{fatal_bad, no_user};
 use pg_script::{BackPhase, Logged, Script};
 use pg_wire::backend::error_response;
@@ -34,24 +39,32 @@ use std::mem;
 pub struct Backend {
     alloc: Global,
     limit: u32,
-    session: Session,
-    stage: Stage,
+    playing: Playing,
+    stage: BackStage,
 }
 
 impl Model for Backend {
     ghost use Rattle.std.specs.Prelude.{◌≤◌};
-    ghost use Rattle.pg_backend.specs.Backend.{BackendState, IsSound};
+    ghost use Rattle.pg_backend.specs.Stage.{BackendState, IsSound};
 
     ghost Value = { BackendState };
 
-    ghost view = { λ b. record { script = b.session.script; limit = b.limit; left = b.session.left; stage = b.stage; log = b.session.log } };
+    ghost view = { λ b. record {
+      script = b.playing.script;
+      limit = b.limit;
+      left = b.playing.left;
+      stage = b.stage;
+      log = b.playing.log;
+    } };
 
-    ghost invariant = { λ b. (64 ≤ b.limit) × (b.limit ≤ 1073741823) × IsSound b.limit b.stage };
+    ghost invariant = { λ b. (64 ≤ b.limit) × (b.limit ≤ 1073741823)
+        × IsSound b.limit b.stage };
 }
 
 /// What a decoder answers to a piece, as it has found no fault.
 fn stored(pushed: Result<(), WireFault>) -> Result<(), BackendFault>
-    ensures { MatchResult pushed (λ _. result ≡ Ok record {}) (λ _. result ≡ Err BackendFault.Memory) }
+    ensures { MatchResult pushed
+        (λ _. result ≡ Ok record {}) (λ _. result ≡ Err BackendFault.Memory) }
 {
     match pushed {
         Ok(()) => Ok(()),
@@ -72,14 +85,20 @@ impl Backend {
     pub fn new(alloc: Global, script: Script, limit: u32) -> Backend
         requires limit { IsLimit limit }
         requires checked { IsChecked script }
-        ensures value { result ≡ record { script = script; limit = limit; left = script.answers; stage = Stage.First record { kept = []; ended = false; fault = None }; log = [] } }
-        ensures handled { HasHandled result [] record { packets = []; messages = []; faulty = false } [] [] }
+        ensures value { result ≡ record {
+          script = script;
+          limit = limit;
+          left = script.answers;
+          stage = BackStage.First record { kept = []; ended = false; fault = None };
+          log = [];
+        } }
+        ensures history { IsHistoryOf blank result }
     {
         Backend {
             alloc,
             limit,
-            session: Session::new(alloc, script),
-            stage: Stage::First(FirstDecoder::new(alloc)),
+            playing: Playing::new(alloc, script),
+            stage: BackStage::First(FirstDecoder::new(alloc)),
         }
     }
 
@@ -87,23 +106,23 @@ impl Backend {
     /// unchanged; a piece without bytes wants no memory. Closed is answered where the backend is closed.
     pub fn push(&mut self, piece: &[u8]) -> Result<(), BackendFault>
         ensures call { Stores self.old piece.now result self.new }
-        ensures handled { OnOk result ((pushed : List ℕ) (i : Input) (rest sent : List ℕ) → HasHandled self.old pushed i rest sent → HasHandled self.new (pushed ++ piece.now) i (rest ++ piece.now) sent) }
+        ensures history { OnOk result (Carries self.old self.new (with_pushed piece.now)) }
     {
         match &mut self.stage {
-            Stage::First(decoder) => stored(decoder.push(piece)),
-            Stage::Open(decoder, _) => stored(decoder.push(piece)),
-            Stage::Closed(_) => Err(BackendFault::Closed),
+            BackStage::First(decoder) => stored(decoder.push(piece)),
+            BackStage::Open(decoder, _) => stored(decoder.push(piece)),
+            BackStage::Closed(_) => Err(BackendFault::Closed),
         }
     }
 
     /// The connection is gone: the backend is closed, unless it was. A request that isn't decided isn't logged.
     pub fn lost(&mut self)
         ensures call { self.new ≡ record self.old { stage = lost_stage self.old.stage } }
-        ensures handled { (pushed : List ℕ) (i : Input) (rest sent : List ℕ) → HasHandled self.old pushed i rest sent → HasHandled self.new pushed i rest sent }
+        ensures history { Carries self.old self.new unchanged }
     {
         match &self.stage {
-            Stage::Closed(_) => {}
-            _ => self.stage = Stage::Closed(Ending::Lost),
+            BackStage::Closed(_) => {}
+            _ => self.stage = BackStage::Closed(ClosedBy::Lost),
         }
     }
 
@@ -115,27 +134,30 @@ impl Backend {
             return Err(BackendFault::Memory);
         }
         let fields = fatal_bad(self.alloc)?;
-        put(error_response(fields.as_slice(), out))?;
+        or_memory(error_response(fields.as_slice(), out))?;
         Err(BackendFault::Wire(fault))
     }
 
     /// Answers a request for encryption: there is none ("SSL Session Encryption").
     fn decline(&mut self, decoder: FirstDecoder, out: &mut Vec<u8>) -> Result<(), BackendFault>
         requires { (decoder.fault ≡ None) × (decoder.ended ≡ false) }
-        ensures { TakesEffect (only_sends self.old (Stage.First decoder) (No ∷ [])) self.old out.old.items result self.new out.new.items }
+        ensures { TakesEffect (only_sends self.old (BackStage.First decoder) (No ∷ []))
+            self.old out.old.items result self.new out.new.items }
     {
         out.push(b'N')?;
-        self.stage = Stage::First(decoder);
+        self.stage = BackStage::First(decoder);
         Ok(())
     }
 
     /// Refuses a client that names no user.
     fn refuse(&mut self, out: &mut Vec<u8>) -> Result<(), BackendFault>
-        ensures { TakesEffect (only_sends self.old (Stage.Closed ByInput) (Says (ErrorResponse no_user) ∷ [])) self.old out.old.items result self.new out.new.items }
+        ensures { TakesEffect
+            (only_sends self.old (BackStage.Closed ByInput) (Says (ErrorResponse no_user) ∷ []))
+            self.old out.old.items result self.new out.new.items }
     {
         let fields = no_user(self.alloc)?;
-        put(error_response(fields.as_slice(), out))?;
-        self.stage = Stage::Closed(Ending::Input);
+        or_memory(error_response(fields.as_slice(), out))?;
+        self.stage = BackStage::Closed(ClosedBy::Input);
         Ok(())
     }
 
@@ -147,15 +169,16 @@ impl Backend {
         out: &mut Vec<u8>,
     ) -> Result<(), BackendFault>
         requires { decoder.fault ≡ None }
-        ensures { TakesEffect (named_effect self.old decoder user.now) self.old out.old.items result self.new out.new.items }
+        ensures { TakesEffect (named_effect self.old decoder user.now)
+            self.old out.old.items result self.new out.new.items }
     {
-        let awaits = admit(self.alloc, self.session.script(), user, out)?;
+        let awaits = admit(self.alloc, self.playing.script(), user, out)?;
         let decoder = decoder.into_front(self.limit);
-        self.stage = Stage::Open(decoder, awaits);
+        self.stage = BackStage::Open(decoder, awaits);
         Ok(())
     }
 
-    /// Handles a first packet, behind which the decoder stands.
+    /// Handles a first packet, after which the decoder stands.
     fn greet(
         &mut self,
         decoder: FirstDecoder,
@@ -163,13 +186,14 @@ impl Backend {
         out: &mut Vec<u8>,
     ) -> Result<(), BackendFault>
         requires { (decoder.fault ≡ None) × (decoder.ended ≡ is_last packet) }
-        ensures { TakesEffect (packet_effect self.old decoder packet) self.old out.old.items result self.new out.new.items }
+        ensures { TakesEffect (packet_effect self.old decoder packet)
+            self.old out.old.items result self.new out.new.items }
     {
         match packet {
             First::Ssl => self.decline(decoder, out),
             First::Gss => self.decline(decoder, out),
             First::Cancel { .. } => {
-                self.stage = Stage::Closed(Ending::Input);
+                self.stage = BackStage::Closed(ClosedBy::Input);
                 Ok(())
             }
             First::Startup(pairs) => {
@@ -190,12 +214,13 @@ impl Backend {
         out: &mut Vec<u8>,
     ) -> Result<bool, BackendFault>
         requires sound { (decoder.fault ≡ None) × (decoder.ended ≡ false) }
-        requires closed { self.old.stage ≡ Stage.Closed ByInput }
-        ensures { Advances (record self.old { stage = Stage.First decoder }) out.old.items result self.new out.new.items }
+        requires closed { self.old.stage ≡ BackStage.Closed ByInput }
+        ensures { Advances (record self.old { stage = BackStage.First decoder })
+            out.old.items result self.new out.new.items }
     {
         match decoder.next() {
             Ok(None) => {
-                self.stage = Stage::First(decoder);
+                self.stage = BackStage::First(decoder);
                 Ok(false)
             }
             Ok(Some(packet)) => {
@@ -213,9 +238,10 @@ impl Backend {
         message: FrontMessage,
         out: &mut Vec<u8>,
     ) -> Result<Next, BackendFault>
-        ensures { Hands (move self.old.script self.old.left awaits message) self.old out.old.items result self.new out.new.items }
+        ensures { Hands (move self.old.script self.old.left awaits message)
+            self.old out.old.items result self.new out.new.items }
     {
-        self.session.take(awaits, message, out)
+        self.playing.take(awaits, message, out)
     }
 
     /// Handles the next message.
@@ -226,17 +252,18 @@ impl Backend {
         out: &mut Vec<u8>,
     ) -> Result<bool, BackendFault>
         requires sound { (decoder.fault ≡ None) × (decoder.limit ≡ self.old.limit) }
-        requires closed { self.old.stage ≡ Stage.Closed ByInput }
-        ensures { Advances (record self.old { stage = Stage.Open decoder awaits }) out.old.items result self.new out.new.items }
+        requires closed { self.old.stage ≡ BackStage.Closed ByInput }
+        ensures { Advances (record self.old { stage = BackStage.Open decoder awaits })
+            out.old.items result self.new out.new.items }
     {
         match decoder.next() {
             Ok(None) => {
-                self.stage = Stage::Open(decoder, awaits);
+                self.stage = BackStage::Open(decoder, awaits);
                 Ok(false)
             }
             Ok(Some(message)) => match self.hand(awaits, message, out)? {
                 Next::Goes(awaits) => {
-                    self.stage = Stage::Open(decoder, awaits);
+                    self.stage = BackStage::Open(decoder, awaits);
                     Ok(true)
                 }
                 Next::Ends => Ok(true),
@@ -246,16 +273,16 @@ impl Backend {
         }
     }
 
-    /// Handles the next packet or message. After Memory, bytes may stand behind what `out` had.
+    /// Handles the next packet or message. After Memory, bytes may stand after what `out` had.
     fn advance(&mut self, out: &mut Vec<u8>) -> Result<bool, BackendFault>
         ensures call { AdvancesUnlessClosed self.old out.old.items result self.new out.new.items }
         ensures sound { IsSound self.old.limit self.old.stage }
     {
-        match mem::replace(&mut self.stage, Stage::Closed(Ending::Input)) {
-            Stage::First(decoder) => self.advance_first(decoder, out),
-            Stage::Open(decoder, awaits) => self.advance_open(decoder, awaits, out),
-            Stage::Closed(ending) => {
-                self.stage = Stage::Closed(ending);
+        match mem::replace(&mut self.stage, BackStage::Closed(ClosedBy::Input)) {
+            BackStage::First(decoder) => self.advance_first(decoder, out),
+            BackStage::Open(decoder, awaits) => self.advance_open(decoder, awaits, out),
+            BackStage::Closed(by) => {
+                self.stage = BackStage::Closed(by);
                 Err(BackendFault::Closed)
             }
         }
@@ -263,9 +290,9 @@ impl Backend {
 
     /// Closes for want of memory.
     fn give_up(&mut self)
-        ensures { self.new ≡ record self.old { stage = Stage.Closed ByMemory } }
+        ensures { self.new ≡ record self.old { stage = BackStage.Closed ByMemory } }
     {
-        self.stage = Stage::Closed(Ending::Memory);
+        self.stage = BackStage::Closed(ClosedBy::Memory);
     }
 
     /// Handles one first packet or one message, if one is whole, and appends the reply to `out`: Ok(true). Where none is whole,
@@ -277,7 +304,7 @@ impl Backend {
     /// Terminate or a wrong password, is Ok(true).
     pub fn step(&mut self, out: &mut Vec<u8>) -> Result<bool, BackendFault>
         ensures call { Steps self.old out.old.items result self.new out.new.items }
-        ensures handled { (pushed : List ℕ) (i : Input) (rest sent : List ℕ) → HasHandled self.old pushed i rest sent → (added : List ℕ) × (out.new.items ≡ out.old.items ++ added) × Handles self.old pushed i rest sent added result self.new }
+        ensures history { CarriesStep self.old out.old.items result self.new out.new.items }
     {
         let before = out.len();
         let answer = self.advance(out);
@@ -293,17 +320,17 @@ impl Backend {
         ensures { result ≡ phase_of self.now.stage }
     {
         match &self.stage {
-            Stage::First(_) => BackPhase::First,
-            Stage::Open(_, Awaits::Password(_)) => BackPhase::Password,
-            Stage::Open(_, Awaits::Request(steps)) => {
+            BackStage::First(_) => BackPhase::First,
+            BackStage::Open(_, Awaits::Password(_)) => BackPhase::Password,
+            BackStage::Open(_, Awaits::Request(steps)) => {
                 if steps.is_empty() {
                     BackPhase::Ready
                 } else {
                     BackPhase::Grouping
                 }
             }
-            Stage::Open(_, Awaits::Data(_)) => BackPhase::CopyIn,
-            Stage::Closed(_) => BackPhase::Closed,
+            BackStage::Open(_, Awaits::Data(_)) => BackPhase::CopyIn,
+            BackStage::Closed(_) => BackPhase::Closed,
         }
     }
 
@@ -311,6 +338,6 @@ impl Backend {
     pub fn log(&self) -> &[Logged]
         ensures { result.now ≡ self.now.log }
     {
-        self.session.log()
+        self.playing.log()
     }
 }

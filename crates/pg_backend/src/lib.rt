@@ -11,7 +11,7 @@ mod answering;
 mod backend;
 mod fault;
 mod opening;
-mod session;
+mod playing;
 mod stage;
 
 pub use backend::Backend;

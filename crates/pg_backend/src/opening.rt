@@ -1,14 +1,14 @@
-//! The begin of a session.
+//! The beginning of a session.
 
 ghost use Rattle.std.specs.Prelude.{◌≡◌, ◌==◌, ◌<◌, [], length, IsTrue, ◌↔◌};
 ghost use Rattle.pg_script.specs.Opening.{welcome, user_from};
-ghost use Rattle.pg_backend.specs.Private.Greeting.{Greets};
+ghost use Rattle.pg_backend.specs.Private.Opening.{Greets};
 ghost use Rattle.pg_script.specs.Telling.{Tells};
 
-use crate::answering::put;
+use crate::answering::or_memory;
 use crate::fault::BackendFault;
 use crate::stage::Awaits;
-use pg_script::telling::{tell_all, tell_key, worse};
+use pg_script::telling::{both, tell_all, tell_key};
 use pg_script::{Auth, Script};
 use pg_wire::backend::encode;
 use pg_wire::{BackMessage, EncodeFault, Seq, Status, md5_answer};
@@ -31,10 +31,10 @@ pub fn user(pairs: &[(Seq<u8>, Seq<u8>)]) -> &[u8]
 pub fn tell_welcome(script: &Script, out: &mut Vec<u8>) -> Result<(), EncodeFault>
     ensures { Tells (welcome script.now) out.old.items result out.new.items }
 {
-    let told = encode(&BackMessage::AuthOk, out);
-    let told = worse(told, tell_all(script.pairs.as_slice(), out));
-    let told = worse(told, tell_key(&script.key, out));
-    worse(told, encode(&BackMessage::Ready(Status::Idle), out))
+    let so_far = encode(&BackMessage::AuthOk, out);
+    let so_far = both(so_far, tell_all(script.pairs.as_slice(), out));
+    let so_far = both(so_far, tell_key(&script.key, out));
+    both(so_far, encode(&BackMessage::Ready(Status::Idle), out))
 }
 
 /// Lets a client in, or asks for the password of this user: what is awaited then.
@@ -48,16 +48,16 @@ pub fn admit(
 {
     match &script.auth {
         Auth::Trust => {
-            put(tell_welcome(script, out))?;
+            or_memory(tell_welcome(script, out))?;
             Ok(Awaits::Request(Seq::new(Vec::new(alloc))))
         }
         Auth::Cleartext(password) => {
-            put(encode(&BackMessage::AuthCleartext, out))?;
+            or_memory(encode(&BackMessage::AuthCleartext, out))?;
             let password = Seq::from_slice(alloc, password.as_slice())?;
             Ok(Awaits::Password(password))
         }
         Auth::Md5 { password, salt } => {
-            put(encode(&BackMessage::AuthMd5(*salt), out))?;
+            or_memory(encode(&BackMessage::AuthMd5(*salt), out))?;
             let answer = md5_answer(user, password.as_slice(), *salt);
             Ok(Awaits::Password(Seq::from_slice(alloc, &answer)?))
         }

@@ -14,7 +14,7 @@ pub struct Loading {
     pub loaded: Seq<Seq<u8>>,
 }
 
-/// What is awaited of a client behind its Startup.
+/// What is awaited of a client after its Startup.
 #[derive(Drop)]
 pub enum Awaits {
     /// A password, which has to be this one.
@@ -38,7 +38,7 @@ pub enum Next {
 
 /// What closed a backend.
 #[derive(Clone, Copy, Drop)]
-pub enum Ending {
+pub enum ClosedBy {
     /// Its input: the client left or was refused, or its input can't be handled further.
     Input,
     /// A step that was refused memory.
@@ -49,11 +49,11 @@ pub enum Ending {
 
 /// Where a backend stands.
 #[derive(Drop)]
-pub enum Stage {
+pub enum BackStage {
     /// First packets are awaited.
     First(FirstDecoder),
     /// A Startup was there, and messages are awaited.
     Open(FrontDecoder, Awaits),
     /// It is closed.
-    Closed(Ending),
+    Closed(ClosedBy),
 }

@@ -7,9 +7,10 @@ use Rattle.pg_client.specs.Client.{ClientView}
 use Rattle.pg_client.specs.History.{happenings, History, IsHistoryOf, with_fed, with_heard}
 use Rattle.pg_client.specs.Feed.{Feeds, FeedsOpen, FeedsWith, Hears}
 use Rattle.pg_client.specs.Judged.{Stands}
-use Rattle.pg_backend.specs.declared.stage.Stage.{Stage}
-use Rattle.pg_backend.specs.declared.stage.Stage.TheVariants as stage
-use Rattle.pg_backend.specs.Backend.{BackendState, HasHandled, was_lost, stored}
+use Rattle.pg_backend.specs.declared.stage.BackStage.{BackStage}
+use Rattle.pg_backend.specs.declared.stage.BackStage.TheVariants as stage
+use Rattle.pg_backend.specs.Backend.{BackendState, was_lost, stored}
+use Rattle.pg_backend.specs.History as back
 use Rattle.pg_pair.specs.Delivering.{IsStored, reached_more}
 use Rattle.pg_pair.specs.Invariant.{Tied}
 use Rattle.pg_pair.specs.View.{Stream, arrived, waiting, PairView}
@@ -88,7 +89,7 @@ keeps_fed p bytes result fed sent none e within feeds t =
 abbrev pub stored_pair : {C : Type 0} → PairView C → List ℕ → BackendState → PairView C
 stored_pair p bytes b = record p { backend = b; to_backend = reached_more p.to_backend bytes }
 
-stored_lost : (s : Stage) (bytes : List ℕ) → was_lost (stored s bytes) ≡ was_lost s
+stored_lost : (s : BackStage) (bytes : List ℕ) → was_lost (stored s bytes) ≡ was_lost s
 stored_lost (stage.First d) bytes = refl
 stored_lost (stage.Open d a) bytes = refl
 stored_lost (stage.Closed e) bytes = refl
@@ -97,16 +98,16 @@ pub keeps_stored : {C : Type 0} (p : PairView C) (bytes : List ℕ) (b : Backend
     → bytes ≡ take (length bytes) (waiting p.to_backend) → WithinMore p.to_backend bytes → IsStored p.backend bytes b → Tied p → Tied (stored_pair p bytes b)
 keeps_stored p bytes b e within stored_is t =
     let same : b ≡ record p.backend { stage = stored p.backend.stage bytes } = stored_is.stores.1 in
-    let handled = stored_is.handled (arrived p.to_backend) t.backend.input t.backend.rest p.to_client.sent t.backend.handled in
+    let history = back.with_pushed bytes t.backend.history in
     subst (λ (x : BackendState). Tied (stored_pair p bytes x)) (sym same) (record {
       client = t.client;
       backend = record {
         checked = t.backend.checked;
         limit = t.backend.limit;
-        input = t.backend.input;
-        rest = t.backend.rest ++ bytes;
-        handled = subst (λ (x : BackendState). HasHandled x (arrived (reached_more p.to_backend bytes)) t.backend.input (t.backend.rest ++ bytes) p.to_client.sent) same
-            (subst (λ l. HasHandled b l t.backend.input (t.backend.rest ++ bytes) p.to_client.sent) (sym (arrived_with p.to_backend bytes e)) handled);
+        history = history;
+        is_history = subst (back.IsHistoryOf history) same (stored_is.history t.backend.history t.backend.is_history);
+        pushed = ap (λ l. l ++ bytes) t.backend.pushed ∙ sym (arrived_with p.to_backend bytes e);
+        sent = t.backend.sent;
         faultless = t.backend.faultless;
         not_lost = λ h. stored_lost p.backend.stage bytes ∙ t.backend.not_lost h;
         within = within;

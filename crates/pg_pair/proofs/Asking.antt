@@ -9,7 +9,7 @@ use Rattle.pg_client.specs.Client.{phase_of}
 use Rattle.pg_client.specs.Turns.{turns_of}
 use Rattle.pg_client.specs.Answering.{calls_of, turns_with}
 use Rattle.pg_client.specs.Turns as client
-use Rattle.pg_backend.specs.Lists.{Begins}
+use Rattle.pg_backend.specs.Lists.{IsPrefix}
 use Rattle.pg_backend.specs.Session.{log_of}
 use Rattle.pg_backend.specs.Turns.{Turn, turn_messages, InTurn, IsCopy, AreCopied, chunks_of}
 use Rattle.pg_pair.specs.declared.event.Call.{Call}
@@ -45,7 +45,7 @@ asked_in_turn k p t r ready =
       | inl s ↦ absurd (idle.has_whole s.none)
       | inr m ↦
           let ms = m.since in
-          let first : Begins ms (flat_map turn_messages turns) = (m.read.left, sym (append-nil (flat_map turn_messages turns)) ∙ ap (λ l. flat_map turn_messages turns ++ l) (sym (idle.stays)) ∙ m.behind) in
+          let first : IsPrefix ms (flat_map turn_messages turns) = (m.read.left, sym (append-nil (flat_map turn_messages turns)) ∙ ap (λ l. flat_map turn_messages turns ++ l) (sym (idle.stays)) ∙ m.follows) in
           let no_fewer : length (map settled_as p.settled) ≤ length (map answered_as p.backend.log) = begins_length _ _ (settled_begin k p t) in
           let one : length (map settled_as p.settled) ≡ length p.settled = length-map p.settled settled_as in
           let two : length (map answered_as p.backend.log) ≡ length p.backend.log = length-map p.backend.log answered_as in

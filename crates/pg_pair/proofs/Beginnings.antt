@@ -2,38 +2,38 @@
 use Rattle.std.proofs.Common.{◌≡◌, ◌≤◌, List, [], ◌∷◌, ◌++◌, length, map, take, refl, ap, sym, ◌∙◌, append_assoc, arith, length-append, ◌⊎◌, inl, inr}
 use Rattle.std.specs.List.{AllByRecursion}
 use Rattle.std.proofs.lemmas.List.{append-nil, map-append}
-use Rattle.pg_backend.specs.Lists.{Begins}
+use Rattle.pg_backend.specs.Lists.{IsPrefix}
 
-pub begins_nil : {A : Type 0} (xs : List A) → Begins [] xs
+pub begins_nil : {A : Type 0} (xs : List A) → IsPrefix [] xs
 begins_nil xs = (xs, refl)
 
-pub begins_same : {A : Type 0} (xs : List A) → Begins xs xs
+pub begins_same : {A : Type 0} (xs : List A) → IsPrefix xs xs
 begins_same xs = ([], sym (append-nil xs))
 
-pub begins_append : {A : Type 0} (xs ys : List A) → Begins xs (xs ++ ys)
+pub begins_append : {A : Type 0} (xs ys : List A) → IsPrefix xs (xs ++ ys)
 begins_append xs ys = (ys, refl)
 
-pub begins_cons : {A : Type 0} (x : A) (xs ys : List A) → Begins xs ys → Begins (x ∷ xs) (x ∷ ys)
+pub begins_cons : {A : Type 0} (x : A) (xs ys : List A) → IsPrefix xs ys → IsPrefix (x ∷ xs) (x ∷ ys)
 begins_cons x xs ys h = (h.0, ap (λ l. x ∷ l) h.1)
 
-pub begins_trans : {A : Type 0} (xs ys zs : List A) → Begins xs ys → Begins ys zs → Begins xs zs
+pub begins_trans : {A : Type 0} (xs ys zs : List A) → IsPrefix xs ys → IsPrefix ys zs → IsPrefix xs zs
 begins_trans xs ys zs h k = (h.0 ++ k.0, k.1 ∙ ap (λ l. l ++ k.0) h.1 ∙ append_assoc xs h.0 k.0)
 
-pub begins_of_nil : {A : Type 0} (xs : List A) → Begins xs [] → xs ≡ []
+pub begins_of_nil : {A : Type 0} (xs : List A) → IsPrefix xs [] → xs ≡ []
 begins_of_nil [] h = refl
 begins_of_nil (x ∷ xs) h = let e = h.1 in cc
 
-pub begins_head : {A : Type 0} (x y : A) (xs ys : List A) → Begins (x ∷ xs) (y ∷ ys) → x ≡ y
+pub begins_head : {A : Type 0} (x y : A) (xs ys : List A) → IsPrefix (x ∷ xs) (y ∷ ys) → x ≡ y
 begins_head x y xs ys h = let e = h.1 in cc
 
-pub begins_tail : {A : Type 0} (x y : A) (xs ys : List A) → Begins (x ∷ xs) (y ∷ ys) → Begins xs ys
+pub begins_tail : {A : Type 0} (x y : A) (xs ys : List A) → IsPrefix (x ∷ xs) (y ∷ ys) → IsPrefix xs ys
 begins_tail x y xs ys h = (h.0, let e = h.1 in cc)
 
-pub begins_length : {A : Type 0} (xs ys : List A) → Begins xs ys → length xs ≤ length ys
+pub begins_length : {A : Type 0} (xs ys : List A) → IsPrefix xs ys → length xs ≤ length ys
 begins_length xs ys h = let e = ap length h.1 in omega (arith, length-append xs h.0)
 
 -- of two beginnings of one list the shorter begins the other
-pub begins_shorter : {A : Type 0} (xs ys zs : List A) → Begins xs zs → Begins ys zs → length xs ≤ length ys → Begins xs ys
+pub begins_shorter : {A : Type 0} (xs ys zs : List A) → IsPrefix xs zs → IsPrefix ys zs → length xs ≤ length ys → IsPrefix xs ys
 begins_shorter [] ys zs h k short = begins_nil ys
 begins_shorter (x ∷ xs) [] zs h k short = absurd (omega arith)
 begins_shorter (x ∷ xs) (y ∷ ys) [] h k short = let e = h.1 in cc
@@ -41,18 +41,18 @@ begins_shorter (x ∷ xs) (y ∷ ys) (z ∷ zs) h k short =
     let e : x ≡ y = begins_head x z xs zs h ∙ sym (begins_head y z ys zs k) in
     rw e (begins_cons y xs ys (begins_shorter xs ys zs (begins_tail x z xs zs h) (begins_tail y z ys zs k) (omega arith)))
 
-pub begins_map : {A B : Type 0} (f : A → B) (xs ys : List A) → Begins xs ys → Begins (map f xs) (map f ys)
+pub begins_map : {A B : Type 0} (f : A → B) (xs ys : List A) → IsPrefix xs ys → IsPrefix (map f xs) (map f ys)
 begins_map f xs ys h = (map f h.0, ap (map f) h.1 ∙ map-append f xs h.0)
 
-pub begins_between : {A : Type 0} (xs xs' ys ys' : List A) → xs ≡ xs' → ys ≡ ys' → Begins xs ys → Begins xs' ys'
+pub begins_between : {A : Type 0} (xs xs' ys ys' : List A) → xs ≡ xs' → ys ≡ ys' → IsPrefix xs ys → IsPrefix xs' ys'
 begins_between xs xs' ys ys' e f h = (h.0, sym f ∙ h.1 ∙ ap (λ l. l ++ h.0) e)
 
-pub begins_take : {A : Type 0} (xs ys : List A) → Begins xs ys → xs ≡ take (length xs) ys
+pub begins_take : {A : Type 0} (xs ys : List A) → IsPrefix xs ys → xs ≡ take (length xs) ys
 begins_take [] ys h = refl
 begins_take (x ∷ xs) [] h = let e = h.1 in cc
 begins_take (x ∷ xs) (y ∷ ys) h =
     let same : x ≡ y = let e = h.1 in cc in
-    let tails : Begins xs ys = (h.0, let e = h.1 in cc) in
+    let tails : IsPrefix xs ys = (h.0, let e = h.1 in cc) in
     rw (← begins_take xs ys tails) (ap (λ z. z ∷ xs) same)
 
 -- where two cuts of one list stand to one another

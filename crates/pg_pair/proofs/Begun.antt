@@ -7,7 +7,8 @@ use Rattle.pg_client.specs.declared.settled.Settled.{Settled}
 use Rattle.pg_client.specs.Client.{ClientView}
 use Rattle.pg_client.specs.History.{blank, IsHistoryOf}
 use Rattle.pg_client.specs.Judged.{Stands}
-use Rattle.pg_backend.specs.Backend.{BackendState, HasHandled, was_lost}
+use Rattle.pg_backend.specs.Backend.{BackendState, was_lost}
+use Rattle.pg_backend.specs.History as back
 use Rattle.pg_backend.specs.Check.{IsChecked}
 use Rattle.pg_pair.specs.Beginning.{silent}
 use Rattle.pg_pair.specs.Invariant.{Tied}
@@ -19,9 +20,9 @@ none_settled (stands.Idle asides) settled h = absurd h.0
 none_settled (stands.Busy request parts stage asides answer) settled h = absurd h.0
 
 pub begun_tied : {C : Type 0} (c : ClientView) (b : BackendState) (carrier : C) → IsHistoryOf blank c → IsChecked b.script → b.limit ≡ longest → was_lost b.stage ≡ false
-    → HasHandled b [] (record { packets = []; messages = []; faulty = false }) [] []
+    → back.IsHistoryOf back.blank b
     → Tied (record { client = c; backend = b; carrier = carrier; to_backend = silent; to_client = silent; places = []; settled = []; handed = []; loss = None })
-begun_tied c b carrier begun checked limit not_lost handled = record {
+begun_tied c b carrier begun checked limit not_lost started = record {
   client = record {
     history = blank;
     is_history = begun;
@@ -35,9 +36,10 @@ begun_tied c b carrier begun checked limit not_lost handled = record {
   backend = record {
     checked = checked;
     limit = limit;
-    input = record { packets = []; messages = []; faulty = false };
-    rest = [];
-    handled = handled;
+    history = back.blank;
+    is_history = started;
+    pushed = refl;
+    sent = refl;
     faultless = refl;
     not_lost = λ h. not_lost;
     within = omega arith;

@@ -1,14 +1,14 @@
 -- A break keeps what is so of a pair.
-use Rattle.std.proofs.Common.{◌≡◌, ℕ, true, false, List, Some, refl, sym, subst, ◌∙◌}
+use Rattle.std.proofs.Common.{◌≡◌, true, false, Some, refl, sym, subst, ◌∙◌}
 use Rattle.pg_client.specs.declared.settled.Loss.{Loss}
 use Rattle.pg_client.specs.Client.{ClientView}
 use Rattle.pg_client.specs.History.{with_handed_back}
-use Rattle.pg_backend.specs.Backend.{BackendState, HasHandled, lost_stage}
-use Rattle.pg_backend.specs.Input.{Input}
+use Rattle.pg_backend.specs.Backend.{BackendState, lost_stage}
+use Rattle.pg_backend.specs.History as back
 use Rattle.pg_pair.specs.declared.carry.Way.TheVariants.{ToClient}
 use Rattle.pg_pair.specs.Breaking.{Breaks, broken, is_closed, IsTold, TellsClient}
 use Rattle.pg_pair.specs.Invariant.{Tied}
-use Rattle.pg_pair.specs.View.{arrived, PairView}
+use Rattle.pg_pair.specs.View.{PairView}
 
 -- the pair after the way to the client broke, and after the way to the backend broke
 abbrev pub client_told : {C : Type 0} → PairView C → ClientView → Loss → PairView C
@@ -35,18 +35,17 @@ backend_told p b = record p { backend = b; to_backend = broken p.to_backend }
 
 -- a backend that is told that the connection is gone has handled what it had
 pub keeps_backend_told : {C : Type 0} (p : PairView C) (b : BackendState) → b ≡ record p.backend { stage = lost_stage p.backend.stage }
-    → ((pushed : List ℕ) (i : Input) (rest sent : List ℕ) → HasHandled p.backend pushed i rest sent → HasHandled b pushed i rest sent)
-    → Tied p → Tied (backend_told p b)
-keeps_backend_told p b e handled t =
+    → back.Carries p.backend b back.unchanged → Tied p → Tied (backend_told p b)
+keeps_backend_told p b e carries t =
     subst (λ (x : BackendState). Tied (backend_told p x)) (sym e) (record {
       client = t.client;
       backend = record {
         checked = t.backend.checked;
         limit = t.backend.limit;
-        input = t.backend.input;
-        rest = t.backend.rest;
-        handled = subst (λ (x : BackendState). HasHandled x (arrived p.to_backend) t.backend.input t.backend.rest p.to_client.sent) e
-            (handled (arrived p.to_backend) t.backend.input t.backend.rest p.to_client.sent t.backend.handled);
+        history = t.backend.history;
+        is_history = subst (back.IsHistoryOf t.backend.history) e (carries t.backend.history t.backend.is_history);
+        pushed = t.backend.pushed;
+        sent = t.backend.sent;
         faultless = t.backend.faultless;
         not_lost = λ h. absurd cc;
         within = t.backend.within;

@@ -5,7 +5,7 @@ use Rattle.pg_wire.specs.message.FrontMessage.TheVariants as front
 use Rattle.pg_client.specs.Turns as client
 use Rattle.pg_client.specs.Answering.{with_copy, last_copies, copies_ended}
 use Rattle.pg_backend.specs.script.Answer.{Answer}
-use Rattle.pg_backend.specs.Answers.{others}
+use Rattle.pg_backend.specs.Fitting.{others}
 use Rattle.pg_backend.specs.Turns.{is_copy, InTurn, IsCopy, AreCopied, chunks_of}
 use Rattle.pg_pair.specs.Calling.{add_to_last}
 use Rattle.pg_pair.specs.Copies.{as_turn, handed_for}

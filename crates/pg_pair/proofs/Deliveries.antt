@@ -48,7 +48,7 @@ further most n count bytes piece asked waited is within =
 
 -- ---- one piece
 
--- The other way and the client, behind a piece of which these bytes arrived.
+-- The other way and the client, after a piece of which these bytes arrived.
 record GoesOn {C : Type 0} (p : PairView C) (bytes : List ℕ) (q : PairView C) : Type 0 where
   put : List ℕ
   grown : q.to_backend ≡ record p.to_backend { sent = p.to_backend.sent ++ put }
@@ -126,7 +126,7 @@ took {C} ToClient p (b ∷ bytes) answer q (result, h, e) =
 
 -- ---- piece by piece
 
--- The other way and the client, behind all the bytes that arrived.
+-- The other way and the client, after all the bytes that arrived.
 abbrev Leaves : {C : Type 0} → Way → PairView C → List ℕ → PairView C → Type 0
 Leaves ToBackend p bytes q = q.to_client ≡ p.to_client
 Leaves ToClient p bytes q = PutsOut p bytes q.client q

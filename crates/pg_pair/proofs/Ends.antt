@@ -1,7 +1,6 @@
 -- What is so of one end stays so while the other end sends more.
-use Rattle.std.proofs.Common.{◌≡◌, ℕ, List, ◌++◌, length, take, ap, sym, subst, ◌∙◌, arith, length-append}
+use Rattle.std.proofs.Common.{◌≡◌, ℕ, List, ◌++◌, length, take, ap, sym, ◌∙◌, arith, length-append}
 use Rattle.std.proofs.lemmas.List.{take-append-le}
-use Rattle.pg_backend.specs.Backend.{HasHandled}
 use Rattle.pg_pair.specs.Invariant.{BackendTied, ClientTied, IsWithin}
 use Rattle.pg_pair.specs.View.{Stream, arrived, PairView}
 
@@ -34,9 +33,10 @@ pub backend_stays : {C : Type 0} (p : PairView C) (sent added : List ℕ) → se
 backend_stays p sent added more t = record {
   checked = t.checked;
   limit = t.limit;
-  input = t.input;
-  rest = t.rest;
-  handled = subst (λ l. HasHandled p.backend l t.input t.rest p.to_client.sent) (still_arrived p.to_backend sent added more t.within) t.handled;
+  history = t.history;
+  is_history = t.is_history;
+  pushed = t.pushed ∙ still_arrived p.to_backend sent added more t.within;
+  sent = t.sent;
   faultless = t.faultless;
   not_lost = t.not_lost;
   within = still_within p.to_backend sent added more t.within;

@@ -12,9 +12,9 @@ chunk_at_end bytes (h ∷ []) x xs = refl
 chunk_at_end bytes (h ∷ k ∷ hs) x xs = ap (λ l. h ∷ l) (chunk_at_end bytes (k ∷ hs) x xs)
 
 -- a chunk goes to the list that was taken out
-pub chunk_behind : (bytes : List ℕ) (rest l : List (List (List ℕ))) → (l ≡ [] → rest ≡ []) → add_to_last bytes (rest ++ l) ≡ rest ++ add_to_last bytes l
-chunk_behind bytes rest [] none = rw (none refl) refl
-chunk_behind bytes rest (x ∷ xs) none = chunk_at_end bytes rest x xs
+pub chunk_after : (bytes : List ℕ) (rest l : List (List (List ℕ))) → (l ≡ [] → rest ≡ []) → add_to_last bytes (rest ++ l) ≡ rest ++ add_to_last bytes l
+chunk_after bytes rest [] none = rw (none refl) refl
+chunk_after bytes rest (x ∷ xs) none = chunk_at_end bytes rest x xs
 
 -- what is kept of a call is what becomes of the lists
 handed_kept : (c : Call) (handed : List (List (List ℕ))) → handed_by (kept_of c) handed ≡ handed_after c handed

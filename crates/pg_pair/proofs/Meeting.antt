@@ -1,4 +1,4 @@
--- What a client hears of what a backend sends: no whole segment, or the welcome and the first of the replies, behind the question for
+-- What a client hears of what a backend sends: no whole segment, or the welcome and the first of the replies, after the question for
 -- its password.
 use Rattle.std.proofs.Common.{◌≡◌, ◌≤◌, arith, ℕ, Bool, true, false, None, List, [], ◌∷◌, ◌++◌, length, map, refl, ap, sym, subst, ◌∙◌, append_assoc, ◌⊎◌, inl, inr}
 use Rattle.std.specs.Prelude.{if◌then◌else◌}
@@ -24,8 +24,9 @@ use Rattle.pg_backend.specs.script.Logged.{Logged}
 use Rattle.pg_backend.specs.script.Script.{Script}
 use Rattle.pg_backend.specs.Input.{Input, IsSpelled, transcript, output, sent_bytes, input_log, input_phase, place_phase, end_phase, admission_log, admission_end}
 use Rattle.pg_backend.specs.Laws.{copies_in}
-use Rattle.pg_backend.specs.Lists.{Begins}
-use Rattle.pg_backend.specs.Opening.{Says, welcome, user_from, asked, Admission, Refused, Awaited, Stopped, Admitted, wrong_password, by_password, admission, admission_messages, started}
+use Rattle.pg_backend.specs.Lists.{IsPrefix}
+use Rattle.pg_backend.specs.Opening.{Says, welcome, user_from, asked, Admission, Refused, Awaited, Stopped, Admitted, by_password, admission, admission_messages, started}
+use Rattle.pg_backend.specs.OwnError.{wrong_password}
 use Rattle.pg_backend.specs.Session.{Between, Grouping, Copying, Terminated, Stray, session, replies, log_of}
 use Rattle.pg_pair.proofs.Beginnings.{begins_head, begins_of_nil}
 use Rattle.pg_pair.proofs.OneCopy.{rest_one}
@@ -42,7 +43,7 @@ pub record IsSilent (heard : List BackMessage) (log : List Logged) : Type 0 wher
   pub few : copies_in (segments heard).rest ≤ 1
   pub no_log : log ≡ []
 
--- What a client sends behind its startup packet is a password at most, for the first message that it heard, and then these messages,
+-- What a client sends after its startup packet is a password at most, for the first message that it heard, and then these messages,
 -- of which the first is none.
 pub record SendsPassword (settings : Settings) (heard : List BackMessage) (ms : List FrontMessage) : Type 0 where
   pub one : length (passwords settings heard) ≤ 1
@@ -50,12 +51,12 @@ pub record SendsPassword (settings : Settings) (heard : List BackMessage) (ms : 
   pub no_other : (password : List ℕ) (more : List FrontMessage) → ms ≡ front.Password password ∷ more → ⊥
 
 -- The client was let in and heard the first of the question for its password, the welcome, and the replies to what the backend has
--- read behind the password.
+-- read after the password.
 pub record HasMet (s : Script) (settings : Settings) (ms : List FrontMessage) (i : Input) (rest more sent : List ℕ) (heard : List BackMessage) (log : List Logged) : Type 0 where
   pub read : IsRead settings (passwords settings heard ++ ms) i rest more sent
   pub since : List FrontMessage
-  pub behind : ms ≡ since ++ read.left
-  pub heard_is : Begins heard (asked s.auth (user_of settings) ++ (welcome s ++ replies s.answers since))
+  pub follows : ms ≡ since ++ read.left
+  pub heard_is : IsPrefix heard (asked s.auth (user_of settings) ++ (welcome s ++ replies s.answers since))
   pub log_is : log ≡ log_of s.answers since
   pub phase : input_phase s i ≡ place_phase (session s.answers since).place
 
@@ -142,37 +143,37 @@ outside_log s (Stopped place) out = refl
 outside_log s (Admitted ms) out = absurd out
 
 -- what begins what is quiet is quiet
-hears_quiet : (heard ms : List BackMessage) → Begins heard ms → IsQuiet ms → IsQuiet heard
+hears_quiet : (heard ms : List BackMessage) → IsPrefix heard ms → IsQuiet ms → IsQuiet heard
 hears_quiet heard ms b q = (
-  begins_of_nil (segments heard).whole (subst (Begins (segments heard).whole) q.0 (segments_grow heard ms b)),
+  begins_of_nil (segments heard).whole (subst (IsPrefix (segments heard).whole) q.0 (segments_grow heard ms b)),
   rest_one heard ms b (subst (AllByRecursion (λ (x : List BackMessage). copies_in x ≤ 1)) (sym q.0) tt, q.1),
 )
 
 -- ---- the password
 
 -- a client that heard the first of the welcome has sent no password
-none_sent : (s : Script) (settings : Settings) (heard more : List BackMessage) → Begins heard (welcome s ++ more) → first_answer settings (without_asides heard) ≡ []
+none_sent : (s : Script) (settings : Settings) (heard more : List BackMessage) → IsPrefix heard (welcome s ++ more) → first_answer settings (without_asides heard) ≡ []
 none_sent s settings [] more b = refl
 none_sent s settings (m ∷ heard) more b = rw (begins_head m back.AuthOk heard _ b) refl
 
--- what is read behind the password is the first of what was sent behind it
-behind_password : (auth : Auth) (s : Script) (settings : Settings) (heard more : List BackMessage) (ms by since left : List FrontMessage)
-    → SendsPassword settings heard ms → LetsIn auth (user_of settings) by → Begins heard (asked auth (user_of settings) ++ (welcome s ++ more))
+-- what is read after the password is the first of what was sent after it
+after_password : (auth : Auth) (s : Script) (settings : Settings) (heard more : List BackMessage) (ms by since left : List FrontMessage)
+    → SendsPassword settings heard ms → LetsIn auth (user_of settings) by → IsPrefix heard (asked auth (user_of settings) ++ (welcome s ++ more))
     → passwords settings heard ++ ms ≡ (by ++ since) ++ left → ms ≡ since ++ left
-behind_password auth s settings heard more ms by since left sends (inl nothing) begins e =
-    let none : passwords settings heard ≡ [] = sends.first ∙ none_sent s settings heard more (subst (λ (l : List BackMessage). Begins heard (l ++ (welcome s ++ more))) nothing.0 begins) in
+after_password auth s settings heard more ms by since left sends (inl nothing) begins e =
+    let none : passwords settings heard ≡ [] = sends.first ∙ none_sent s settings heard more (subst (λ (l : List BackMessage). IsPrefix heard (l ++ (welcome s ++ more))) nothing.0 begins) in
     ap (λ (l : List FrontMessage). l ++ ms) (sym none) ∙ e ∙ ap (λ (l : List FrontMessage). (l ++ since) ++ left) nothing.1
-behind_password auth s settings heard more ms by since left sends (inr asks) begins e =
-    behind (passwords settings heard) sends.one (e ∙ ap (λ (l : List FrontMessage). (l ++ since) ++ left) asks.1)
+after_password auth s settings heard more ms by since left sends (inr asks) begins e =
+    follows (passwords settings heard) sends.one (e ∙ ap (λ (l : List FrontMessage). (l ++ since) ++ left) asks.1)
   where
-    behind : (said : List FrontMessage) → length said ≤ 1 → said ++ ms ≡ front.Password asks.0 ∷ (since ++ left) → ms ≡ since ++ left
-    behind [] few k = absurd (sends.no_other asks.0 (since ++ left) k)
-    behind (m ∷ []) few k = cc
-    behind (m ∷ n ∷ said) few k = absurd (omega (arith, few))
+    follows : (said : List FrontMessage) → length said ≤ 1 → said ++ ms ≡ front.Password asks.0 ∷ (since ++ left) → ms ≡ since ++ left
+    follows [] few k = absurd (sends.no_other asks.0 (since ++ left) k)
+    follows (m ∷ []) few k = cc
+    follows (m ∷ n ∷ said) few k = absurd (omega (arith, few))
 
 -- what was heard is the first of what was sent
 pub heard_first : OneSpelling backend → (limit : ℕ) (fed rest more : List ℕ) (heard ms : List BackMessage) → IsStream backend limit fed heard rest → AllByRecursion (HasSpelling backend) ms
-    → fed ++ more ≡ flat_map (spelling backend) ms → Begins heard ms
+    → fed ++ more ≡ flat_map (spelling backend) ms → IsPrefix heard ms
 heard_first one limit fed rest more heard ms stream spelled e =
     let first = reads_first backend one heard ms (rest ++ more) (within_spelled backend limit heard stream.each) spelled
     (sym (append_assoc (flat_map (spelling backend) heard) rest more) ∙ ap (λ l. l ++ more) (sym (stream.whole)) ∙ e) in
@@ -184,7 +185,7 @@ unread_output s i u sound = rw (u.packets, sound) refl
 unread_log : (s : Script) (i : Input) → IsUnread i → input_log s i ≡ []
 unread_log s i u = rw (u.packets) refl
 
--- what is sent behind a startup packet
+-- what is sent after a startup packet
 abbrev answered : Script → Settings → List FrontMessage → List BackMessage
 answered s settings ms = started s (startup_pairs settings) ms
 
@@ -200,7 +201,7 @@ read_phase s settings i packets sound = rw (packets, sound) refl
 met : (s : Script) (settings : Settings) (ms : List FrontMessage) (i : Input) (rest more sent : List ℕ) (heard : List BackMessage) (log : List Logged)
     → SendsPassword settings heard ms → IsRead settings (passwords settings heard ++ ms) i rest more sent → i.faulty ≡ false
     → IsOutside (admission s.auth (user_of settings) i.messages) ⊎ IsInside s.auth (user_of settings) i.messages
-    → Begins heard (answered s settings i.messages) → log ≡ admission_log s (admission s.auth (user_of settings) i.messages)
+    → IsPrefix heard (answered s settings i.messages) → log ≡ admission_log s (admission s.auth (user_of settings) i.messages)
     → IsSilent heard log ⊎ HasMet s settings ms i rest more sent heard log
 met s settings ms i rest more sent heard log sends read sound (inl out) begins logged =
     let user = user_of settings in
@@ -209,11 +210,11 @@ met s settings ms i rest more sent heard log sends read sound (inl out) begins l
     inl (record { none = quiet.0; few = quiet.1; no_log = logged ∙ outside_log s a out })
 met s settings ms i rest more sent heard log sends read sound (inr inside) begins logged =
     let user = user_of settings in
-    let first : Begins heard (asked s.auth user ++ (welcome s ++ replies s.answers inside.since)) = subst (λ (a : Admission). Begins heard (asked s.auth user ++ admission_messages s a)) inside.admitted begins in
+    let first : IsPrefix heard (asked s.auth user ++ (welcome s ++ replies s.answers inside.since)) = subst (λ (a : Admission). IsPrefix heard (asked s.auth user ++ admission_messages s a)) inside.admitted begins in
     inr (record {
       read = read;
       since = inside.since;
-      behind = behind_password s.auth s settings heard (replies s.answers inside.since) ms inside.by inside.since read.left sends inside.lets_in first
+      follows = after_password s.auth s settings heard (replies s.answers inside.since) ms inside.by inside.since read.left sends inside.lets_in first
           (read.messages ∙ ap (λ (l : List FrontMessage). l ++ read.left) inside.cut);
       heard_is = first;
       log_is = logged ∙ ap (admission_log s) inside.admitted;

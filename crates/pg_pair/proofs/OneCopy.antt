@@ -14,7 +14,7 @@ use Rattle.pg_backend.specs.script.Key.{Key}
 use Rattle.pg_backend.specs.script.Script.{Script}
 use Rattle.pg_backend.specs.Check.{HasOneCopyEach}
 use Rattle.pg_backend.specs.Laws.{copies_in, HaveOneCopy, OneCopyEach, WelcomeIsSegment}
-use Rattle.pg_backend.specs.Lists.{Begins}
+use Rattle.pg_backend.specs.Lists.{IsPrefix}
 use Rattle.pg_backend.specs.Opening.{welcome, asked, pair_message, key_messages}
 use Rattle.pg_backend.specs.Session.{replies}
 use Rattle.pg_pair.proofs.Beginnings.{begins_nil, begins_cons}
@@ -30,13 +30,13 @@ first_fewer [] more = omega arith
 first_fewer (back.CopyIn head ∷ xs) more = omega (arith, first_fewer xs more)
 first_fewer (_ ∷ xs) more = first_fewer xs more
 
-fewer : (xs ys : List BackMessage) → Begins xs ys → copies_in xs ≤ copies_in ys
+fewer : (xs ys : List BackMessage) → IsPrefix xs ys → copies_in xs ≤ copies_in ys
 fewer xs ys h = rw (h.1) (first_fewer xs h.0)
 
 -- The whole segments of the first are the first of the second's, and its rest begins what comes next there.
 abbrev Grown : List (List BackMessage) → List BackMessage → List (List BackMessage) → List BackMessage → Type 0
-Grown [] r [] r' = Begins r r'
-Grown [] r (s ∷ ss) r' = Begins r s
+Grown [] r [] r' = IsPrefix r r'
+Grown [] r (s ∷ ss) r' = IsPrefix r s
 Grown (x ∷ xs) r [] r' = ⊥
 Grown (x ∷ xs) r (y ∷ ys) r' = (x ≡ y) × Grown xs r ys r'
 
@@ -70,7 +70,7 @@ grown_one (x ∷ xs) r [] r' h all last = absurd h
 grown_one (x ∷ xs) r (y ∷ ys) r' h all last = grown_one xs r ys r' h.1 all.1 last
 
 -- The rest of a beginning begins one of the segments, or the rest, and a beginning has no more copies.
-pub rest_one : (xs ys : List BackMessage) → Begins xs ys → HaveOneCopy (segments ys) → copies_in (segments xs).rest ≤ 1
+pub rest_one : (xs ys : List BackMessage) → IsPrefix xs ys → HaveOneCopy (segments ys) → copies_in (segments xs).rest ≤ 1
 rest_one xs ys h one =
     let all : HaveOneCopy (segments (xs ++ h.0)) = subst (λ l. HaveOneCopy (segments l)) h.1 one in
     grown_one (segments xs).whole (segments xs).rest (segments (xs ++ h.0)).whole (segments (xs ++ h.0)).rest (segments_follow xs h.0) all.0 all.1
@@ -94,9 +94,9 @@ asked_none Trust (c ∷ cs) ms = refl
 asked_none (Cleartext password) (c ∷ cs) ms = refl
 asked_none (Md5 password salt) (c ∷ cs) ms = refl
 
--- What was heard of a question, the welcome and the replies has one copy in at most behind its last whole segment.
+-- What was heard of a question, the welcome and the replies has one copy in at most after its last whole segment.
 pub heard_one : OneCopyEach → WelcomeIsSegment → (s : Script) (user : List ℕ) (ms : List FrontMessage) (heard : List BackMessage) → HasOneCopyEach s
-    → Begins heard (asked s.auth user ++ (welcome s ++ replies s.answers ms)) → copies_in (segments heard).rest ≤ 1
+    → IsPrefix heard (asked s.auth user ++ (welcome s ++ replies s.answers ms)) → copies_in (segments heard).rest ≤ 1
 heard_one one first s user ms heard each begins =
     let of_replies = one s.answers ms each in
     let of_all : HaveOneCopy (segments (asked s.auth user ++ (welcome s ++ replies s.answers ms))) =

@@ -54,17 +54,17 @@ nothing_read (p ∷ ps) bytes more e =
     absurd (packet_not_nil p ((flat_map packet ps ++ bytes) ++ more)
     (sym (append_assoc (packet p) (flat_map packet ps ++ bytes) more) ∙ ap (λ l. l ++ more) (sym (append_assoc (packet p) (flat_map packet ps) bytes)) ∙ e))
 
-read_with : OneSpelling frontend → OnePacket → (settings : Settings) (ms : List FrontMessage) (limit : ℕ) (i : Input) (behind rest more sent : List ℕ) (ps : List First) (ended : Bool)
+read_with : OneSpelling frontend → OnePacket → (settings : Settings) (ms : List FrontMessage) (limit : ℕ) (i : Input) (after_packets rest more sent : List ℕ) (ps : List First) (ended : Bool)
     → IsPacket (opening settings) → AllByRecursion (HasSpelling frontend) ms → AllByRecursion IsPacket ps → EndsIn ps ended
     → i.packets ≡ ps → (is_started i.packets ≡ false → i.messages ≡ [])
-    → behind ≡ flat_map (spelling frontend) i.messages ++ rest → AllByRecursion (HasSpelling frontend) i.messages
-    → (flat_map packet ps ++ behind) ++ more ≡ packet (opening settings) ++ flat_map (spelling frontend) ms
+    → after_packets ≡ flat_map (spelling frontend) i.messages ++ rest → AllByRecursion (HasSpelling frontend) i.messages
+    → (flat_map packet ps ++ after_packets) ++ more ≡ packet (opening settings) ++ flat_map (spelling frontend) ms
     → sent ≡ packet (opening settings) ++ flat_map (spelling frontend) ms
     → IsUnread i ⊎ IsRead settings ms i rest more sent
-read_with front one settings ms limit i behind rest more sent [] ended is spelled each last ps started split read e all =
+read_with front one settings ms limit i after_packets rest more sent [] ended is spelled each last ps started split read e all =
     inl (record { packets = ps; messages = started (ap is_started ps) })
-read_with front one settings ms limit i behind rest more sent (p ∷ qs) ended is spelled each last ps started split read e all =
-    let first = one_read one settings p qs ended behind more (flat_map (spelling frontend) ms) is each last e in
+read_with front one settings ms limit i after_packets rest more sent (p ∷ qs) ended is spelled each last ps started split read e all =
+    let first = one_read one settings p qs ended after_packets more (flat_map (spelling frontend) ms) is each last e in
     let bytes : flat_map (spelling frontend) i.messages ++ (rest ++ more) ≡ flat_map (spelling frontend) ms =
     sym (append_assoc (flat_map (spelling frontend) i.messages) rest more) ∙ ap (λ l. l ++ more) (sym split) ∙ first.1 in
     let later = reads_first frontend front i.messages ms (rest ++ more) read spelled bytes in
@@ -76,9 +76,9 @@ pub reads : OneSpelling frontend → OnePacket → (settings : Settings) (cs : L
     → IsInput limit pushed i rest → pushed ++ more ≡ sent → sent ≡ greeting settings cs ++ flat_map (spelling frontend) ms
     → IsUnread i ⊎ IsRead settings ms i rest more sent
 reads front one settings [] ms limit pushed more sent i rest is spelled none input both e =
-    let nothing : (flat_map packet i.packets ++ input.behind) ++ more ≡ [] = ap (λ l. l ++ more) (sym (input.packets.whole)) ∙ both ∙ e ∙ ap (flat_map (spelling frontend)) (none refl) in
-    let ps = nothing_read i.packets input.behind more nothing in
+    let nothing : (flat_map packet i.packets ++ input.after_packets) ++ more ≡ [] = ap (λ l. l ++ more) (sym (input.packets.whole)) ∙ both ∙ e ∙ ap (flat_map (spelling frontend)) (none refl) in
+    let ps = nothing_read i.packets input.after_packets more nothing in
     inl (record { packets = ps; messages = input.started (ap is_started ps) })
 reads front one settings (c ∷ cs) ms limit pushed more sent i rest is spelled none input both e =
-    read_with front one settings ms limit i input.behind rest more sent i.packets input.ended (is c cs refl) spelled input.packets.each input.packets.last refl input.started
+    read_with front one settings ms limit i input.after_packets rest more sent i.packets input.ended (is c cs refl) spelled input.packets.each input.packets.last refl input.started
     input.messages.whole (within_spelled frontend limit i.messages input.messages.each) (ap (λ l. l ++ more) (sym (input.packets.whole)) ∙ both ∙ e) e

@@ -20,9 +20,9 @@ use Rattle.pg_client.specs.Facts.{IsPhase}
 use Rattle.pg_client.specs.Turns.{turns_of, calls_in, farewell}
 use Rattle.pg_client.specs.Answering.{calls_of}
 use Rattle.pg_backend.specs.phase.BackPhase.{BackPhase}
-use Rattle.pg_backend.specs.declared.stage.Ending.TheVariants as ending
-use Rattle.pg_backend.specs.declared.stage.Stage.{Stage}
-use Rattle.pg_backend.specs.declared.stage.Stage.TheVariants as stage
+use Rattle.pg_backend.specs.declared.stage.ClosedBy.TheVariants as ending
+use Rattle.pg_backend.specs.declared.stage.BackStage.{BackStage}
+use Rattle.pg_backend.specs.declared.stage.BackStage.TheVariants as stage
 use Rattle.pg_backend.specs.Backend.{is_spared, was_lost, phase_by}
 use Rattle.pg_backend.specs.Input.{place_phase}
 use Rattle.pg_backend.specs.Session.{log_of}
@@ -32,7 +32,7 @@ use Rattle.pg_pair.specs.Headline.{settled_as, answered_as, input_bytes, StandsR
 use Rattle.pg_pair.specs.Private.Known.{Known}
 use Rattle.pg_pair.specs.Invariant.{Tied}
 use Rattle.pg_pair.specs.View.{PairView}
-use Rattle.pg_pair.proofs.Histories.{in_pair, tied_history}
+use Rattle.pg_pair.proofs.Histories.{in_pair, tied_handled, tied_history}
 use Rattle.pg_pair.proofs.Beginnings.{begins_length, begins_take}
 use Rattle.pg_pair.proofs.Opening.{opening}
 use Rattle.pg_pair.proofs.Settling.{Messages, Met, tied_meets, settled_begin, all_taken, all_asked, one_unsettled}
@@ -81,7 +81,7 @@ client_idle k p t ready =
 
 -- ---- of the backend
 
-spared_phase : (s : Stage) (b : BackPhase) → is_spared s ≡ true → was_lost s ≡ false → phase_by s b ≡ b
+spared_phase : (s : BackStage) (b : BackPhase) → is_spared s ≡ true → was_lost s ≡ false → phase_by s b ≡ b
 spared_phase (stage.First d) b h l = refl
 spared_phase (stage.Open d a) b h l = refl
 spared_phase (stage.Closed ending.Input) b h l = refl
@@ -106,18 +106,18 @@ ready_with k p t idle m whole spared =
     let turns = turns_made t.client.history.calls in
     let left = m.read.left in
     let all : flat_map turn_messages turns ≡ ms ++ left =
-    sym (append-nil (flat_map turn_messages turns)) ∙ ap (λ l. flat_map turn_messages turns ++ l) (sym (idle.stays)) ∙ m.behind in
+    sym (append-nil (flat_map turn_messages turns)) ∙ ap (λ l. flat_map turn_messages turns ++ l) (sym (idle.stays)) ∙ m.follows in
     let no_fewer : length (map settled_as p.settled) ≤ length (map answered_as p.backend.log) = begins_length _ _ (settled_begin k p t) in
     let one : length (map settled_as p.settled) ≡ length p.settled = length-map p.settled settled_as in
     let two : length (map answered_as p.backend.log) ≡ length p.backend.log = length-map p.backend.log answered_as in
     let logged : length p.backend.log ≡ length (log_of answers ms) = ap length m.log_is in
     let settled_all : length p.settled ≡ length turns = idle.settled_all in
     let rest = k.turns_left answers turns ms left t.turns.in_turn all (omega arith) in
-    let bytes : p.to_backend.sent ≡ input_bytes t.backend.input ++ flat_map (spelling frontend) left =
-    m.read.sent_is ∙ sent_parts (opening p.client.settings) (Messages p t) t.backend.input.packets t.backend.input.messages left m.read.packets m.read.messages in
+    let bytes : p.to_backend.sent ≡ input_bytes t.backend.history.input ++ flat_map (spelling frontend) left =
+    m.read.sent_is ∙ sent_parts (opening p.client.settings) (Messages p t) t.backend.history.input.packets t.backend.history.input.messages left m.read.packets m.read.messages in
     record {
-      phase = t.backend.handled.phase_is ∙ spared_phase p.backend.stage _ spared (t.backend.not_lost whole) ∙ m.phase ∙ ap place_phase rest.1;
-      left = ∣ record { input = t.backend.input; rest = t.backend.rest; handled = t.backend.handled; left = left; sent = bytes; copies = rest.0 } ∣₁;
+      phase = t.backend.is_history.phase_is ∙ spared_phase p.backend.stage _ spared (t.backend.not_lost whole) ∙ m.phase ∙ ap place_phase rest.1;
+      left = ∣ record { input = t.backend.history.input; rest = t.backend.history.rest; handled = tied_handled p t; left = left; sent = bytes; copies = rest.0 } ∣₁;
     }
 
 pub headline : Known → {C : Type 0} (p : PairView C) → Tied p → Headline p

@@ -21,9 +21,10 @@ use Rattle.pg_backend.specs.script.Answer.{Answer}
 use Rattle.pg_backend.specs.script.Auth.TheVariants.{Trust, Cleartext, Md5}
 use Rattle.pg_backend.specs.script.Load.TheVariants as load
 use Rattle.pg_backend.specs.script.ScriptPart.TheVariants as script
-use Rattle.pg_backend.specs.declared.stage.Ending.TheVariants as ending
-use Rattle.pg_backend.specs.declared.stage.Stage.TheVariants as stage
-use Rattle.pg_backend.specs.Opening.{Refused, Awaited, Admitted, admission, wrong_password}
+use Rattle.pg_backend.specs.declared.stage.ClosedBy.TheVariants as ending
+use Rattle.pg_backend.specs.declared.stage.BackStage.TheVariants as stage
+use Rattle.pg_backend.specs.Opening.{Refused, Awaited, Admitted, admission}
+use Rattle.pg_backend.specs.OwnError.{wrong_password}
 use Rattle.pg_backend.specs.Session.{log_of, replies}
 use Rattle.pg_pair.specs.declared.event.Applied.TheVariants as applied
 use Rattle.pg_pair.specs.declared.event.Call.TheVariants as call
@@ -83,7 +84,7 @@ carrier_failed = refl
 abbrev named : Option (List ℕ) → Settings
 named password = record { user = codes "c"; database = None; pairs = []; password = password; limit = 64 }
 
--- what it sends behind its startup packet where it was asked this
+-- what it sends after its startup packet where it was asked this
 abbrev answering : Option (List ℕ) → BackMessage → List FrontMessage
 answering password question = messages_behind (named password) (question ∷ []) (Start ∷ [])
 
@@ -186,7 +187,7 @@ fresh = record {
   loss = None;
 }
 
--- the same behind a break of the way to the backend, which was told
+-- the same after a break of the way to the backend, which was told
 cut_off : PairView (Unit {0})
 cut_off = record fresh { backend = record fresh.backend { stage = stage.Closed ending.Lost }; to_backend = record fresh.to_backend { broken = true } }
 
@@ -225,7 +226,7 @@ second_break_is_nothing : Happens unknown event.BreakToBackend cut_off applied.N
 unfolding fresh cut_off
 second_break_is_nothing = (refl, refl)
 
--- behind it the backend makes no step, and nothing goes there
-runs_behind_a_break : Ran unknown (event.BreakToBackend ∷ event.Step ∷ event.ToBackend 13 ∷ []) fresh (Ok (record {})) cut_off
+-- after it the backend makes no step, and nothing goes there
+runs_after_a_break : Ran unknown (event.BreakToBackend ∷ event.Step ∷ event.ToBackend 13 ∷ []) fresh (Ok (record {})) cut_off
 unfolding fresh cut_off
-runs_behind_a_break = inr (applied.Done, cut_off, break_is_done, inr (applied.Nothing, cut_off, (refl, refl), inr (applied.Nothing, cut_off, (refl, refl), refl)))
+runs_after_a_break = inr (applied.Done, cut_off, break_is_done, inr (applied.Nothing, cut_off, (refl, refl), inr (applied.Nothing, cut_off, (refl, refl), refl)))

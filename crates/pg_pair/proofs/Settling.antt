@@ -23,7 +23,7 @@ use Rattle.pg_client.specs.Turns as client
 use Rattle.pg_client.specs.Answering.{calls_of, turns_in}
 use Rattle.pg_backend.specs.script.Logged.{Logged}
 use Rattle.pg_backend.specs.Laws.{FitEach, AreFirstOf}
-use Rattle.pg_backend.specs.Lists.{Begins}
+use Rattle.pg_backend.specs.Lists.{IsPrefix}
 use Rattle.pg_backend.specs.Opening.{welcome, asked}
 use Rattle.pg_backend.specs.Session.{replies, log_of}
 use Rattle.pg_backend.specs.Turns.{Turn, turn_messages}
@@ -43,8 +43,8 @@ use Rattle.pg_pair.proofs.Streams.{segments_grow}
 
 -- groups that are settled in order, by the segments that a log's entries fit
 settled_first : OneOutcome → (rs : List Request) (xs : List (List BackMessage)) (ss : List Settled) (ls : List Logged) (ys : List (List BackMessage))
-    → SettledInOrder rs xs ss → FitEach ls ys → Begins xs ys → Begins (map (λ (l : Logged). l.request) ls) rs
-    → Begins (map settled_as ss) (map answered_as ls)
+    → SettledInOrder rs xs ss → FitEach ls ys → IsPrefix xs ys → IsPrefix (map (λ (l : Logged). l.request) ls) rs
+    → IsPrefix (map settled_as ss) (map answered_as ls)
 settled_first one rs [] [] ls ys s f b q = begins_nil _
 settled_first one [] [] (t ∷ ts) ls ys s f b q = absurd s
 settled_first one (r ∷ rs) [] (t ∷ ts) ls ys s f b q = absurd s
@@ -60,7 +60,7 @@ settled_first one (r ∷ rs) (x ∷ xs) (t ∷ ts) (l ∷ ls) (y ∷ ys) s f b q
     let outcome : t.outcome ≡ l.outcome = one r x t.outcome l.outcome s.1 theirs in
     rw (s.0, outcome, ← asks) (begins_cons (l.request, l.outcome) _ _ (settled_first one rs xs ts ls ys s.2 f.1 (begins_tail x y xs ys b) (begins_tail l.request r _ rs q)))
 
-without_first : (xs ys : List (List BackMessage)) (y : List BackMessage) → Begins xs (y ∷ ys) → Begins (drop 1 xs) ys
+without_first : (xs ys : List (List BackMessage)) (y : List BackMessage) → IsPrefix xs (y ∷ ys) → IsPrefix (drop 1 xs) ys
 without_first [] ys y h = begins_nil ys
 without_first (x ∷ xs) ys y h = begins_tail x y xs ys h
 
@@ -79,11 +79,11 @@ turns_requests : (ts : List client.Turn) → map (λ (t : Turn). t.request) (map
 turns_requests [] = refl
 turns_requests (t ∷ ts) = ap (λ l. t.request ∷ l) (turns_requests ts)
 
--- the messages behind the password: those of its turns, and maybe a Terminate
+-- the messages after the password: those of its turns, and maybe a Terminate
 abbrev pub turns_sent : Calls → List FrontMessage
 turns_sent cs = flat_map turn_messages (turns_made cs) ++ farewell (calls_of cs)
 
--- all messages behind the startup packet, by what was heard
+-- all messages after the startup packet, by what was heard
 abbrev pub all_messages : Settings → List BackMessage → Calls → List FrontMessage
 all_messages settings heard cs = passwords settings heard ++ turns_sent cs
 
@@ -121,12 +121,12 @@ handled_first ts end handled left (inr said) e = (left, ap (λ l. flat_map turn_
 abbrev Happened : {C : Type 0} (p : PairView C) → Tied p → List Happening
 Happened p t = happenings t.client.history
 
--- all messages that the client sends behind its startup packet
+-- all messages that the client sends after its startup packet
 abbrev pub Messages : {C : Type 0} (p : PairView C) → Tied p → List FrontMessage
 Messages p t = all_messages p.client.settings t.client.history.heard t.client.history.calls
 
-behind_happened : Known → {C : Type 0} (p : PairView C) (t : Tied p) → messages_behind p.client.settings (messages_in (Happened p t)) (calls_in (Happened p t)) ≡ Messages p t
-behind_happened k p t =
+after_happened : Known → {C : Type 0} (p : PairView C) (t : Tied p) → messages_behind p.client.settings (messages_in (Happened p t)) (calls_in (Happened p t)) ≡ Messages p t
+after_happened k p t =
     let told = k.order t.client.history in
     ap (λ ms. messages_behind p.client.settings ms (calls_in (Happened p t))) told.messages ∙ ap (messages_behind p.client.settings t.client.history.heard) told.calls ∙ all_messages_are p.client.settings t.client.history.heard t.client.history.calls
 
@@ -136,13 +136,13 @@ sent_messages k p t =
     let turns = k.turns (in_pair p t.client.history) p.client (tied_history p t) in
     let told = k.order t.client.history in
     turns.sent_is ∙ ap (λ cs. greeting p.client.settings cs ++ flat_map (spelling frontend) (messages_behind p.client.settings (messages_in (Happened p t)) (calls_in (Happened p t)))) told.calls
-    ∙ ap (λ l. greeting p.client.settings (calls_of t.client.history.calls) ++ flat_map (spelling frontend) l) (behind_happened k p t)
+    ∙ ap (λ l. greeting p.client.settings (calls_of t.client.history.calls) ++ flat_map (spelling frontend) l) (after_happened k p t)
 
 -- what it sends has a spelling
 pub tied_spelled : Known → {C : Type 0} (p : PairView C) (t : Tied p) → AllByRecursion (HasSpelling frontend) (Messages p t)
 tied_spelled k p t =
     let says = k.spelled (in_pair p t.client.history) p.client (tied_history p t) in
-    subst (AllByRecursion (HasSpelling frontend)) (behind_happened k p t) says.messages
+    subst (AllByRecursion (HasSpelling frontend)) (after_happened k p t) says.messages
 
 pub tied_packet : Known → {C : Type 0} (p : PairView C) (t : Tied p) → (c : Call) (ds : List Call) → calls_of t.client.history.calls ≡ c ∷ ds → IsPacket (opening p.client.settings)
 tied_packet k p t c ds e =
@@ -176,21 +176,21 @@ tied_password k p t =
 
 -- what the backend has read of what the client has sent
 pub tied_reads : Known → {C : Type 0} (p : PairView C) (t : Tied p)
-    → IsUnread t.backend.input ⊎ IsRead p.client.settings (Messages p t) t.backend.input t.backend.rest (waiting p.to_backend) p.to_backend.sent
+    → IsUnread t.backend.history.input ⊎ IsRead p.client.settings (Messages p t) t.backend.history.input t.backend.history.rest (waiting p.to_backend) p.to_backend.sent
 tied_reads k p t =
-    reads k.one_front k.one_packet p.client.settings (calls_of t.client.history.calls) (Messages p t) p.backend.limit (arrived p.to_backend) (waiting p.to_backend) p.to_backend.sent t.backend.input t.backend.rest
-    (tied_packet k p t) (tied_spelled k p t) (tied_none k p t) t.backend.handled.input (take-append-drop p.to_backend.reached p.to_backend.sent) (sent_messages k p t)
+    reads k.one_front k.one_packet p.client.settings (calls_of t.client.history.calls) (Messages p t) p.backend.limit t.backend.history.pushed (waiting p.to_backend) p.to_backend.sent t.backend.history.input t.backend.history.rest
+    (tied_packet k p t) (tied_spelled k p t) (tied_none k p t) t.backend.is_history.input (ap (λ l. l ++ waiting p.to_backend) t.backend.pushed ∙ take-append-drop p.to_backend.reached p.to_backend.sent) (sent_messages k p t)
 
 -- The client was let in, and this is what it heard.
 abbrev pub Met : {C : Type 0} (p : PairView C) → Tied p → Type 0
-Met p t = HasMet p.backend.script p.client.settings (turns_sent t.client.history.calls) t.backend.input t.backend.rest (waiting p.to_backend) p.to_backend.sent t.client.history.heard p.backend.log
+Met p t = HasMet p.backend.script p.client.settings (turns_sent t.client.history.calls) t.backend.history.input t.backend.history.rest (waiting p.to_backend) p.to_backend.sent t.client.history.heard p.backend.log
 
 -- what the two ends have of each other
 pub tied_meets : Known → {C : Type 0} (p : PairView C) (t : Tied p) → IsSilent t.client.history.heard p.backend.log ⊎ Met p t
 tied_meets k p t =
-    meets k.one_back p.backend.script p.client.settings (turns_sent t.client.history.calls) t.backend.input t.backend.rest (waiting p.to_backend) p.to_backend.sent t.client.history.heard p.backend.log
+    meets k.one_back p.backend.script p.client.settings (turns_sent t.client.history.calls) t.backend.history.input t.backend.history.rest (waiting p.to_backend) p.to_backend.sent t.client.history.heard p.backend.log
     p.client.settings.limit (arrived p.to_client) t.client.history.rest (waiting p.to_client) (tied_password k p t) (tied_reads k p t)
-    t.backend.faultless (tied_history p t).stream (take-append-drop p.to_client.reached p.to_client.sent ∙ t.backend.handled.sent_is) t.backend.handled.spelled t.backend.handled.log_is
+    t.backend.faultless (tied_history p t).stream (take-append-drop p.to_client.reached p.to_client.sent ∙ sym t.backend.sent ∙ t.backend.is_history.sent_is) t.backend.is_history.spelled t.backend.is_history.log_is
 
 -- the settled groups, by what was heard
 pub settled_by_heard : Known → {C : Type 0} (p : PairView C) (t : Tied p) → SettledInOrder (map (λ (x : Turn). x.request) (turns_made t.client.history.calls)) (drop 1 (segments t.client.history.heard).whole) p.settled
@@ -207,24 +207,24 @@ none_settled [] [] (s ∷ ss) e h = absurd h
 none_settled (r ∷ rs) [] (s ∷ ss) e h = absurd h
 none_settled rs (x ∷ xs) ss e h = absurd cc
 
--- the messages that the backend has handled behind the password, as the first of the turns'
+-- the messages that the backend has handled after the password, as the first of the turns'
 pub met_handled : {C : Type 0} (p : PairView C) (t : Tied p) (m : Met p t) → AreFirstOf m.since (turns_made t.client.history.calls)
 met_handled p t m = handled_first (turns_made t.client.history.calls) (farewell (calls_of t.client.history.calls)) m.since m.read.left (one_farewell (calls_of t.client.history.calls)) m.behind
 
-met_begins : Known → {C : Type 0} (p : PairView C) (t : Tied p) → Met p t → Begins (map settled_as p.settled) (map answered_as p.backend.log)
+met_begins : Known → {C : Type 0} (p : PairView C) (t : Tied p) → Met p t → IsPrefix (map settled_as p.settled) (map answered_as p.backend.log)
 met_begins k p t m =
     let answers = p.backend.script.answers in
     let ms = m.since in
     let user = user_of p.client.settings in
     let first : List BackMessage = asked p.backend.script.auth user ++ welcome p.backend.script in
-    let heard : Begins (segments t.client.history.heard).whole (first ∷ (segments (replies answers ms)).whole) =
-    subst (λ (s : Segments). Begins (segments t.client.history.heard).whole s.whole) (k.welcome_is_segment p.backend.script user (replies answers ms))
+    let heard : IsPrefix (segments t.client.history.heard).whole (first ∷ (segments (replies answers ms)).whole) =
+    subst (λ (s : Segments). IsPrefix (segments t.client.history.heard).whole s.whole) (k.welcome_is_segment p.backend.script user (replies answers ms))
     (segments_grow t.client.history.heard (asked p.backend.script.auth user ++ (welcome p.backend.script ++ replies answers ms)) m.heard_is) in
     rw (m.log_is) (settled_first k.one_outcome (map (λ (x : Turn). x.request) (turns_made t.client.history.calls)) (drop 1 (segments t.client.history.heard).whole) p.settled (log_of answers ms) (segments (replies answers ms)).whole
     (settled_by_heard k p t) (k.segments_fit_log answers ms) (without_first (segments t.client.history.heard).whole (segments (replies answers ms)).whole first heard)
     (k.turns_logged answers (turns_made t.client.history.calls) ms t.turns.in_turn (met_handled p t m)))
 
-pub settled_begin : Known → {C : Type 0} (p : PairView C) (t : Tied p) → Begins (map settled_as p.settled) (map answered_as p.backend.log)
+pub settled_begin : Known → {C : Type 0} (p : PairView C) (t : Tied p) → IsPrefix (map settled_as p.settled) (map answered_as p.backend.log)
 settled_begin k p t = elim (tied_meets k p t) [
   | inl s ↦ rw (none_settled _ _ _ (ap (drop 1) s.none) (settled_by_heard k p t)) (begins_nil _)
   | inr m ↦ met_begins k p t m
@@ -240,7 +240,7 @@ all_taken k p t = elim (tied_meets k p t) [
       (k.turns_loaded p.backend.script.answers (turns_made t.client.history.calls) m.since t.turns.in_turn t.turns.copied (met_handled p t m)))
 ]
 
-log_first : (ls : List Logged) (rs : List Request) → Begins (map (λ (l : Logged). l.request) ls) rs → map (λ (l : Logged). l.request) ls ≡ take (length ls) rs
+log_first : (ls : List Logged) (rs : List Request) → IsPrefix (map (λ (l : Logged). l.request) ls) rs → map (λ (l : Logged). l.request) ls ≡ take (length ls) rs
 log_first ls rs h = begins_take (map (λ (l : Logged). l.request) ls) rs h ∙ ap (λ n. take n rs) (length-map ls (λ (l : Logged). l.request))
 
 -- the log's requests are the first that were made

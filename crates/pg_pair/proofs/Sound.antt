@@ -19,7 +19,7 @@ use Rattle.pg_client.specs.Answering.{calls_of}
 use Rattle.pg_backend.specs.Input.{Input, IsInput, is_started, IsFaultyRest}
 use Rattle.pg_pair.specs.Private.Known.{Known}
 use Rattle.pg_pair.specs.Invariant.{Tied}
-use Rattle.pg_pair.specs.View.{arrived, waiting, PairView}
+use Rattle.pg_pair.specs.View.{waiting, PairView}
 use Rattle.pg_pair.proofs.Beginnings.{empty_left, all_back}
 use Rattle.pg_pair.proofs.Faults.{fault_stays, packet_fault_stays, no_fault_of_nothing, no_packet_fault_of_nothing}
 use Rattle.pg_pair.proofs.Opening.{opening, IsUnread}
@@ -58,17 +58,17 @@ packets_sound none settings (c ∷ cs) rest more tail f is nothing e h =
 
 -- what nothing was read of
 unread_rest : (limit : ℕ) (pushed : List ℕ) (i : Input) (rest : List ℕ) → IsUnread i → IsInput limit pushed i rest → pushed ≡ rest
-unread_rest limit pushed i rest u input = input.packets.whole ∙ ap (λ ps. flat_map packet ps ++ input.behind) u.packets ∙ input.messages.whole ∙ ap (λ ms. flat_map (spelling frontend) ms ++ rest) u.messages
+unread_rest limit pushed i rest u input = input.packets.whole ∙ ap (λ ps. flat_map packet ps ++ input.after_packets) u.packets ∙ input.messages.whole ∙ ap (λ ms. flat_map (spelling frontend) ms ++ rest) u.messages
 
-pub not_faulty : Known → {C : Type 0} (p : PairView C) (t : Tied p) (f : WireFault) → IsFaultyRest (is_started t.backend.input.packets) p.backend.limit t.backend.rest f → ⊥
+pub not_faulty : Known → {C : Type 0} (p : PairView C) (t : Tied p) (f : WireFault) → IsFaultyRest (is_started t.backend.history.input.packets) p.backend.limit t.backend.history.rest f → ⊥
 not_faulty k p t f h = elim (tied_reads k p t) [
   | inl u ↦
-      let faulty : IsFaultyPacket t.backend.rest f = subst (λ ps. IsFaultyRest (is_started ps) p.backend.limit t.backend.rest f) u.packets h in
-      let bytes : t.backend.rest ++ waiting p.to_backend ≡ greeting p.client.settings (calls_of t.client.history.calls) ++ flat_map (spelling frontend) (Messages p t) =
-      ap (λ l. l ++ waiting p.to_backend) (sym (unread_rest p.backend.limit (arrived p.to_backend) t.backend.input t.backend.rest u t.backend.handled.input)) ∙ take-append-drop p.to_backend.reached p.to_backend.sent ∙ sent_messages k p t in
-      packets_sound k.faulty_packet p.client.settings (calls_of t.client.history.calls) t.backend.rest (waiting p.to_backend) (flat_map (spelling frontend) (Messages p t)) f (tied_packet k p t) (λ e. ap (flat_map (spelling frontend)) (tied_none k p t e)) bytes faulty
+      let faulty : IsFaultyPacket t.backend.history.rest f = subst (λ ps. IsFaultyRest (is_started ps) p.backend.limit t.backend.history.rest f) u.packets h in
+      let bytes : t.backend.history.rest ++ waiting p.to_backend ≡ greeting p.client.settings (calls_of t.client.history.calls) ++ flat_map (spelling frontend) (Messages p t) =
+      ap (λ l. l ++ waiting p.to_backend) (sym (unread_rest p.backend.limit t.backend.history.pushed t.backend.history.input t.backend.history.rest u t.backend.is_history.input) ∙ t.backend.pushed) ∙ take-append-drop p.to_backend.reached p.to_backend.sent ∙ sent_messages k p t in
+      packets_sound k.faulty_packet p.client.settings (calls_of t.client.history.calls) t.backend.history.rest (waiting p.to_backend) (flat_map (spelling frontend) (Messages p t)) f (tied_packet k p t) (λ e. ap (flat_map (spelling frontend)) (tied_none k p t e)) bytes faulty
   | inr r ↦
-      let faulty : IsFaulty frontend longest t.backend.rest f = subst (λ l. IsFaulty frontend l t.backend.rest f) t.backend.limit (subst (λ ps. IsFaultyRest (is_started ps) p.backend.limit t.backend.rest f) r.packets h) in
-      let left : AllByRecursion (HasSpelling frontend) r.left = all_back (HasSpelling frontend) t.backend.input.messages r.left (subst (AllByRecursion (HasSpelling frontend)) r.messages (tied_spelled k p t)) in
-      messages_sound k.faulty_message r.left t.backend.rest (waiting p.to_backend) f left r.bytes faulty
+      let faulty : IsFaulty frontend longest t.backend.history.rest f = subst (λ l. IsFaulty frontend l t.backend.history.rest f) t.backend.limit (subst (λ ps. IsFaultyRest (is_started ps) p.backend.limit t.backend.history.rest f) r.packets h) in
+      let left : AllByRecursion (HasSpelling frontend) r.left = all_back (HasSpelling frontend) t.backend.history.input.messages r.left (subst (AllByRecursion (HasSpelling frontend)) r.messages (tied_spelled k p t)) in
+      messages_sound k.faulty_message r.left t.backend.history.rest (waiting p.to_backend) f left r.bytes faulty
 ]

@@ -1,6 +1,5 @@
 -- The headline has one proof at most, so what is kept of a pair, truncated, implies it.
-use Rattle.std.proofs.Common.{◌≡◌, ◌≤◌, ℕ, List, [], ◌∷◌, length}
-use Rattle.std.proofs.Common.{false, Result, Ok, Err}
+use Rattle.std.proofs.Common.{◌≡◌, ◌≤◌, ℕ, List, [], ◌∷◌, length, false, Result, Ok, Err}
 use Rattle.std.specs.Result.{OnOk, is_err}
 use Rattle.std.specs.Coded.{Coded-set, coded_list, coded×, coded_ℕ}
 use Rattle.std.proofs.Math.Bridge.{le_prop}

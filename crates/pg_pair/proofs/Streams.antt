@@ -7,7 +7,7 @@ use Rattle.pg_wire.specs.Direction.{Direction, spelling, HasSpelling}
 use Rattle.pg_wire.specs.Laws.{OneSpelling}
 use Rattle.pg_wire.specs.Segment.{status_of, put_before, segments}
 use Rattle.pg_wire.specs.Stream.{IsWithin}
-use Rattle.pg_backend.specs.Lists.{Begins}
+use Rattle.pg_backend.specs.Lists.{IsPrefix}
 use Rattle.pg_pair.proofs.Beginnings.{begins_nil, begins_cons, begins_head, begins_tail}
 
 pub within_spelled : {M : Type 0} (d : Direction M) (limit : ℕ) (ms : List M) → AllByRecursion (IsWithin d limit) ms → AllByRecursion (HasSpelling d) ms
@@ -27,16 +27,16 @@ reads_first d one (x ∷ xs) (y ∷ ys) rest h k e =
     let more = reads_first d one xs ys rest h.1 k.1 first.1 in
     (more.0, cons_same x y xs ys more.0 first.0 more.1, more.2)
 
-put_grows : (o : Option Status) (m : BackMessage) (w w' : List (List BackMessage)) (r r' : List BackMessage) → Begins w w' → Begins (put_before o m w r).whole (put_before o m w' r').whole
+put_grows : (o : Option Status) (m : BackMessage) (w w' : List (List BackMessage)) (r r' : List BackMessage) → IsPrefix w w' → IsPrefix (put_before o m w r).whole (put_before o m w' r').whole
 put_grows (Some status) m w w' r r' h = begins_cons (m ∷ []) w w' h
 put_grows None m [] w' r r' h = begins_nil _
 put_grows None m (s ∷ ss) [] r r' h = let e = h.1 in cc
 put_grows None m (s ∷ ss) (z ∷ zs) r r' h = rw (begins_head s z ss zs h) (begins_cons (m ∷ z) ss zs (begins_tail s z ss zs h))
 
-segments_more : (xs ys : List BackMessage) → Begins (segments xs).whole (segments (xs ++ ys)).whole
+segments_more : (xs ys : List BackMessage) → IsPrefix (segments xs).whole (segments (xs ++ ys)).whole
 segments_more [] ys = begins_nil _
 segments_more (m ∷ ms) ys = put_grows (status_of m) m (segments ms).whole (segments (ms ++ ys)).whole (segments ms).rest (segments (ms ++ ys)).rest (segments_more ms ys)
 
 -- the whole segments of a beginning are a beginning of the whole segments
-pub segments_grow : (xs ys : List BackMessage) → Begins xs ys → Begins (segments xs).whole (segments ys).whole
+pub segments_grow : (xs ys : List BackMessage) → IsPrefix xs ys → IsPrefix (segments xs).whole (segments ys).whole
 segments_grow xs ys h = rw (h.1) (segments_more xs h.0)

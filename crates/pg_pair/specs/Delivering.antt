@@ -4,8 +4,8 @@ use Rattle.pg_client.specs.declared.fault.FeedFault.{FeedFault}
 use Rattle.pg_client.specs.Client.{ClientView}
 use Rattle.pg_client.specs.Feed.{Feeds}
 use Rattle.pg_backend.specs.declared.fault.BackendFault.{BackendFault}
-use Rattle.pg_backend.specs.Backend.{BackendState, Stores, HasHandled}
-use Rattle.pg_backend.specs.Input.{Input}
+use Rattle.pg_backend.specs.Backend.{BackendState, Stores}
+use Rattle.pg_backend.specs.History as back
 use Rattle.pg_pair.specs.declared.carry.CarryFault.{CarryFault}
 use Rattle.pg_pair.specs.declared.carry.Way.{Way}
 use Rattle.pg_pair.specs.declared.carry.Way.TheVariants.{ToBackend, ToClient}
@@ -43,8 +43,7 @@ pub record Feeding {C : Type 0} (p : PairView C) (bytes : List ℕ)
 -- The backend has stored a piece: it has handled nothing of it.
 pub record IsStored (old : BackendState) (bytes : List ℕ) (new : BackendState) : Type 0 where
   pub stores : Stores old bytes (Ok record {}) new
-  pub handled : (pushed : List ℕ) (i : Input) (rest sent : List ℕ)
-      → HasHandled old pushed i rest sent → HasHandled new (pushed ++ bytes) i (rest ++ bytes) sent
+  pub history : back.Carries old new (back.with_pushed bytes)
 
 -- Bytes come to the backend: those that it refuses don't reach it.
 abbrev pub Pushing : {C : Type 0}

@@ -1,10 +1,10 @@
 -- What is so of a pair at any time: of its client, of its backend, and of both together.
-use Rattle.std.specs.Prelude.{◌≡◌, ℕ, ◌≤◌, false, List, [], length, map}
+use Rattle.std.specs.Prelude.{◌≡◌, ◌≤◌, false, List, [], length, map}
 use Rattle.pg_wire.specs.Direction.{longest}
 use Rattle.pg_client.specs.History.{History, IsHistoryOf}
 use Rattle.pg_backend.specs.Check.{IsChecked}
-use Rattle.pg_backend.specs.Input.{Input}
-use Rattle.pg_backend.specs.Backend.{HasHandled, was_lost}
+use Rattle.pg_backend.specs.Backend.{was_lost}
+use Rattle.pg_backend.specs.History as back
 use Rattle.pg_backend.specs.Turns.{Turn, InTurn, AreCopied}
 use Rattle.pg_pair.specs.Copies.{turns_made, handed_for}
 use Rattle.pg_pair.specs.View.{Stream, arrived, PairView}
@@ -27,16 +27,18 @@ ClientTied p = record {
   within : IsWithin p.to_client;
 }
 
--- The backend's part. Its script can be played, and it takes each message that has a spelling. It has handled this input of what
--- has reached it, without a fault, and has put out what was sent to the client. Only a broken way closes it as lost.
+-- The backend's part. Its script can be played, and it takes each message that has a spelling. The backend has this history: it
+-- was given what has reached it, has found no fault in it, and has put out what was sent to the client. Only a broken way closes
+-- it as lost.
 abbrev pub BackendTied : {C : Type 0} → PairView C → Type 0
 BackendTied p = record {
   checked : IsChecked p.backend.script;
   limit : p.backend.limit ≡ longest;
-  input : Input;
-  rest : List ℕ;
-  handled : HasHandled p.backend (arrived p.to_backend) input rest p.to_client.sent;
-  faultless : input.faulty ≡ false;
+  history : back.History;
+  is_history : back.IsHistoryOf history p.backend;
+  pushed : history.pushed ≡ arrived p.to_backend;
+  sent : history.sent ≡ p.to_client.sent;
+  faultless : history.input.faulty ≡ false;
   not_lost : p.to_backend.broken ≡ false → was_lost p.backend.stage ≡ false;
   within : IsWithin p.to_backend;
 }

@@ -30,8 +30,8 @@ break_of ToClient = event.BreakToClient
 
 -- ---- the other way
 
--- A client was fed these bytes in pieces, its settled groups were taken behind each, and what it
--- put out came behind what was sent.
+-- A client was fed these bytes in pieces, its settled groups were taken after each, and what it
+-- put out came after what was sent.
 pub data IsFedOn (old : ClientView) (before : List ℕ)
     : List ℕ → ClientView → List ℕ → Type 0 where
   unfed : IsFedOn old before [] old before
@@ -40,7 +40,7 @@ pub data IsFedOn (old : ClientView) (before : List ℕ)
       → IsFedOn old before bytes client sent → Feeds client piece result fed sent after
       → IsFedOn old before (bytes ++ piece) (record fed { settled = [] }) after
 
--- The way to the backend has what the client put out as it was fed these bytes, behind what was
+-- The way to the backend has what the client put out as it was fed these bytes, after what was
 -- sent, and is else as it was.
 pub record PutsOut {C : Type 0}
     (p : PairView C) (bytes : List ℕ) (client : ClientView) (q : PairView C) : Type 0 where

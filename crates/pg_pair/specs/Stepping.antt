@@ -1,21 +1,18 @@
 -- What a step of the backend does to a pair.
-use Rattle.std.specs.Prelude.{◌≡◌, ℕ, Bool, true, false, List, ◌++◌, Result, Ok, Err}
+use Rattle.std.specs.Prelude.{◌≡◌, ℕ, Bool, true, false, List, Result, Ok, Err}
 use Rattle.pg_backend.specs.phase.BackPhase.{BackPhase}
 use Rattle.pg_backend.specs.phase.BackPhase.TheVariants as back
 use Rattle.pg_backend.specs.declared.fault.BackendFault.{BackendFault}
-use Rattle.pg_backend.specs.Backend.{BackendState, Steps, HasHandled, Handles}
-use Rattle.pg_backend.specs.Input.{Input}
+use Rattle.pg_backend.specs.Backend.{BackendState, Steps, CarriesStep}
 use Rattle.pg_pair.specs.declared.event.Applied.{Applied}
 use Rattle.pg_pair.specs.declared.event.Applied.TheVariants as applied
 use Rattle.pg_pair.specs.View.{DoesNothing, PairView}
 
--- A step of the backend: what it answers, and what it has handled then.
+-- A step of the backend: what it answers, and how its histories go on.
 pub record BackendSteps (old : BackendState) (before : List ℕ)
     (answer : Result Bool BackendFault) (new : BackendState) (after : List ℕ) : Type 0 where
   pub call : Steps old before answer new after
-  pub handled : (pushed : List ℕ) (i : Input) (rest sent : List ℕ)
-      → HasHandled old pushed i rest sent → (added : List ℕ) × (after ≡ before ++ added)
-      × Handles old pushed i rest sent added answer new
+  pub history : CarriesStep old before answer new after
 
 -- what comes of a step
 abbrev pub step_applied : Result Bool BackendFault → Applied

@@ -1,5 +1,5 @@
 -- Which scripts can be played.
-use Rattle.std.specs.Prelude.{None, ◌≡◌, true, List, [], ◌∷◌, ◌++◌, map, Result, Ok, Err}
+use Rattle.std.specs.Prelude.{None, ◌≡◌, nat_le, count_by, Bool, true, false, List, [], ◌∷◌, ◌++◌, map, Result, Ok, Err}
 use Rattle.std.specs.List.{flat_map, list_all, AllByRecursion}
 use Rattle.pg_wire.specs.message.BackMessage.{BackMessage}
 use Rattle.pg_wire.specs.message.BackMessage.TheVariants as back
@@ -13,26 +13,42 @@ use Rattle.pg_script.specs.declared.script.Load.TheVariants.{Refuse}
 use Rattle.pg_script.specs.declared.script.Script.{Script}
 use Rattle.pg_script.specs.declared.script.ScriptPart.{ScriptPart}
 use Rattle.pg_script.specs.declared.script.ScriptPart.TheVariants as part
-use Rattle.pg_script.specs.Answers.{complete, has_one_copy}
+use Rattle.pg_script.specs.Outcome.{complete}
 use Rattle.pg_script.specs.Replies.{aside_message, error_sent}
 use Rattle.pg_script.specs.Opening.{pair_message, key_messages}
 
--- the messages that a part stands for: those of the part that is complete, or of the copy that is refused
-abbrev pub part_messages : ScriptPart → List BackMessage
-part_messages (part.CopyIn head (Refuse after fields)) = back.CopyIn head ∷ back.ErrorResponse fields ∷ []
-part_messages p = flat_map messages_of (complete p)
+-- ---- copies
 
--- the messages that an answer stands for, whether it fits its request or not
-abbrev pub answer_messages : Answer → List BackMessage
-answer_messages a = map aside_message a.before ++ (flat_map part_messages a.parts ++ error_sent a.error)
+-- the part is a copy from the client
+abbrev pub is_copy_in : ScriptPart → Bool
+is_copy_in (part.CopyIn head load) = true
+is_copy_in p = false
 
--- the messages that a script stands for
-abbrev pub script_messages : Script → List BackMessage
-script_messages s = map pair_message s.pairs ++ (key_messages s.key ++ flat_map answer_messages s.answers)
+-- the answer has at most one copy from the client
+abbrev pub has_one_copy : Answer → Bool
+has_one_copy a = nat_le (count_by is_copy_in a.parts) 1
 
 -- Each answer has at most one copy from the client.
 abbrev pub HasOneCopyEach : Script → Type 0
 HasOneCopyEach s = list_all has_one_copy s.answers ≡ true
+
+-- ---- messages
+
+-- the messages that a part stands for: those of the part that is complete, or of the copy that is refused
+abbrev pub part_messages : ScriptPart → List BackMessage
+part_messages (part.CopyIn head (Refuse after fields)) =
+    back.CopyIn head ∷ back.ErrorResponse fields ∷ []
+part_messages p = flat_map messages_of (complete p)
+
+-- the messages that an answer stands for, whether it fits its request or not
+abbrev pub answer_messages : Answer → List BackMessage
+answer_messages a =
+    map aside_message a.before ++ (flat_map part_messages a.parts ++ error_sent a.error)
+
+-- the messages that a script stands for
+abbrev pub script_messages : Script → List BackMessage
+script_messages s =
+    map pair_message s.pairs ++ (key_messages s.key ++ flat_map answer_messages s.answers)
 
 -- Each message has a spelling.
 abbrev pub IsSpelledWhole : Script → Type 0

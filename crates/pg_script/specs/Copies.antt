@@ -1,31 +1,13 @@
 -- How a copy from the client ends ("COPY Operations").
-use Rattle.std.specs.Prelude.{ℕ, zero, suc, List, [], ◌∷◌, ◌++◌, Option, Some, None, option_map, map, take, codes, Result, Ok, Err}
+use Rattle.std.specs.Prelude.{ℕ, zero, suc, List, [], ◌∷◌, Option, Some, None, option_map, map, Result, Ok, Err}
 use Rattle.pg_wire.specs.value.ErrorField.{ErrorField}
 use Rattle.pg_wire.specs.message.FrontMessage.{FrontMessage}
-use Rattle.pg_wire.specs.message.FrontMessage.TheVariants as front
 use Rattle.pg_script.specs.declared.meaning.InCopy.{InCopy}
 use Rattle.pg_script.specs.declared.meaning.InCopy.TheVariants.{Chunk, Done, Fails, Waits, Leaves, Strays}
 use Rattle.pg_script.specs.declared.script.Load.{Load}
 use Rattle.pg_script.specs.declared.script.Load.TheVariants.{Accept, Refuse}
-use Rattle.pg_script.specs.Answers.{own_error}
-
--- what a message of the client means during a copy
-abbrev pub in_copy : FrontMessage → InCopy
-in_copy (front.CopyData bytes) = Chunk bytes
-in_copy front.CopyDone = Done
-in_copy (front.CopyFail reason) = Fails reason
-in_copy front.Flush = Waits
-in_copy front.Sync = Waits
-in_copy front.Terminate = Leaves
-in_copy _ = Strays
-
--- the error of a copy that the client gives up
-abbrev pub canceled : List ℕ → List ErrorField
-canceled reason = own_error (codes "ERROR") (codes "57014") (codes "COPY failed: " ++ take 200 reason)
-
--- the error of a copy that another message ends
-abbrev pub out_of_copy : List ErrorField
-out_of_copy = own_error (codes "ERROR") (codes "08P01") (codes "unexpected message in COPY")
+use Rattle.pg_script.specs.Meaning.{in_copy}
+use Rattle.pg_script.specs.OwnError.{canceled, out_of_copy}
 
 -- the end of a copy: the chunks that were taken, the tag or the error that it ended with, and how many messages it took
 pub record CopyEnd : Type 0 where
@@ -33,14 +15,16 @@ pub record CopyEnd : Type 0 where
   pub result : Result (List ℕ) (List ErrorField)
   pub taken : ℕ
 
--- a message that is no chunk ends the copy
+-- the end of a copy by the next message, which is no chunk
 abbrev pub ended : Result (List ℕ) (List ErrorField) → Option CopyEnd
 ended result = Some (record { loaded = []; result = result; taken = 1 })
 
--- the end of a copy behind one more message: a chunk, or one without effect
+-- the end of a copy that has a chunk before what it had
 abbrev pub with_chunk : List ℕ → CopyEnd → CopyEnd
-with_chunk bytes e = record { loaded = bytes ∷ e.loaded; result = e.result; taken = suc e.taken }
+with_chunk bytes e =
+    record { loaded = bytes ∷ e.loaded; result = e.result; taken = suc e.taken }
 
+-- the end of a copy that has a message without effect before what it had
 abbrev pub with_wait : CopyEnd → CopyEnd
 with_wait e = record { loaded = e.loaded; result = e.result; taken = suc e.taken }
 

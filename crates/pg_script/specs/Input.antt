@@ -1,9 +1,8 @@
 -- What a backend has handled of the bytes that it was given, and what follows from it: its output, its log, its phase.
-use Rattle.std.specs.Prelude.{◌≡◌, ℕ, Bool, true, false, List, [], ◌∷◌, ◌++◌, if◌then◌else◌, codes}
+use Rattle.std.specs.Prelude.{◌≡◌, ℕ, Bool, true, false, List, [], ◌∷◌, ◌++◌, if◌then◌else◌}
 use Rattle.std.specs.List.{flat_map}
 use Rattle.pg_wire.specs.declared.fault.WireFault.{WireFault}
 use Rattle.pg_wire.specs.message.BackMessage.TheVariants as back
-use Rattle.pg_wire.specs.value.ErrorField.{ErrorField}
 use Rattle.pg_wire.specs.message.First.{First}
 use Rattle.pg_wire.specs.message.First.TheVariants as first
 use Rattle.pg_wire.specs.message.FrontMessage.{FrontMessage}
@@ -16,13 +15,13 @@ use Rattle.pg_script.specs.declared.phase.BackPhase.{BackPhase}
 use Rattle.pg_script.specs.declared.phase.BackPhase.TheVariants as phase
 use Rattle.pg_script.specs.declared.script.Logged.{Logged}
 use Rattle.pg_script.specs.declared.script.Script.{Script}
-use Rattle.pg_script.specs.Answers.{own_error}
+use Rattle.pg_script.specs.OwnError.{fatal_bad}
 use Rattle.pg_script.specs.Session.{Place, Between, Grouping, Copying, Terminated, Stray, session, log_of}
 use Rattle.pg_script.specs.Opening.{Sent, No, Says, sent_for, user_from, Admission, Refused, Awaited, Stopped, Admitted, admission}
 
 -- ---- the input
 
--- first packets, the messages behind a Startup, and whether a faulty rest has ended them
+-- first packets, the messages after a Startup, and whether a faulty rest has ended them
 pub record Input : Type 0 where
   pub packets : List First
   pub messages : List FrontMessage
@@ -34,15 +33,15 @@ is_started [] = false
 is_started (first.Startup pairs ∷ packets) = true
 is_started (p ∷ packets) = is_started packets
 
--- The bytes are these first packets, then these messages, then a rest. Messages stand behind a Startup alone.
+-- The bytes are these first packets, then these messages, then a rest. Messages come after a Startup alone.
 pub record IsInput (limit : ℕ) (bytes : List ℕ) (i : Input) (rest : List ℕ) : Type 0 where
-  pub behind : List ℕ
+  pub after_packets : List ℕ
   pub ended : Bool
-  pub packets : IsBeginning bytes i.packets ended behind
-  pub messages : IsStream frontend limit behind i.messages rest
+  pub packets : IsBeginning bytes i.packets ended after_packets
+  pub messages : IsStream frontend limit after_packets i.messages rest
   pub started : is_started i.packets ≡ false → i.messages ≡ []
 
--- ---- the rest, behind first packets that may go on (false), or behind a Startup (true)
+-- ---- the rest, after first packets that may go on (false), or after a Startup (true)
 
 -- The rest is faulty, for this reason.
 abbrev pub IsFaultyRest : Bool → ℕ → List ℕ → WireFault → Type 0
@@ -56,24 +55,29 @@ IsOpenRest true limit rest = IsOpen frontend limit rest
 
 -- One packet or message is taken off the front of the rest.
 pub data Takes (limit : ℕ) : Input → List ℕ → Input → List ℕ → Type 0 where
-  packet_taken : (ps : List First) (p : First) (rest : List ℕ) → is_started ps ≡ false → IsPacket p
-      → Takes limit (record { packets = ps; messages = []; faulty = false }) (packet p ++ rest) (record { packets = ps ++ p ∷ []; messages = []; faulty = false }) rest
-  message_taken : (ps : List First) (ms : List FrontMessage) (m : FrontMessage) (rest : List ℕ) → is_started ps ≡ true → IsWithin frontend limit m
-      → Takes limit (record { packets = ps; messages = ms; faulty = false }) (spelling frontend m ++ rest) (record { packets = ps; messages = ms ++ m ∷ []; faulty = false }) rest
+  packet_taken : (ps : List First) (p : First) (rest : List ℕ)
+      → is_started ps ≡ false → IsPacket p
+      → Takes limit
+      (record { packets = ps; messages = []; faulty = false }) (packet p ++ rest)
+      (record { packets = ps ++ p ∷ []; messages = []; faulty = false }) rest
+  message_taken : (ps : List First) (ms : List FrontMessage) (m : FrontMessage) (rest : List ℕ)
+      → is_started ps ≡ true → IsWithin frontend limit m
+      → Takes limit
+      (record { packets = ps; messages = ms; faulty = false }) (spelling frontend m ++ rest)
+      (record { packets = ps; messages = ms ++ m ∷ []; faulty = false }) rest
 
 -- ---- the transcript: all that is sent for the input
 
--- the error of a faulty rest
-abbrev pub fatal_bad : List ErrorField
-fatal_bad = own_error (codes "FATAL") (codes "08P01") (codes "bad message")
-
+-- the error that is sent last where the rest is faulty
 abbrev pub last_word : Bool → List Sent
 last_word false = []
 last_word true = Says (back.ErrorResponse fatal_bad) ∷ []
 
+-- all that a backend sends for an input: the answers to its packets and messages, and an error for a faulty rest
 abbrev pub transcript : Script → Input → List Sent
 transcript s i = sent_for s i.packets i.messages ++ last_word i.faulty
 
+-- the bytes of what is sent: `N`, or a message's spelling
 abbrev pub sent_bytes : Sent → List ℕ
 sent_bytes No = 78 ∷ []
 sent_bytes (Says m) = spelling backend m
@@ -89,15 +93,18 @@ IsSpelled (Says m) = HasSpelling backend m
 
 -- ---- the log and the phase
 
+-- what is logged once it is known whether a client is let in: the requests of one that is
 abbrev pub admission_log : Script → Admission → List Logged
 admission_log s (Refused fields) = []
 admission_log s Awaited = []
 admission_log s (Stopped place) = []
 admission_log s (Admitted ms) = log_of s.answers ms
 
+-- what is logged for these first packets and the messages after them
 abbrev pub packets_log : Script → List First → List FrontMessage → List Logged
 packets_log s [] ms = []
-packets_log s (first.Startup pairs ∷ packets) ms = admission_log s (admission s.auth (user_from [] pairs) ms)
+packets_log s (first.Startup pairs ∷ packets) ms =
+    admission_log s (admission s.auth (user_from [] pairs) ms)
 packets_log s (p ∷ packets) ms = packets_log s packets ms
 
 -- the requests of the input that are decided, with their outcomes and chunks
@@ -111,21 +118,26 @@ pub data End : Type 0 where
   Refusal : End
   At : (place : Place) → End
 
+-- where an input ends once it is known whether a client is let in
 abbrev pub admission_end : Script → Admission → End
 admission_end s (Refused fields) = Refusal
 admission_end s Awaited = Asking
 admission_end s (Stopped place) = At place
 admission_end s (Admitted ms) = At (session s.answers ms).place
 
+-- where these first packets and the messages after them end
 abbrev pub packets_end : Script → List First → List FrontMessage → End
 packets_end s [] ms = Opening
-packets_end s (first.Startup pairs ∷ packets) ms = admission_end s (admission s.auth (user_from [] pairs) ms)
+packets_end s (first.Startup pairs ∷ packets) ms =
+    admission_end s (admission s.auth (user_from [] pairs) ms)
 packets_end s (first.Cancel process secret ∷ packets) ms = Refusal
 packets_end s (p ∷ packets) ms = packets_end s packets ms
 
+-- where the input ends
 abbrev pub input_end : Script → Input → End
 input_end s i = packets_end s i.packets i.messages
 
+-- the phase of a backend whose input ends in this place of the messages
 abbrev pub place_phase : Place → BackPhase
 place_phase Between = phase.Ready
 place_phase (Grouping steps) = phase.Grouping
@@ -133,13 +145,14 @@ place_phase Copying = phase.CopyIn
 place_phase Terminated = phase.Closed
 place_phase Stray = phase.Closed
 
+-- the phase of a backend whose input ends there
 abbrev pub end_phase : End → BackPhase
 end_phase Opening = phase.First
 end_phase Asking = phase.Password
 end_phase Refusal = phase.Closed
 end_phase (At place) = place_phase place
 
--- the phase behind the input, where nothing but the input has closed the backend
+-- the phase after the input, where nothing but the input has closed the backend
 abbrev pub input_phase : Script → Input → BackPhase
 input_phase s i = if i.faulty then phase.Closed else end_phase (input_end s i)
 

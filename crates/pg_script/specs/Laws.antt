@@ -11,8 +11,9 @@ use Rattle.pg_wire.specs.Segment as segment
 use Rattle.pg_script.specs.declared.script.Answer.{Answer}
 use Rattle.pg_script.specs.declared.script.Logged.{Logged}
 use Rattle.pg_script.specs.declared.script.Script.{Script}
-use Rattle.pg_script.specs.Answers.{fits, answer_for, has_one_copy}
-use Rattle.pg_script.specs.Lists.{Begins}
+use Rattle.pg_script.specs.Check.{has_one_copy}
+use Rattle.pg_script.specs.Fitting.{fits, answer_for}
+use Rattle.pg_script.specs.Lists.{IsPrefix}
 use Rattle.pg_script.specs.Replies.{Verdict, verdict, reply}
 use Rattle.pg_script.specs.Session.{Between, Terminated, session, replies, log_of}
 use Rattle.pg_script.specs.Opening.{welcome, asked}
@@ -23,15 +24,18 @@ use Rattle.pg_script.specs.Turns.{Turn, turn_messages, AreCopies, InTurn, turn_e
 
 -- A verdict stands, whatever comes after the messages that decided it.
 abbrev pub VerdictStands : Type 0
-VerdictStands = (a : Answer) (ms more : List FrontMessage) (v : Verdict) → verdict a ms ≡ Some v → verdict a (ms ++ more) ≡ Some v
+VerdictStands = (a : Answer) (ms more : List FrontMessage) (v : Verdict)
+    → verdict a ms ≡ Some v → verdict a (ms ++ more) ≡ Some v
 
 -- So does the reply to a request that is decided.
 abbrev pub ReplyStands : Type 0
-ReplyStands = (a : Answer) (ms more : List FrontMessage) (v : Verdict) → verdict a ms ≡ Some v → reply a (ms ++ more) ≡ reply a ms
+ReplyStands = (a : Answer) (ms more : List FrontMessage) (v : Verdict)
+    → verdict a ms ≡ Some v → reply a (ms ++ more) ≡ reply a ms
 
 -- A reply grows at its end alone as messages are added.
 abbrev pub ReplyGrows : Type 0
-ReplyGrows = (a : Answer) (ms more : List FrontMessage) → Begins (reply a ms) (reply a (ms ++ more))
+ReplyGrows = (a : Answer) (ms more : List FrontMessage)
+    → IsPrefix (reply a ms) (reply a (ms ++ more))
 
 -- The answer that a request gets fits it.
 abbrev pub AnswerFits : Type 0
@@ -39,21 +43,25 @@ AnswerFits = (answers : List Answer) (r : Request) → fits r (answer_for answer
 
 -- The reply to a request that is decided is a segment that fits the request with the verdict's outcome.
 abbrev pub ReplyFits : Type 0
-ReplyFits = (r : Request) (a : Answer) (ms : List FrontMessage) (v : Verdict) → fits r a ≡ true → verdict a ms ≡ Some v → Fits r (reply a ms) v.outcome
+ReplyFits = (r : Request) (a : Answer) (ms : List FrontMessage) (v : Verdict)
+    → fits r a ≡ true → verdict a ms ≡ Some v → Fits r (reply a ms) v.outcome
 
--- Until it is decided, what is sent for a request is the begin of a segment that fits it.
+-- Until it is decided, what is sent for a request begins a segment that fits it.
 abbrev pub ReplyBegins : Type 0
-ReplyBegins = (r : Request) (a : Answer) (ms : List FrontMessage) → fits r a ≡ true → verdict a ms ≡ None → segment.Begins r (reply a ms)
+ReplyBegins = (r : Request) (a : Answer) (ms : List FrontMessage)
+    → fits r a ≡ true → verdict a ms ≡ None → segment.Begins r (reply a ms)
 
 -- ---- a session
 
 -- What is sent in a session grows at its end alone as messages are added.
 abbrev pub RepliesGrow : Type 0
-RepliesGrow = (answers : List Answer) (ms more : List FrontMessage) → Begins (replies answers ms) (replies answers (ms ++ more))
+RepliesGrow = (answers : List Answer) (ms more : List FrontMessage)
+    → IsPrefix (replies answers ms) (replies answers (ms ++ more))
 
 -- So does its log.
 abbrev pub SessionLogGrows : Type 0
-SessionLogGrows = (answers : List Answer) (ms more : List FrontMessage) → Begins (log_of answers ms) (log_of answers (ms ++ more))
+SessionLogGrows = (answers : List Answer) (ms more : List FrontMessage)
+    → IsPrefix (log_of answers ms) (log_of answers (ms ++ more))
 
 -- There is a segment for each entry of the log, which fits its request with its outcome.
 abbrev pub FitEach : List Logged → List (List BackMessage) → Type 0
@@ -63,7 +71,8 @@ FitEach _ _ = ⊥
 
 -- The whole segments of what is sent in a session fit the entries of its log.
 abbrev pub SegmentsFitLog : Type 0
-SegmentsFitLog = (answers : List Answer) (ms : List FrontMessage) → FitEach (log_of answers ms) (segments (replies answers ms)).whole
+SegmentsFitLog = (answers : List Answer) (ms : List FrontMessage)
+    → FitEach (log_of answers ms) (segments (replies answers ms)).whole
 
 -- how many copies from the client these messages begin
 abbrev pub copies_in : List BackMessage → ℕ
@@ -77,12 +86,17 @@ HaveOneCopy s = AllByRecursion (λ ms. copies_in ms ≤ 1) s.whole × copies_in 
 
 -- Where each answer has at most one copy from the client, so has each segment of what is sent in a session.
 abbrev pub OneCopyEach : Type 0
-OneCopyEach = (answers : List Answer) (ms : List FrontMessage) → list_all has_one_copy answers ≡ true → HaveOneCopy (segments (replies answers ms))
+OneCopyEach = (answers : List Answer) (ms : List FrontMessage)
+    → list_all has_one_copy answers ≡ true → HaveOneCopy (segments (replies answers ms))
 
 -- What a client that is let in was asked for, and what is sent first to it, is one segment.
 abbrev pub WelcomeIsSegment : Type 0
 WelcomeIsSegment = (s : Script) (user : List ℕ) (ms : List BackMessage)
-    → segments (asked s.auth user ++ (welcome s ++ ms)) ≡ record { whole = (asked s.auth user ++ welcome s) ∷ (segments ms).whole; rest = (segments ms).rest }
+    → segments (asked s.auth user ++ (welcome s ++ ms))
+    ≡ record {
+      whole = (asked s.auth user ++ welcome s) ∷ (segments ms).whole;
+      rest = (segments ms).rest;
+    }
 
 -- ---- a client that takes turns
 
@@ -90,47 +104,59 @@ WelcomeIsSegment = (s : Script) (user : List ℕ) (ms : List BackMessage)
 -- next request.
 abbrev pub TurnsRead : Type 0
 TurnsRead = (answers : List Answer) (ts : List Turn) → InTurn answers ts
-    → session answers (flat_map turn_messages ts) ≡ record { exchanges = turn_exchanges answers ts; place = turn_place answers ts }
+    → session answers (flat_map turn_messages ts)
+    ≡ record { exchanges = turn_exchanges answers ts; place = turn_place answers ts }
 
--- A Terminate behind its turns ends the session, and changes nothing else.
+-- A Terminate after its turns ends the session, and changes nothing else.
 abbrev pub TurnsEnd : Type 0
 TurnsEnd = (answers : List Answer) (ts : List Turn) → InTurn answers ts
-    → session answers (flat_map turn_messages ts ++ front.Terminate ∷ []) ≡ record { exchanges = turn_exchanges answers ts; place = Terminated }
+    → session answers (flat_map turn_messages ts ++ front.Terminate ∷ [])
+    ≡ record { exchanges = turn_exchanges answers ts; place = Terminated }
 
 -- These messages are the first of its turns' and a Terminate.
 abbrev pub AreFirstOf : List FrontMessage → List Turn → Type 0
-AreFirstOf handled ts = Begins handled (flat_map turn_messages ts ++ front.Terminate ∷ [])
+AreFirstOf handled ts = IsPrefix handled (flat_map turn_messages ts ++ front.Terminate ∷ [])
 
 -- The requests of the log are the first that it made.
 abbrev pub TurnsLogged : Type 0
-TurnsLogged = (answers : List Answer) (ts : List Turn) (handled : List FrontMessage) → InTurn answers ts → AreFirstOf handled ts
-    → Begins (map (λ l. l.request) (log_of answers handled)) (map (λ t. t.request) ts)
+TurnsLogged = (answers : List Answer) (ts : List Turn) (handled : List FrontMessage)
+    → InTurn answers ts → AreFirstOf handled ts
+    → IsPrefix (map (λ l. l.request) (log_of answers handled)) (map (λ t. t.request) ts)
 
 -- The chunks that were taken for each of them are those that it handed over.
 abbrev pub TurnsLoaded : Type 0
-TurnsLoaded = (answers : List Answer) (ts : List Turn) (handled : List FrontMessage) → InTurn answers ts → AreCopied ts → AreFirstOf handled ts
+TurnsLoaded = (answers : List Answer) (ts : List Turn) (handled : List FrontMessage)
+    → InTurn answers ts → AreCopied ts → AreFirstOf handled ts
     → TookEach (log_of answers handled) (map (λ t. chunks_of t.copies) ts)
 
 -- Where each of its requests is decided, it may make the next one.
 abbrev pub TurnsGoOn : Type 0
-TurnsGoOn = (answers : List Answer) (ts : List Turn) (handled : List FrontMessage) (r : Request) → InTurn answers ts → Begins handled (flat_map turn_messages ts)
-    → length ts ≤ length (log_of answers handled) → InTurn answers (ts ++ record { request = r; copies = [] } ∷ [])
+TurnsGoOn = (answers : List Answer) (ts : List Turn) (handled : List FrontMessage) (r : Request)
+    → InTurn answers ts → IsPrefix handled (flat_map turn_messages ts)
+    → length ts ≤ length (log_of answers handled)
+    → InTurn answers (ts ++ record { request = r; copies = [] } ∷ [])
 
 -- There the session stands between requests, and of the turns' messages copy messages alone are left.
 abbrev pub TurnsLeft : Type 0
-TurnsLeft = (answers : List Answer) (ts : List Turn) (handled left : List FrontMessage) → InTurn answers ts → flat_map turn_messages ts ≡ handled ++ left
-    → length ts ≤ length (log_of answers handled) → AreCopies left × ((session answers handled).place ≡ Between)
+TurnsLeft = (answers : List Answer) (ts : List Turn) (handled left : List FrontMessage)
+    → InTurn answers ts → flat_map turn_messages ts ≡ handled ++ left
+    → length ts ≤ length (log_of answers handled)
+    → AreCopies left × ((session answers handled).place ≡ Between)
 
 -- ---- all that a backend sends and logs
 
--- The second input goes on where the first ends: with more messages, or with more first packets where no message had come.
-abbrev pub GoesOn : Input → Input → Type 0
-GoesOn i j = (i.faulty ≡ false) × (((j.packets ≡ i.packets) × Begins i.messages j.messages) ⊎ ((i.messages ≡ []) × Begins i.packets j.packets))
+-- The second input has more than the first: more messages, or more first packets where no message had come.
+abbrev pub IsExtendedBy : Input → Input → Type 0
+IsExtendedBy i j = (i.faulty ≡ false)
+    × (((j.packets ≡ i.packets) × IsPrefix i.messages j.messages)
+    ⊎ ((i.messages ≡ []) × IsPrefix i.packets j.packets))
 
 -- The transcript grows at its end alone.
 abbrev pub TranscriptGrows : Type 0
-TranscriptGrows = (s : Script) (i j : Input) → GoesOn i j → Begins (transcript s i) (transcript s j)
+TranscriptGrows = (s : Script) (i j : Input)
+    → IsExtendedBy i j → IsPrefix (transcript s i) (transcript s j)
 
 -- So does the log.
 abbrev pub LogGrows : Type 0
-LogGrows = (s : Script) (i j : Input) → GoesOn i j → Begins (input_log s i) (input_log s j)
+LogGrows = (s : Script) (i j : Input)
+    → IsExtendedBy i j → IsPrefix (input_log s i) (input_log s j)

@@ -1,9 +1,9 @@
 -- Words on lists and options.
 use Rattle.std.specs.Prelude.{◌≡◌, List, ◌++◌, Option, Some}
 
--- The first list is a beginning of the second.
-abbrev pub Begins : {A : Type 0} → List A → List A → Type 0
-Begins {A} xs ys = (rest : List A) × (ys ≡ xs ++ rest)
+-- The first list is a prefix of the second: the second is the first, and then more.
+abbrev pub IsPrefix : {A : Type 0} → List A → List A → Type 0
+IsPrefix {A} xs ys = (rest : List A) × (ys ≡ xs ++ rest)
 
 -- What the first has, the second has too.
 abbrev pub Keeps : {A : Type 0} → Option A → Option A → Type 0

@@ -1,4 +1,4 @@
--- What is sent from the begin of a connection on ("Start-up").
+-- What is sent from the beginning of a connection on ("Start-up").
 use Rattle.std.specs.Prelude.{ℕ, List, [], ◌∷◌, ◌++◌, Option, Some, None, map, if◌then◌else◌, codes}
 use Rattle.std.specs.Str.{bytes_eq}
 use Rattle.pg_wire.specs.message.BackMessage.{BackMessage}
@@ -14,14 +14,16 @@ use Rattle.pg_script.specs.declared.script.Auth.{Auth}
 use Rattle.pg_script.specs.declared.script.Auth.TheVariants.{Trust, Cleartext, Md5}
 use Rattle.pg_script.specs.declared.script.Key.{Key}
 use Rattle.pg_script.specs.declared.script.Script.{Script}
-use Rattle.pg_script.specs.Answers.{own_error}
+use Rattle.pg_script.specs.OwnError.{no_user, wrong_password}
 use Rattle.pg_script.specs.Session.{Place, Terminated, Stray, farewell, replies}
 
 -- ---- the first messages
 
+-- the message of a run-time parameter: its name and its value
 abbrev pub pair_message : List ℕ × List ℕ → BackMessage
 pair_message p = back.ParameterStatus p.0 p.1
 
+-- the message of the key with which a client may cancel, if there is one
 abbrev pub key_messages : Option Key → List BackMessage
 key_messages None = []
 key_messages (Some key) = back.KeyData key.process key.secret ∷ []
@@ -36,14 +38,6 @@ welcome s = back.AuthOk ∷ (map pair_message s.pairs ++ key_messages s.key ++ b
 abbrev pub user_from : List ℕ → List (List ℕ × List ℕ) → List ℕ
 user_from user [] = user
 user_from user (p ∷ ps) = user_from (if bytes_eq p.0 (codes "user") then p.1 else user) ps
-
--- the error of a Startup that names no user
-abbrev pub no_user : List ErrorField
-no_user = own_error (codes "FATAL") (codes "28000") (codes "no user in startup")
-
--- the error of a password that isn't the one that is awaited
-abbrev pub wrong_password : List ErrorField
-wrong_password = own_error (codes "FATAL") (codes "28P01") (codes "password authentication failed")
 
 -- what a client is asked for
 abbrev pub question : Auth → List BackMessage
@@ -67,7 +61,8 @@ pub data Admission : Type 0 where
 -- the first message has to be this password
 abbrev pub by_password : List ℕ → List FrontMessage → Admission
 by_password expected [] = Awaited
-by_password expected (front.Password password ∷ ms) = if bytes_eq password expected then Admitted ms else Refused wrong_password
+by_password expected (front.Password password ∷ ms) =
+    if bytes_eq password expected then Admitted ms else Refused wrong_password
 by_password expected (front.Terminate ∷ ms) = Stopped Terminated
 by_password expected (m ∷ ms) = Stopped Stray
 
@@ -77,10 +72,12 @@ by_auth Trust user ms = Admitted ms
 by_auth (Cleartext password) user ms = by_password password ms
 by_auth (Md5 password salt) user ms = by_password (md5_text user password salt) ms
 
+-- what becomes of a client with this user: it is refused where it names none
 abbrev pub admission : Auth → List ℕ → List FrontMessage → Admission
 admission auth [] ms = Refused no_user
 admission auth (c ∷ cs) ms = by_auth auth (c ∷ cs) ms
 
+-- what is sent once that is known: an error, nothing yet, or the welcome with all that its messages are answered
 abbrev pub admission_messages : Script → Admission → List BackMessage
 admission_messages s (Refused fields) = back.ErrorResponse fields ∷ []
 admission_messages s Awaited = []
@@ -90,7 +87,8 @@ admission_messages s (Admitted ms) = welcome s ++ replies s.answers ms
 -- what is sent after a Startup with these parameters
 abbrev pub started : Script → List (List ℕ × List ℕ) → List FrontMessage → List BackMessage
 started s pairs ms =
-    let user = user_from [] pairs in asked s.auth user ++ admission_messages s (admission s.auth user ms)
+    let user = user_from [] pairs in
+    asked s.auth user ++ admission_messages s (admission s.auth user ms)
 
 -- ---- all that is sent
 
@@ -99,7 +97,7 @@ pub data Sent : Type 0 where
   No : Sent
   Says : (message : BackMessage) → Sent
 
--- all that is sent for these first packets and the messages behind them
+-- all that is sent for these first packets and the messages after them
 abbrev pub sent_for : Script → List First → List FrontMessage → List Sent
 sent_for s [] ms = []
 sent_for s (first.Ssl ∷ packets) ms = No ∷ sent_for s packets ms

@@ -14,18 +14,21 @@ use Rattle.pg_script.specs.declared.script.Answer.{Answer}
 use Rattle.pg_script.specs.declared.script.Load.{Load}
 use Rattle.pg_script.specs.declared.script.ScriptPart.{ScriptPart}
 use Rattle.pg_script.specs.declared.script.ScriptPart.TheVariants as part
-use Rattle.pg_script.specs.Answers.{parts_of}
 use Rattle.pg_script.specs.Copies.{CopyEnd, copy_end}
+use Rattle.pg_script.specs.Outcome.{parts_of, whole_outcome}
 
 -- the parts of an answer: all can be sent, or those before a copy from the client, and it, and those after it
 pub data Shape : Type 0 where
   Whole : Shape
-  Copies : (before : List ScriptPart) → (head : CopyHead) → (load : Load) → (after : List ScriptPart) → Shape
+  Copies : (before : List ScriptPart) → (head : CopyHead) → (load : Load)
+      → (after : List ScriptPart) → Shape
 
+-- the shape with one part more in front, which is no copy from the client
 abbrev pub after_part : ScriptPart → Shape → Shape
 after_part p Whole = Whole
 after_part p (Copies before head load after) = Copies (p ∷ before) head load after
 
+-- the shape of parts: they are split at the first copy from the client
 abbrev pub shape : List ScriptPart → Shape
 shape [] = Whole
 shape (part.CopyIn head load ∷ ps) = Copies [] head load ps
@@ -33,26 +36,32 @@ shape (p ∷ ps) = after_part p (shape ps)
 
 -- ---- what an answer comes to
 
--- its outcome, the chunks that were taken, and how many messages its copy took
+-- what an answer comes to: its outcome, the chunks that were taken, and how many messages its copy took
 pub record Verdict : Type 0 where
   pub outcome : Outcome
   pub loaded : List (List ℕ)
   pub taken : ℕ
 
-abbrev pub whole_outcome : Answer → Outcome
-whole_outcome a = record { parts = parts_of a.parts; error = a.error; status = a.status; asides = a.before }
-
--- an error that ends a copy ends the answer
+-- the outcome of an answer whose copy has ended so, after these parts: an error that ends a copy ends the answer
 abbrev pub outcome_at : Answer → List ScriptPart → Result (List ℕ) (List ErrorField) → Outcome
 outcome_at a before (Ok tag) = whole_outcome a
-outcome_at a before (Err fields) = record { parts = parts_of before; error = Some fields; status = a.status; asides = a.before }
+outcome_at a before (Err fields) = record {
+  parts = parts_of before;
+  error = Some fields;
+  status = a.status;
+  asides = a.before;
+}
 
+-- what an answer comes to by the end of its copy
 abbrev pub at_copy_end : Answer → List ScriptPart → CopyEnd → Verdict
-at_copy_end a before e = record { outcome = outcome_at a before e.result; loaded = e.loaded; taken = e.taken }
+at_copy_end a before e =
+    record { outcome = outcome_at a before e.result; loaded = e.loaded; taken = e.taken }
 
+-- what an answer of this shape comes to where these messages follow the request
 abbrev pub verdict_of : Answer → Shape → List FrontMessage → Option Verdict
 verdict_of a Whole ms = Some (record { outcome = whole_outcome a; loaded = []; taken = 0 })
-verdict_of a (Copies before head load after) ms = option_map (at_copy_end a before) (copy_end load ms)
+verdict_of a (Copies before head load after) ms =
+    option_map (at_copy_end a before) (copy_end load ms)
 
 -- what an answer comes to where these messages follow the request, if they decide it
 abbrev pub verdict : Answer → List FrontMessage → Option Verdict
@@ -60,15 +69,18 @@ verdict a ms = verdict_of a (shape a.parts) ms
 
 -- ---- what is sent for an answer
 
+-- the message of an aside ("Asynchronous Operations")
 abbrev pub aside_message : Aside → BackMessage
 aside_message (aside.Notice fields) = back.NoticeResponse fields
 aside_message (aside.Parameter name value) = back.ParameterStatus name value
-aside_message (aside.Notification process channel payload) = back.Notification process channel payload
+aside_message (aside.Notification process channel payload) =
+    back.Notification process channel payload
 
 -- the messages of parts that are complete
 abbrev pub parts_sent : List ScriptPart → List BackMessage
 parts_sent parts = flat_map messages_of (parts_of parts)
 
+-- the message of an error, if there is one
 abbrev pub error_sent : Option (List ErrorField) → List BackMessage
 error_sent None = []
 error_sent (Some fields) = back.ErrorResponse fields ∷ []
@@ -78,14 +90,17 @@ abbrev pub end_sent : Option (List ErrorField) → Answer → List BackMessage
 end_sent error a = error_sent error ++ back.Ready a.status ∷ []
 
 -- what is sent once the copy has ended: with its tag and all that comes after it, or with the error that ended it
-abbrev pub after_end : Answer → List ScriptPart → Result (List ℕ) (List ErrorField) → List BackMessage
+abbrev pub after_end : Answer → List ScriptPart
+    → Result (List ℕ) (List ErrorField) → List BackMessage
 after_end a after (Ok tag) = back.CommandComplete tag ∷ (parts_sent after ++ end_sent a.error a)
 after_end a after (Err fields) = end_sent (Some fields) a
 
+-- what is sent after a copy's begin, which has ended so or hasn't
 abbrev pub after_copy : Answer → List ScriptPart → Option CopyEnd → List BackMessage
 after_copy a after None = []
 after_copy a after (Some e) = after_end a after e.result
 
+-- what is sent for the parts of an answer and after them, where these messages follow the request
 abbrev pub reply_of : Answer → Shape → List FrontMessage → List BackMessage
 reply_of a Whole ms = parts_sent a.parts ++ end_sent a.error a
 reply_of a (Copies before head load after) ms =

@@ -1,42 +1,24 @@
 -- The messages after authentication, cut into requests with what follows each of them.
-use Rattle.std.specs.Prelude.{ℕ, zero, suc, List, [], ◌∷◌, ◌++◌, Option, Some, None, map, codes}
+use Rattle.std.specs.Prelude.{ℕ, zero, suc, List, [], ◌∷◌, ◌++◌, Option, Some, None, map}
 use Rattle.std.specs.List.{flat_map}
 use Rattle.pg_wire.specs.message.BackMessage.{BackMessage}
 use Rattle.pg_wire.specs.message.BackMessage.TheVariants as back
-use Rattle.pg_wire.specs.value.ErrorField.{ErrorField}
 use Rattle.pg_wire.specs.message.FrontMessage.{FrontMessage}
-use Rattle.pg_wire.specs.message.FrontMessage.TheVariants as front
 use Rattle.pg_wire.specs.declared.session.Request.{Request}
 use Rattle.pg_wire.specs.declared.session.Request.TheVariants as request
 use Rattle.pg_wire.specs.declared.session.Step.{Step}
-use Rattle.pg_wire.specs.declared.session.Step.TheVariants as step
 use Rattle.pg_script.specs.declared.meaning.InCopy.{InCopy}
 use Rattle.pg_script.specs.declared.meaning.InCopy.TheVariants as copy
 use Rattle.pg_script.specs.declared.meaning.Meaning.{Meaning}
 use Rattle.pg_script.specs.declared.meaning.Meaning.TheVariants.{Asks, Adds, Closes, Drops, Leaves, Strays}
 use Rattle.pg_script.specs.declared.script.Answer.{Answer}
 use Rattle.pg_script.specs.declared.script.Logged.{Logged}
-use Rattle.pg_script.specs.Answers.{own_error, answer_for, others}
-use Rattle.pg_script.specs.Copies.{in_copy}
+use Rattle.pg_script.specs.Fitting.{answer_for, others}
+use Rattle.pg_script.specs.Meaning.{meaning, in_copy}
+use Rattle.pg_script.specs.OwnError.{fatal_unexpected}
 use Rattle.pg_script.specs.Replies.{Verdict, verdict, reply}
 
--- what a message of the client means between copies
-abbrev pub meaning : FrontMessage → Meaning
-meaning (front.Query text) = Asks text
-meaning (front.Parse name text types) = Adds (step.Parse name text types)
-meaning (front.Bind portal statement formats values result_formats) = Adds (step.Bind portal statement formats values result_formats)
-meaning (front.Describe target name) = Adds (step.Describe target name)
-meaning (front.Close target name) = Adds (step.Close target name)
-meaning (front.Execute portal max_rows) = Adds (step.Execute portal max_rows)
-meaning front.Sync = Closes
-meaning front.Flush = Drops
-meaning (front.CopyData bytes) = Drops
-meaning front.CopyDone = Drops
-meaning (front.CopyFail reason) = Drops
-meaning front.Terminate = Leaves
-meaning (front.Password password) = Strays
-
--- a request, what its answer came to, and what was sent for it
+-- a request, what its answer came to if it is decided, and what was sent for it
 pub record Exchange : Type 0 where
   pub request : Request
   pub verdict : Option Verdict
@@ -55,39 +37,48 @@ pub data Place : Type 0 where
   Terminated : Place
   Stray : Place
 
+-- a session: each request with what it came to, and where the messages end
 pub record Session : Type 0 where
   pub exchanges : List Exchange
   pub place : Place
 
+-- no request was made, and the messages end there
 abbrev pub only : Place → Session
 only place = record { exchanges = []; place = place }
 
--- within a group, or between requests
+-- where messages end that have these steps after the last request: within a group, or between requests
 abbrev pub place_after : List Step → Place
 place_after [] = Between
 place_after (s ∷ ss) = Grouping (s ∷ ss)
 
--- a copy that isn't decided is under way until the client leaves
+-- where these messages end in a copy that they don't decide: it is under way until the client leaves
 abbrev pub copy_place : List InCopy → Place
 copy_place [] = Copying
 copy_place (copy.Leaves ∷ ms) = Terminated
 copy_place (m ∷ ms) = copy_place ms
 
+-- the session of a request's exchange: undecided, the request is the last; decided, the rest follows, past the messages
+-- that its copy took
 abbrev pub begun : Exchange → Option Verdict → Place → (ℕ → Session) → Session
 begun e None unfinished rest = record { exchanges = e ∷ []; place = unfinished }
-begun e (Some v) unfinished rest = record { exchanges = e ∷ (rest v.taken).exchanges; place = (rest v.taken).place }
+begun e (Some v) unfinished rest =
+    record { exchanges = e ∷ (rest v.taken).exchanges; place = (rest v.taken).place }
 
 -- a request, and what comes after the messages that it takes
 abbrev pub begin : List Answer → Request → List FrontMessage → (ℕ → Session) → Session
 begin answers r ms rest =
-    begun (exchange r (answer_for answers r) ms) (verdict (answer_for answers r) ms) (copy_place (map in_copy ms)) rest
+    begun (exchange r (answer_for answers r) ms) (verdict (answer_for answers r) ms)
+    (copy_place (map in_copy ms)) rest
 
 -- what a message begins where these steps of a group have come before it, and these messages follow
-abbrev pub read : List Answer → Meaning → List Step → List FrontMessage → (ℕ → List Answer → List Step → Session) → Session
-read answers (Asks text) [] ms rest = begin answers (request.Query text) ms (λ n. rest n (others answers) [])
+abbrev pub read : List Answer → Meaning → List Step → List FrontMessage
+    → (ℕ → List Answer → List Step → Session) → Session
+read answers (Asks text) [] ms rest =
+    begin answers (request.Query text) ms (λ n. rest n (others answers) [])
 read answers (Asks text) (s ∷ ss) ms rest = only Stray
 read answers (Adds s) steps ms rest = rest 0 answers (steps ++ s ∷ [])
-read answers Closes steps ms rest = begin answers (request.Group steps) ms (λ n. rest n (others answers) [])
+read answers Closes steps ms rest =
+    begin answers (request.Group steps) ms (λ n. rest n (others answers) [])
 read answers Drops steps ms rest = rest 0 answers steps
 read answers Leaves steps ms rest = only Terminated
 read answers Strays steps ms rest = only Stray
@@ -102,10 +93,7 @@ cut zero answers steps (m ∷ ms) = read answers (meaning m) steps ms (λ n a s.
 abbrev pub session : List Answer → List FrontMessage → Session
 session answers ms = cut 0 answers [] ms
 
--- the error of a message that can't stand in its place
-abbrev pub fatal_unexpected : List ErrorField
-fatal_unexpected = own_error (codes "FATAL") (codes "08P01") (codes "unexpected message")
-
+-- the error that is sent last, where the messages end at one that can't stand in its place
 abbrev pub farewell : Place → List BackMessage
 farewell Stray = back.ErrorResponse fatal_unexpected ∷ []
 farewell _ = []
@@ -114,9 +102,11 @@ farewell _ = []
 abbrev pub said : Session → List BackMessage
 said s = flat_map (λ e. e.reply) s.exchanges ++ farewell s.place
 
+-- all that is sent in the session of these messages
 abbrev pub replies : List Answer → List FrontMessage → List BackMessage
 replies answers ms = said (session answers ms)
 
+-- what is logged of a request: it, its outcome and the chunks of its copy, once it is decided
 abbrev pub logged : Request → Option Verdict → List Logged
 logged r None = []
 logged r (Some v) = record { request = r; outcome = v.outcome; loaded = v.loaded } ∷ []
@@ -125,5 +115,6 @@ logged r (Some v) = record { request = r; outcome = v.outcome; loaded = v.loaded
 abbrev pub decided : Session → List Logged
 decided s = flat_map (λ e. logged e.request e.verdict) s.exchanges
 
+-- what is logged in the session of these messages
 abbrev pub log_of : List Answer → List FrontMessage → List Logged
 log_of answers ms = decided (session answers ms)

@@ -10,9 +10,9 @@ use Rattle.pg_wire.specs.declared.session.Request.{Request}
 use Rattle.pg_wire.specs.Segment.{request_messages}
 use Rattle.pg_script.specs.declared.script.Answer.{Answer}
 use Rattle.pg_script.specs.declared.script.Logged.{Logged}
-use Rattle.pg_script.specs.Answers.{answer_for, others}
-use Rattle.pg_script.specs.Copies.{in_copy}
-use Rattle.pg_script.specs.Lists.{Begins}
+use Rattle.pg_script.specs.Fitting.{answer_for, others}
+use Rattle.pg_script.specs.Lists.{IsPrefix}
+use Rattle.pg_script.specs.Meaning.{in_copy}
 use Rattle.pg_script.specs.Replies.{Verdict, verdict}
 use Rattle.pg_script.specs.Session.{Exchange, exchange, Place, Between, copy_place}
 
@@ -21,6 +21,7 @@ pub record Turn : Type 0 where
   pub request : Request
   pub copies : List FrontMessage
 
+-- the messages of a turn: the request's, and then those of its copies
 abbrev pub turn_messages : Turn → List FrontMessage
 turn_messages t = request_messages t.request ++ t.copies
 
@@ -31,6 +32,7 @@ is_copy front.CopyDone = true
 is_copy (front.CopyFail reason) = true
 is_copy m = false
 
+-- Each message is a chunk of a copy or an end of one.
 abbrev pub AreCopies : List FrontMessage → Type 0
 AreCopies ms = AllByRecursion (λ m. is_copy m ≡ true) ms
 
@@ -38,18 +40,22 @@ AreCopies ms = AllByRecursion (λ m. is_copy m ≡ true) ms
 abbrev pub InTurn : List Answer → List Turn → Type 0
 InTurn answers [] = Unit {0}
 InTurn answers (t ∷ []) = AreCopies t.copies
-InTurn answers (t ∷ u ∷ ts) = AreCopies t.copies × IsSome (verdict (answer_for answers t.request) t.copies) × InTurn (others answers) (u ∷ ts)
+InTurn answers (t ∷ u ∷ ts) = AreCopies t.copies
+    × IsSome (verdict (answer_for answers t.request) t.copies)
+    × InTurn (others answers) (u ∷ ts)
 
 -- each request with what its own copy messages come to
 abbrev pub turn_exchanges : List Answer → List Turn → List Exchange
 turn_exchanges answers [] = []
-turn_exchanges answers (t ∷ ts) = exchange t.request (answer_for answers t.request) t.copies ∷ turn_exchanges (others answers) ts
+turn_exchanges answers (t ∷ ts) =
+    exchange t.request (answer_for answers t.request) t.copies ∷ turn_exchanges (others answers) ts
 
+-- where a turn ends: in its copy where that isn't decided, else between requests
 abbrev pub one_place : Option Verdict → List FrontMessage → Place
 one_place None ms = copy_place (map in_copy ms)
 one_place (Some v) ms = Between
 
--- where the messages of the turns end: in the copy of the last request, or behind it
+-- where the messages of the turns end: in the copy of the last request, or after it
 abbrev pub turn_place : List Answer → List Turn → Place
 turn_place answers [] = Between
 turn_place answers (t ∷ []) = one_place (verdict (answer_for answers t.request) t.copies) t.copies
@@ -65,6 +71,7 @@ IsCopy (front.CopyDone ∷ ms) = ms ≡ []
 IsCopy (front.CopyFail reason ∷ ms) = ms ≡ []
 IsCopy (m ∷ ms) = ⊥
 
+-- What is sent for each turn's copies is chunks, and then maybe one end.
 abbrev pub AreCopied : List Turn → Type 0
 AreCopied ts = AllByRecursion (λ t. IsCopy t.copies) ts
 
@@ -74,13 +81,14 @@ chunks_of [] = []
 chunks_of (front.CopyData bytes ∷ ms) = bytes ∷ chunks_of ms
 chunks_of (m ∷ ms) = chunks_of ms
 
+-- the part is a copy from the client, which is complete
 abbrev pub is_copied_in : Part → Bool
 is_copied_in (whole.CopyIn head tag) = true
 is_copied_in p = false
 
 -- What was taken for a request is the first of the chunks that were handed over, and all of them where its copy is complete.
 pub record Took (l : Logged) (handed : List (List ℕ)) : Type 0 where
-  pub begins : Begins l.loaded handed
+  pub begins : IsPrefix l.loaded handed
   pub all : list_any is_copied_in l.outcome.parts ≡ true → l.loaded ≡ handed
 
 -- So it is for each request of the log.

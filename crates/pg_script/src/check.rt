@@ -2,13 +2,13 @@
 
 ghost use Rattle.std.specs.Prelude.{◌≡◌};
 ghost use Rattle.std.specs.List.{list_all, flat_map};
-ghost use Rattle.pg_script.specs.Answers.{is_copy_in, has_one_copy};
-ghost use Rattle.pg_script.specs.Check.{part_messages, answer_messages, script_messages, Checks};
+ghost use Rattle.pg_script.specs.Check.{is_copy_in, has_one_copy, part_messages, answer_messages};
+ghost use Rattle.pg_script.specs.Check.{script_messages, Checks};
 ghost use Rattle.pg_script.specs.Telling.{Tells, script_fault};
 
 use crate::fault::ScriptFault;
 use crate::script::{Answer, Load, Script, ScriptPart};
-use crate::telling::{Told, tell_all, tell_error, tell_key, worse};
+use crate::telling::{Tell, both, tell_all, tell_error, tell_key};
 use pg_wire::EncodeFault;
 use pg_wire::backend::{copy_in, error_response};
 use std::alloc::Global;
@@ -42,8 +42,8 @@ fn tell_part(part: &ScriptPart, out: &mut Vec<u8>) -> Result<(), EncodeFault>
         ScriptPart::CopyIn { head, load } => match load {
             Load::Accept(_) => part.tell(out),
             Load::Refuse { after: _, fields } => {
-                let told = copy_in(head, out);
-                worse(told, error_response(fields.as_slice(), out))
+                let so_far = copy_in(head, out);
+                both(so_far, error_response(fields.as_slice(), out))
             }
         },
         _ => part.tell(out),
@@ -53,22 +53,22 @@ fn tell_part(part: &ScriptPart, out: &mut Vec<u8>) -> Result<(), EncodeFault>
 fn tell_parts(parts: &[ScriptPart], out: &mut Vec<u8>) -> Result<(), EncodeFault>
     ensures { Tells (flat_map part_messages parts.now) out.old.items result out.new.items }
 {
-    let mut told = Ok(());
+    let mut so_far = Ok(());
     for part in parts {
-        told = worse(told, tell_part(part, out));
+        so_far = both(so_far, tell_part(part, out));
     }
-    told
+    so_far
 }
 
 /// What an answer stands for, whether it fits its request or not.
-impl Told for Answer {
+impl Tell for Answer {
     ghost messages = { answer_messages };
 
     fn tell(&self, out: &mut Vec<u8>) -> Result<(), EncodeFault> {
         let asides = tell_all(self.before.as_slice(), out);
-        let told = tell_parts(self.parts.as_slice(), out);
-        let told = worse(told, tell_error(&self.error, out));
-        worse(asides, told)
+        let so_far = tell_parts(self.parts.as_slice(), out);
+        let so_far = both(so_far, tell_error(&self.error, out));
+        both(asides, so_far)
     }
 }
 
@@ -77,9 +77,9 @@ fn tell_script(script: &Script, out: &mut Vec<u8>) -> Result<(), EncodeFault>
     ensures { Tells (script_messages script.now) out.old.items result out.new.items }
 {
     let pairs = tell_all(script.pairs.as_slice(), out);
-    let told = tell_key(&script.key, out);
-    let told = worse(told, tell_all(script.answers.as_slice(), out));
-    worse(pairs, told)
+    let so_far = tell_key(&script.key, out);
+    let so_far = both(so_far, tell_all(script.answers.as_slice(), out));
+    both(pairs, so_far)
 }
 
 fn script_fault(fault: EncodeFault) -> ScriptFault

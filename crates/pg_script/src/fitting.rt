@@ -2,7 +2,7 @@
 
 ghost use Rattle.std.specs.Prelude.{◌≡◌};
 ghost use Rattle.std.specs.List.{list_all};
-ghost use Rattle.pg_script.specs.Answers.{answers_query, answers_step, answers_steps, fits};
+ghost use Rattle.pg_script.specs.Fitting.{answers_query, answers_step, answers_steps, fits};
 
 use crate::script::{Answer, ScriptPart};
 use pg_wire::{Request, Step, Target};

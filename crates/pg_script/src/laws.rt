@@ -1,13 +1,17 @@
 //! Laws of the definitions: each function does nothing, and its contract is the law.
 
-ghost use Rattle.pg_script.specs.Laws.{VerdictStands, ReplyStands, ReplyGrows, AnswerFits, ReplyFits, ReplyBegins, RepliesGrow, SessionLogGrows, SegmentsFitLog, OneCopyEach, WelcomeIsSegment, TurnsRead, TurnsEnd, TurnsLogged, TurnsLoaded, TurnsGoOn, TurnsLeft, TranscriptGrows, LogGrows};
+ghost use Rattle.pg_script.specs.Laws.{VerdictStands, ReplyStands, ReplyGrows, AnswerFits};
+ghost use Rattle.pg_script.specs.Laws.{ReplyFits, ReplyBegins, RepliesGrow, SessionLogGrows};
+ghost use Rattle.pg_script.specs.Laws.{SegmentsFitLog, OneCopyEach, WelcomeIsSegment, TurnsRead};
+ghost use Rattle.pg_script.specs.Laws.{TurnsEnd, TurnsLogged, TurnsLoaded, TurnsGoOn, TurnsLeft};
+ghost use Rattle.pg_script.specs.Laws.{TranscriptGrows, LogGrows};
 
-/// Messages behind those that decided a request don't change its verdict.
+/// Messages after those that decided a request don't change its verdict.
 pub fn verdict_stands()
     ensures { VerdictStands }
 {}
 
-/// Messages behind those that decided a request don't change its reply.
+/// Messages after those that decided a request don't change its reply.
 pub fn reply_stands()
     ensures { ReplyStands }
 {}
@@ -62,7 +66,7 @@ pub fn turns_read()
     ensures { TurnsRead }
 {}
 
-/// A Terminate behind the turns ends the session, and changes nothing else.
+/// A Terminate after the turns ends the session, and changes nothing else.
 pub fn turns_end()
     ensures { TurnsEnd }
 {}

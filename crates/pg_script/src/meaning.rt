@@ -2,8 +2,7 @@
 
 ghost use Rattle.std.specs.Prelude.{◌≡◌};
 ghost use Rattle.pg_wire.specs.Frontend.{tag};
-ghost use Rattle.pg_script.specs.Session.{meaning};
-ghost use Rattle.pg_script.specs.Copies.{in_copy};
+ghost use Rattle.pg_script.specs.Meaning.{meaning, in_copy};
 
 use pg_wire::{FrontMessage, Seq, Step};
 

@@ -2,8 +2,7 @@
 
 ghost use Rattle.std.specs.Prelude.{◌≡◌, IfOk, option_to_list};
 ghost use Rattle.pg_wire.specs.declared.session.Outcome.{Outcome};
-ghost use Rattle.pg_script.specs.Answers.{complete, parts_of};
-ghost use Rattle.pg_script.specs.Replies.{whole_outcome};
+ghost use Rattle.pg_script.specs.Outcome.{complete, parts_of, whole_outcome};
 
 use crate::script::{Answer, Load, ScriptPart};
 use pg_wire::{Aside, ExecEnd, Fields, Outcome, Part, Seq, Values};
@@ -153,7 +152,12 @@ pub fn outcome(
     parts: &[ScriptPart],
     error: Option<Fields>,
 ) -> Result<Outcome, AllocError>
-    ensures { IfOk result (λ o. o ≡ record { parts = parts_of parts.now; error = error; status = answer.now.status; asides = answer.now.before }) }
+    ensures { IfOk result (λ o. o ≡ record {
+      parts = parts_of parts.now;
+      error = error;
+      status = answer.now.status;
+      asides = answer.now.before;
+    }) }
 {
     Ok(Outcome {
         parts: complete_parts(alloc, parts)?,

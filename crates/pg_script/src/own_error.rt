@@ -1,11 +1,8 @@
 //! The errors of the backend's own, with the codes of the documentation's appendix "PostgreSQL Error Codes".
 
 ghost use Rattle.std.specs.Prelude.{◌≡◌, IfOk, take};
-ghost use Rattle.pg_script.specs.Answers.{own_error, no_answer};
-ghost use Rattle.pg_script.specs.Copies.{canceled, out_of_copy};
-ghost use Rattle.pg_script.specs.Session.{fatal_unexpected};
-ghost use Rattle.pg_script.specs.Opening.{no_user, wrong_password};
-ghost use Rattle.pg_script.specs.Input.{fatal_bad};
+ghost use Rattle.pg_script.specs.OwnError.{own_error, no_answer, canceled, out_of_copy};
+ghost use Rattle.pg_script.specs.OwnError.{fatal_unexpected, no_user, wrong_password, fatal_bad};
 
 use crate::script::Answer;
 use pg_wire::{ErrorField, Fields, Seq, Status};

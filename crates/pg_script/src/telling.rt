@@ -1,17 +1,18 @@
 //! Writing what a script says, as messages.
 //!
-//! All messages are judged, also behind one that memory was refused for: so a message without a spelling is found in any case.
+//! All messages are judged, also after one that memory was refused for: so a message without a spelling is found in any case.
 
 ghost use Rattle.std.specs.Prelude.{◌≡◌, ◌∷◌, [], ◌++◌, List, map};
 ghost use Rattle.std.specs.List.{flat_map};
 ghost use Rattle.pg_wire.specs.message.BackMessage.{BackMessage};
 ghost use Rattle.pg_wire.specs.message.BackMessage.TheVariants.{DataRow, CopyData};
-ghost use Rattle.pg_wire.specs.declared.session.Part.TheVariants.{Rows, CopyOut, CopyIn, Described, Executed};
+ghost use Rattle.pg_wire.specs.declared.session.Part.TheVariants.{Rows, CopyOut, CopyIn, Described};
+ghost use Rattle.pg_wire.specs.declared.session.Part.TheVariants.{Executed};
 ghost use Rattle.pg_wire.specs.Segment.{messages_of, parameters_sent, columns_sent, end_sent};
-ghost use Rattle.pg_script.specs.Answers.{complete};
+ghost use Rattle.pg_script.specs.Outcome.{complete};
 ghost use Rattle.pg_script.specs.Replies.{aside_message, error_sent};
 ghost use Rattle.pg_script.specs.Opening.{pair_message, key_messages};
-ghost use Rattle.pg_script.specs.Telling.{Tells, worse};
+ghost use Rattle.pg_script.specs.Telling.{Tells, both};
 
 use crate::script::{Key, Load, ScriptPart};
 use pg_wire::backend::{
@@ -21,11 +22,11 @@ use pg_wire::backend::{
 use pg_wire::{Aside, BackMessage, Column, CopyHead, EncodeFault, ExecEnd, Fields, Seq, Values};
 
 /// What two attempts come to: the first fault, but want of memory only where there is no other.
-pub fn worse(
+pub fn both(
     first: Result<(), EncodeFault>,
     second: Result<(), EncodeFault>,
 ) -> Result<(), EncodeFault>
-    ensures { result ≡ worse first second }
+    ensures { result ≡ both first second }
 {
     match first {
         Ok(()) => second,
@@ -38,7 +39,7 @@ pub fn worse(
 }
 
 /// What is told by messages.
-pub trait Told: Drop {
+pub trait Tell: Drop {
     // the messages
     ghost messages: { Self → List BackMessage };
 
@@ -48,18 +49,18 @@ pub trait Told: Drop {
 }
 
 /// Tells each of them, in their order.
-pub fn tell_all<T: Told>(items: &[T], out: &mut Vec<u8>) -> Result<(), EncodeFault>
+pub fn tell_all<T: Tell>(items: &[T], out: &mut Vec<u8>) -> Result<(), EncodeFault>
     ensures { Tells (flat_map T.messages items.now) out.old.items result out.new.items }
 {
-    let mut told = Ok(());
+    let mut so_far = Ok(());
     for item in items {
-        told = worse(told, item.tell(out));
+        so_far = both(so_far, item.tell(out));
     }
-    told
+    so_far
 }
 
 /// A row.
-impl Told for Values {
+impl Tell for Values {
     ghost messages = { λ row. DataRow row ∷ [] };
 
     fn tell(&self, out: &mut Vec<u8>) -> Result<(), EncodeFault> {
@@ -68,7 +69,7 @@ impl Told for Values {
 }
 
 /// A chunk of a copy.
-impl Told for Seq<u8> {
+impl Tell for Seq<u8> {
     ghost messages = { λ chunk. CopyData chunk ∷ [] };
 
     fn tell(&self, out: &mut Vec<u8>) -> Result<(), EncodeFault> {
@@ -77,7 +78,7 @@ impl Told for Seq<u8> {
 }
 
 /// A run-time parameter.
-impl Told for (Seq<u8>, Seq<u8>) {
+impl Tell for (Seq<u8>, Seq<u8>) {
     ghost messages = { λ pair. pair_message pair ∷ [] };
 
     fn tell(&self, out: &mut Vec<u8>) -> Result<(), EncodeFault> {
@@ -85,7 +86,7 @@ impl Told for (Seq<u8>, Seq<u8>) {
     }
 }
 
-impl Told for Aside {
+impl Tell for Aside {
     ghost messages = { λ aside. aside_message aside ∷ [] };
 
     fn tell(&self, out: &mut Vec<u8>) -> Result<(), EncodeFault> {
@@ -110,11 +111,12 @@ fn tell_rows(
     tag: &[u8],
     out: &mut Vec<u8>,
 ) -> Result<(), EncodeFault>
-    ensures { Tells (messages_of (Rows columns.now rows.now tag.now)) out.old.items result out.new.items }
+    ensures { Tells (messages_of (Rows columns.now rows.now tag.now))
+        out.old.items result out.new.items }
 {
     let head = row_description(columns, out);
-    let body = worse(head, tell_all(rows, out));
-    worse(body, command_complete(tag, out))
+    let body = both(head, tell_all(rows, out));
+    both(body, command_complete(tag, out))
 }
 
 /// A copy to the client.
@@ -124,12 +126,13 @@ fn tell_copy_out(
     tag: &[u8],
     out: &mut Vec<u8>,
 ) -> Result<(), EncodeFault>
-    ensures { Tells (messages_of (CopyOut head.now chunks.now tag.now)) out.old.items result out.new.items }
+    ensures { Tells (messages_of (CopyOut head.now chunks.now tag.now))
+        out.old.items result out.new.items }
 {
     let head = copy_out(head, out);
-    let body = worse(head, tell_all(chunks, out));
-    let body = worse(body, encode(&BackMessage::CopyDone, out));
-    worse(body, command_complete(tag, out))
+    let body = both(head, tell_all(chunks, out));
+    let body = both(body, encode(&BackMessage::CopyDone, out));
+    both(body, command_complete(tag, out))
 }
 
 /// A copy from the client that is complete.
@@ -137,7 +140,7 @@ fn tell_copy_in(head: &CopyHead, tag: &[u8], out: &mut Vec<u8>) -> Result<(), En
     ensures { Tells (messages_of (CopyIn head.now tag.now)) out.old.items result out.new.items }
 {
     let head = copy_in(head, out);
-    worse(head, command_complete(tag, out))
+    both(head, command_complete(tag, out))
 }
 
 fn tell_parameters(parameters: &Option<Seq<u32>>, out: &mut Vec<u8>) -> Result<(), EncodeFault>
@@ -163,10 +166,11 @@ fn tell_described(
     columns: &Option<Seq<Column>>,
     out: &mut Vec<u8>,
 ) -> Result<(), EncodeFault>
-    ensures { Tells (messages_of (Described parameters.now columns.now)) out.old.items result out.new.items }
+    ensures { Tells (messages_of (Described parameters.now columns.now))
+        out.old.items result out.new.items }
 {
     let parameters = tell_parameters(parameters, out);
-    worse(parameters, tell_columns(columns, out))
+    both(parameters, tell_columns(columns, out))
 }
 
 fn tell_end(end: &ExecEnd, out: &mut Vec<u8>) -> Result<(), EncodeFault>
@@ -183,11 +187,11 @@ fn tell_executed(rows: &[Values], end: &ExecEnd, out: &mut Vec<u8>) -> Result<()
     ensures { Tells (messages_of (Executed rows.now end.now)) out.old.items result out.new.items }
 {
     let rows = tell_all(rows, out);
-    worse(rows, tell_end(end, out))
+    both(rows, tell_end(end, out))
 }
 
 /// A part that is complete. A copy that is refused never is.
-impl Told for ScriptPart {
+impl Tell for ScriptPart {
     ghost messages = { λ part. flat_map messages_of (complete part) };
 
     fn tell(&self, out: &mut Vec<u8>) -> Result<(), EncodeFault> {

@@ -13,7 +13,7 @@ use Rattle.pg_client.specs.declared.phase.Cause.TheVariants as cause
 use Rattle.pg_client.specs.declared.phase.Phase.TheVariants as phase
 use Rattle.pg_backend.specs.phase.BackPhase.TheVariants as back
 use Rattle.pg_backend.specs.declared.fault.BackendFault.TheVariants as backend
-use Rattle.pg_backend.specs.Opening.{wrong_password}
+use Rattle.pg_backend.specs.OwnError.{wrong_password}
 use Rattle.pg_pair.specs.declared.event.Applied.TheVariants as applied
 use Rattle.pgpipe_loop.specs.Lines.{closing_rows, event_rows, loaded_row, text_line, text_lines}
 

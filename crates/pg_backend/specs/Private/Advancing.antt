@@ -16,61 +16,75 @@ use Rattle.pg_backend.specs.declared.fault.BackendFault.{BackendFault}
 use Rattle.pg_backend.specs.declared.fault.BackendFault.TheVariants as faults
 use Rattle.pg_script.specs.declared.script.Answer.{Answer}
 use Rattle.pg_script.specs.declared.script.Logged.{Logged}
-use Rattle.pg_backend.specs.declared.stage.Ending.TheVariants as ending
+use Rattle.pg_backend.specs.declared.stage.ClosedBy.TheVariants as closed_by
 use Rattle.pg_backend.specs.declared.stage.Next.{Next}
 use Rattle.pg_backend.specs.declared.stage.Next.TheVariants as next
-use Rattle.pg_backend.specs.declared.stage.Stage.{Stage}
-use Rattle.pg_backend.specs.declared.stage.Stage.TheVariants as stage
-use Rattle.pg_script.specs.Lists.{Begins}
-use Rattle.pg_script.specs.Opening.{Sent, No, Says, user_from, no_user}
+use Rattle.pg_backend.specs.declared.stage.BackStage.{BackStage}
+use Rattle.pg_backend.specs.declared.stage.BackStage.TheVariants as stage
+use Rattle.pg_script.specs.Lists.{IsPrefix}
+use Rattle.pg_script.specs.Opening.{Sent, No, Says, user_from}
+use Rattle.pg_script.specs.OwnError.{no_user}
 use Rattle.pg_script.specs.Input.{sent_bytes, IsSpelled, last_word}
-use Rattle.pg_backend.specs.Backend.{BackendState, phase_of, IsWaiting, IsBroken, WantsMemory}
-use Rattle.pg_backend.specs.Private.Greeting.{awaits_first, greeting}
+use Rattle.pg_backend.specs.Stage.{BackendState, phase_of, IsWaiting, IsBroken, WantsMemory}
+use Rattle.pg_backend.specs.Private.Opening.{awaits_first, greeting}
 use Rattle.pg_backend.specs.Private.Moves.{Move, move}
-use Rattle.pg_backend.specs.Private.Telling.{Puts}
+use Rattle.pg_backend.specs.Private.Telling.{AreSent}
 
 -- what is changed, and what is sent and logged
 pub record Effect : Type 0 where
-  pub stage : Stage
+  pub stage : BackStage
   pub left : List Answer
   pub sent : List Sent
   pub logged : List Logged
 
+-- a backend on which that was done
 abbrev pub applied : BackendState → Effect → BackendState
 applied b e = record b { left = e.left; stage = e.stage; log = b.log ++ e.logged }
 
 -- ---- a packet
 
-abbrev pub only_sends : BackendState → Stage → List Sent → Effect
+-- it stands there now, and this was sent
+abbrev pub only_sends : BackendState → BackStage → List Sent → Effect
 only_sends b stage sent = record { stage = stage; left = b.left; sent = sent; logged = [] }
 
 -- a Startup of this user, who isn't empty
 abbrev pub named_effect : BackendState → FirstState → List ℕ → Effect
 named_effect b d user =
     let auth = b.script.auth in
-    only_sends b (stage.Open (record { kept = d.kept; limit = b.limit; fault = d.fault }) (awaits_first auth user)) (map Says (greeting b.script auth))
+    only_sends b
+    (stage.Open (record { kept = d.kept; limit = b.limit; fault = d.fault })
+    (awaits_first auth user))
+    (map Says (greeting b.script auth))
 
+-- a Startup of this user, who may be empty
 abbrev pub startup_effect : BackendState → FirstState → List ℕ → Effect
-startup_effect b d [] = only_sends b (stage.Closed ending.Input) (Says (back.ErrorResponse no_user) ∷ [])
+startup_effect b d [] =
+    only_sends b (stage.Closed closed_by.Input) (Says (back.ErrorResponse no_user) ∷ [])
 startup_effect b d (c ∷ cs) = named_effect b d (c ∷ cs)
 
--- the packet, where the decoder stands behind it
+-- the packet, where the decoder stands after it
 abbrev pub packet_effect : BackendState → FirstState → First → Effect
 packet_effect b d first.Ssl = only_sends b (stage.First d) (No ∷ [])
 packet_effect b d first.Gss = only_sends b (stage.First d) (No ∷ [])
-packet_effect b d (first.Cancel process secret) = only_sends b (stage.Closed ending.Input) []
+packet_effect b d (first.Cancel process secret) = only_sends b (stage.Closed closed_by.Input) []
 packet_effect b d (first.Startup pairs) = startup_effect b d (user_from [] pairs)
 
 -- ---- a message
 
-abbrev pub stage_of : DecoderState → Next → Stage
+-- where a backend stands after a message that leads there
+abbrev pub stage_of : DecoderState → Next → BackStage
 stage_of d (next.Goes awaits) = stage.Open d awaits
-stage_of d next.Ends = stage.Closed ending.Input
-stage_of d (next.Strays tag) = stage.Closed ending.Input
+stage_of d next.Ends = stage.Closed closed_by.Input
+stage_of d (next.Strays tag) = stage.Closed closed_by.Input
 
--- what a message does, where the decoder stands behind it
+-- what a message does, where the decoder stands after it
 abbrev pub message_effect : DecoderState → Move → Effect
-message_effect d v = record { stage = stage_of d v.next; left = v.left; sent = map Says v.sent; logged = v.logged }
+message_effect d v = record {
+  stage = stage_of d v.next;
+  left = v.left;
+  sent = map Says v.sent;
+  logged = v.logged;
+}
 
 -- the tag of a message that can't stand in its place
 abbrev pub stray_tag : Next → Option ℕ
@@ -81,16 +95,24 @@ stray_tag n = None
 
 -- The packet is one more that the decoder has given.
 abbrev pub Begun : FirstState → FirstState → First → Type 0
-Begun d new p = (pushed : List ℕ) (given : List First) → HasBegun d pushed given → HasBegun new pushed (given ++ p ∷ [])
+Begun d new p = (pushed : List ℕ) (given : List First)
+    → HasBegun d pushed given → HasBegun new pushed (given ++ p ∷ [])
 
 -- The message is one more that the decoder has given.
 abbrev pub Taken : DecoderState → DecoderState → FrontMessage → Type 0
-Taken d new m = (pushed : List ℕ) (given : List FrontMessage) → decoder.HasTaken frontend d pushed given → decoder.HasTaken frontend new pushed (given ++ m ∷ [])
+Taken d new m = (pushed : List ℕ) (given : List FrontMessage)
+    → decoder.HasTaken frontend d pushed given
+    → decoder.HasTaken frontend new pushed (given ++ m ∷ [])
 
 -- What is kept begins with a packet or a message that has this effect, and this tag where it can't stand in its place.
-abbrev pub HasNext : BackendState → Stage → Option ℕ → Effect → Type 0
-HasNext b (stage.First d) stray e = (p : First) × (new : FirstState) × FirstTakes d (Ok (Some p)) new × Begun d new p × (stray ≡ None) × (e ≡ packet_effect b new p)
-HasNext b (stage.Open d a) stray e = (m : FrontMessage) × (new : DecoderState) × decoder.Takes frontend d (Ok (Some m)) new × Taken d new m × (stray ≡ stray_tag (move b.script b.left a m).next) × (e ≡ message_effect new (move b.script b.left a m))
+abbrev pub HasNext : BackendState → BackStage → Option ℕ → Effect → Type 0
+HasNext b (stage.First d) stray e = (p : First) × (new : FirstState)
+    × FirstTakes d (Ok (Some p)) new × Begun d new p
+    × (stray ≡ None) × (e ≡ packet_effect b new p)
+HasNext b (stage.Open d a) stray e = (m : FrontMessage) × (new : DecoderState)
+    × decoder.Takes frontend d (Ok (Some m)) new × Taken d new m
+    × (stray ≡ stray_tag (move b.script b.left a m).next)
+    × (e ≡ message_effect new (move b.script b.left a m))
 HasNext b (stage.Closed e) stray f = ⊥
 
 -- This is spelled at the end of the buffer.
@@ -98,37 +120,56 @@ pub record Sends (sent : List Sent) (before after : List ℕ) : Type 0 where
   pub spelled : AllByRecursion IsSpelled sent
   pub appended : after ≡ before ++ flat_map sent_bytes sent
 
--- A step that may leave bytes behind what was there, where memory was refused.
-abbrev pub Advances : BackendState → List ℕ → Result Bool BackendFault → BackendState → List ℕ → Type 0
+-- A step that may leave bytes after what was there, where memory was refused.
+abbrev pub Advances : BackendState → List ℕ
+    → Result Bool BackendFault → BackendState → List ℕ → Type 0
 Advances old before (Ok false) new after = IsWaiting old.stage × (new ≡ old) × (after ≡ before)
-Advances old before (Ok true) new after = (e : Effect) × HasNext old old.stage None e × (new ≡ applied old e) × Sends e.sent before after
-Advances old before (Err (faults.Unexpected t)) new after = (e : Effect) × HasNext old old.stage (Some t) e × (new ≡ applied old e) × Sends e.sent before after
-Advances old before (Err (faults.Wire f)) new after = IsBroken old.stage f × (new ≡ record old { stage = stage.Closed ending.Input }) × Sends (last_word true) before after
-Advances old before (Err faults.Memory) new after = WantsMemory old.stage × (record new { stage = stage.Closed ending.Memory } ≡ record old { stage = stage.Closed ending.Memory }) × Begins before after
+Advances old before (Ok true) new after = (e : Effect) × HasNext old old.stage None e
+    × (new ≡ applied old e) × Sends e.sent before after
+Advances old before (Err (faults.Unexpected t)) new after = (e : Effect)
+    × HasNext old old.stage (Some t) e × (new ≡ applied old e) × Sends e.sent before after
+Advances old before (Err (faults.Wire f)) new after = IsBroken old.stage f
+    × (new ≡ record old { stage = stage.Closed closed_by.Input })
+    × Sends (last_word true) before after
+Advances old before (Err faults.Memory) new after = WantsMemory old.stage
+    × (record new { stage = stage.Closed closed_by.Memory }
+    ≡ record old { stage = stage.Closed closed_by.Memory })
+    × IsPrefix before after
 Advances old before (Err faults.Closed) new after = ⊥
 
 -- A faulty rest is refused with a last word, and want of memory as it is.
-abbrev pub BreaksOff : WireFault → BackendState → List ℕ → Result Bool BackendFault → BackendState → List ℕ → Type 0
-BreaksOff f old before (Err (faults.Wire g)) new after = (f ≡ g) × (g ≢ wire.Memory) × (new ≡ old) × Sends (last_word true) before after
-BreaksOff f old before (Err faults.Memory) new after = (new ≡ old) × Begins before after
+abbrev pub BreaksOff : WireFault → BackendState → List ℕ
+    → Result Bool BackendFault → BackendState → List ℕ → Type 0
+BreaksOff f old before (Err (faults.Wire g)) new after = (f ≡ g) × (g ≢ wire.Memory)
+    × (new ≡ old) × Sends (last_word true) before after
+BreaksOff f old before (Err faults.Memory) new after = (new ≡ old) × IsPrefix before after
 BreaksOff f old before r new after = ⊥
 
--- The effect is there; or memory was refused, and but for the stage and some bytes behind what was there nothing has changed.
-abbrev pub TakesEffect : Effect → BackendState → List ℕ → Result Unit BackendFault → BackendState → List ℕ → Type 0
+-- The effect is there; or memory was refused, and but for the stage and some bytes after what was there nothing has changed.
+abbrev pub TakesEffect : Effect → BackendState → List ℕ
+    → Result Unit BackendFault → BackendState → List ℕ → Type 0
 TakesEffect e old before (Ok x) new after = (new ≡ applied old e) × Sends e.sent before after
-TakesEffect e old before (Err f) new after = (f ≡ faults.Memory) × (record new { stage = stage.Closed ending.Memory } ≡ record old { stage = stage.Closed ending.Memory }) × Begins before after
+TakesEffect e old before (Err f) new after = (f ≡ faults.Memory)
+    × (record new { stage = stage.Closed closed_by.Memory }
+    ≡ record old { stage = stage.Closed closed_by.Memory })
+    × IsPrefix before after
 
 -- The same, where the backend may have been closed before.
-abbrev pub AdvancesUnlessClosed : BackendState → List ℕ → Result Bool BackendFault → BackendState → List ℕ → Type 0
-AdvancesUnlessClosed old before (Err faults.Closed) new after = (phase_of old.stage ≡ phase.Closed) × (new ≡ old) × (after ≡ before)
+abbrev pub AdvancesUnlessClosed : BackendState → List ℕ
+    → Result Bool BackendFault → BackendState → List ℕ → Type 0
+AdvancesUnlessClosed old before (Err faults.Closed) new after =
+    (phase_of old.stage ≡ phase.Closed) × (new ≡ old) × (after ≡ before)
 AdvancesUnlessClosed old before r new after = Advances old before r new after
 
--- What a message does to the session is done; or memory was refused, and but for some bytes behind what was there nothing has
+-- What a message does to the session is done; or memory was refused, and but for some bytes after what was there nothing has
 -- changed.
-abbrev pub Hands : Move → BackendState → List ℕ → Result Next BackendFault → BackendState → List ℕ → Type 0
-Hands v old before (Ok next) new after = (next ≡ v.next) × (new ≡ record old { left = v.left; log = old.log ++ v.logged }) × Puts v.sent before after
-Hands v old before (Err f) new after = (f ≡ faults.Memory) × (new ≡ old) × Begins before after
+abbrev pub Hands : Move → BackendState → List ℕ
+    → Result Next BackendFault → BackendState → List ℕ → Type 0
+Hands v old before (Ok next) new after = (next ≡ v.next)
+    × (new ≡ record old { left = v.left; log = old.log ++ v.logged }) × AreSent v.sent before after
+Hands v old before (Err f) new after = (f ≡ faults.Memory) × (new ≡ old) × IsPrefix before after
 
+-- the answer is want of memory
 abbrev pub is_refused : Result Bool BackendFault → Bool
 is_refused (Err faults.Memory) = true
 is_refused r = false

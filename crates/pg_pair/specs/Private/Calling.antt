@@ -43,7 +43,7 @@ abbrev pub IsTakenFor : {X Z : Type 0} → Call → Option (Vec X Z) → Type 0
 IsTakenFor (call.Chunk bytes) chunks = Unit {0}
 IsTakenFor _ chunks = list_of chunks ≡ []
 
--- There is room to put these lists of chunks behind the others, and for a settled group of each list.
+-- There is room to put these lists of chunks after the others, and for a settled group of each list.
 abbrev pub HasRoomToPut : {X Y Z : Type 0}
     → List (List (List ℕ)) → Vec (List (List ℕ)) Y → Vec X Z → Type 0
 HasRoomToPut lists handed settled = (vec_len handed + length lists ≤ vec_capacity handed)

@@ -1,4 +1,4 @@
-use Rattle.pg_backend.proofs.AtOnce.{whole_decided, refused_decided, copy_undecided}
+use Rattle.pg_backend.proofs.Machine.AnsweredAtOnce.{whole_decided, refused_decided, copy_undecided}
 use Rattle.pg_backend.proofs.answering.open.Goals as goal
 
 pub returns-in_ok-give_whole-in-Whole : goal.returns-in_ok-give_whole-in-Whole

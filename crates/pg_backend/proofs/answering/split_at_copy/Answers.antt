@@ -1,4 +1,4 @@
-use Rattle.pg_backend.proofs.Splits.{copy_here, no_copy_here, no_copy, other_part}
+use Rattle.pg_backend.proofs.Machine.SplitAtCopy.{copy_here, no_copy_here, no_copy, other_part}
 use Rattle.pg_backend.proofs.answering.split_at_copy.Goals as goal
 
 pub returns-in-CopyIn : goal.returns-in-CopyIn

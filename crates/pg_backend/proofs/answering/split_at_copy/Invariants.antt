@@ -1,6 +1,6 @@
 use Rattle.std.proofs.Common.{◌≡◌, take, drop}
 use Rattle.pg_script.specs.Replies.{shape}
-use Rattle.pg_backend.proofs.Splits.{onto}
+use Rattle.pg_backend.proofs.Machine.SplitAtCopy.{onto}
 use Rattle.pg_backend.proofs.answering.split_at_copy.Given as goal
 
 abbrev pub invariant-loop-i : goal.invariant-loop-i

@@ -5,4 +5,4 @@ use Rattle.pg_script.specs.Telling.{Tells}
 use Rattle.pg_script.proofs.check.tell_parts.Given as goal
 
 abbrev pub invariant-loop-part : goal.invariant-loop-part
-invariant-loop-part l = Tells (flat_map part_messages (take l.part-index l.parts)) l.initial.out.items l.told l.out.items
+invariant-loop-part l = Tells (flat_map part_messages (take l.part-index l.parts)) l.initial.out.items l.so_far l.out.items

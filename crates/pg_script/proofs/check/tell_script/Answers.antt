@@ -2,7 +2,7 @@ use Rattle.std.proofs.Common.{◌++◌, map}
 use Rattle.std.specs.List.{flat_map}
 use Rattle.pg_script.specs.Check.{answer_messages}
 use Rattle.pg_script.specs.Opening.{pair_message, key_messages}
-use Rattle.pg_script.proofs.Tellings.{both, each_told}
+use Rattle.pg_script.proofs.Machine.Tellings.{tells_both, each_told}
 use Rattle.pg_script.proofs.check.tell_script.Goals as goal
 
 pub returns : goal.returns
@@ -10,5 +10,5 @@ returns c =
     let s = c.args.script.now in
     let pairs = rw c.as_slice.ensures at c.tell_all-pairs.ensures in
     let answers = rw c.as_slice-2.ensures at c.tell_all.ensures in
-    rw (c.worse.ensures, c.worse-told.ensures) (both (map pair_message s.pairs) (key_messages s.key ++ flat_map answer_messages s.answers) _ _ _ _ _ (each_told pair_message s.pairs _ _ _ pairs)
-    (both (key_messages s.key) (flat_map answer_messages s.answers) _ _ _ _ _ c.tell_key-told.ensures answers))
+    rw (c.both.ensures, c.both-so_far.ensures) (tells_both (map pair_message s.pairs) (key_messages s.key ++ flat_map answer_messages s.answers) _ _ _ _ _ (each_told pair_message s.pairs _ _ _ pairs)
+    (tells_both (key_messages s.key) (flat_map answer_messages s.answers) _ _ _ _ _ c.tell_key-so_far.ensures answers))

@@ -1,5 +1,5 @@
 use Rattle.std.proofs.Common.{◌≡◌, ◌⊎◌, inl, inr, ℕ, ◌<◌, ◌≤◌, length, Bool, true, sym, refl, ◌∙◌, arith}
-use Rattle.pg_script.proofs.InStep.{too_many, too_few, stops_at, goes_past, all_answer}
+use Rattle.pg_script.proofs.Machine.StepsAnswered.{too_many, too_few, stops_at, goes_past, all_answer}
 use Rattle.pg_script.proofs.fitting.answers_steps.Goals as goal
 
 pub returns-then-parts-steps : goal.returns-then-parts-steps

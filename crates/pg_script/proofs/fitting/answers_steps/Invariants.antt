@@ -1,5 +1,5 @@
 use Rattle.std.proofs.Common.{◌≡◌, drop}
-use Rattle.pg_script.specs.Answers.{answers_steps}
+use Rattle.pg_script.specs.Fitting.{answers_steps}
 use Rattle.pg_script.proofs.fitting.answers_steps.Given as goal
 
 abbrev pub invariant-loop-i : goal.invariant-loop-i

@@ -1,4 +1,4 @@
-use Rattle.pg_script.proofs.Meant.{answer_fits}
+use Rattle.pg_script.proofs.Replying.RepliesFit.{answer_fits}
 use Rattle.pg_script.proofs.laws.answer_fits.Goals as goal
 
 pub returns : goal.returns

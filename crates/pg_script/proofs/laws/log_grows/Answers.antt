@@ -1,4 +1,4 @@
-use Rattle.pg_script.proofs.Growing.{logs_grow}
+use Rattle.pg_script.proofs.Definitions.InputGrows.{logs_grow}
 use Rattle.pg_script.proofs.laws.log_grows.Goals as goal
 
 pub returns : goal.returns

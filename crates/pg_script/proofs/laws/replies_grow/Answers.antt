@@ -1,4 +1,4 @@
-use Rattle.pg_script.proofs.Grows.{replies_grow}
+use Rattle.pg_script.proofs.Definitions.SessionGrows.{replies_grow}
 use Rattle.pg_script.proofs.laws.replies_grow.Goals as goal
 
 pub returns : goal.returns

@@ -1,4 +1,4 @@
-use Rattle.pg_script.proofs.Meant.{reply_begins}
+use Rattle.pg_script.proofs.Replying.RepliesFit.{reply_begins}
 use Rattle.pg_script.proofs.laws.reply_begins.Goals as goal
 
 pub returns : goal.returns

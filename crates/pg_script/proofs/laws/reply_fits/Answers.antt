@@ -1,4 +1,4 @@
-use Rattle.pg_script.proofs.Meant.{reply_fits}
+use Rattle.pg_script.proofs.Replying.RepliesFit.{reply_fits}
 use Rattle.pg_script.proofs.laws.reply_fits.Goals as goal
 
 pub returns : goal.returns

@@ -1,4 +1,4 @@
-use Rattle.pg_script.proofs.More.{reply_grows}
+use Rattle.pg_script.proofs.Definitions.DecidedStays.{reply_grows}
 use Rattle.pg_script.proofs.laws.reply_grows.Goals as goal
 
 pub returns : goal.returns

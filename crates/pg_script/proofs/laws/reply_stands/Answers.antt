@@ -1,4 +1,4 @@
-use Rattle.pg_script.proofs.More.{reply_more}
+use Rattle.pg_script.proofs.Definitions.DecidedStays.{reply_more}
 use Rattle.pg_script.proofs.laws.reply_stands.Goals as goal
 
 pub returns : goal.returns

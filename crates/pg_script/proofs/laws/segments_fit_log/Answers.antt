@@ -1,4 +1,4 @@
-use Rattle.pg_script.proofs.Segments.{segments_fit_log}
+use Rattle.pg_script.proofs.Replying.SegmentsFitLog.{segments_fit_log}
 use Rattle.pg_script.proofs.laws.segments_fit_log.Goals as goal
 
 pub returns : goal.returns

@@ -1,4 +1,4 @@
-use Rattle.pg_script.proofs.TurnLaws.{turns_end}
+use Rattle.pg_script.proofs.Turns.TurnByTurn.{turns_end}
 use Rattle.pg_script.proofs.laws.turns_end.Goals as goal
 
 pub returns : goal.returns

@@ -1,4 +1,4 @@
-use Rattle.pg_script.proofs.PartOfTurns.{turns_go_on}
+use Rattle.pg_script.proofs.Turns.PartOfTurns.{turns_go_on}
 use Rattle.pg_script.proofs.laws.turns_go_on.Goals as goal
 
 pub returns : goal.returns

@@ -1,4 +1,4 @@
-use Rattle.pg_script.proofs.PartOfTurns.{turns_left}
+use Rattle.pg_script.proofs.Turns.PartOfTurns.{turns_left}
 use Rattle.pg_script.proofs.laws.turns_left.Goals as goal
 
 pub returns : goal.returns

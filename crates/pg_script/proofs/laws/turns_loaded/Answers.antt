@@ -1,4 +1,4 @@
-use Rattle.pg_script.proofs.Loads.{turns_loaded}
+use Rattle.pg_script.proofs.Turns.Loaded.{turns_loaded}
 use Rattle.pg_script.proofs.laws.turns_loaded.Goals as goal
 
 pub returns : goal.returns

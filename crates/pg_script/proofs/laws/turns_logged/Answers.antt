@@ -1,4 +1,4 @@
-use Rattle.pg_script.proofs.PartOfTurns.{turns_logged}
+use Rattle.pg_script.proofs.Turns.PartOfTurns.{turns_logged}
 use Rattle.pg_script.proofs.laws.turns_logged.Goals as goal
 
 pub returns : goal.returns

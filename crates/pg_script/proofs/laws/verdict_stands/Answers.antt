@@ -1,4 +1,4 @@
-use Rattle.pg_script.proofs.More.{verdict_more}
+use Rattle.pg_script.proofs.Definitions.DecidedStays.{verdict_more}
 use Rattle.pg_script.proofs.laws.verdict_stands.Goals as goal
 
 pub returns : goal.returns

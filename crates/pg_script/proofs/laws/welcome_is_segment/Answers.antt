@@ -1,4 +1,4 @@
-use Rattle.pg_script.proofs.Segments.{welcome_is_segment}
+use Rattle.pg_script.proofs.Replying.SegmentsFitLog.{welcome_is_segment}
 use Rattle.pg_script.proofs.laws.welcome_is_segment.Goals as goal
 
 pub returns : goal.returns

@@ -1,5 +1,5 @@
 use Rattle.std.proofs.Common.{◌≡◌, take}
-use Rattle.pg_script.specs.Answers.{parts_of}
+use Rattle.pg_script.specs.Outcome.{parts_of}
 use Rattle.pg_script.proofs.outcome.complete_parts.Given as goal
 
 abbrev pub invariant-loop-part : goal.invariant-loop-part

@@ -1,5 +1,5 @@
 use Rattle.std.proofs.Common.{ap}
-use Rattle.pg_backend.proofs.Advancings.{first_breaks, took_packet}
+use Rattle.pg_backend.proofs.Machine.OneStep.{first_breaks, took_packet}
 use Rattle.pg_backend.proofs.backend.Backend.advance_first.Goals as goal
 
 pub returns-in-Err : goal.returns-in-Err

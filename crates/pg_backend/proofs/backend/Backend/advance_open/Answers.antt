@@ -1,14 +1,14 @@
 use Rattle.std.proofs.Common.{ap, refl, ◌∙◌}
 use Rattle.std.specs.Prelude.{Ok}
 use Rattle.pg_backend.specs.declared.stage.Next.TheVariants as next
-use Rattle.pg_backend.specs.Backend.{BackendState}
-use Rattle.pg_backend.proofs.Advancings.{open_breaks, took_message, closing_message}
+use Rattle.pg_backend.specs.Stage.{BackendState}
+use Rattle.pg_backend.proofs.Machine.OneStep.{open_breaks, took_message, closing_message}
 use Rattle.pg_backend.proofs.backend.Backend.advance_open.Goals as goal
 
 pub returns-in-Goes : goal.returns-in-Goes
 returns-in-Goes c =
     let inside = c.self-in-Ok-Some.inside in
-    let w : BackendState = record { script = inside.session.script; limit = inside.limit; left = inside.session.left; stage = inside.stage; log = inside.session.log } in
+    let w : BackendState = record { script = inside.playing.script; limit = inside.limit; left = inside.playing.left; stage = inside.stage; log = inside.playing.log } in
     took_message c.args.self.now c.args.decoder c.next.new.self c.args.awaits c.in-Ok-Some.message w (next.Goes c.in-Goes.awaits) c.hand.result c.args.out.now.items c.hand.new.out.items
     (rw c.in-Ok-Some.field-0-is at c.in-Ok-Some.ensures.call) (rw c.in-Ok-Some.field-0-is at c.in-Ok-Some.ensures.taken) (c.in_ok-awaits-in-Ok-Some.was ∙ ap Ok c.in-Goes.is) (rw c.self-in-Ok-Some.view_is c.hand.ensures)
 

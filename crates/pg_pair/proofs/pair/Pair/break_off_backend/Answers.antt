@@ -5,4 +5,4 @@ use Rattle.pg_pair.proofs.pair.Pair.break_off_backend.Goals as goal
 
 pub invariant_of-self : goal.invariant_of-self
 invariant_of-self g c =
-    (∥∥₁_map c.self.invariant.0 (keeps_backend_told (view_of c.self.inside) c.lost.new.self c.lost.ensures.call c.lost.ensures.handled), c.self.invariant.1)
+    (∥∥₁_map c.self.invariant.0 (keeps_backend_told (view_of c.self.inside) c.lost.new.self c.lost.ensures.call c.lost.ensures.history), c.self.invariant.1)

@@ -10,12 +10,12 @@ use Rattle.pg_pair.proofs.pair.Pair.push.Goals as goal
 pub invariant_of-self-2 : goal.invariant_of-self-2
 invariant_of-self-2 g c =
     let pushed = is_pushed (view_of c.self.inside) c.args.self.now c.self.view_is c.args.count _ c.push.new.self
-    c.requires.some c.requires.within c.waiting.ensures (record { stores = c.in_default.ensures.call; handled = c.in_default.ensures.handled }) in
+    c.requires.some c.requires.within c.waiting.ensures (record { stores = c.in_default.ensures.call; history = c.in_default.ensures.history }) in
     (∥∥₁_map c.self.invariant.0 (pushed_tied (view_of c.self.inside) c.args.count c.push.new.self pushed), c.self.invariant.1)
 
 pub returns-clause-takes : goal.returns-clause-takes
 returns-clause-takes g c =
     let pushed = is_pushed (view_of c.self.inside) c.args.self.now c.self.view_is c.args.count _ c.push.new.self
-    c.requires.some c.requires.within c.waiting.ensures (record { stores = c.in_default.ensures.call; handled = c.in_default.ensures.handled }) in
+    c.requires.some c.requires.within c.waiting.ensures (record { stores = c.in_default.ensures.call; history = c.in_default.ensures.history }) in
     subst (λ (p : PairView g.row.C.Denot). ArrivesAt ToBackend p (take c.args.count (waiting_at ToBackend p)) None (stored_at (view_of c.self.inside) c.args.count c.push.new.self)) c.self.view_is
     (pushed_in (view_of c.self.inside) c.args.count c.push.new.self pushed)

@@ -1,8 +1,0 @@
-use Rattle.pg_script.proofs.Tellings.{first}
-use Rattle.std.proofs.Common.{◌++◌}
-use Rattle.pg_wire.specs.message.BackMessage.TheVariants as back
-use Rattle.pg_script.specs.Replies.{parts_sent, end_sent}
-use Rattle.pg_backend.proofs.answering.tell_behind.Goals as goal
-
-pub returns : goal.returns
-returns c = rw c.worse.ensures (first (back.CommandComplete c.args.tag.now) (parts_sent c.args.parts.now ++ end_sent c.args.answer.now.error c.args.answer.now) c.args.out.now.items _ _ c.command_complete-told.result _ c.command_complete-told.ensures c.tell_rest.ensures)

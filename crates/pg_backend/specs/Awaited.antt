@@ -1,0 +1,108 @@
+-- What is awaited after these packets and messages: what is known of all messages that may still come.
+use Rattle.std.specs.Prelude.{◌≡◌, ℕ, ◌<◌, length, List, [], ◌∷◌, ◌++◌, map}
+use Rattle.pg_wire.specs.message.First.{First}
+use Rattle.pg_wire.specs.message.FrontMessage.{FrontMessage}
+use Rattle.pg_wire.specs.value.CopyHead.{CopyHead}
+use Rattle.pg_wire.specs.declared.session.Request.{Request}
+use Rattle.pg_wire.specs.declared.session.Step.{Step}
+use Rattle.pg_script.specs.declared.meaning.InCopy.{InCopy}
+use Rattle.pg_script.specs.declared.meaning.InCopy.TheVariants as copy
+use Rattle.pg_script.specs.declared.script.Answer.{Answer}
+use Rattle.pg_script.specs.declared.script.Load.{Load}
+use Rattle.pg_script.specs.declared.script.Load.TheVariants.{Accept, Refuse}
+use Rattle.pg_script.specs.declared.script.Script.{Script}
+use Rattle.pg_script.specs.declared.script.ScriptPart.{ScriptPart}
+use Rattle.pg_script.specs.Fitting.{answer_for, others}
+use Rattle.pg_script.specs.Input.{admission_log, packets_log, At, admission_end, packets_end}
+use Rattle.pg_script.specs.Meaning.{in_copy}
+use Rattle.pg_script.specs.Opening.{Sent, Says, by_password, admission_messages, sent_for}
+use Rattle.pg_script.specs.Replies.{Copies, shape}
+use Rattle.pg_script.specs.Session.{Exchange, Session, begin, cut, session, replies, log_of}
+use Rattle.pg_backend.specs.declared.stage.Awaits.{Awaits}
+use Rattle.pg_backend.specs.declared.stage.Awaits.TheVariants as awaits
+
+-- ---- in a session
+
+-- a session with these exchanges before its own
+abbrev pub prepend : List Exchange → Session → Session
+prepend done s = record { exchanges = done ++ s.exchanges; place = s.place }
+
+-- No request is undecided: these exchanges are done, and further messages are read with these answers left, where these steps of
+-- a group have come.
+pub record BetweenRequests (answers : List Answer) (ms : List FrontMessage)
+    (done : List Exchange) (left : List Answer) (steps : List Step) : Type 0 where
+  pub goes_on : (more : List FrontMessage)
+      → session answers (ms ++ more) ≡ prepend done (cut 0 left steps more)
+
+-- The request is undecided: further messages are read as its continuation, after those that have come since it.
+pub record WithinRequest (answers : List Answer) (ms : List FrontMessage) (done : List Exchange)
+    (left : List Answer) (r : Request) (since : List FrontMessage) : Type 0 where
+  pub goes_on : (more : List FrontMessage)
+      → session answers (ms ++ more)
+      ≡ prepend done (begin left r (since ++ more) (λ n. cut n (others left) [] (since ++ more)))
+
+-- the chunks among the messages of a copy
+abbrev pub chunks_in : List InCopy → List (List ℕ)
+chunks_in [] = []
+chunks_in (copy.Chunk bytes ∷ ms) = bytes ∷ chunks_in ms
+chunks_in (m ∷ ms) = chunks_in ms
+
+-- There are chunks and messages without effect alone.
+abbrev pub AllWait : List InCopy → Type 0
+AllWait [] = Unit {0}
+AllWait (copy.Chunk bytes ∷ ms) = AllWait ms
+AllWait (copy.Waits ∷ ms) = AllWait ms
+AllWait (m ∷ ms) = ⊥
+
+-- The copy isn't refused by this number of chunks.
+abbrev pub NotRefused : Load → ℕ → Type 0
+NotRefused (Accept tag) n = Unit {0}
+NotRefused (Refuse after fields) n = n < after
+
+-- The answer's copy goes on after these messages, whose chunks were taken.
+pub record Undecided (a : Answer) (load : Load)
+    (loaded : List (List ℕ)) (since : List FrontMessage) : Type 0 where
+  pub before : List ScriptPart
+  pub head : CopyHead
+  pub later : List ScriptPart
+  pub copies : shape a.parts ≡ Copies before head load later
+  pub waits : AllWait (map in_copy since)
+  pub chunks : loaded ≡ chunks_in (map in_copy since)
+  pub room : NotRefused load (length loaded)
+
+-- After these messages the session awaits this, with these answers left.
+abbrev pub SessionAwaits : List Answer → List FrontMessage → List Answer → Awaits → Type 0
+SessionAwaits answers ms left (awaits.Password expected) = ⊥
+SessionAwaits answers ms left (awaits.Request steps) = (done : List Exchange)
+    × BetweenRequests answers ms done left steps
+SessionAwaits answers ms left (awaits.Data c) = (done : List Exchange)
+    × (since : List FrontMessage) × WithinRequest answers ms done left c.request since
+    × Undecided (answer_for left c.request) c.load c.loaded since
+
+-- ---- from the first packets on
+
+-- The client of these first packets was asked for its password, which is this: this was sent before it.
+pub record IsAsked (s : Script) (packets : List First) (expected : List ℕ) : Type 0 where
+  pub before : List Sent
+  pub sends : (ms : List FrontMessage)
+      → sent_for s packets ms ≡ before ++ map Says (admission_messages s (by_password expected ms))
+  pub logs : (ms : List FrontMessage)
+      → packets_log s packets ms ≡ admission_log s (by_password expected ms)
+  pub ends : (ms : List FrontMessage)
+      → packets_end s packets ms ≡ admission_end s (by_password expected ms)
+
+-- The client of these first packets was let in by these messages: this was sent before it, and all that follows is the session's.
+pub record LetIn (s : Script) (packets : List First) (by : List FrontMessage) : Type 0 where
+  pub before : List Sent
+  pub sends : (ms : List FrontMessage)
+      → sent_for s packets (by ++ ms) ≡ before ++ map Says (replies s.answers ms)
+  pub logs : (ms : List FrontMessage) → packets_log s packets (by ++ ms) ≡ log_of s.answers ms
+  pub ends : (ms : List FrontMessage)
+      → packets_end s packets (by ++ ms) ≡ At (session s.answers ms).place
+
+-- What is awaited is what these packets and the messages after them have led to.
+abbrev pub AwaitsAt : Script → List Answer → List First → List FrontMessage → Awaits → Type 0
+AwaitsAt s left packets ms (awaits.Password expected) =
+    IsAsked s packets expected × (ms ≡ []) × (left ≡ s.answers)
+AwaitsAt s left packets ms a = (by since : List FrontMessage) × (ms ≡ by ++ since)
+    × LetIn s packets by × SessionAwaits s.answers since left a

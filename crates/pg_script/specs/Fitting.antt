@@ -1,0 +1,41 @@
+-- Which answer of a script a request gets.
+use Rattle.std.specs.Prelude.{Bool, true, false, ◌&&◌, List, [], ◌∷◌, is_some, if◌then◌else◌}
+use Rattle.std.specs.List.{list_all, list_any}
+use Rattle.pg_wire.specs.declared.session.Request.{Request}
+use Rattle.pg_wire.specs.declared.session.Request.TheVariants as request
+use Rattle.pg_wire.specs.declared.session.Step.{Step}
+use Rattle.pg_wire.specs.Segment.{is_result, is_answer}
+use Rattle.pg_script.specs.declared.script.Answer.{Answer}
+use Rattle.pg_script.specs.declared.script.ScriptPart.{ScriptPart}
+use Rattle.pg_script.specs.Outcome.{complete}
+use Rattle.pg_script.specs.OwnError.{no_answer}
+
+-- the part may answer a Query: it is a result, or a copy that is refused
+abbrev pub answers_query : ScriptPart → Bool
+answers_query p = list_all is_result (complete p)
+
+-- the part may answer the step
+abbrev pub answers_step : Step → ScriptPart → Bool
+answers_step s p = list_any (is_answer s) (complete p)
+
+-- part i answers step i, and only an error lets steps go without an answer
+abbrev pub answers_steps : Bool → List Step → List ScriptPart → Bool
+answers_steps error [] [] = true
+answers_steps error [] (p ∷ ps) = false
+answers_steps error (s ∷ ss) [] = error
+answers_steps error (s ∷ ss) (p ∷ ps) = answers_step s p && answers_steps error ss ps
+
+-- the answer fits the request: its parts are results for a query, and for a group its parts answer the steps
+abbrev pub fits : Request → Answer → Bool
+fits (request.Query text) a = list_all answers_query a.parts
+fits (request.Group steps) a = answers_steps (is_some a.error) steps a.parts
+
+-- the answer that a request gets where these are left: the first of them if it fits, else an internal error
+abbrev pub answer_for : List Answer → Request → Answer
+answer_for [] r = no_answer
+answer_for (a ∷ more) r = if fits r a then a else no_answer
+
+-- the answers that are left for the requests after it
+abbrev pub others : List Answer → List Answer
+others [] = []
+others (a ∷ more) = more
