@@ -23,6 +23,7 @@ pub mod Agreeing
 pub mod Copying
 pub mod TakingTurns
 pub mod SettlingLast
+pub mod Driving
 pub mod TurnRows
 pub mod Rows
 pub mod ParameterLaws

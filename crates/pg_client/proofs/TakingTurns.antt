@@ -31,7 +31,7 @@ few_whole hs (inl le) = omega (arith, le)
 few_whole hs (inr p) = omega (arith, p.0)
 
 -- all whole segments but the startup's
-groups_length : (whole : List (List BackMessage)) → (length whole ≡ suc (length (drop 1 whole))) ⊎ ((length whole ≡ 0) × (length (drop 1 whole) ≡ 0))
+pub groups_length : (whole : List (List BackMessage)) → (length whole ≡ suc (length (drop 1 whole))) ⊎ ((length whole ≡ 0) × (length (drop 1 whole) ≡ 0))
 groups_length [] = inr (refl, refl)
 groups_length (w ∷ ws) = inl refl
 
@@ -51,7 +51,7 @@ ready_counted hs ready = by_groups (groups_length (whole_in hs))
 
 -- ---- copies
 
-not_empty : (rs : List Request) → (rs ≡ [] → ⊥) → 1 ≤ length rs
+pub not_empty : (rs : List Request) → (rs ≡ [] → ⊥) → 1 ≤ length rs
 not_empty [] some = absurd (some refl)
 not_empty (r ∷ rs) some = omega arith
 

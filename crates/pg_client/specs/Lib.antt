@@ -12,6 +12,7 @@ pub mod Facts
 pub mod Turns
 pub mod Spelled
 pub mod Answering
+pub mod Driving
 -- How the client's place goes on from message to message. A history has these words; the law facts_of_a_run says what they mean in
 -- those above.
 pub mod Place

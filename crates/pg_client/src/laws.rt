@@ -1,10 +1,11 @@
 //! Laws over the definitions: each function does nothing, and its contract is the law.
 
-ghost use Rattle.std.specs.Prelude.{◌≡◌, ◌++◌, [], ◌∷◌, ℕ, List, Option, Result};
+ghost use Rattle.std.specs.Prelude.{◌≡◌, ◌≢◌, ◌++◌, [], ◌∷◌, ℕ, List, None, Option, Result};
 ghost use Rattle.pg_wire.specs.message.BackMessage.{BackMessage};
+ghost use Rattle.pg_wire.specs.declared.session.Request.{Request};
 ghost use Rattle.pg_client.specs.declared.fault.FeedFault.{FeedFault};
 ghost use Rattle.pg_client.specs.declared.phase.Phase.TheVariants as phase;
-ghost use Rattle.pg_client.specs.Session.{Call, Happening, Came, Expected, requests_in};
+ghost use Rattle.pg_client.specs.Session.{Ask, Call, Happening, Came, Expected, requests_in};
 ghost use Rattle.pg_client.specs.Client.{ClientView, phase_of};
 ghost use Rattle.pg_client.specs.History.{Calls, happenings, History, IsHistoryOf};
 ghost use Rattle.pg_client.specs.Feed.{Feeds};
@@ -13,6 +14,7 @@ ghost use Rattle.pg_client.specs.Facts.{Facts};
 ghost use Rattle.pg_client.specs.Turns.{InTurns, turns_of};
 ghost use Rattle.pg_client.specs.Spelled.{SendsSpelled};
 ghost use Rattle.pg_client.specs.Answering.{AllSettled, KeepsOrder, SettlesLast, TakesTurns, calls_of, turns_with};
+ghost use Rattle.pg_client.specs.Driving.{IsFedOn, requests_by};
 
 /// What the history of a client means, in the words of the protocol: what it settled, and what its phase says.
 pub fn facts_of_a_run()
@@ -60,3 +62,22 @@ pub fn settles_the_last()
 {
     pg_wire::laws::one_outcome();
 }
+
+/// What a driver goes by. In phase Ready all requests that its calls made are settled, and an open client that made one and has settled
+/// all is Ready. A request more is the last of them.
+pub fn requests_of_the_calls()
+    ensures ready { (h : History) (client : ClientView) → IsHistoryOf h client
+        → phase_of client ≡ phase.Ready → AllSettled (requests_by h.calls) (h.given ++ client.settled) }
+    ensures back { (h : History) (client : ClientView) → IsHistoryOf h client
+        → client.closed ≡ None → requests_by h.calls ≢ []
+        → AllSettled (requests_by h.calls) (h.given ++ client.settled) → phase_of client ≡ phase.Ready }
+    ensures asked { (calls : Calls) (r : Request) (place : ℕ)
+        → requests_by (calls ++ (Ask r, place) ∷ []) ≡ requests_by calls ++ r ∷ [] }
+{}
+
+/// A feed carries a history on, of a client that was open or closed.
+pub fn feeding_goes_on()
+    ensures { (h : History) (old new : ClientView) (piece : List ℕ) (result : Result Unit FeedFault)
+        (before after : List ℕ) → IsHistoryOf h old → Feeds old piece result new before after
+        → IsFedOn h piece result old new }
+{}

@@ -1,3 +1,4 @@
 -- Lemmas, by the subject.
-pub mod GoingOn
+pub mod Later
+pub mod Driving
 pub mod OwnGroup

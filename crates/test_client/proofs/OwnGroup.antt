@@ -8,11 +8,12 @@ use Rattle.pg_client.specs.declared.settled.Settled.{Settled}
 use Rattle.pg_client.specs.declared.settings.Settings.{Settings}
 use Rattle.pg_client.specs.Answering.{AllSettled}
 use Rattle.pg_client.specs.Client.{ClientView, phase_of}
+use Rattle.pg_client.specs.Driving.{requests_by}
 use Rattle.pg_client.specs.History.{Calls, Carries, History, IsHistoryOf, blank, with_call, with_given}
 use Rattle.pg_client.specs.Session.{Ask, Start}
-use Rattle.test_client.specs.Driver.{AwaitsRequest, GoesOn, requests_by}
+use Rattle.test_client.specs.Driver.{AwaitsRequest, IsLater}
 
--- what the laws of a client say to a driver
+-- what the law requests_of_the_calls says to a driver
 pub record Laws : Type 0 where
   -- a client that stands ready has settled what its calls asked for
   pub ready : (h : History) (client : ClientView) → IsHistoryOf h client → phase_of client ≡ phase.Ready → AllSettled (requests_by h.calls) (h.given ++ client.settled)
@@ -42,8 +43,8 @@ last_group given settled before r was now =
 
 -- ---- the session begins
 
-pub begins : Laws → (settings : Settings) (fresh started now : ClientView) → IsHistoryOf blank fresh → Carries fresh started (with_call settings Start) → GoesOn started now → phase_of now ≡ phase.Ready → AwaitsRequest now
-begins laws settings fresh started now new start went ready =
+pub begins : Laws → (settings : Settings) (fresh started now : ClientView) (bytes : List ℕ) → IsHistoryOf blank fresh → Carries fresh started (with_call settings Start) → ((h : History) → IsHistoryOf h started → IsLater h bytes now) → phase_of now ≡ phase.Ready → AwaitsRequest now
+begins laws settings fresh started now bytes new start went ready =
     let k = went (with_call settings Start blank) (start blank new) in
     record {
       history = k.history;
@@ -61,8 +62,8 @@ pub record HasAnswered (r : Request) (client : ClientView) : Type 0 where
   pub ready : phase_of client ≡ phase.Ready
   pub own : requests client.settled ≡ r ∷ []
 
-pub answered : Laws → (r : Request) (settings : Settings) (old asked now : ClientView) → AwaitsRequest old → Carries old asked (with_call settings (Ask r)) → GoesOn asked now → phase_of now ≡ phase.Ready → HasAnswered r now
-answered laws r settings old asked now a ask went ready =
+pub answered : Laws → (r : Request) (settings : Settings) (old asked now : ClientView) (bytes : List ℕ) → AwaitsRequest old → Carries old asked (with_call settings (Ask r)) → ((h : History) → IsHistoryOf h asked → IsLater h bytes now) → phase_of now ≡ phase.Ready → HasAnswered r now
+answered laws r settings old asked now bytes a ask went ready =
     let k = went (with_call settings (Ask r) a.history) (ask a.history a.is_its_own) in
     let given : List Settled = a.history.given in
     let before : List Request = requests_by a.history.calls in

@@ -1,11 +1,21 @@
--- What a driver knows of its client. The history is a value that it keeps for contracts alone, and no code stores.
-use Rattle.std.specs.Prelude.{◌≡◌, List, [], map}
+-- What a driver knows of its client, and what it does with it. The history is a value that it keeps for contracts alone, and no code
+-- stores.
+use Rattle.std.specs.Prelude.{◌≡◌, ℕ, ◌≤◌, ◌-◌, ◌^◌, ◌⊎◌, List, [], ◌++◌, length, None, Result, Ok, Err, IfOk}
+use Rattle.std.specs.List.{FoldsTo, concat}
+use Rattle.pg_wire.specs.Link.{HasRisen}
 use Rattle.pg_wire.specs.declared.session.Request.{Request}
+use Rattle.pg_client.specs.declared.fault.CallFault.{CallFault}
 use Rattle.pg_client.specs.declared.phase.Phase.TheVariants as phase
-use Rattle.pg_client.specs.Answering.{calls_of}
+use Rattle.pg_client.specs.declared.settled.Settled.{Settled}
+use Rattle.pg_client.specs.declared.settings.Settings.{Settings}
 use Rattle.pg_client.specs.Client.{ClientView, phase_of}
-use Rattle.pg_client.specs.History.{Calls, History, IsHistoryOf}
-use Rattle.pg_client.specs.Turns.{turns_of}
+use Rattle.pg_client.specs.Driving.{IsLeftBy}
+use Rattle.pg_client.specs.History.{History, IsHistoryOf, blank, with_call, with_given}
+use Rattle.pg_client.specs.Session.{Call, Ask, Start}
+use Rattle.test_client.specs.declared.driver.DriverFault.{DriverFault}
+use Rattle.test_client.specs.declared.driver.DriverFault.TheVariants as faults
+
+-- ---- what a driver knows
 
 -- A client that a request may be asked: it stands ready, no group waits to be taken, and this is its history.
 pub record AwaitsRequest (client : ClientView) : Type 0 where
@@ -18,17 +28,90 @@ pub record AwaitsRequest (client : ClientView) : Type 0 where
 abbrev pub HasHistory : ClientView → Type 0
 HasHistory client = (h : History) × IsHistoryOf h client
 
--- A history of the client that goes on from one before, with no call and no group taken.
-pub record IsLater (before : History) (client : ClientView) : Type 0 where
+-- A history of the client goes on from this one: it was fed these bytes, with no call more and no group taken more.
+pub record IsLater (past : History) (bytes : List ℕ) (client : ClientView) : Type 0 where
   pub history : History
   pub is_its_own : IsHistoryOf history client
-  pub calls : history.calls ≡ before.calls
-  pub given : history.given ≡ before.given
+  pub calls : history.calls ≡ past.calls
+  pub given : history.given ≡ past.given
+  pub fed : history.fed ≡ past.fed ++ bytes
 
--- The client was fed, and nothing else was done with it.
-abbrev pub GoesOn : ClientView → ClientView → Type 0
-GoesOn old new = (h : History) → IsHistoryOf h old → IsLater h new
+-- ---- why it has no answer
 
--- the requests that these calls made
-abbrev pub requests_by : Calls → List Request
-requests_by calls = map (λ t. t.request) (turns_of (calls_of calls))
+-- at most so many pieces are received for one answer
+abbrev pub most_receives : ℕ
+most_receives = 2 ^ 64 - 1
+
+-- Counted are the failed calls of the source and those of the sink: one of the two failed since.
+abbrev pub HasFailed : ℕ × ℕ → ℕ × ℕ → Type 0
+HasFailed was now = HasRisen was.0 now.0 ⊎ HasRisen was.1 now.1
+
+-- neither failed
+abbrev pub NoneFailed : ℕ × ℕ → ℕ × ℕ → Type 0
+NoneFailed was now = (now.0 ≡ was.0) × (now.1 ≡ was.1)
+
+-- What a fault says, where these pieces were received: of the call, of the link, and how the client is left.
+abbrev pub Fails : (refused : CallFault → Type 0) (ended : Type 0) (was now : ℕ × ℕ) → List (List ℕ)
+    → ClientView → DriverFault → Type 0
+Fails refused ended was now pieces client (faults.Call f) =
+    NoneFailed was now × (pieces ≡ []) × refused f
+Fails refused ended was now pieces client (faults.Feed f) =
+    NoneFailed was now × IsLeftBy (Err f) client.closed
+Fails refused ended was now pieces client (faults.Link f) = HasFailed was now
+Fails refused ended was now pieces client faults.Ended = NoneFailed was now × ended
+Fails refused ended was now pieces client faults.Endless =
+    NoneFailed was now × (most_receives ≤ length pieces)
+Fails refused ended was now pieces client faults.CopyIn =
+    NoneFailed was now × (phase_of client ≡ phase.CopyingIn)
+
+-- No call of the link failed, or this is why there is no answer.
+abbrev pub Comes : {A : Type 0} (refused : CallFault → Type 0) (ended : Type 0) (was now : ℕ × ℕ)
+    → List (List ℕ) → ClientView → Result A DriverFault → Type 0
+Comes refused ended was now pieces client (Ok x) = NoneFailed was now
+Comes refused ended was now pieces client (Err f) = Fails refused ended was now pieces client f
+
+-- no call is made that a client could refuse
+abbrev pub never : CallFault → Type 0
+never f = ⊥
+
+-- ---- what it does
+
+-- A driver received these pieces, and its client was fed them: its history goes on from one with what was called and taken.
+pub record Drives {S A : Type 0} (gives : S → List ℕ → S → Type 0)
+    (refused : CallFault → Type 0) (ended : Type 0) (was now : ℕ × ℕ) (append : History → History)
+    (source : S) (old : ClientView) (result : Result A DriverFault)
+    (source' : S) (new : ClientView) : Type 0 where
+  pub pieces : List (List ℕ)
+  pub received : FoldsTo gives source pieces source'
+  pub later : (h : History) → IsHistoryOf h old → IsLater (append h) (concat pieces) new
+  pub comes : Comes refused ended was now pieces new result
+
+-- One piece was received, and the client is open after it.
+pub record HasReceived (pieces : List (List ℕ)) (client : ClientView) : Type 0 where
+  pub one : length pieces ≡ 1
+  pub is_open : client.closed ≡ None
+
+-- the call was made, unless this fault says that the client refused it
+abbrev pub with_failed : Settings → Call → DriverFault → History → History
+with_failed settings c (faults.Call f) h = h
+with_failed settings c _ h = with_call settings c h
+
+-- the session was started, unless the client refused it
+abbrev pub with_start : Settings → Result ClientView DriverFault → History → History
+with_start settings (Ok client) h = with_call settings Start h
+with_start settings (Err f) h = with_failed settings Start f h
+
+-- the request was made, unless the client refused it, and its group was taken, if there is one
+abbrev pub with_asked : Settings → Request → Result Settled DriverFault → History → History
+with_asked settings r (Ok group) h = with_given group (with_call settings (Ask r) h)
+with_asked settings r (Err f) h = with_failed settings (Ask r) f h
+
+-- A driver began with a new client of these settings, did this with it, and left it so.
+pub record Connects (settings : Settings) (result : Result ClientView DriverFault)
+    (did : ClientView → ClientView → Type 0) : Type 0 where
+  pub fresh : ClientView
+  pub left : ClientView
+  pub is_new : IsHistoryOf blank fresh
+  pub settings_are : fresh.settings ≡ settings
+  pub given : IfOk result (λ client. client ≡ left)
+  pub did_so : did fresh left

@@ -1,15 +1,15 @@
 //! A driver that blocks: it asks one request, and waits for its group.
 
-ghost use Rattle.std.specs.Prelude.{◌≡◌, ◌++◌, [], ◌∷◌, ℕ, IfOk, OnOk};
-ghost use Rattle.pg_wire.specs.declared.session.Request.{Request};
+ghost use Rattle.std.specs.Prelude.{◌≡◌, None, IfOk, OnOk};
 ghost use Rattle.pg_wire.specs.Direction.{IsLimit};
-ghost use Rattle.pg_client.specs.Answering.{AllSettled};
-ghost use Rattle.pg_client.specs.Client.{ClientView, phase_of};
-ghost use Rattle.pg_client.specs.History.{Calls, History, IsHistoryOf};
-ghost use Rattle.pg_client.specs.Session.{Ask};
-ghost use Rattle.test_client.specs.Driver.{AwaitsRequest, GoesOn, HasHistory, requests_by};
+ghost use Rattle.pg_wire.specs.Link.{Counts};
+ghost use Rattle.pg_client.specs.Calls.{RefusesUnless};
+ghost use Rattle.pg_client.specs.Client.{phase_of};
+ghost use Rattle.pg_client.specs.Session.{Ask, Start};
+ghost use Rattle.test_client.specs.declared.driver.DriverFault.TheVariants as faults;
+ghost use Rattle.test_client.specs.Driver.{AwaitsRequest, Connects, Drives, HasHistory, HasReceived, never, with_asked, with_start};
 
-use pg_client::laws::{settles_the_last, story_of_a_run};
+use pg_client::laws::{feeding_goes_on, requests_of_the_calls};
 use pg_client::{CallFault, Client, FeedFault, Phase, Settings, Settled};
 use pg_wire::{LinkFault, Request, Sink, Source};
 use std::alloc::Global;
@@ -21,31 +21,62 @@ const PIECE: usize = 4_096;
 /// Why a driver has no answer.
 #[derive(Debug, PartialEq, Eq, Drop, Error)]
 pub enum DriverFault {
-    /// The client refused the call, and sent nothing.
+    /// The client refused the call, and nothing was done.
     #[error(transparent)]
-    Call(#[from] CallFault),
-    /// The client refused what came.
+    Call(CallFault),
+    /// The client refused what came, and is closed.
     #[error(transparent)]
-    Feed(#[from] FeedFault),
-    /// The link failed.
+    Feed(FeedFault),
+    /// A call of the source or of the sink failed.
     #[error(transparent)]
-    Link(#[from] LinkFault),
-    /// The server's bytes ended before its answer did.
+    Link(LinkFault),
+    /// The source has ended before the answer did.
     #[error("the server's bytes ended")]
     Ended,
+    /// The answer had no end in 18,446,744,073,709,551,615 pieces.
+    #[error("the server's answer has no end")]
+    Endless,
     /// The server waits for the data of a copy, which this driver doesn't have.
     #[error("the server waits for the data of a copy")]
     CopyIn,
 }
 
+impl From<CallFault> for DriverFault {
+    ghost from_gives = { λ f e. e ≡ faults.Call f };
+
+    fn from(refused: CallFault) -> DriverFault {
+        DriverFault::Call(refused)
+    }
+}
+
 impl From<(Request, CallFault)> for DriverFault {
+    ghost from_gives = { λ f e. e ≡ faults.Call f.1 };
+
     fn from(refused: (Request, CallFault)) -> DriverFault {
         DriverFault::Call(refused.1)
     }
 }
 
+impl From<FeedFault> for DriverFault {
+    ghost from_gives = { λ f e. e ≡ faults.Feed f };
+
+    fn from(refused: FeedFault) -> DriverFault {
+        DriverFault::Feed(refused)
+    }
+}
+
+impl From<LinkFault> for DriverFault {
+    ghost from_gives = { λ f e. e ≡ faults.Link f };
+
+    fn from(failed: LinkFault) -> DriverFault {
+        DriverFault::Link(failed)
+    }
+}
+
 // Sends all of these bytes.
-fn send_all<K: Sink>(bytes: &[u8], sink: &mut K) -> Result<(), LinkFault> {
+fn send_all<K: Sink>(bytes: &[u8], sink: &mut K) -> Result<(), LinkFault>
+    ensures { Counts (K.failures sink.old) result (K.failures sink.new) }
+{
     let mut rest = bytes;
     while !rest.is_empty() {
         let count = sink.send(rest)?;
@@ -61,8 +92,14 @@ fn exchange<S: Source, K: Sink>(
     source: &mut S,
     sink: &mut K,
 ) -> Result<(), DriverFault>
-    ensures { GoesOn client.old client.new }
+    requires history { HasHistory client.old }
+    requires is_open { client.old.closed ≡ None }
+    ensures { (did : Drives S.gives never (S.has_ended source.new)
+        (S.failures source.old, K.failures sink.old) (S.failures source.new, K.failures sink.new)
+        (λ h. h) source.old client.old result source.new client.new)
+        × OnOk result (HasReceived did.pieces client.new) }
 {
+    feeding_goes_on();
     send_all(out.as_slice(), sink)?;
     out.clear();
     let mut piece = [0u8; PIECE];
@@ -81,7 +118,11 @@ fn settle<S: Source, K: Sink>(
     source: &mut S,
     sink: &mut K,
 ) -> Result<(), DriverFault>
-    ensures went { GoesOn client.old client.new }
+    requires history { HasHistory client.old }
+    requires is_open { client.old.closed ≡ None }
+    ensures waits { Drives S.gives never (S.has_ended source.new)
+        (S.failures source.old, K.failures sink.old) (S.failures source.new, K.failures sink.new)
+        (λ h. h) source.old client.old result source.new client.new }
     ensures ready { OnOk result (phase_of client.new ≡ Phase.Ready) }
 {
     for _ in 0..u64::MAX {
@@ -91,22 +132,13 @@ fn settle<S: Source, K: Sink>(
             _ => exchange(client, out, source, sink)?,
         }
     }
-    Err(DriverFault::Ended)
-}
-
-// It does nothing: its contract is what the driver needs of the laws of a client. One that stands ready has settled what its calls
-// asked for, and a request more is the last of these.
-fn settles_all()
-    ensures ready { (h : History) (client : ClientView) → IsHistoryOf h client
-        → phase_of client ≡ Phase.Ready → AllSettled (requests_by h.calls) (h.given ++ client.settled) }
-    ensures asked { (calls : Calls) (r : Request) (place : ℕ)
-        → requests_by (calls ++ (Ask r, place) ∷ []) ≡ requests_by calls ++ r ∷ [] }
-{
-    settles_the_last();
-    story_of_a_run();
+    Err(DriverFault::Endless)
 }
 
 /// Starts a session, and waits until the client stands ready. What is put out and not sent yet stands in `out`.
+///
+/// The faults: the client refused to start (Call), or refused what came and was closed (Feed); a call of the link failed (Link); the
+/// source ended (Ended), or gave no end (Endless). The client is let go then.
 pub fn connect<S: Source, K: Sink>(
     alloc: Global,
     settings: Settings,
@@ -115,9 +147,13 @@ pub fn connect<S: Source, K: Sink>(
     sink: &mut K,
 ) -> Result<Client, DriverFault>
     requires { IsLimit settings.limit }
-    ensures { IfOk result (λ client. AwaitsRequest client) }
+    ensures ready { IfOk result (λ client. AwaitsRequest client) }
+    ensures connects { Connects settings result (λ fresh left.
+        Drives S.gives (RefusesUnless Phase.New fresh Start) (S.has_ended source.new)
+        (S.failures source.old, K.failures sink.old) (S.failures source.new, K.failures sink.new)
+        (with_start fresh.settings result) source.old fresh result source.new left) }
 {
-    settles_all();
+    requests_of_the_calls();
     let mut client = Client::new(alloc, settings);
     client.start(out)?;
     settle(&mut client, out, source, sink)?;
@@ -125,7 +161,11 @@ pub fn connect<S: Source, K: Sink>(
 }
 
 /// Asks a request, waits until the client stands ready again, and takes the group that is settled then: the request's own, and the only
-/// one. Behind a fault the client says what is lost, as by its history.
+/// one. By each history of the client, it then made the request, was fed what the source gave, and the group was taken.
+///
+/// The faults: the client refused the request and nothing was done (Call), or refused what came and is closed (Feed); a call of the link
+/// failed (Link); the source ended (Ended) or gave no end (Endless); the server waits for a copy's data (CopyIn). After a fault the client
+/// says what is lost, as by its history.
 pub fn ask<S: Source, K: Sink>(
     client: &mut Client,
     request: Request,
@@ -137,8 +177,14 @@ pub fn ask<S: Source, K: Sink>(
     ensures own { IfOk result (λ group. group.request ≡ request) }
     ensures again { OnOk result (AwaitsRequest client.new) }
     ensures history { HasHistory client.new }
+    ensures asks { Drives S.gives
+        (λ f. (client.new ≡ client.old) × RefusesUnless Phase.Ready client.old (Ask request) f)
+        (S.has_ended source.new) (S.failures source.old, K.failures sink.old)
+        (S.failures source.new, K.failures sink.new)
+        (with_asked client.old.settings request result)
+        source.old client.old result source.new client.new }
 {
-    settles_all();
+    requests_of_the_calls();
     client.request(request, out)?;
     settle(client, out, source, sink)?;
     Ok(client.take_settled().unwrap())

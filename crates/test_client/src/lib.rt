@@ -1,7 +1,9 @@
 //! A small driver over a client, and what its author draws from the contracts of a client alone: each request gets the group that it
-//! settles ([`ask`]). It stands in a crate of its own, as a driver would.
+//! settles, and each fault is true ([`ask`]). It stands in a crate of its own, as a driver would.
 #![tactic(auto)]
 
 mod driver;
+#[cfg(test)]
+mod tests;
 
 pub use driver::{DriverFault, ask, connect};

@@ -1,0 +1,5 @@
+use Rattle.pg_client.proofs.Driving.{fed_on}
+use Rattle.pg_client.proofs.laws.feeding_goes_on.Goals as goal
+
+pub returns : goal.returns
+returns c = fed_on
