@@ -3,6 +3,7 @@ pub mod Stage
 pub mod Awaited
 pub mod History
 pub mod Backend
+pub mod Fault
 -- Words of private functions, which no public contract cites.
 pub mod Private
 -- What pg_script defines and the contracts here speak of. Who uses pg_backend names it through these lines.

@@ -1,6 +1,7 @@
 //! Why a call is refused.
 
 ghost use Rattle.std.specs.Prelude.{◌≡◌};
+ghost use Rattle.pg_backend.specs.Fault.{backend_code};
 ghost use Rattle.pg_backend.specs.declared.fault.BackendFault.TheVariants.{Memory};
 
 use pg_wire::WireFault;
@@ -22,6 +23,20 @@ pub enum BackendFault {
     /// A message with this tag came where none such may stand. The client was told so, and the backend is closed.
     #[error("K4 Unexpected {0}")]
     Unexpected(u8),
+}
+
+impl BackendFault {
+    /// Its code, `K1` to `K4`: the first word of what it is shown as.
+    pub fn code(&self) -> &'static str
+        ensures { result.now ≡ backend_code self.now }
+    {
+        match self {
+            BackendFault::Wire(_) => "K1",
+            BackendFault::Memory => "K2",
+            BackendFault::Closed => "K3",
+            BackendFault::Unexpected(_) => "K4",
+        }
+    }
 }
 
 impl From<AllocError> for BackendFault {

@@ -8,6 +8,7 @@ pub mod History
 pub mod Calls
 pub mod Feed
 pub mod Lost
+pub mod Fault
 pub mod Facts
 pub mod Turns
 pub mod Spelled

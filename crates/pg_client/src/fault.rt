@@ -2,6 +2,7 @@
 
 ghost use Rattle.std.specs.Prelude.{◌≡◌};
 ghost use Rattle.pg_client.specs.Closed.{cause_of};
+ghost use Rattle.pg_client.specs.Fault.{call_code, feed_code};
 ghost use Rattle.pg_client.specs.Private.Feeding.{of_wire};
 ghost use Rattle.pg_client.specs.declared.fault.CallFault.TheVariants.{Encode};
 ghost use Rattle.pg_client.specs.declared.fault.FeedFault.TheVariants as feeding;
@@ -26,6 +27,20 @@ pub enum CallFault {
     /// The server has sent no key.
     #[error("C4 NoKey")]
     NoKey,
+}
+
+impl CallFault {
+    /// Its code, `C1` to `C4`: the first word of what it is shown as.
+    pub fn code(&self) -> &'static str
+        ensures { result.now ≡ call_code self.now }
+    {
+        match self {
+            CallFault::NotReady(_) => "C1",
+            CallFault::NotCopying(_) => "C2",
+            CallFault::Encode(_) => "C3",
+            CallFault::NoKey => "C4",
+        }
+    }
 }
 
 impl From<EncodeFault> for CallFault {
@@ -75,6 +90,22 @@ impl From<AllocError> for FeedFault {
 }
 
 impl FeedFault {
+    /// Its code, `F1` to `F8`: the first word of what it is shown as.
+    pub fn code(&self) -> &'static str
+        ensures { result.now ≡ feed_code self.now }
+    {
+        match self {
+            FeedFault::Wire(_) => "F1",
+            FeedFault::Unexpected(_) => "F2",
+            FeedFault::UnsupportedAuth(_) => "F3",
+            FeedFault::PasswordWanted => "F4",
+            FeedFault::StartupError(_) => "F5",
+            FeedFault::ServerEnd(_) => "F6",
+            FeedFault::Memory => "F7",
+            FeedFault::Closed => "F8",
+        }
+    }
+
     // What a fault of the stream is to the client.
     pub(crate) fn of_wire(fault: WireFault) -> FeedFault
         ensures { result ≡ of_wire fault }

@@ -5,6 +5,7 @@ pub mod First
 pub mod FirstDecoder
 pub mod Laws
 pub mod Password
+pub mod Fault
 pub mod Segment
 -- Words of private functions, which no public contract cites.
 pub mod Private

@@ -1,6 +1,7 @@
 //! Why a stream gives no next message.
 
 ghost use Rattle.std.specs.Prelude.{◌≡◌};
+ghost use Rattle.pg_wire.specs.Fault.{wire_code};
 ghost use Rattle.pg_wire.specs.declared.fault.WireFault.TheVariants as wire;
 
 use std::alloc::AllocError;
@@ -28,6 +29,22 @@ pub enum WireFault {
     /// Memory was refused.
     #[error("W6 Memory")]
     Memory,
+}
+
+impl WireFault {
+    /// Its code, `W1` to `W6`: the first word of what it is shown as.
+    pub fn code(&self) -> &'static str
+        ensures { result.now ≡ wire_code self.now }
+    {
+        match self {
+            WireFault::UnknownTag(_) => "W1",
+            WireFault::ShortLength(_) => "W2",
+            WireFault::LongLength(_) => "W3",
+            WireFault::BadBody(_) => "W4",
+            WireFault::BadFirst(_) => "W5",
+            WireFault::Memory => "W6",
+        }
+    }
 }
 
 impl From<AllocError> for WireFault {

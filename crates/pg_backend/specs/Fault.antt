@@ -1,0 +1,11 @@
+-- The codes of what a backend answers to a call that it refuses, under which docs/PROTOCOL.md tells when each comes.
+use Rattle.std.specs.Prelude.{List, ℕ, codes}
+use Rattle.pg_backend.specs.declared.fault.BackendFault.{BackendFault}
+use Rattle.pg_backend.specs.declared.fault.BackendFault.TheVariants as backend
+
+-- the code of the fault for which a call is refused
+abbrev pub backend_code : BackendFault → List ℕ
+backend_code (backend.Wire fault) = codes "K1"
+backend_code backend.Memory = codes "K2"
+backend_code backend.Closed = codes "K3"
+backend_code (backend.Unexpected tag) = codes "K4"
