@@ -79,7 +79,7 @@ terminated_by hs (Chunk b) none = (λ t. absurd (not_terminated_more hs (Did (Ch
 terminated_by hs CopyEnd none = (λ t. absurd (not_terminated_more hs (Did CopyEnd) none (λ k. k) t), λ e. cc)
 terminated_by hs (CopyFail b) none = (λ t. absurd (not_terminated_more hs (Did (CopyFail b)) none (λ k. k) t), λ e. cc)
 
--- the calls stay allowed behind a message, and behind one more that is
+-- the calls stay allowed after a message, and after one more that is
 abbrev Next : List Happening → Happening → Type 0
 Next hs (Did c) = IsAllowed hs c
 Next hs (Came m) = Unit {0}

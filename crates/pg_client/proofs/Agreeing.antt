@@ -42,7 +42,7 @@ not_ready before (inr p) ready k = no_copy_in (rest_in before) p.1 k
 kept_other : (rest : List BackMessage) (m : BackMessage) → aside_of m ≡ None → without_asides (rest ++ m ∷ []) ≡ without_asides rest ++ m ∷ []
 kept_other rest m e = without_asides-append rest (m ∷ []) ∙ ap (λ (o : Option Aside). without_asides rest ++ kept_with o m []) e
 
--- a message that is no aside, and where a copy in is open behind it, begins one
+-- a message that is no aside, and where a copy in is open after it, begins one
 pub copying_begun : (rest : List BackMessage) (m : BackMessage) → aside_of m ≡ None → (ends : EndInCopyIn (rest ++ m ∷ [])) → m ≡ back.CopyIn ends.1
 copying_begun rest m e ends = (snoc_front (without_asides rest) ends.0 m (back.CopyIn ends.1) (sym (kept_other rest m e) ∙ ends.2)).1
 

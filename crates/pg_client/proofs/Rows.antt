@@ -108,7 +108,7 @@ lost_clear = (refl, refl)
 lost_again : Loses true (busy ++ Came (CommandComplete ok) ∷ []) (record { unsettled = None; seen_error = false })
 lost_again = (refl, refl)
 
--- lost behind an error
+-- lost after an error
 lost_failed : Loses false (busy ++ Came (ErrorResponse []) ∷ []) (record { unsettled = Some select; seen_error = true })
 unfolding busy
 lost_failed = (refl, refl)
@@ -122,7 +122,7 @@ cut_read : read_outcome (Query []) (CommandComplete ok ∷ RowDescription [] ∷
     ≡ Some (record { parts = part.Command ok ∷ []; error = Some []; status = status.Failed; asides = aside.Notice [] ∷ [] })
 cut_read = refl
 
--- a group that is cut off behind its first step, and one whose portal is suspended
+-- a group that is cut off after its first step, and one whose portal is suspended
 group_read : read_outcome (Group (step.Parse [] [] [] ∷ step.Execute [] (pos 0) ∷ [])) (ParseComplete ∷ ErrorResponse [] ∷ []) status.Idle ≡ Some (record { parts = part.Parsed ∷ []; error = Some []; status = status.Idle; asides = [] })
 group_read = refl
 
@@ -241,7 +241,7 @@ none_not_expected e = let k : false ≡ true = e.answerable.0 in cc
 second_not_expected : Expected (Some (97 ∷ [])) (started ++ Came AuthCleartext ∷ Came (AuthMd5 []) ∷ []) → ⊥
 second_not_expected e = let k : AuthCleartext ∷ [] ≡ [] = (comes_first (AuthMd5 []) refl (Some (97 ∷ [])) (started ++ Came AuthCleartext ∷ []) e).1 in cc
 
--- the second question is F2 Unexpected, and so is another way of authentication behind the first
+-- the second question is F2 Unexpected, and so is another way of authentication after the first
 asked_once : hear_with (Some (97 ∷ [])) (Starting Fresh) (AuthMd5 []) ≡ Stays (Starting Asked)
 asked_once = refl
 
@@ -260,7 +260,7 @@ not_asked = refl
 admitted_then : hear_with (Some (97 ∷ [])) (Starting Asked) AuthOk ≡ Stays (Starting Admitted)
 admitted_then = refl
 
--- what is answered, behind the startup packet
+-- what is answered, after the startup packet
 cleartext_sent : sent_in given (Did Start ∷ Came AuthCleartext ∷ []) ≡ sent_by given Start ++ 112 ∷ 0 ∷ 0 ∷ 0 ∷ 7 ∷ 97 ∷ 98 ∷ 0 ∷ []
 unfolding given
 cleartext_sent = refl
@@ -278,7 +278,7 @@ not_answered : answer_to settings AuthCleartext ≡ []
 unfolding settings
 not_answered = refl
 
--- a password with a zero byte is refused by start, behind the faults of the packet
+-- a password with a zero byte is refused by start, after the faults of the packet
 zero_refused : call_fault (record given { password = Some (97 ∷ 0 ∷ []) }) Start ≡ Some encoding.HasZero
 unfolding given
 zero_refused = refl
@@ -345,7 +345,7 @@ not_ready : IsReady busy → ⊥
 unfolding busy
 not_ready e = cc
 
--- the end of a copy in before its copy_done is unexpected; behind it, it goes on
+-- the end of a copy in before its copy_done is unexpected; after it, it goes on
 copy_too_early : hear (Busy (Query []) [] (Within (begun.CopyIn (record { binary = false; formats = [] }))) [] Awaited) (CommandComplete ok) ≡ Rejected
 copy_too_early = refl
 
@@ -373,7 +373,7 @@ is_copying : IsCopyingIn copying
 unfolding copying head
 is_copying = (([], head, refl), not_said CopyEnd copying ((λ e. cc), ((λ e. cc), ((λ e. cc), ((λ e. cc), ((λ e. cc), tt))))), λ reason. not_said (CopyFail reason) copying ((λ e. cc), ((λ e. cc), ((λ e. cc), ((λ e. cc), ((λ e. cc), tt))))))
 
--- its end is too early then; behind copy_done it is in time, and the client isn't copying in
+-- its end is too early then; after copy_done it is in time, and the client isn't copying in
 ends_too_early : IsAfterItsCall copying (CommandComplete ok) → ⊥
 ends_too_early a = is_copying.1 (a.copy_ended ok refl is_copying.0)
 
@@ -387,7 +387,7 @@ ends_in_time = record { started = tt; asked_for = inr (omega arith); copy_ended 
 not_copying_then : IsCopyingIn (copying ++ Did CopyEnd ∷ Came (NoticeResponse []) ∷ []) → ⊥
 not_copying_then k = k.1 done_said
 
--- behind another CopyInResponse it isn't said
+-- after another CopyInResponse it isn't said
 said_of_another : (before since : List Happening) → Did CopyEnd ∷ Came (back.CopyIn head) ∷ [] ≡ before ++ Did CopyEnd ∷ since → AllByRecursion IsNoCopyIn since → ⊥
 said_of_another [] since e all = let k : since ≡ Came (back.CopyIn head) ∷ [] = cc in (subst (AllByRecursion IsNoCopyIn) k all).0
 said_of_another (b ∷ []) since e all = cc

@@ -37,7 +37,7 @@ IsOrderly [] = Unit {0}
 IsOrderly (Start ∷ cs) = BeginsAsking cs
 IsOrderly (_ ∷ cs) = ⊥
 
--- the calls behind others, of those that were all allowed
+-- the calls after others, of those that were all allowed
 module _ where
   behind : (before : List Happening) (h : Happening) (hs : List Happening) → AreAllowed (before ++ h ∷ hs) → AreAllowed ((before ++ h ∷ []) ++ hs)
   behind before h hs all = subst AreAllowed (sym (append_assoc before (h ∷ []) hs)) all
@@ -120,7 +120,7 @@ module _ where
 
 -- ---- what they send
 
--- the messages of calls behind a request
+-- the messages of calls after a request
 asked_sent : (cs : List Call) → AsksOrEnds cs → flat_map call_messages cs ≡ copies_of cs ++ (flat_map turn_messages (turns_of cs) ++ farewell cs)
 asked_sent [] h = refl
 asked_sent (Ask r ∷ cs) h =
@@ -143,7 +143,7 @@ no_start : Call → Type 0
 no_start Start = ⊥
 no_start _ = Unit {0}
 
--- behind start each call sends the spellings of its messages
+-- after start each call sends the spellings of its messages
 sent_behind : (settings : Settings) (cs : List Call) → AsksOrEnds cs → flat_map (sent_by settings) cs ≡ flat_map (spelling frontend) (flat_map call_messages cs)
 sent_behind settings [] h = refl
 sent_behind settings (Start ∷ cs) h = absurd h

@@ -33,7 +33,7 @@ heard = AuthOk ∷ Ready status.Idle ∷ begins ∷ CommandComplete (79 ∷ 75 �
 ends_are : with_ends 0 heard ≡ (AuthOk, 9) ∷ (Ready status.Idle, 15) ∷ (begins, 23) ∷ (CommandComplete (79 ∷ 75 ∷ []), 31) ∷ (Ready status.Idle, 37) ∷ []
 ends_are = refl
 
--- calls stand behind the messages that were whole when they were made
+-- calls stand after the messages that were whole when they were made
 happened : merged calls (with_ends 0 heard) ≡ Did Start ∷ Came AuthOk ∷ Came (Ready status.Idle) ∷ Did (Ask copy) ∷ Came begins ∷ Did (Chunk (97 ∷ [])) ∷ Did CopyEnd ∷ Came (CommandComplete (79 ∷ 75 ∷ [])) ∷ Came (Ready status.Idle) ∷ Did (Ask select) ∷ Did Terminate ∷ []
 happened = refl
 
@@ -41,7 +41,7 @@ happened = refl
 turns_are : turns_of (calls_of calls) ≡ record { request = copy; copies = front.CopyData (97 ∷ []) ∷ front.CopyDone ∷ [] } ∷ record { request = select; copies = [] } ∷ []
 turns_are = refl
 
--- a password that was asked for goes before them, and the end of the session behind
+-- a password that was asked for goes before them, and the end of the session after
 all_messages : messages_behind (record { user = 117 ∷ []; database = None; pairs = []; password = Some (112 ∷ []); limit = 64 }) (AuthCleartext ∷ heard) (calls_of calls)
     ≡ front.Password (112 ∷ []) ∷ front.Query (67 ∷ []) ∷ front.CopyData (97 ∷ []) ∷ front.CopyDone ∷ front.Query (83 ∷ []) ∷ front.Terminate ∷ []
 all_messages = refl
@@ -82,7 +82,7 @@ both_answered = refl
 call_appended : (with_call (record { user = 117 ∷ []; database = None; pairs = []; password = None; limit = 64 }) CopyEnd (record blank { fed = 82 ∷ 0 ∷ [] })).calls ≡ (CopyEnd, 2) ∷ []
 call_appended = refl
 
--- a piece stands behind the rest, of which messages are heard
+-- a piece stands after the rest, of which messages are heard
 piece_heard : (with_heard (begins ∷ []) (3 ∷ []) [] (with_fed (2 ∷ 3 ∷ []) (record blank { fed = 1 ∷ []; rest = 1 ∷ [] }))) ≡ record blank { fed = 1 ∷ 2 ∷ 3 ∷ []; heard = begins ∷ []; rest = 3 ∷ [] }
 piece_heard = refl
 

@@ -13,7 +13,7 @@ use Rattle.pg_client.specs.Client.{ClientView, phase_of, IsOpenPhase}
 use Rattle.pg_client.specs.Sent.{sent_by, call_fault}
 use Rattle.pg_client.specs.History.{with_call, Carries}
 
--- The call was accepted: in each history it is the last one now. What it sends stands behind what was there, and of the client it
+-- The call was accepted: in each history it is the last one now. What it sends stands after what was there, and of the client it
 -- changes nothing but where it stands and whether it is closed.
 pub record Accepts (c : Call) (old new : ClientView) (before after : List ℕ) : Type 0 where
   pub settings : new.settings ≡ old.settings

@@ -18,7 +18,7 @@ first_cause (Some first) c = first
 abbrev pub has_error : List BackMessage → Bool
 has_error ms = list_any (λ m. is_some (error_of m)) ms
 
--- What lost says: the request behind those of the whole segments, and whether an error stands in its own. Asked again, nothing.
+-- What lost says: the request after those of the whole segments, and whether an error stands in its own. Asked again, nothing.
 abbrev pub Loses : Bool → List Happening → Loss → Type 0
 Loses false hs loss = (loss.unsettled ≡ slice_get (requests_in hs) (length (groups_in hs))) × (loss.seen_error ≡ has_error (rest_in hs))
 Loses true hs loss = (loss.unsettled ≡ None) × (loss.seen_error ≡ false)

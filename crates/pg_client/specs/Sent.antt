@@ -36,7 +36,7 @@ answer_to settings AuthCleartext = password_messages settings.password
 answer_to settings (AuthMd5 salt) = md5_messages settings.user settings.password salt
 answer_to settings _ = []
 
--- the messages that a call sends behind the startup packet
+-- the messages that a call sends after the startup packet
 abbrev pub call_messages : Call → List FrontMessage
 call_messages Start = []
 call_messages (Ask r) = request_messages r
@@ -74,7 +74,7 @@ abbrev pub first_fault : List FrontMessage → Option EncodeFault
 first_fault [] = None
 first_fault (m ∷ ms) = or_else (encode_fault frontend m) (first_fault ms)
 
--- why a call can't be sent; a password is judged with start, behind the startup packet
+-- why a call can't be sent; a password is judged with start, after the startup packet
 abbrev pub call_fault : Settings → Call → Option EncodeFault
 call_fault settings Start = or_else (packet_fault (Startup (startup_pairs settings))) (first_fault (password_messages settings.password))
 call_fault settings c = first_fault (call_messages c)

@@ -48,7 +48,7 @@ abbrev pub greeting : Settings → List Call → List ℕ
 greeting settings [] = []
 greeting settings (c ∷ cs) = packet (Startup (startup_pairs settings))
 
--- what is sent before the first turn behind the startup packet: the password, where it was asked for
+-- what is sent before the first turn after the startup packet: the password, where it was asked for
 abbrev pub passwords : Settings → List BackMessage → List FrontMessage
 passwords settings heard = flat_map (answer_to settings) heard
 
@@ -57,13 +57,13 @@ abbrev pub first_answer : Settings → List BackMessage → List FrontMessage
 first_answer settings [] = []
 first_answer settings (m ∷ ms) = answer_to settings m
 
--- what is sent behind the last turn: a Terminate, where the client said so
+-- what is sent after the last turn: a Terminate, where the client said so
 abbrev pub farewell : List Call → List FrontMessage
 farewell [] = []
 farewell (Terminate ∷ cs) = front.Terminate ∷ []
 farewell (c ∷ cs) = farewell cs
 
--- the messages behind the startup packet: the password, where it was asked for, the turns and the end of the session
+-- the messages after the startup packet: the password, where it was asked for, the turns and the end of the session
 abbrev pub messages_behind : Settings → List BackMessage → List Call → List FrontMessage
 messages_behind settings heard cs = passwords settings heard ++ (flat_map turn_messages (turns_of cs) ++ farewell cs)
 

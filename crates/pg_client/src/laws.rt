@@ -21,7 +21,7 @@ pub fn facts_of_a_run()
     ensures { (h : History) (client : ClientView) → IsHistoryOf h client → Facts (happenings h) (h.given ++ client.settled) client }
 {}
 
-/// What a client knows of a loss at each time: the request behind those of the settled groups, and whether an error came for it.
+/// What a client knows of a loss at each time: the request after those of the settled groups, and whether an error came for it.
 pub fn loss_of_a_run()
     ensures { (h : History) (client : ClientView) → IsHistoryOf h client → Loses h.handed_back (happenings h) (known_loss client) }
 {}
@@ -38,7 +38,7 @@ pub fn story_of_a_run()
     ensures one_more { (cs : Calls) (c : Call) (place : ℕ) → turns_of (calls_of (cs ++ (c, place) ∷ [])) ≡ turns_with (turns_of (calls_of cs)) c }
 {}
 
-/// What is expected was so at each time before, so that with a message that isn't expected nothing behind it is.
+/// What is expected was so at each time before, so that with a message that isn't expected nothing after it is.
 pub fn expected_begins()
     ensures begins { (password : Option (List ℕ)) (hs more : List Happening) → Expected password (hs ++ more) → Expected password hs }
     ensures longest { (password : Option (List ℕ)) (hs : List Happening) (m : BackMessage) (later : List Happening) → (Expected password (hs ++ Came m ∷ []) → ⊥) → Expected password (hs ++ Came m ∷ later) → ⊥ }

@@ -205,7 +205,7 @@ fn go_on(
     }
 }
 
-// Whether the message may come as far as a copy in is concerned: its end comes behind copy_done.
+// Whether the message may come as far as a copy in is concerned: its end comes after copy_done.
 fn is_in_time(stage: &Stage, answer: CopyAnswer, message: &BackMessage) -> bool
     ensures yes { IsTrue result → (place : Option Place) → gate stage.now answer message.now place ≡ place }
     ensures not { result ≡ false → (place : Option Place) → gate stage.now answer message.now place ≡ None }

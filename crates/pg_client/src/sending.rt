@@ -122,7 +122,7 @@ fn starved_after(starved: bool, put: Result<(), EncodeFault>) -> Result<bool, En
     }
 }
 
-// Puts the steps and a Sync out, as far as may be. All are judged, also behind one that memory was refused for.
+// Puts the steps and a Sync out, as far as may be. All are judged, also after one that memory was refused for.
 fn put_steps(steps: &[Step], out: &mut Vec<u8>) -> Result<(), EncodeFault>
     ensures { Puts (map step_message steps.now ++ Sync ∷ []) out.old.items result out.new.items }
 {

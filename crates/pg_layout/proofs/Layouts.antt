@@ -341,7 +341,7 @@ text_reads = record { sound = sound; again = again }
         let back : drop (length text + 1) (text ++ 0 ∷ rest) ≡ rest = ap (λ (t : List ℕ). drop (length text + 1) t) (sym whole) ∙ drop_at (string text) rest (length text + 1) (length-append text (0 ∷ [])) in
         ap string_at whole ∙ rw (place, take_at text (0 ∷ rest) (length text) refl, back) refl
 
--- ---- lists behind a count
+-- ---- lists after a count
 
 abbrev pub counted_of : {A : Type 0} → Layout A → Layout (List A)
 counted_of l = record {

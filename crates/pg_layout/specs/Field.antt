@@ -23,7 +23,7 @@ string text = text ++ 0 ∷ []
 abbrev pub contains_zero : List ℕ → Bool
 contains_zero text = list_any (λ b. b == 0) text
 
--- a list behind its number of elements, which is an Int16 that is read as unsigned
+-- a list after its number of elements, which is an Int16 that is read as unsigned
 abbrev pub counted : {A : Type 0} → (A → List ℕ) → List A → List ℕ
 counted spell xs = to_be_bytes w16 (length xs) ++ flat_map spell xs
 

@@ -25,7 +25,7 @@ column c = string c.name ++ oid c.table_oid ++ int16 c.attribute ++ oid c.type_o
 abbrev pub error_field : ErrorField → List ℕ
 error_field f = f.code ∷ string f.value
 
--- the fields, each behind its code, and a zero byte
+-- the fields, each after its code, and a zero byte
 abbrev pub error_fields : List ErrorField → List ℕ
 error_fields fields = flat_map error_field fields ++ 0 ∷ []
 

@@ -27,14 +27,14 @@ pub trait Field: Drop {
     // a String of it has a zero byte
     ghost zero: { Self → Bool };
 
-    // how reading goes: the value and the bytes behind it
+    // how reading goes: the value and the bytes after it
     ghost reading: { List ℕ → Option (Self × List ℕ) };
 
     /// Whether a String of the field has a zero byte.
     fn has_zero(&self) -> bool
         ensures { result ≡ zero self.now };
 
-    /// The room that is left behind the field.
+    /// The room that is left after the field.
     fn room_after(&self, room: u32) -> Option<u32>
         ensures { LeavesRoom room (length (spelling self.now)) result };
 
@@ -45,7 +45,7 @@ pub trait Field: Drop {
         ensures added { OnOk result (out.new.added ≡ out.old.added ++ spelling self.now) }
         ensures of_type { OnOk result (of_type self.now) };
 
-    /// The field at the beginning of the bytes, and the bytes behind it.
+    /// The field at the beginning of the bytes, and the bytes after it.
     fn read(alloc: Global, bytes: &[u8]) -> Result<(Self, &[u8]), BodyFault>
     where
         Self: Sized,

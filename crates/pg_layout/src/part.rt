@@ -42,7 +42,7 @@ pub trait Part: Drop {
     fn has_too_many(&self) -> bool
         ensures { result ≡ too_many self.now };
 
-    /// The room that is left behind the part.
+    /// The room that is left after the part.
     fn room_after(&self, room: u32) -> Option<u32>
         ensures { LeavesRoom room (length (spelling self.now)) result };
 
@@ -206,7 +206,7 @@ impl Part for Int32<'_> {
     }
 }
 
-/// A list behind its 16-bit count.
+/// A list after its 16-bit count.
 #[derive(Drop)]
 pub struct Counted<'a, T: Field>(pub &'a [T]);
 
@@ -237,7 +237,7 @@ impl<T: Field> Part for Counted<'_, T> {
     }
 }
 
-/// A list and a zero byte behind it.
+/// A list and a zero byte after it.
 #[derive(Drop)]
 pub struct Terminated<'a, T: Field>(pub &'a [T]);
 

@@ -1,4 +1,4 @@
-//! Reading at the beginning of a body: a value and the bytes behind it.
+//! Reading at the beginning of a body: a value and the bytes after it.
 
 ghost use Rattle.std.specs.Prelude.{◌≡◌, ◌<◌, ◌==◌, if◌then◌else◌, length, position, Some, None, MatchOption, IfSome};
 ghost use Rattle.std.specs.Int.{w16, w32};
@@ -113,7 +113,7 @@ fn times<T: Field>(alloc: Global, count: u16, bytes: &[u8]) -> Result<(Seq<T>, &
     Ok((Seq::new(items), rest))
 }
 
-/// A list behind its count.
+/// A list after its count.
 #[tactic(auto, unfolding(crate::specs::Private::Reader::counted_at))]
 pub fn counted<T: Field>(alloc: Global, bytes: &[u8]) -> Result<(Seq<T>, &[u8]), BodyFault>
     ensures { Gives (λ x. (x.0, x.1.now)) result (counted_at T.reading bytes.now) }
@@ -122,7 +122,7 @@ pub fn counted<T: Field>(alloc: Global, bytes: &[u8]) -> Result<(Seq<T>, &[u8]),
     times(alloc, count, rest)
 }
 
-/// What stands behind a zero byte.
+/// What stands after a zero byte.
 fn behind_zero(bytes: &[u8]) -> Option<&[u8]>
     ensures { MatchOption result (behind_zero bytes.now ≡ None) (λ rest. behind_zero bytes.now
         ≡ Some rest.now) }
@@ -173,7 +173,7 @@ fn binary_at(bytes: &[u8]) -> Result<(bool, &[u8]), BodyFault>
     }
 }
 
-/// What begins a copy: its overall format, and the formats behind their count.
+/// What begins a copy: its overall format, and the formats after their count.
 #[tactic(auto, unfolding(crate::specs::Private::Reader::copy_head_at))]
 pub fn copy_head_at(alloc: Global, bytes: &[u8]) -> Result<(CopyHead, &[u8]), BodyFault>
     ensures { Gives (λ x. (x.0, x.1.now)) result (copy_head_at bytes.now) }
@@ -183,7 +183,7 @@ pub fn copy_head_at(alloc: Global, bytes: &[u8]) -> Result<(CopyHead, &[u8]), Bo
     Ok((CopyHead { binary, formats }, rest))
 }
 
-/// The message, if nothing is left behind it.
+/// The message, if nothing is left after it.
 pub fn ended<M: Drop>(message: M, rest: &[u8]) -> Result<M, BodyFault>
     ensures { Gives (λ m. m) result (if length rest.now == 0 then Some message else None) }
 {

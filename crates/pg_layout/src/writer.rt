@@ -29,7 +29,7 @@ pub fn any_has_zero<T: Field>(items: &[T]) -> bool
     false
 }
 
-/// The room that is left behind the bytes.
+/// The room that is left after the bytes.
 pub fn room_after_bytes(bytes: &[u8], room: u32) -> Option<u32>
     ensures { LeavesRoom room (length bytes.now) result }
 {

@@ -69,7 +69,7 @@ copy_out = record { tag_is = λ _. refl; body_is = λ _. refl; zero_is = λ _. r
 int_eq_true : (x y : ℤ) → int_eq x y ≡ true → x ≡ y
 int_eq_true x y e = (Decides-int_eq x y).0 e
 
--- the body behind its code
+-- the body after its code
 coded : (code : ℤ) (rest : List ℕ) (m n : BackMessage) → IsMessage backend 82 (int32 code ++ rest) m → (bytes : List ℕ) → bytes ≡ int32 code ++ rest → m ≡ n → IsMessage backend 82 bytes n
 coded code rest m n found bytes is same = subst (IsMessage backend 82 bytes) same (subst (λ (t : List ℕ). IsMessage backend 82 t m) (sym is) found)
 

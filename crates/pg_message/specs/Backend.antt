@@ -37,7 +37,7 @@ tag (CopyOut head) = 72  -- H
 tag (CopyData bytes) = 100  -- d
 tag CopyDone = 99  -- c
 
--- what stands behind the length field
+-- what stands after the length field
 abbrev pub body : BackMessage → List ℕ
 body AuthOk = int32 (pos 0)
 body AuthCleartext = int32 (pos 3)
@@ -74,7 +74,7 @@ has_zero (NoticeResponse fields) = list_any field_has_zero fields
 has_zero (Notification process channel payload) = contains_zero channel || contains_zero payload
 has_zero _ = false
 
--- a list behind a 16-bit count has more elements than the count can say
+-- a list after a 16-bit count has more elements than the count can say
 abbrev pub has_too_many : BackMessage → Bool
 has_too_many (RowDescription columns) = exceeds_count columns
 has_too_many (DataRow values) = exceeds_count values

@@ -4,7 +4,7 @@ use Rattle.std.specs.Prelude.{ℕ, ◌≡◌, ◌≤◌, ◌+◌, Bool, List, le
 use Rattle.pg_layout.specs.declared.fault.EncodeFault.{EncodeFault}
 pub use Rattle.pg_layout.specs.Part.{longest, tagged, fault_of}
 
--- What the messages of a direction are made of: the first byte, what stands behind the length field, whether the numbers
+-- What the messages of a direction are made of: the first byte, what stands after the length field, whether the numbers
 -- are of their types (as all numbers of a program are), and the tests that a message with a spelling doesn't meet.
 pub record Direction (M : Type 0) : Type 1 where
   pub tag : M → ℕ

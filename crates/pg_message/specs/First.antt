@@ -13,21 +13,21 @@ pub use Rattle.pg_layout.specs.Part.{longest_packet, packet_fault_of}
 
 -- ---- a packet as bytes
 
--- the number behind the length: the version 3.0, or a number that stands for a request
+-- the number after the length: the version 3.0, or a number that stands for a request
 abbrev pub code : First → ℕ
 code (first.Startup pairs) = 196608
 code (first.Cancel process secret) = 80877102
 code first.Ssl = 80877103
 code first.Gss = 80877104
 
--- what stands behind the code
+-- what stands after the code
 abbrev pub content : First → List ℕ
 content (first.Startup pairs) = flat_map parameter pairs ++ 0 ∷ []
 content (first.Cancel process secret) = int32 process ++ int32 secret
 content first.Ssl = []
 content first.Gss = []
 
--- the length, which counts itself, the code and what stands behind it
+-- the length, which counts itself, the code and what stands after it
 abbrev pub packet_length : First → ℕ
 packet_length p = 8 + length (content p)
 

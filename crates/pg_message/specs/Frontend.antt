@@ -31,7 +31,7 @@ abbrev pub target_byte : Target → ℕ
 target_byte Statement = 83  -- S
 target_byte Portal = 80  -- P
 
--- what stands behind the length field
+-- what stands after the length field
 abbrev pub body : FrontMessage → List ℕ
 body (Query text) = string text
 body (Parse name text types) = string name ++ string text ++ counted oid types
@@ -62,7 +62,7 @@ has_zero (CopyFail reason) = contains_zero reason
 has_zero (Password password) = contains_zero password
 has_zero _ = false
 
--- a list behind a 16-bit count has more elements than the count can say
+-- a list after a 16-bit count has more elements than the count can say
 abbrev pub has_too_many : FrontMessage → Bool
 has_too_many (Parse name text types) = exceeds_count types
 has_too_many (Bind portal statement formats values result_formats) = exceeds_count formats

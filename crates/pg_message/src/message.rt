@@ -3,7 +3,7 @@
 use pg_layout::{Column, CopyHead, Fields, Status, Target, Values};
 use pg_seq::Seq;
 
-/// A message of the backend ("Message Formats", those marked B). A String has no zero byte, and a list behind a 16-bit
+/// A message of the backend ("Message Formats", those marked B). A String has no zero byte, and a list after a 16-bit
 /// count has at most 65,535 elements: a message in which this isn't so has no spelling.
 #[derive(Clone, Debug, PartialEq, Eq, Drop)]
 pub enum BackMessage {
@@ -17,7 +17,7 @@ pub enum BackMessage {
     AuthOther {
         /// Not 0, 3 or 5.
         code: i32,
-        /// The bytes behind the code.
+        /// The bytes after the code.
         rest: Seq<u8>,
     },
     /// `K`, BackendKeyData: what a cancel request has to name.

@@ -209,7 +209,7 @@ none_settled rs (x ∷ xs) ss e h = absurd cc
 
 -- the messages that the backend has handled after the password, as the first of the turns'
 pub met_handled : {C : Type 0} (p : PairView C) (t : Tied p) (m : Met p t) → AreFirstOf m.since (turns_made t.client.history.calls)
-met_handled p t m = handled_first (turns_made t.client.history.calls) (farewell (calls_of t.client.history.calls)) m.since m.read.left (one_farewell (calls_of t.client.history.calls)) m.behind
+met_handled p t m = handled_first (turns_made t.client.history.calls) (farewell (calls_of t.client.history.calls)) m.since m.read.left (one_farewell (calls_of t.client.history.calls)) m.follows
 
 met_begins : Known → {C : Type 0} (p : PairView C) (t : Tied p) → Met p t → IsPrefix (map settled_as p.settled) (map answered_as p.backend.log)
 met_begins k p t m =

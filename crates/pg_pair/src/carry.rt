@@ -15,7 +15,7 @@ pub enum Way {
     ToClient,
 }
 
-/// A carrier brought nothing, since what is behind it failed.
+/// A carrier brought nothing, since what is after it failed.
 #[derive(Clone, Copy, Debug, PartialEq, Eq, Error)]
 #[error("the carrier failed")]
 pub struct CarryFault;

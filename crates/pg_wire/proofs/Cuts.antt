@@ -81,7 +81,7 @@ first_ready (m ∷ a) (n ∷ b) s t x y p q e =
     let r = first_ready a b s t x y p.1 q.1 tail in
     (cc (head, r.0), r.1, r.2)
 
--- a whole segment, and what stands behind it
+-- a whole segment, and what stands after it
 behind : (segment body : List BackMessage) (status : Status) (others : List (List BackMessage)) (rest : List BackMessage) → segment ≡ body ++ back.Ready status ∷ [] → joined (segment ∷ others) ++ rest ≡ body ++ back.Ready status ∷ (joined others ++ rest)
 behind segment body status others rest e =
     ap (λ (s : List BackMessage). (s ++ joined others) ++ rest) e

@@ -273,7 +273,7 @@ unanswered outcome h = missing outcome.parts outcome.error (subst (λ (b : List 
     missing (p ∷ ps) None r = part_some p (nothing_before (messages_of p) (flat_map messages_of ps) r.3)
     missing parts (Some fields) r = unfailed (Steps (parse ∷ [])) [] parts fields tt r
 
--- columns without a tag behind them
+-- columns without a tag after them
 unfinished : (outcome : Outcome) → Fits (asking.Query []) (RowDescription [] ∷ Ready Idle ∷ []) outcome → ⊥
 unfinished outcome h = missing outcome.parts outcome.error (subst (λ (b : List BackMessage). Reads Results (without_asides b) outcome.parts outcome.error) (sym (last_same (RowDescription [] ∷ []) h.body (Ready Idle) (Ready outcome.status) h.closed).0) h.reads)
   where

@@ -154,7 +154,7 @@ answer_once (step.Execute portal max_rows) (part.Executed rows end) (part.Execut
 answer_once (step.Close target name) part.Shut part.Shut h k x y e = (refl, cc)
 answer_once _ _ _ h k x y e = absurd cc
 
--- what is still asked behind a next answer
+-- what is still asked after a next answer
 abbrev behind : Asked → Asked
 behind Results = Results
 behind (Steps []) = Steps []
@@ -264,9 +264,9 @@ first_error (c ∷ cut) (d ∷ cut') w w' fields fields' h k e =
     let tail : cut ++ ErrorResponse fields ∷ w ≡ cut' ++ ErrorResponse fields' ∷ w' = cc in
     first_error cut cut' w w' fields fields' h.1 k.1 tail
 
--- ---- all parts, and what stands behind them
+-- ---- all parts, and what stands after them
 
--- what stands behind the whole parts: nothing, or what is cut off and the errors
+-- what stands after the whole parts: nothing, or what is cut off and the errors
 abbrev Tail : Asked → List BackMessage → Option Fields → Type 0
 Tail a t None = IsDone a × (t ≡ [])
 Tail a t (Some fields) = (cut : List BackMessage) × IsCutOff a cut × (more : List Fields) × (t ≡ cut ++ ErrorResponse fields ∷ map ErrorResponse more)

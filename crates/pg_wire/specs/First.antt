@@ -1,4 +1,4 @@
--- What a connection begins with: first packets, and the rest behind them (Frontend/Backend Protocol, "Start-up"). How a packet is
+-- What a connection begins with: first packets, and the rest after them (Frontend/Backend Protocol, "Start-up"). How a packet is
 -- spelled is passed on.
 use Rattle.std.specs.Prelude.{ℕ, ℤ, pos, ◌≡◌, ◌≤◌, ◌<ℤ◌, ◌≤ℤ◌, Bool, true, false, List, [], ◌∷◌, ◌++◌, length, take, drop}
 use Rattle.std.specs.List.{flat_map, AllByRecursion}
@@ -11,14 +11,14 @@ pub use Rattle.pg_message.specs.First.{parameter, code, content, packet_length, 
 pub use Rattle.pg_message.specs.First.{parameter_has_zero, has_no_name, packet_has_zero, packet_has_no_name, packet_fault_of, packet_fault, PacketIsOfType, IsPacket}
 pub use Rattle.pg_message.specs.First.{database_pair, startup_parameters}
 
--- no first packet comes behind it
+-- no first packet comes after it
 abbrev pub is_last : First → Bool
 is_last (first.Startup pairs) = true
 is_last (first.Cancel process secret) = true
 is_last first.Ssl = false
 is_last first.Gss = false
 
--- No packet stands behind a last one, and ended says whether the last one is there.
+-- No packet stands after a last one, and ended says whether the last one is there.
 abbrev pub EndsIn : List First → Bool → Type 0
 EndsIn [] ended = ended ≡ false
 EndsIn (p ∷ []) ended = ended ≡ is_last p

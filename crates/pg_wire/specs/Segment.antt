@@ -167,7 +167,7 @@ Begins request messages = (more : List BackMessage) × (outcome : Outcome)
 
 -- ---- the segments of a session: its messages, cut after each ReadyForQuery
 
--- the whole segments, and the messages behind the last ReadyForQuery
+-- the whole segments, and the messages after the last ReadyForQuery
 pub record Segments : Type 0 where
   pub whole : List (List BackMessage)
   pub rest : List BackMessage

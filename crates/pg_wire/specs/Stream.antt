@@ -1,4 +1,4 @@
--- A stream of one direction: messages, and the rest behind them (Frontend/Backend Protocol, "Overview", "Message Formats").
+-- A stream of one direction: messages, and the rest after them (Frontend/Backend Protocol, "Overview", "Message Formats").
 use Rattle.std.specs.Prelude.{ℕ, ℤ, pos, ◌≡◌, ◌≤◌, ◌+◌, ◌-◌, ◌<ℤ◌, List, ◌++◌, length, take, drop, slice_index}
 use Rattle.std.specs.List.{flat_map, AllByRecursion}
 use Rattle.std.specs.Int.{w32, from_be_bytes, cast_signed}

@@ -87,7 +87,7 @@ pub struct Decoder<M: Message> {
 /// Decodes what a backend sends.
 pub type BackDecoder = Decoder<BackMessage>;
 
-/// Decodes what a frontend sends behind its startup packet.
+/// Decodes what a frontend sends after its startup packet.
 pub type FrontDecoder = Decoder<FrontMessage>;
 
 impl<M: Message> Model for Decoder<M> {

@@ -109,7 +109,7 @@ fn find(alloc: Global, rest: &[u8]) -> Result<Option<(First, usize)>, WireFault>
     }
 }
 
-/// Whether no first packet comes behind this one.
+/// Whether no first packet comes after this one.
 fn is_last(packet: &First) -> bool
     ensures { result ≡ is_last packet.now }
 {
@@ -119,7 +119,7 @@ fn is_last(packet: &First) -> bool
 /// Takes what a frontend begins a connection with in any pieces, and gives its first packets: any number of Ssl and Gss, and
 /// then a Startup or a Cancel ("Start-up", "Canceling Requests in Progress").
 ///
-/// What comes behind those is kept for [`into_front`](FirstDecoder::into_front). Until the last packet was given, fewer than
+/// What comes after those is kept for [`into_front`](FirstDecoder::into_front). Until the last packet was given, fewer than
 /// 10,000 bytes are kept after each None. A fault stands in the place of a packet, and is answered for good from then on.
 #[derive(Drop)]
 pub struct FirstDecoder {
@@ -203,7 +203,7 @@ impl FirstDecoder {
         }
     }
 
-    /// A decoder of the messages behind the first packets, which takes messages with a length field of at most `limit`, from
+    /// A decoder of the messages after the first packets, which takes messages with a length field of at most `limit`, from
     /// 64 to 1,073,741,823. It has the bytes that are kept, and answers the fault that was found, if one was. It takes no
     /// memory.
     pub fn into_front(self, limit: u32) -> FrontDecoder

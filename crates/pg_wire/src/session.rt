@@ -58,7 +58,7 @@ pub enum Request {
     /// A simple query: one message, which may hold several commands ("Simple Query"). The text holds no zero byte: else a client
     /// refuses the request (C3).
     Query(Seq<u8>),
-    /// An extended query: these steps, and a Sync behind them ("Extended Query").
+    /// An extended query: these steps, and a Sync after them ("Extended Query").
     Group(Seq<Step>),
 }
 

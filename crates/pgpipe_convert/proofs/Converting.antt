@@ -149,7 +149,7 @@ module _ {K : Type 0} (takes : K → List ℕ → K → Type 0) (failures : K �
   refused_steps piece ended (stop.Answer (converted.Text f)) r' r'' t = (none_left (Bad (converted.Text f)), refl, stays ended (bytes ++ piece) (none_left (Bad (converted.Text f))) (inl (as_file (bytes ++ piece) false (after_rows st.rows (none_left (Bad (converted.Text f)))) (t bytes st.rows st.read))))
   refused_steps piece ended (stop.Answer (converted.Binary f)) r' r'' t = (none_left (Bad (converted.Binary f)), refl, stays ended (bytes ++ piece) (none_left (Bad (converted.Binary f))) (inl (as_file (bytes ++ piece) false (after_rows st.rows (none_left (Bad (converted.Binary f)))) (t bytes st.rows st.read))))
   refused_steps piece ended (stop.Answer (converted.Row f)) r' r'' t = absurd t
-  refused_steps piece ended stop.Memory r' r'' t = (left_after r piece, stays ended (bytes ++ piece) (left_after r piece) (inl (as_file (bytes ++ piece) false (after_rows st.rows (left_after r piece)) (reads_more r bytes st.rows piece st.not_ended st.read))), ([], sym (append-nil st.text)))
+  refused_steps piece ended stop.Memory r' r'' t = (left_after r piece, stays ended (bytes ++ piece) (left_after r piece) (inl (as_file (bytes ++ piece) false (after_rows st.rows (left_after r piece)) (reads_more r bytes st.rows piece st.not_ended st.read))), ([], append-nil st.text))
   refused_steps piece ended stop.SourceFailed r' r'' t = absurd t
   refused_steps piece ended stop.SinkFailed r' r'' t = absurd t
   refused_steps piece ended stop.Endless r' r'' t = absurd t

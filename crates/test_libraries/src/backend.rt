@@ -64,7 +64,7 @@ fn run(backend: &mut Backend, out: &mut Vec<u8>) -> Result<(), BackendFault> {
     Ok(())
 }
 
-/// What one step of a backend without answers does, behind this opening: its output begins and ends so.
+/// What one step of a backend without answers does, after this opening: its output begins and ends so.
 #[derive(Drop)]
 struct Case<'a> {
     opening: &'a [u8],

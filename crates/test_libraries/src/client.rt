@@ -101,7 +101,7 @@ fn fresh(alloc: Global) -> Result<Client, AllocError> {
     Ok(Client::new(alloc, settings))
 }
 
-/// A new client behind these acts, and what it has put out.
+/// A new client after these acts, and what it has put out.
 fn behind(alloc: Global, acts: &[Act<'_>]) -> Result<(Client, Vec<u8>), Fail> {
     let mut client = fresh(alloc)?;
     let mut out = Vec::new(alloc);

@@ -62,7 +62,7 @@ impl Reader for BinaryReader {
     }
 }
 
-/// Writes the rows that wait as canonical lines, of which there are no more than bytes, and gives the fault behind them, if there
+/// Writes the rows that wait as canonical lines, of which there are no more than bytes, and gives the fault after them, if there
 /// is one.
 fn write_waiting<R: Reader>(
     reader: &mut R,
@@ -109,7 +109,7 @@ fn write_piece<R: Reader>(
 }
 
 /// Reads a file in pieces, the first of `first` bytes and each other one of `size`, writes its rows as canonical lines, and gives
-/// the fault behind them, if there is one.
+/// the fault after them, if there is one.
 fn write_file<R: Reader>(
     reader: &mut R,
     file: &[u8],

@@ -1,4 +1,4 @@
--- What a delivery moved, counted by what had reached the end before and behind it.
+-- What a delivery moved, counted by what had reached the end before and after it.
 use Rattle.std.proofs.Common.{◌≡◌, ◌≤◌, ◌+◌, ◌-◌, ℕ, Result, Ok, Err, length, take, ap, subst, arith}
 use Rattle.pg_pair.specs.declared.carry.Way.{Way}
 use Rattle.pg_pair.specs.declared.carry.Way.TheVariants.{ToBackend, ToClient}

@@ -135,7 +135,7 @@ fn conduct<C: Carry>(
     hold(alloc, pair, claims)
 }
 
-// Whether the claims hold of a pair behind what the plan says. It alone lets a pair go, since to prove that takes long.
+// Whether the claims hold of a pair after what the plan says. It alone lets a pair go, since to prove that takes long.
 fn judge<C: Carry>(
     alloc: Global,
     pair: Pair<C>,

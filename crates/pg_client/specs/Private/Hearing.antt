@@ -93,7 +93,7 @@ abbrev pub LeadsTo : Option Place → Bool → List Part → Stage → Type 0
 LeadsTo None heard parts stage = heard ≡ false
 LeadsTo (Some p) heard parts stage = (heard ≡ true) × (parts ≡ p.parts) × (stage ≡ p.stage)
 
--- what was called of a copy in, behind a message that was heard
+-- what was called of a copy in, after a message that was heard
 abbrev pub AnswerIs : Bool → CopyAnswer → CopyAnswer → Type 0
 AnswerIs false expected new = Unit {0}
 AnswerIs true expected new = new ≡ expected

@@ -1,4 +1,4 @@
--- Reading at the beginning of the bytes: a value and the bytes behind it, or nothing. The readers of the code follow these
+-- Reading at the beginning of the bytes: a value and the bytes after it, or nothing. The readers of the code follow these
 -- one for one. What is read is spelled so, and what is spelled so is read: the laws are in proofs/Layouts.antt.
 use Rattle.std.specs.Prelude.{ℕ, zero, suc, ℤ, ◌≡◌, ◌+◌, ◌==◌, if◌then◌else◌, Bool, true, false, nat_lt, List, [], ◌∷◌, length, take, drop, position, Option, Some, None, Result, Ok, Err}
 use Rattle.std.specs.Int.{Width, w16, w32, byte_len, from_be_bytes, cast_signed}
@@ -40,7 +40,7 @@ times_at read zero bytes = Some ([], bytes)
 times_at read (suc n) bytes = read bytes >>= λ first. times_at read n first.1
     >>= λ others. Some (first.0 ∷ others.0, others.1)
 
--- what stands behind a zero byte
+-- what stands after a zero byte
 abbrev pub behind_zero : List ℕ → Option (List ℕ)
 behind_zero [] = None
 behind_zero (zero ∷ rest) = Some rest

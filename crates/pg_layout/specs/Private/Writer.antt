@@ -6,7 +6,7 @@ pub record Appended : Type 0 where
   pub before : List ℕ
   pub added : List ℕ
 
--- The room that is left behind so many bytes, or None where they don't fit.
+-- The room that is left after so many bytes, or None where they don't fit.
 abbrev pub LeavesRoom : ℕ → ℕ → Option ℕ → Type 0
 LeavesRoom room size None = room < size
 LeavesRoom room size (Some left) = left + size ≡ room

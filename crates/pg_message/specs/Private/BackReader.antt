@@ -1,4 +1,4 @@
--- Reading the body of a backend's message, behind its tag.
+-- Reading the body of a backend's message, after its tag.
 use Rattle.std.specs.Prelude.{ℕ, ℤ, pos, ◌==◌, if◌then◌else◌, List, length, Option, Some, None}
 use Rattle.std.specs.Int.{w32}
 use Rattle.std.specs.Ordering.{int_eq}
@@ -57,7 +57,7 @@ back_kind_of b =
     else if b == 99 then Some kinds.CopyDone
     else None
 
--- what stands behind the code of an authentication request
+-- what stands after the code of an authentication request
 abbrev pub auth_of_code : ℤ → List ℕ → Option BackMessage
 auth_of_code code rest =
     if int_eq code (pos 0) then (if length rest == 0 then Some AuthOk else None)

@@ -1,4 +1,4 @@
--- Reading the body of a frontend's message, behind its tag.
+-- Reading the body of a frontend's message, after its tag.
 use Rattle.std.specs.Prelude.{ℕ, ℤ, ◌==◌, if◌then◌else◌, List, length, Option, Some, None}
 use Rattle.std.specs.Int.{w16, w32}
 use Rattle.pg_message.specs.declared.frontend.kind.FrontKind.{FrontKind}

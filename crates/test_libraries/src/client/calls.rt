@@ -11,7 +11,7 @@ pub fn has_put(shown: (Client, Vec<u8>), bytes: &[u8], phase: Phase) -> bool {
     shown.1.as_slice() == bytes && shown.0.phase() == phase
 }
 
-/// A client that is ready behind these acts, and what it has put out since then.
+/// A client that is ready after these acts, and what it has put out since then.
 fn ready_behind(alloc: Global, last: Act<'_>) -> Result<(Client, Vec<u8>), Fail> {
     behind(alloc, &[Act::Start, Act::Feed(&WELCOME), Act::Send, last])
 }
@@ -116,7 +116,7 @@ fn without_a_key_nothing_is_cancelled(rt: HostRuntime) -> Result<(), Fail> {
     Ok(())
 }
 
-/// A client whose startup had these messages behind the AuthenticationOk, and what it has put out since then.
+/// A client whose startup had these messages after the AuthenticationOk, and what it has put out since then.
 fn introduced<'a>(
     alloc: Global,
     messages: &'a [u8],

@@ -10,7 +10,7 @@ use std::test::Fail;
 /// CopyInResponse of text without a column.
 const COPY_IN: [u8; 8] = [0x47, 0, 0, 0, 7, 0, 0, 0];
 
-/// A client of whom a copy is wanted, behind these acts, and what it has put out since then.
+/// A client of whom a copy is wanted, after these acts, and what it has put out since then.
 fn copying<'a>(alloc: Global, first: Act<'a>, last: Act<'a>) -> Result<(Client, Vec<u8>), Fail> {
     let acts = [
         Act::Start,

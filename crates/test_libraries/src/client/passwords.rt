@@ -26,7 +26,7 @@ fn given(alloc: Global, password: &[u8]) -> Result<Client, AllocError> {
     Ok(Client::new(alloc, settings))
 }
 
-/// Such a client with the password `ab` behind its start and these acts, and what it has put out since the start.
+/// Such a client with the password `ab` after its start and these acts, and what it has put out since the start.
 fn started(alloc: Global, acts: &[Act<'_>]) -> Result<(Client, Vec<u8>), Fail> {
     let mut client = given(alloc, b"ab")?;
     let mut out = Vec::new(alloc);

@@ -43,7 +43,7 @@ fn gives(
     Ok(true)
 }
 
-/// The same of a file that is the signature with these bytes behind it.
+/// The same of a file that is the signature with these bytes after it.
 fn signed_gives(
     alloc: Global,
     rest: &[u8],
@@ -54,7 +54,7 @@ fn signed_gives(
     gives(alloc, file.as_slice(), lines, fault)
 }
 
-/// The same of a file that is a head without an extension with these bytes behind it.
+/// The same of a file that is a head without an extension with these bytes after it.
 fn headed_gives(
     alloc: Global,
     rest: &[u8],
@@ -176,7 +176,7 @@ fn a_reader_is_done_at_the_trailer(rt: HostRuntime) {
     assert!(rt; is_done_at_the_trailer(rt.alloc()));
 }
 
-/// Whether a byte behind the trailer is refused for good.
+/// Whether a byte after the trailer is refused for good.
 fn fails_for_good(alloc: Global) -> bool {
     let mut reader = BinaryReader::new(alloc, 1, 1);
     let pushed = [reader.push(&HEAD), reader.push(b"\xFF\xFF")];

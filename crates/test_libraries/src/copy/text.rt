@@ -103,7 +103,7 @@ fn rows_are_left_at_the_end(rt: HostRuntime) {
     assert!(rt; gives_what_is_left(rt.alloc()));
 }
 
-/// Whether each call behind a line with a fault answers it.
+/// Whether each call after a line with a fault answers it.
 fn fails_for_good(alloc: Global) -> bool {
     let mut reader = TextReader::new(alloc, Some(1));
     let pushed = reader.push(b"a\r\nb\n");
@@ -123,7 +123,7 @@ fn a_fault_is_answered_for_good(rt: HostRuntime) {
     assert!(rt; fails_for_good(rt.alloc()));
 }
 
-/// Whether the reader is done behind the end mark, and takes what comes then.
+/// Whether the reader is done after the end mark, and takes what comes then.
 fn stops_at_the_mark(alloc: Global) -> bool {
     let mut reader = TextReader::new(alloc, None);
     let pushed = reader.push(b"a\tb\n\\.\nc");

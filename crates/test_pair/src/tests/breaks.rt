@@ -9,7 +9,7 @@ use pg_pair::{Direct, Way};
 use std::alloc::{AllocError, Global};
 use std::test::Fail;
 
-// All that waits goes to and fro, but one way breaks behind so many bytes.
+// All that waits goes to and fro, but one way breaks after so many bytes.
 fn broken_flow(way: Way, most: u32) -> [Act<'static>; 4] {
     match way {
         Way::ToBackend => [
@@ -39,7 +39,7 @@ fn at_start(alloc: Global, way: Way, most: u32, claims: &[Claim<'_>]) -> Result<
     )
 }
 
-// Whether this holds where a way breaks behind the client's query, and is broken again.
+// Whether this holds where a way breaks after the client's query, and is broken again.
 fn at_query(alloc: Global, way: Way, most: u32, claims: &[Claim<'_>]) -> Result<bool, Fail> {
     let [first, second, third, last] = broken_flow(way, most);
     let again = Act::Break(way);
@@ -52,7 +52,7 @@ fn at_query(alloc: Global, way: Way, most: u32, claims: &[Claim<'_>]) -> Result<
     )
 }
 
-// The way to the backend broke behind so many bytes, nothing is settled, and the client is in this phase.
+// The way to the backend broke after so many bytes, nothing is settled, and the client is in this phase.
 fn backend_lost(reached: usize, client: Phase) -> [Claim<'static>; 5] {
     [
         Claim::Reached(Way::ToBackend, reached),
@@ -76,7 +76,7 @@ fn broken_to_the_backend(rt: HostRuntime) -> Result<(), Fail> {
     Ok(())
 }
 
-// The way to the client broke behind so many bytes, and so many groups are settled.
+// The way to the client broke after so many bytes, and so many groups are settled.
 fn client_lost(reached: usize, count: usize) -> [Claim<'static>; 5] {
     [
         Claim::Reached(Way::ToClient, reached),

@@ -71,7 +71,7 @@ fn refused(alloc: Global, act: Act<'_>, fault: CallFault) -> Result<Applied, All
     })
 }
 
-// Whether the call is refused so behind these acts, and a second time.
+// Whether the call is refused so after these acts, and a second time.
 fn refuses(alloc: Global, plan: Plan<'_>, act: Act<'_>, fault: CallFault) -> Result<bool, Fail> {
     let wanted = refused(alloc, act, fault)?;
     judge(
@@ -117,7 +117,7 @@ fn what_has_no_spelling_is_refused(rt: HostRuntime) -> Result<(), Fail> {
     Ok(())
 }
 
-// Whether this holds behind acts of a client that was let in.
+// Whether this holds after acts of a client that was let in.
 fn holds(
     alloc: Global,
     reply: Reply,

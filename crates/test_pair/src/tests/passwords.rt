@@ -52,7 +52,7 @@ fn answer_length(question: Question) -> usize
     }
 }
 
-// Whether this holds of a client with this password, or none, behind what the plan says.
+// Whether this holds of a client with this password, or none, after what the plan says.
 fn comes_to(
     alloc: Global,
     question: Question,
@@ -170,7 +170,7 @@ fn without_a_password_the_question_is_a_fault(rt: HostRuntime) -> Result<(), Fai
     Ok(())
 }
 
-// The way to the backend breaks behind each byte of the password but the last.
+// The way to the backend breaks after each byte of the password but the last.
 #[test]
 fn broken_within_the_password(rt: HostRuntime) -> Result<(), Fail> {
     for most in 0..12 {

@@ -145,7 +145,7 @@ const TO_BACKEND: Act<'static> = Act::Deliver(Way::ToBackend, u32::MAX);
 
 const TO_CLIENT: Act<'static> = Act::Deliver(Way::ToClient, u32::MAX);
 
-// Start and a query, with a flow behind each: twice all that waits to the backend, steps up to the one that does nothing, and all that
+// Start and a query, with a flow after each: twice all that waits to the backend, steps up to the one that does nothing, and all that
 // waits to the client.
 const ROW_EVENTS: [Act<'static>; 16] = [
     Act::Start,

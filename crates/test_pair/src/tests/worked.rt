@@ -31,7 +31,7 @@ fn failed_copy(alloc: Global, error: Fields) -> Result<Settled, AllocError> {
     Ok(settled(alloc, request, Vec::new(alloc), Some(error)))
 }
 
-// Whether the claims hold behind what is done with a pair that answers so.
+// Whether the claims hold after what is done with a pair that answers so.
 fn holds(
     alloc: Global,
     replies: &[Reply],

@@ -23,12 +23,12 @@ returns-in-Ok-clause-converted g c =
     let run = c.run-stop.ensures in
     let begun = c.in_ok-work.ensures.begun in
     let broke = HasRisen (g.K.Sink.failures c.args.sink.now) (g.K.Sink.failures c.settle.new.sink) in
-    let sent = settled g.K.Sink.takes g.K.Sink.failures (file_by c.in_ok-work.work.reader) c.in_ok-work.work.to run.pieces (g.S.Source.failures c.args.source.now) (g.S.Source.failures c.run-stop.new.source) broke (g.S.Source.has_ended c.run-stop.new.source) c.args.sink.now (concat run.pieces) run.before c.run-stop.result c.run-stop.new.self.out.items c.run-stop.new.sink c.settle.new.sink run.converted_before run.stops run.stops_source (rw c.as_slice.ensures at c.in-Ok.ensures) in
+    let sent = settled g.K.Sink.takes g.K.Sink.failures (file_by c.in_ok-work.work.reader) c.in_ok-work.work.to run.pieces (g.S.Source.failures c.args.source.now) (g.S.Source.failures c.run-stop.new.source) broke (g.S.Source.has_ended c.run-stop.new.source) c.args.sink.now (concat run.pieces) run.before c.run-stop.result c.run-stop.new.self.out.items c.run-stop.new.sink c.settle.new.sink run.converted_before run.stops run.stops_source (rw c.as_slice.ensures.value at c.in-Ok.ensures) in
     (run.pieces, sent.0.0, run.received, sent.0.1, rw (c.answer.ensures, ← begun.2, ← begun.0) sent.0.2)
 
 pub returns-clause-converted : goal.returns-clause-converted
 returns-clause-converted g c =
     let run = c.run-stop.ensures in
     let begun = c.in_ok-work.ensures.begun in
-    let failed = unsettled g.K.Sink.takes g.K.Sink.failures (file_by c.in_ok-work.work.reader) c.in_ok-work.work.to (g.S.Source.has_ended c.run-stop.new.source) c.args.sink.now (concat run.pieces) run.before c.run-stop.result c.run-stop.new.self.out.items c.run-stop.new.sink c.in-Err.field-0 c.settle.new.sink run.converted_before run.stops (rw c.as_slice.ensures at c.in-Err.ensures) in
+    let failed = unsettled g.K.Sink.takes g.K.Sink.failures (file_by c.in_ok-work.work.reader) c.in_ok-work.work.to (g.S.Source.has_ended c.run-stop.new.source) c.args.sink.now (concat run.pieces) run.before c.run-stop.result c.run-stop.new.self.out.items c.run-stop.new.sink c.in-Err.field-0 c.settle.new.sink run.converted_before run.stops (rw c.as_slice.ensures.value at c.in-Err.ensures) in
     (run.pieces, failed.0.0, run.received, failed.0.1, inl (failed.1, rw (← begun.2, ← begun.0) failed.0.2.0, rw (← begun.2, ← begun.0) failed.0.2.1))

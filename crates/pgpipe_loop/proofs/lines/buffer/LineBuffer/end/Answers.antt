@@ -1,5 +1,5 @@
 use Rattle.pgpipe_loop.proofs.LineWriting.{line_ended}
-use Rattle.pgpipe_loop.specs.contracts.line_buffer.LineBuffer.{the_view}
+use Rattle.pgpipe_loop.specs.contracts.lines.buffer.LineBuffer.{the_view}
 use Rattle.pgpipe_loop.proofs.lines.buffer.LineBuffer.end.Goals as goal
 
 pub returns : goal.returns

@@ -1,6 +1,6 @@
 use Rattle.std.proofs.Common.{arith, option_copied}
 use Rattle.pgpipe_loop.proofs.LineWriting.{field_put, field_dropped}
-use Rattle.pgpipe_loop.specs.contracts.line_buffer.LineBuffer.{the_view}
+use Rattle.pgpipe_loop.specs.contracts.lines.buffer.LineBuffer.{the_view}
 use Rattle.pgpipe_loop.proofs.lines.buffer.LineBuffer.put.Goals as goal
 
 pub returns-then-self-ge-MOST_FIELDS : goal.returns-then-self-ge-MOST_FIELDS
