@@ -4,8 +4,7 @@ use Rattle.std.specs.Fmt.{decimal, signed_decimal}
 use Rattle.std.specs.List.{flat_map}
 use Rattle.pg_copy.specs.Row.{Row, most_fields}
 use Rattle.pg_copy.specs.Text.{written_row}
-use Rattle.pg_wire.specs.declared.fault.WireFault.{WireFault}
-use Rattle.pg_wire.specs.declared.fault.WireFault.TheVariants as wire
+use Rattle.pg_wire.specs.Fault.{wire_code}
 use Rattle.pg_wire.specs.value.Column.{Column}
 use Rattle.pg_wire.specs.value.CopyHead.{CopyHead}
 use Rattle.pg_wire.specs.value.ErrorField.{ErrorField}
@@ -19,8 +18,7 @@ use Rattle.pg_wire.specs.declared.session.Part.{Part}
 use Rattle.pg_wire.specs.declared.session.Part.TheVariants as part
 use Rattle.pg_wire.specs.declared.session.Request.{Request}
 use Rattle.pg_wire.specs.declared.session.Request.TheVariants as request
-use Rattle.pg_client.specs.declared.fault.CallFault.{CallFault}
-use Rattle.pg_client.specs.declared.fault.CallFault.TheVariants as call
+use Rattle.pg_client.specs.Fault.{call_code, feed_code}
 use Rattle.pg_client.specs.declared.fault.FeedFault.{FeedFault}
 use Rattle.pg_client.specs.declared.fault.FeedFault.TheVariants as feed
 use Rattle.pg_client.specs.declared.phase.Phase.{Phase}
@@ -29,6 +27,7 @@ use Rattle.pg_client.specs.declared.settled.Loss.{Loss}
 use Rattle.pg_client.specs.declared.settled.Settled.{Settled}
 use Rattle.pg_backend.specs.phase.BackPhase.{BackPhase}
 use Rattle.pg_backend.specs.phase.BackPhase.TheVariants as back_phase
+use Rattle.pg_backend.specs.Fault.{backend_code}
 use Rattle.pg_backend.specs.declared.fault.BackendFault.{BackendFault}
 use Rattle.pg_backend.specs.declared.fault.BackendFault.TheVariants as backend
 use Rattle.pg_backend.specs.script.Logged.{Logged}
@@ -165,44 +164,21 @@ settled_rows s =
 
 -- ---- refused calls and faults
 
--- the code of the fault for which the client refused a call
-abbrev pub call_code : CallFault → List ℕ
-call_code (call.NotReady at) = codes "C1"
-call_code (call.NotCopying at) = codes "C2"
-call_code (call.Encode fault) = codes "C3"
-call_code call.NoKey = codes "C4"
+-- what a fault of the client's feed has beside its code: the decoder's code, or the server's error
+abbrev pub feed_details : FeedFault → Row
+feed_details (feed.Wire fault) = Some (wire_code fault) ∷ []
+feed_details (feed.StartupError fields) = error_fields fields
+feed_details (feed.ServerEnd fields) = error_fields fields
+feed_details _ = []
 
--- the code of what a decoder found wrong
-abbrev pub wire_code : WireFault → List ℕ
-wire_code (wire.UnknownTag tag) = codes "W1"
-wire_code (wire.ShortLength size) = codes "W2"
-wire_code (wire.LongLength size) = codes "W3"
-wire_code (wire.BadFirst code) = codes "W5"
-wire_code (wire.BadBody tag) = codes "W4"
-wire_code wire.Memory = codes "W6"
+-- what a fault of the backend's step has beside its code: the decoder's code
+abbrev pub backend_details : BackendFault → Row
+backend_details (backend.Wire fault) = Some (wire_code fault) ∷ []
+backend_details _ = []
 
--- the code of a fault of the client's feed, with the decoder's code or the server's error where it
--- has one
-abbrev pub feed_fields : FeedFault → Row
-feed_fields (feed.Wire fault) = Some (codes "F1") ∷ Some (wire_code fault) ∷ []
-feed_fields (feed.Unexpected tag) = Some (codes "F2") ∷ []
-feed_fields (feed.UnsupportedAuth code) = Some (codes "F3") ∷ []
-feed_fields feed.PasswordWanted = Some (codes "F4") ∷ []
-feed_fields (feed.StartupError fields) = Some (codes "F5") ∷ error_fields fields
-feed_fields (feed.ServerEnd fields) = Some (codes "F6") ∷ error_fields fields
-feed_fields feed.Memory = Some (codes "F7") ∷ []
-feed_fields feed.Closed = Some (codes "F8") ∷ []
-
--- the code of a fault of the backend's step, with the decoder's code where it has one
-abbrev pub backend_fields : BackendFault → Row
-backend_fields (backend.Wire fault) = Some (codes "K1") ∷ Some (wire_code fault) ∷ []
-backend_fields backend.Memory = Some (codes "K2") ∷ []
-backend_fields backend.Closed = Some (codes "K3") ∷ []
-backend_fields (backend.Unexpected tag) = Some (codes "K4") ∷ []
-
--- fault and these fields
-abbrev pub fault_row : Row → Row
-fault_row fields = Some (codes "fault") ∷ fields
+-- fault, its code and what it has beside it
+abbrev pub fault_row : List ℕ → Row → Row
+fault_row code details = Some (codes "fault") ∷ Some code ∷ details
 
 -- what an event was answered
 abbrev pub answer_rows : Applied → List Row
@@ -210,9 +186,9 @@ answer_rows applied.Done = []
 answer_rows applied.Nothing = []
 answer_rows (applied.Refused back fault) =
     (Some (codes "refused") ∷ Some (call_code fault) ∷ []) ∷ []
-answer_rows (applied.Client fault) = fault_row (feed_fields fault) ∷ []
-answer_rows (applied.Backend fault) = fault_row (backend_fields fault) ∷ []
-answer_rows applied.Carrier = fault_row (Some (codes "carry") ∷ []) ∷ []
+answer_rows (applied.Client fault) = fault_row (feed_code fault) (feed_details fault) ∷ []
+answer_rows (applied.Backend fault) = fault_row (backend_code fault) (backend_details fault) ∷ []
+answer_rows applied.Carrier = fault_row (codes "carry") [] ∷ []
 
 -- ---- a lost connection
 

@@ -1,16 +1,18 @@
 //! The lines of what an event came to, and the closing lines.
 
 ghost use Rattle.std.specs.Prelude.{◌≡◌, length, IfOk, OnOk, option_copied};
-ghost use Rattle.pgpipe_loop.specs.Lines.{answer_rows, backend_fields, backend_word, call_code, client_word, closing_rows, event_rows, fault_row, feed_fields, loaded_row, loaded_rows, loaded_rows_of, lost_row, loss_rows, text_lines, unsettled_fields, wire_code};
+ghost use Rattle.pg_backend.specs.Fault.{backend_code};
+ghost use Rattle.pg_client.specs.Fault.{feed_code};
+ghost use Rattle.pgpipe_loop.specs.Lines.{answer_rows, backend_details, backend_word, client_word, closing_rows, event_rows, fault_row, feed_details, loaded_row, loaded_rows, loaded_rows_of, lost_row, loss_rows, text_lines, unsettled_fields};
 ghost use Rattle.pgpipe_loop.specs.Private.Lines.{with_fields, with_row, with_rows};
 
 use super::buffer::LineBuffer;
 use super::lists::{put_all_lines, put_each_field};
 use super::short::{put_error_fields, put_request, put_text_line, put_word_line};
 use pg_backend::{BackPhase, BackendFault, Logged};
-use pg_client::{CallFault, FeedFault, Loss, Phase, Settled};
+use pg_client::{FeedFault, Loss, Phase, Settled};
 use pg_pair::Applied;
-use pg_wire::{Request, Seq, WireFault};
+use pg_wire::{Request, Seq};
 use std::alloc::{AllocError, Global};
 
 // The most chunks of a line.
@@ -49,30 +51,6 @@ pub fn closing_lines(
     Ok(lines.into_text())
 }
 
-fn call_code(fault: CallFault) -> &'static [u8]
-    ensures { result.now ≡ call_code fault }
-{
-    match fault {
-        CallFault::NotReady(_) => b"C1",
-        CallFault::NotCopying(_) => b"C2",
-        CallFault::Encode(_) => b"C3",
-        CallFault::NoKey => b"C4",
-    }
-}
-
-fn wire_code(fault: WireFault) -> &'static [u8]
-    ensures { result.now ≡ wire_code fault }
-{
-    match fault {
-        WireFault::UnknownTag(_) => b"W1",
-        WireFault::ShortLength(_) => b"W2",
-        WireFault::LongLength(_) => b"W3",
-        WireFault::BadFirst(_) => b"W5",
-        WireFault::BadBody(_) => b"W4",
-        WireFault::Memory => b"W6",
-    }
-}
-
 fn client_word(phase: Phase) -> &'static [u8]
     ensures { result.now ≡ client_word phase }
 {
@@ -105,54 +83,53 @@ fn put_answer(answer: &Applied, lines: &mut LineBuffer) -> Result<(), AllocError
 {
     match answer {
         Applied::Done | Applied::Nothing => Ok(()),
-        Applied::Refused { fault, .. } => put_text_line(b"refused", call_code(*fault), lines),
+        Applied::Refused { fault, .. } => {
+            put_text_line(b"refused", fault.code().as_bytes(), lines)
+        }
         Applied::Client(fault) => put_feed_fault(fault, lines),
-        Applied::Backend(fault) => put_backend_fault(*fault, lines),
+        Applied::Backend(fault) => put_backend_fault(fault, lines),
         Applied::Carrier => put_text_line(b"fault", b"carry", lines),
     }
 }
 
 fn put_feed_fault(fault: &FeedFault, lines: &mut LineBuffer) -> Result<(), AllocError>
-    ensures { OnOk result (lines.new ≡ with_row lines.old (fault_row (feed_fields fault.now))) }
+    ensures { OnOk result (lines.new
+        ≡ with_row lines.old (fault_row (feed_code fault.now) (feed_details fault.now))) }
 {
     lines.put_text(b"fault")?;
-    put_feed_fields(fault, lines)?;
+    lines.put_text(fault.code().as_bytes())?;
+    put_feed_details(fault, lines)?;
     lines.end()
 }
 
-fn put_feed_fields(fault: &FeedFault, lines: &mut LineBuffer) -> Result<(), AllocError>
-    ensures { OnOk result (lines.new ≡ with_fields lines.old (feed_fields fault.now)) }
+// Puts what the fault has beside its code.
+fn put_feed_details(fault: &FeedFault, lines: &mut LineBuffer) -> Result<(), AllocError>
+    ensures { OnOk result (lines.new ≡ with_fields lines.old (feed_details fault.now)) }
 {
     match fault {
-        FeedFault::Wire(fault) => {
-            lines.put_text(b"F1")?;
-            lines.put_text(wire_code(*fault))
-        }
-        FeedFault::Unexpected(_) => lines.put_text(b"F2"),
-        FeedFault::UnsupportedAuth(_) => lines.put_text(b"F3"),
-        FeedFault::PasswordWanted => lines.put_text(b"F4"),
-        FeedFault::StartupError(fields) => {
-            lines.put_text(b"F5")?;
+        FeedFault::Wire(fault) => lines.put_text(fault.code().as_bytes()),
+        FeedFault::StartupError(fields) | FeedFault::ServerEnd(fields) => {
             put_error_fields(fields.as_slice(), lines)
         }
-        FeedFault::ServerEnd(fields) => {
-            lines.put_text(b"F6")?;
-            put_error_fields(fields.as_slice(), lines)
-        }
-        FeedFault::Memory => lines.put_text(b"F7"),
-        FeedFault::Closed => lines.put_text(b"F8"),
+        FeedFault::Unexpected(_)
+        | FeedFault::UnsupportedAuth(_)
+        | FeedFault::PasswordWanted
+        | FeedFault::Memory
+        | FeedFault::Closed => Ok(()),
     }
 }
 
-fn put_backend_fault(fault: BackendFault, lines: &mut LineBuffer) -> Result<(), AllocError>
-    ensures { OnOk result (lines.new ≡ with_row lines.old (fault_row (backend_fields fault))) }
+fn put_backend_fault(fault: &BackendFault, lines: &mut LineBuffer) -> Result<(), AllocError>
+    ensures { OnOk result (lines.new
+        ≡ with_row lines.old (fault_row (backend_code fault.now) (backend_details fault.now))) }
 {
     lines.put_text(b"fault")?;
+    let code = fault.code().as_bytes();
     match fault {
-        BackendFault::Wire(fault) => put_text_line(b"K1", wire_code(fault), lines),
-        BackendFault::Memory => put_word_line(b"K2", lines),
-        BackendFault::Closed => put_word_line(b"K3", lines),
-        BackendFault::Unexpected(_) => put_word_line(b"K4", lines),
+        BackendFault::Wire(fault) => put_text_line(code, fault.code().as_bytes(), lines),
+        BackendFault::Memory | BackendFault::Closed | BackendFault::Unexpected(_) => {
+            put_word_line(code, lines)
+        }
     }
 }
 
