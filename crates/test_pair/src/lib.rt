@@ -28,18 +28,20 @@ mod tests;
 /// own request and outcome.
 pub fn answers_settled<C: Carry>(pair: &Pair<C>) -> usize
     ensures within { result ≤ length pair.now.backend.log }
-    ensures beginning { map settled_as pair.now.settled ≡ take result (map answered_as pair.now.backend.log) }
+    ensures beginning { map settled_as pair.now.settled
+        ≡ take result (map answered_as pair.now.backend.log) }
 {
     pair.settled().len()
 }
 
-/// What a pair has settled, where its client stands ready for a request, and None where it doesn't. Unless the way to the backend is broken, or a step of it was
-/// refused memory, the backend then stands ready too, with only copy messages left to drop.
+/// What a pair has settled, where its client stands ready for a request, and None where it doesn't. Unless the way to the backend is
+/// broken, or a step of it was refused memory, the backend then stands ready too, with only copy messages left to drop.
 pub fn settled_when_ready<C: Carry>(pair: &Pair<C>) -> Option<&[Settled]>
     ensures groups { IfSome result (λ groups. groups.now ≡ pair.now.settled) }
     ensures none { IfNone result (phase_of pair.now.client ≡ Ready → ⊥) }
     ensures client { IfSome result (λ groups. phase_of pair.now.client ≡ Ready) }
-    ensures backend { IfSome result (λ groups. pair.now.to_backend.broken ≡ false → is_spared pair.now.backend.stage ≡ true → StandsReady pair.now) }
+    ensures backend { IfSome result (λ groups. pair.now.to_backend.broken ≡ false
+        → is_spared pair.now.backend.stage ≡ true → StandsReady pair.now) }
 {
     if pair.client().phase() != Phase::Ready {
         return None;
