@@ -23,43 +23,45 @@ use Rattle.pg_backend.specs.declared.stage.Awaits.TheVariants as awaits
 
 -- ---- in a session
 
--- a session with these exchanges before its own
+-- a session that has these exchanges before its own
 abbrev pub prepend : List Exchange → Session → Session
 prepend done s = record { exchanges = done ++ s.exchanges; place = s.place }
 
--- No request is undecided: these exchanges are done, and further messages are read with these answers left, where these steps of
--- a group have come.
+-- After `ms` no request is undecided: the exchanges `done` were made, and whatever comes next is
+-- read with the answers `left`, after these steps of a group that is open.
 pub record BetweenRequests (answers : List Answer) (ms : List FrontMessage)
     (done : List Exchange) (left : List Answer) (steps : List Step) : Type 0 where
   pub goes_on : (more : List FrontMessage)
       → session answers (ms ++ more) ≡ prepend done (cut 0 left steps more)
 
--- The request is undecided: further messages are read as its continuation, after those that have come since it.
+-- After `ms` this request is undecided: `since` came after it, and whatever comes next is read as
+-- more of its copy.
 pub record WithinRequest (answers : List Answer) (ms : List FrontMessage) (done : List Exchange)
     (left : List Answer) (r : Request) (since : List FrontMessage) : Type 0 where
   pub goes_on : (more : List FrontMessage)
       → session answers (ms ++ more)
       ≡ prepend done (begin left r (since ++ more) (λ n. cut n (others left) [] (since ++ more)))
 
--- the chunks among the messages of a copy
+-- the bytes of the CopyData among the messages of a copy, in order
 abbrev pub chunks_in : List InCopy → List (List ℕ)
 chunks_in [] = []
 chunks_in (copy.Chunk bytes ∷ ms) = bytes ∷ chunks_in ms
 chunks_in (m ∷ ms) = chunks_in ms
 
--- There are chunks and messages without effect alone.
+-- None of these messages ends a copy: each is a chunk, a Flush or a Sync.
 abbrev pub AllWait : List InCopy → Type 0
 AllWait [] = Unit {0}
 AllWait (copy.Chunk bytes ∷ ms) = AllWait ms
 AllWait (copy.Waits ∷ ms) = AllWait ms
 AllWait (m ∷ ms) = ⊥
 
--- The copy isn't refused by this number of chunks.
+-- A copy with this way to end isn't refused yet where n chunks were taken.
 abbrev pub NotRefused : Load → ℕ → Type 0
 NotRefused (Accept tag) n = Unit {0}
 NotRefused (Refuse after fields) n = n < after
 
--- The answer's copy goes on after these messages, whose chunks were taken.
+-- The answer has a copy from the client, which these messages don't decide. `loaded` are their
+-- chunks.
 pub record Undecided (a : Answer) (load : Load)
     (loaded : List (List ℕ)) (since : List FrontMessage) : Type 0 where
   pub before : List ScriptPart
@@ -70,7 +72,8 @@ pub record Undecided (a : Answer) (load : Load)
   pub chunks : loaded ≡ chunks_in (map in_copy since)
   pub room : NotRefused load (length loaded)
 
--- After these messages the session awaits this, with these answers left.
+-- After these messages the session awaits this, and the answers `left` are for later requests; in a
+-- copy the first of them is the answer of its request.
 abbrev pub SessionAwaits : List Answer → List FrontMessage → List Answer → Awaits → Type 0
 SessionAwaits answers ms left (awaits.Password expected) = ⊥
 SessionAwaits answers ms left (awaits.Request steps) = (done : List Exchange)
@@ -81,7 +84,8 @@ SessionAwaits answers ms left (awaits.Data c) = (done : List Exchange)
 
 -- ---- from the first packets on
 
--- The client of these first packets was asked for its password, which is this: this was sent before it.
+-- These first packets made the backend ask for this password; `before` was sent by then. What comes
+-- of any messages is decided by whether the first of them is that password.
 pub record IsAsked (s : Script) (packets : List First) (expected : List ℕ) : Type 0 where
   pub before : List Sent
   pub sends : (ms : List FrontMessage)
@@ -91,7 +95,8 @@ pub record IsAsked (s : Script) (packets : List First) (expected : List ℕ) : T
   pub ends : (ms : List FrontMessage)
       → packets_end s packets ms ≡ admission_end s (by_password expected ms)
 
--- The client of these first packets was let in by these messages: this was sent before it, and all that follows is the session's.
+-- The client of these first packets was let in by these messages (its password, or none). `before`
+-- was sent by then, and whatever comes next is the session's.
 pub record LetIn (s : Script) (packets : List First) (by : List FrontMessage) : Type 0 where
   pub before : List Sent
   pub sends : (ms : List FrontMessage)
@@ -100,7 +105,7 @@ pub record LetIn (s : Script) (packets : List First) (by : List FrontMessage) : 
   pub ends : (ms : List FrontMessage)
       → packets_end s packets (by ++ ms) ≡ At (session s.answers ms).place
 
--- What is awaited is what these packets and the messages after them have led to.
+-- After these first packets and messages the backend awaits this, and these answers are left.
 abbrev pub AwaitsAt : Script → List Answer → List First → List FrontMessage → Awaits → Type 0
 AwaitsAt s left packets ms (awaits.Password expected) =
     IsAsked s packets expected × (ms ≡ []) × (left ≡ s.answers)

@@ -30,17 +30,17 @@ Stores old piece (Err faults.Memory) new = (IsClosed old → ⊥) × (0 < length
 Stores old piece (Err faults.Closed) new = IsClosed old × (new ≡ old)
 Stores old piece (Err f) new = ⊥
 
--- The same script is played on with the same limit. If the backend is closed now, it is so by its input, and neither for want of
--- memory nor by the loss of the connection.
+-- A step that took a packet or a message leaves script and limit as they were. Where the backend is
+-- closed by it, that is for its input, neither for want of memory nor for a lost connection.
 pub record PlaysOn (old new : BackendState) : Type 0 where
   pub script_is : new.script ≡ old.script
   pub limit_is : new.limit ≡ old.limit
   pub had_memory : is_spared new.stage ≡ true
   pub not_lost : was_lost new.stage ≡ false
 
--- A step answers false where nothing whole waits, and changes nothing; it has taken one packet or message; or it has refused
--- one that can't stand in its place, or a faulty rest, and is closed; or it was refused memory, and is closed, with nothing sent
--- or logged; or it was closed before.
+-- What `step` answers: false where nothing whole waits; true for a packet or message that may stand
+-- in its place; K4 for one that may not, K1 for a faulty rest and K2 for want of memory, each of
+-- which closes; K3 where it was closed. K2 appends and logs nothing.
 abbrev pub Steps : BackendState → List ℕ
     → Result Bool BackendFault → BackendState → List ℕ → Type 0
 Steps old before (Ok false) new after = IsWaiting old.stage × (new ≡ old) × (after ≡ before)
@@ -54,8 +54,8 @@ Steps old before (Err faults.Memory) new after = WantsMemory old.stage
     × (new ≡ record old { stage = stage.Closed closed_by.Memory }) × (after ≡ before)
 Steps old before (Err faults.Closed) new after = IsClosed old × (new ≡ old) × (after ≡ before)
 
--- What a step with this answer appends to the history h, where it has sent this: one packet or message that has a place; or one
--- that can't stand in its place, with this tag; or that the rest is faulty, for this reason; else nothing.
+-- How a step with this answer, which has sent `added`, carries the history h on: by the packet or
+-- message that it took (true, K4), by the fault of the rest (K1), or by nothing.
 abbrev pub Handles : History → List ℕ
     → BackendState → Result Bool BackendFault → BackendState → Type 0
 Handles h added old (Ok false) new = IsOpenRest (is_started h.input.packets) old.limit h.rest
@@ -74,13 +74,15 @@ Handles h added old (Err (faults.Wire f)) new =
 Handles h added old (Err faults.Memory) new = IsHistoryOf h new
 Handles h added old (Err faults.Closed) new = IsHistoryOf h new
 
--- By this history a step has sent what was added, and has handled what its answer says.
+-- From this history a step has appended `added` to what was sent, and has handled what its answer
+-- says.
 abbrev pub StepsFrom : History → BackendState → List ℕ
     → Result Bool BackendFault → BackendState → List ℕ → Type 0
 StepsFrom h old before answer new after = (added : List ℕ) × (after ≡ before ++ added)
     × Handles h added old answer new
 
--- Each history of the old backend goes on so.
+-- A step carries each history of the old backend on, as StepsFrom says. `before` and `after` are
+-- all that was sent, before the step and after it.
 abbrev pub CarriesStep : BackendState → List ℕ
     → Result Bool BackendFault → BackendState → List ℕ → Type 0
 CarriesStep old before answer new after = (h : History)

@@ -3,7 +3,7 @@ use Rattle.std.specs.Prelude.{List, ℕ, codes}
 use Rattle.pg_backend.specs.declared.fault.BackendFault.{BackendFault}
 use Rattle.pg_backend.specs.declared.fault.BackendFault.TheVariants as backend
 
--- the code of the fault for which a call is refused
+-- the code of a backend's fault, K1 to K4, in ASCII
 abbrev pub backend_code : BackendFault → List ℕ
 backend_code (backend.Wire fault) = codes "K1"
 backend_code backend.Memory = codes "K2"

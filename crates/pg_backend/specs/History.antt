@@ -14,9 +14,9 @@ use Rattle.pg_backend.specs.declared.stage.BackStage.TheVariants as stage
 use Rattle.pg_backend.specs.Awaited.{AwaitsAt}
 use Rattle.pg_backend.specs.Stage.{BackendState, phase_of, phase_by}
 
--- what was done with a backend and what it did, up to a time
+-- what was done with a backend, and what it did, from its beginning to some time
 pub record History : Type 0 where
-  -- the bytes that it was given
+  -- the bytes that it was given, by `push`
   pub pushed : List ℕ
   -- the packets and messages that it has handled of them, and the rest, of which it has handled
   -- nothing
@@ -27,7 +27,8 @@ pub record History : Type 0 where
 
 -- ---- the histories of a backend
 
--- Where the backend stands is the place that the input has led to, and what it keeps is the rest.
+-- The stage is what this history leads to: its decoder was given the history's bytes, has given its
+-- packets and messages, and keeps its rest. Of a closed backend only the other clauses speak.
 abbrev pub StandsAt : Script → List Answer → History → BackStage → Type 0
 StandsAt s left h (stage.First d) = HasBegun d h.pushed h.input.packets × (d.kept ≡ h.rest)
     × (h.input.messages ≡ []) × (h.input.faulty ≡ false) × (left ≡ s.answers)
@@ -38,7 +39,7 @@ StandsAt s left h (stage.Open d a) = (after_packets : List ℕ)
     × AwaitsAt s left h.input.packets h.input.messages a
 StandsAt s left h (stage.Closed by) = Unit {0}
 
--- This may be what the backend went through.
+-- By this history the backend came to be what it is. Nothing of it is stored.
 pub record IsHistoryOf (h : History) (b : BackendState) : Type 0 where
   -- the bytes are the packets, the messages and the rest
   pub input : IsInput b.limit h.pushed h.input h.rest
@@ -52,19 +53,19 @@ pub record IsHistoryOf (h : History) (b : BackendState) : Type 0 where
   pub phase_is : phase_of b.stage ≡ phase_by b.stage (input_phase b.script h.input)
   pub stands : StandsAt b.script b.left h b.stage
 
--- The backend was given these bytes, and has handled this input of them, which leaves this rest; and this is what its steps have
--- sent.
+-- By some history the backend was given the bytes `pushed`, has handled this input of them, with
+-- this rest, and its steps have sent `sent`.
 abbrev pub HasHandled : BackendState → List ℕ → Input → List ℕ → List ℕ → Type 0
 HasHandled b pushed i rest sent =
     IsHistoryOf (record { pushed = pushed; input = i; rest = rest; sent = sent }) b
 
 -- ---- how a call carries it on
 
--- Each history of the old backend, with that appended, is one of the new backend.
+-- A call carries histories on: each of the old backend, with what `append` adds, is one of the new.
 abbrev pub Carries : BackendState → BackendState → (History → History) → Type 0
 Carries old new append = (h : History) → IsHistoryOf h old → IsHistoryOf (append h) new
 
--- nothing has happened
+-- the history of a new backend
 abbrev pub blank : History
 blank = record {
   pushed = [];
@@ -73,15 +74,16 @@ blank = record {
   sent = [];
 }
 
--- nothing is appended
+-- a history to which nothing is added
 abbrev pub unchanged : History → History
 unchanged h = h
 
--- a piece was pushed, and nothing of it is handled
+-- a history with one more piece pushed, nothing of which is handled
 abbrev pub with_pushed : List ℕ → History → History
 with_pushed piece h = record h { pushed = h.pushed ++ piece; rest = h.rest ++ piece }
 
--- this input is handled now, this rest is left, and this was sent
+-- a history whose handled input is now this one, with this rest after it, and to whose output
+-- `added` was appended
 abbrev pub with_handled : Input → List ℕ → List ℕ → History → History
 with_handled input rest added h =
     record h { input = input; rest = rest; sent = h.sent ++ added }

@@ -18,8 +18,8 @@ use Rattle.pg_backend.specs.declared.stage.ClosedBy.TheVariants as closed_by
 use Rattle.pg_backend.specs.declared.stage.BackStage.{BackStage}
 use Rattle.pg_backend.specs.declared.stage.BackStage.TheVariants as stage
 
--- a backend as its callers see it: the script, the limit, the answers that are left, where it stands with the bytes that it has
--- not handled, and the log
+-- a backend as its callers see it: its script, the limit of a message's length field, the answers
+-- that no request has used up, its stage, and its log
 pub record BackendState : Type 0 where
   pub script : Script
   pub limit : ℕ
@@ -29,30 +29,32 @@ pub record BackendState : Type 0 where
 
 -- ---- the phase
 
--- where the input ends, by what is awaited
+-- where the input ends, by what the backend awaits: its client's password, a request with these
+-- steps so far, or the data of a copy
 abbrev pub awaited_end : Awaits → End
 awaited_end (awaits.Password expected) = Asking
 awaited_end (awaits.Request steps) = At (place_after steps)
 awaited_end (awaits.Data c) = At Copying
 
--- the phase of a backend that stands there
+-- the phase of a backend at this stage
 abbrev pub phase_of : BackStage → BackPhase
 phase_of (stage.First d) = phase.First
 phase_of (stage.Open d a) = end_phase (awaited_end a)
 phase_of (stage.Closed by) = phase.Closed
 
--- The backend isn't closed by want of memory. Nothing opens a closed one, so no step of it was ever refused memory.
+-- No step of the backend was refused memory: such a step would have closed it, and nothing opens a
+-- closed backend.
 abbrev pub is_spared : BackStage → Bool
 is_spared (stage.Closed closed_by.Memory) = false
 is_spared s = true
 
--- the connection was lost while the backend wasn't closed
+-- whether it was the loss of its connection that closed the backend
 abbrev pub was_lost : BackStage → Bool
 was_lost (stage.Closed closed_by.Lost) = true
 was_lost s = false
 
--- the phase, where this is the phase that the input leads to: that one, unless want of memory or the loss of the connection
--- has closed the backend
+-- the phase at this stage, where the input leads to the phase `p`: Closed where want of memory or
+-- the loss of the connection has closed the backend, and else p
 abbrev pub phase_by : BackStage → BackPhase → BackPhase
 phase_by (stage.Closed closed_by.Memory) p = phase.Closed
 phase_by (stage.Closed closed_by.Lost) p = phase.Closed
@@ -72,18 +74,20 @@ IsBroken (stage.First d) f = IsFaultyPacket d.kept f
 IsBroken (stage.Open d a) f = IsFaulty frontend d.limit d.kept f
 IsBroken (stage.Closed by) f = ⊥
 
--- A packet or a message is all there by its length.
+-- All bytes of the next packet or message are there, by its length field.
 abbrev pub IsThere : BackStage → Type 0
 IsThere (stage.First d) = (c : ℤ) × (len : ℕ) × IsWholePacket d.kept c len
 IsThere (stage.Open d a) = decoder.WantsMemory frontend d.limit d.kept
 IsThere (stage.Closed by) = ⊥
 
--- Memory is wanted only where a packet or a message is all there, or the rest isn't open; never where it is closed.
+-- Where a step may be refused memory: all bytes of the next packet or message are there, or the
+-- rest is faulty. In a closed backend never.
 abbrev pub WantsMemory : BackStage → Type 0
 WantsMemory (stage.Closed by) = ⊥
 WantsMemory s = IsThere s ⊎ (IsWaiting s → ⊥)
 
--- While a backend isn't closed, its decoder has found no fault, and first packets go on.
+-- While a backend is open, its decoder has found no fault and has the backend's limit; before the
+-- Startup more first packets may come.
 abbrev pub IsSound : ℕ → BackStage → Type 0
 IsSound limit (stage.First d) = (d.fault ≡ None) × (d.ended ≡ false)
 IsSound limit (stage.Open d a) = (d.fault ≡ None) × (d.limit ≡ limit)
@@ -91,13 +95,13 @@ IsSound limit (stage.Closed by) = Unit {0}
 
 -- ---- what moves it
 
--- where a backend stands once a piece is stored: a closed one stores nothing
+-- the stage once `push` has stored a piece; a closed backend stores nothing
 abbrev pub stored : BackStage → List ℕ → BackStage
 stored (stage.First d) piece = stage.First (record d { kept = d.kept ++ piece })
 stored (stage.Open d a) piece = stage.Open (record d { kept = d.kept ++ piece }) a
 stored (stage.Closed by) piece = stage.Closed by
 
--- where a backend stands once the connection is lost
+-- the stage after `lost`: closed as lost, unless the backend was closed before
 abbrev pub lost_stage : BackStage → BackStage
 lost_stage (stage.Closed by) = stage.Closed by
 lost_stage s = stage.Closed closed_by.Lost

@@ -9,11 +9,12 @@ use Rattle.pg_backend.specs.declared.stage.BackStage.TheVariants as stage
 use Rattle.pg_wire.specs.Direction.{longest}
 use Rattle.pg_pair.specs.View.{Stream, PairView}
 
--- nothing was sent
+-- a way along which nothing was sent
 abbrev pub silent : Stream
 silent = record { sent = []; reached = 0; broken = false }
 
--- Both ends are new, and nothing has happened.
+-- A new pair of these settings, this script and this carrier: both ends are new, nothing was sent
+-- and nothing has happened.
 pub record IsBegun {C : Type 0} (settings : Settings) (script : Script) (carrier : C)
     (p : PairView C) : Type 0 where
   pub client_settings : p.client.settings ≡ settings

@@ -17,26 +17,28 @@ use Rattle.pg_pair.specs.declared.event.Applied.{Applied}
 use Rattle.pg_pair.specs.declared.event.Applied.TheVariants as applied
 use Rattle.pg_pair.specs.View.{DoesNothing, PairView, Stream, stream_of}
 
--- a backend in this phase is closed
+-- whether a backend in this phase is closed
 abbrev pub is_closed_backend : BackPhase → Bool
 is_closed_backend back.Closed = true
 is_closed_backend _ = false
 
--- a client in this phase is closed
+-- whether a client in this phase is closed
 abbrev pub is_closed_client : Phase → Bool
 is_closed_client (phase.Closed c) = true
 is_closed_client _ = false
 
--- the receiving end is closed
+-- whether the receiving end of this way is closed
 abbrev pub is_closed : {C : Type 0} → Way → PairView C → Bool
 is_closed ToBackend p = is_closed_backend (backend.phase_of p.backend.stage)
 is_closed ToClient p = is_closed_client (phase_of p.client)
 
--- nothing arrives there any more
+-- whether nothing can arrive along this way any more: it is broken, or its receiving end is closed
 abbrev pub is_shut : {C : Type 0} → Way → PairView C → Bool
 is_shut w p = (stream_of w p).broken || is_closed w p
 
--- The client was told that the connection is gone, and said this.
+-- The client's `lost` was called and answered this: the client is closed, with the cause Lost
+-- unless it had one before, and handed back the request that isn't settled. Its settled groups
+-- stay.
 pub record IsTold (old : ClientView) (loss : Loss) (new : ClientView) : Type 0 where
   pub settings : new.settings ≡ old.settings
   pub closed : new.closed ≡ Some (first_cause old.closed cause.Lost)
@@ -44,17 +46,18 @@ pub record IsTold (old : ClientView) (loss : Loss) (new : ClientView) : Type 0 w
   pub says : HandsBack old loss
   pub history : Carries old new with_handed_back
 
--- a way, which is broken from now on
+-- the same way, broken
 abbrev pub broken : Stream → Stream
 broken s = record s { broken = true }
 
--- The client is told, unless it is closed.
+-- The way to the client breaks. An open client (false) is closed by `lost`, and the pair keeps what
+-- that answered; of a closed one (true) nothing changes.
 abbrev pub TellsClient : {C : Type 0} → Bool → PairView C → PairView C → Type 0
 TellsClient true p q = q ≡ record p { to_client = broken p.to_client }
 TellsClient false p q = (loss : Loss) × IsTold p.client loss q.client
     × (q ≡ record p { client = q.client; to_client = broken p.to_client; loss = Some loss })
 
--- A way breaks, and the receiving end is told, unless it is closed.
+-- A way breaks, and its receiving end is closed by `lost`, unless it was closed before.
 abbrev pub Breaks : {C : Type 0} → Way → PairView C → PairView C → Type 0
 Breaks ToBackend p q = q ≡ record p {
   backend = record p.backend { stage = lost_stage p.backend.stage };
@@ -62,17 +65,19 @@ Breaks ToBackend p q = q ≡ record p {
 }
 Breaks ToClient p q = TellsClient (is_closed ToClient p) p q
 
--- A way that is shut doesn't break.
+-- A break event: the way breaks, and the answer is Done. Where the way is shut (true) nothing
+-- happens.
 abbrev pub BreaksUnless : {C : Type 0} → Bool → Way → PairView C → Applied → PairView C → Type 0
 BreaksUnless true w p result q = DoesNothing p result q
 BreaksUnless false w p result q = (result ≡ applied.Done) × Breaks w p q
 
--- A way breaks where the carrier failed or gave other bytes.
+-- After a piece: the way breaks where the carrier failed or gave other bytes (true); else the pair
+-- is as it was.
 abbrev pub BreaksIf : {C : Type 0} → Bool → Way → PairView C → PairView C → Type 0
 BreaksIf false w p q = q ≡ p
 BreaksIf true w p q = Breaks w p q
 
--- Both ways break, as by break events.
+-- Both ways break as by break events, the one to the backend first.
 pub record BreaksBoth {C : Type 0} (p q : PairView C) : Type 0 where
   pub between : PairView C
   pub first_result : Applied

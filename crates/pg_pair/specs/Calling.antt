@@ -13,7 +13,7 @@ use Rattle.pg_pair.specs.declared.event.Call.{Call}
 use Rattle.pg_pair.specs.declared.event.Call.TheVariants as call
 use Rattle.pg_pair.specs.View.{PairView}
 
--- the call of the client
+-- the same call in the words of pg_client's history
 abbrev pub client_call : Call → session.Call
 client_call call.Start = session.Start
 client_call (call.Request r) = session.Ask r
@@ -22,7 +22,7 @@ client_call call.Done = session.CopyEnd
 client_call (call.Fail reason) = session.CopyFail reason
 client_call call.Terminate = session.Terminate
 
--- The phases in which a call is allowed.
+-- The client's phase is one in which this call is allowed.
 abbrev pub IsAllowedIn : Call → Phase → Type 0
 IsAllowedIn call.Start p = p ≡ phase.New
 IsAllowedIn (call.Request r) p = p ≡ phase.Ready
@@ -31,7 +31,8 @@ IsAllowedIn call.Done p = p ≡ phase.CopyingIn
 IsAllowedIn (call.Fail reason) p = p ≡ phase.CopyingIn
 IsAllowedIn call.Terminate p = IsOpenPhase p
 
--- Why the client refuses a call.
+-- The client has this reason to refuse the call: C1 or C2 in another phase, and C3 where what it
+-- would send has no spelling or memory was refused.
 abbrev pub RefusesCall : ClientView → Call → CallFault → Type 0
 RefusesCall c call.Start f = RefusesUnless phase.New c session.Start f
 RefusesCall c (call.Request r) f = RefusesUnless phase.Ready c (session.Ask r) f
@@ -40,24 +41,26 @@ RefusesCall c call.Done f = RefusesCopy c session.CopyEnd f
 RefusesCall c (call.Fail reason) f = RefusesCopy c (session.CopyFail reason) f
 RefusesCall c call.Terminate f = RefusesEnd c f
 
--- the request that a call makes
+-- the request that a call makes, if it makes one
 abbrev pub request_of : Call → Option Request
 request_of (call.Request r) = Some r
 request_of _ = None
 
--- the chunks of each request, with one more of the last one
+-- the lists of chunks, with one chunk more at the end of the last list; without a list, none
 abbrev pub add_to_last : List ℕ → List (List (List ℕ)) → List (List (List ℕ))
 add_to_last bytes [] = []
 add_to_last bytes (h ∷ []) = (h ++ bytes ∷ []) ∷ []
 add_to_last bytes (h ∷ k ∷ hs) = h ∷ add_to_last bytes (k ∷ hs)
 
--- what was handed over, after a call: a request has a list of chunks of its own, and a chunk belongs to the last request
+-- the chunks of each request after an accepted call: a new request begins a list, and a chunk
+-- belongs to the request made last
 abbrev pub handed_after : Call → List (List (List ℕ)) → List (List (List ℕ))
 handed_after (call.Request r) handed = handed ++ [] ∷ []
 handed_after (call.Chunk bytes) handed = add_to_last bytes handed
 handed_after _ handed = handed
 
--- The client accepted a call, where so many bytes had reached it.
+-- The client accepted the call: what it put out was sent to the backend, and the pair notes how
+-- many bytes had reached the client (`places`) and the request or the chunk (`handed`).
 pub record Accepted {C : Type 0} (c : Call) (p q : PairView C) : Type 0 where
   pub allowed : IsAllowedIn c (phase_of p.client)
   pub accepts : Accepts (client_call c) p.client q.client p.to_backend.sent q.to_backend.sent
@@ -68,7 +71,8 @@ pub record Accepted {C : Type 0} (c : Call) (p q : PairView C) : Type 0 where
     handed = handed_after c p.handed;
   }
 
--- The client is called. Where it refuses the call, a request is given back, and the pair is as it was.
+-- What a call of the client does: accepted, its answer is Done; refused, it is Refused with the
+-- request handed back, and the pair is as it was.
 abbrev pub CallsClient : {C : Type 0} → Call → PairView C → Applied → PairView C → Type 0
 CallsClient c p applied.Done q = Accepted c p q
 CallsClient c p (applied.Refused request f) q =

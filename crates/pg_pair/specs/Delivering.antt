@@ -15,7 +15,8 @@ use Rattle.pg_pair.specs.Breaking.{BreaksIf}
 use Rattle.pg_pair.specs.Carrying.{Carrying, delivered, is_bad, longest_piece}
 use Rattle.pg_pair.specs.View.{DoesNothing, PairView, Stream, waiting_at}
 
--- The carrier carried the next piece, of at most so many of the bytes under way, and this arrived.
+-- The carrier is lent the next piece: the first bytes that wait on this way, at least one, and at
+-- most `most` and 4,096. `came` is what arrived or the fault, and `carrier` the carrier after it.
 pub record CarriesPiece {C : Type 0} (carries : Carrying C) (w : Way) (most : ℕ) (p : PairView C)
     (piece : List ℕ) (came : Result (List ℕ) CarryFault) (carrier : C) : Type 0 where
   pub piece_is : piece ≡ take longest_piece (take most (waiting_at w p))
@@ -24,11 +25,12 @@ pub record CarriesPiece {C : Type 0} (carries : Carrying C) (w : Way) (most : �
 
 -- ---- at the ends
 
--- a way, of which these bytes more have reached the end
+-- the way after these bytes more have reached its receiving end
 abbrev pub reached_more : Stream → List ℕ → Stream
 reached_more s bytes = record s { reached = s.reached + length bytes }
 
--- Bytes reach the client: it is fed, what it puts out is sent to the backend, and what it has settled is taken.
+-- Bytes reach the client, and its `feed` answers this: what it puts out is sent to the backend, and
+-- the groups that it has settled go to the pair.
 pub record Feeding {C : Type 0} (p : PairView C) (bytes : List ℕ)
     (result : Result Unit FeedFault) (q : PairView C) : Type 0 where
   pub fed : ClientView
@@ -40,29 +42,31 @@ pub record Feeding {C : Type 0} (p : PairView C) (bytes : List ℕ)
     settled = p.settled ++ fed.settled;
   }
 
--- The backend has stored a piece: it has handled nothing of it.
+-- The backend's `push` has stored the bytes. Nothing of them is handled before a step.
 pub record IsStored (old : BackendState) (bytes : List ℕ) (new : BackendState) : Type 0 where
   pub stores : Stores old bytes (Ok record {}) new
   pub history : back.Carries old new (back.with_pushed bytes)
 
--- Bytes come to the backend: those that it refuses don't reach it.
+-- Bytes are pushed to the backend. Where `push` answers a fault nothing changes: they haven't
+-- reached the backend and are still on their way.
 abbrev pub Pushing : {C : Type 0}
     → PairView C → List ℕ → Result Unit BackendFault → PairView C → Type 0
 Pushing p bytes (Ok x) q = IsStored p.backend bytes q.backend
     × (q ≡ record p { backend = q.backend; to_backend = reached_more p.to_backend bytes })
 Pushing p bytes (Err f) q = Stores p.backend bytes (Err f) p.backend × (q ≡ p)
 
--- what the client answers: nothing, or a fault
+-- the event's answer by that of `feed`: None, or the client's fault
 abbrev pub client_answer : Result Unit FeedFault → Option Applied
 client_answer (Ok x) = None
 client_answer (Err f) = Some (applied.Client f)
 
--- what the backend answers: nothing, or a fault
+-- the event's answer by that of `push`: None, or the backend's fault
 abbrev pub backend_answer : Result Unit BackendFault → Option Applied
 backend_answer (Ok x) = None
 backend_answer (Err f) = Some (applied.Backend f)
 
--- Bytes arrive at an end, which may answer a fault. Without bytes it isn't asked.
+-- Bytes arrive at the receiving end of this way, and `answer` is the fault that the end answers, if
+-- it does. Without bytes the end isn't called.
 abbrev pub ArrivesAt : {C : Type 0}
     → Way → PairView C → List ℕ → Option Applied → PairView C → Type 0
 ArrivesAt w p [] answer q = (answer ≡ None) × (q ≡ p)
@@ -73,7 +77,8 @@ ArrivesAt ToClient p (b ∷ bytes) answer q = (result : Result Unit FeedFault)
 
 -- ---- piece by piece
 
--- Pieces of so many bytes in all went, one after the other, each of them whole and without a fault.
+-- From the pair `p` pieces of n bytes in all were delivered, one after the other. Each arrived
+-- whole and unchanged, and the end answered no fault.
 pub data Goes {C : Type 0} (carries : Carrying C) (w : Way) (most : ℕ)
     (p : PairView C) : ℕ → PairView C → Type 0 where
   begins : Goes carries w most p 0 p
@@ -84,21 +89,23 @@ pub data Goes {C : Type 0} (carries : Carrying C) (w : Way) (most : ℕ)
       → ArrivesAt w (record m { carrier = carrier }) piece None q
       → Goes carries w most p (n + length piece) q
 
--- what comes of a delivery that has moved so many bytes: the fault of the end, else that of the carrier
+-- the answer of a delivery that moved so many bytes: the fault of the receiving end, else Carrier
+-- where the carrier was bad, else Nothing for no byte, and Done
 abbrev pub delivery_applied : Option Applied → Bool → ℕ → Applied
 delivery_applied (Some a) bad moved = a
 delivery_applied None true moved = applied.Carrier
 delivery_applied None false zero = applied.Nothing
 delivery_applied None false (suc n) = applied.Done
 
--- All bytes that were asked for went, or all that wait.
+-- The delivery ends here, as n bytes are all that was asked for, or nothing waits any more.
 pub record GoesWhole {C : Type 0} (w : Way) (most n : ℕ)
     (m : PairView C) (result : Applied) (q : PairView C) : Type 0 where
   pub all : (n ≡ most) ⊎ (waiting_at w m ≡ [])
   pub result_is : result ≡ delivery_applied None false n
   pub same : q ≡ m
 
--- The next piece is the last one: the end answers a fault to it, or it doesn't go whole.
+-- After n bytes the delivery ends with this piece: the carrier failed, fewer or other bytes
+-- arrived, or the end answered a fault to it. The bytes before a changed one are still delivered.
 pub record EndsWithPiece {C : Type 0} (carries : Carrying C) (w : Way) (most n : ℕ)
     (m : PairView C) (result : Applied) (q : PairView C) : Type 0 where
   pub piece : List ℕ
@@ -113,7 +120,8 @@ pub record EndsWithPiece {C : Type 0} (carries : Carrying C) (w : Way) (most n :
   pub result_is : result
       ≡ delivery_applied answer (is_bad piece came) (n + length (delivered piece came))
 
--- Pieces go whole, and then the delivery ends. Along a way that is shut nothing goes.
+-- A delivery of at most `most` bytes: pieces that go whole, and then its end. Along a way that is
+-- shut (true) nothing happens.
 abbrev pub DeliversUnless : {C : Type 0}
     → Bool → Carrying C → Way → ℕ → PairView C → Applied → PairView C → Type 0
 DeliversUnless true carries w most p result q = DoesNothing p result q

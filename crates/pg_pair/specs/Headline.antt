@@ -20,26 +20,25 @@ use Rattle.pg_backend.specs.Turns.{Turn, AreCopies}
 use Rattle.pg_pair.specs.Copies.{TookEach, turns_made, handed_for}
 use Rattle.pg_pair.specs.View.{arrived, PairView}
 
--- a group as it was settled
+-- the request and the outcome of a group that the client has settled
 abbrev pub settled_as : Settled → Request × Outcome
 settled_as s = (s.request, s.outcome)
 
--- a group as it was answered
+-- the request and the outcome of a group that the backend has answered
 abbrev pub answered_as : Logged → Request × Outcome
 answered_as l = (l.request, l.outcome)
 
--- the requests of turns
+-- the requests of these turns, in order
 abbrev pub requests_of : List Turn → List Request
 requests_of ts = map (λ t. t.request) ts
 
--- the requests of a log
+-- the requests of a log, in order
 abbrev pub requests_logged : List Logged → List Request
 requests_logged ls = map (λ l. l.request) ls
 
--- The client has this history: it was fed what has reached it, its settled groups are all with the
--- pair, it has put out what was sent to the backend, and its calls have the pair's places. The log's
--- requests are the first of those that they made, and what was handed over is a list of chunks for
--- each of those.
+-- By this history the client was fed what has reached it, gave the pair its settled groups, put out
+-- what was sent to the backend, and was called at the pair's places. The log's requests are the
+-- first that these calls made, and `handed` has the chunks of each that they made.
 pub record MatchesCalls {C : Type 0} (p : PairView C) : Type 0 where
   pub history : History
   pub client_history : IsHistoryOf history p.client
@@ -51,11 +50,12 @@ pub record MatchesCalls {C : Type 0} (p : PairView C) : Type 0 where
       ≡ take (length p.backend.log) (requests_of (turns_made history.calls))
   pub handed : p.handed ≡ handed_for (turns_made history.calls)
 
--- the bytes of an input
+-- the bytes of first packets and of the messages after them
 abbrev pub input_bytes : Input → List ℕ
 input_bytes i = flat_map packet i.packets ++ flat_map (spelling frontend) i.messages
 
--- What the backend hasn't handled of all that was sent to it is copy messages.
+-- All bytes sent to the backend are those of the packets and messages that it has handled, and then
+-- those of copy messages (CopyData, CopyDone, CopyFail) alone.
 pub record LeavesCopies {C : Type 0} (p : PairView C) : Type 0 where
   pub input : Input
   pub rest : List ℕ
@@ -64,7 +64,8 @@ pub record LeavesCopies {C : Type 0} (p : PairView C) : Type 0 where
   pub sent : p.to_backend.sent ≡ input_bytes input ++ flat_map (spelling frontend) left
   pub copies : AreCopies left
 
--- The backend awaits a request, and nothing but copy messages is on its way.
+-- The backend's phase is Ready, and what was sent to it beyond what it has handled is copy messages
+-- alone, which it drops.
 pub record StandsReady {C : Type 0} (p : PairView C) : Type 0 where
   pub phase : backend.phase_of p.backend.stage ≡ backend_phase.Ready
   pub left : ∥ LeavesCopies p ∥₁
@@ -75,15 +76,15 @@ pub record Headline {C : Type 0} (p : PairView C) : Type 0 where
   -- with its request and its outcome
   pub beginning : map settled_as p.settled
       ≡ take (length p.settled) (map answered_as p.backend.log)
-  -- the chunks that the backend took for a request begin those that were handed over for it, and
-  -- are all of them where its outcome has a copy in
+  -- the chunks that the backend took for a request are the first of those that were handed over for
+  -- it, and all of them where its outcome has a copy from the client
   pub copied : TookEach p.backend.log p.handed
-  -- entry k of the log and list k of what was handed over are of one request, also where it isn't
-  -- settled
+  -- the log's requests are the first that the client's calls made; entry k of the log and list k of
+  -- `handed` are of one request, also where it isn't settled
   pub asked : ∥ MatchesCalls p ∥₁
-  -- at most one request isn't settled
+  -- of the requests that were made at most one isn't settled
   pub one_at_most : length p.handed ≤ suc (length p.settled)
-  -- where the client stands ready the backend does too, unless the way to it is broken or a step of
-  -- it was refused memory
+  -- where the client's phase is Ready, so is the backend's, with copy messages alone left to drop,
+  -- unless the way to the backend is broken or a step of it was refused memory
   pub ready : client.phase_of p.client ≡ client_phase.Ready
       → p.to_backend.broken ≡ false → is_spared p.backend.stage ≡ true → StandsReady p

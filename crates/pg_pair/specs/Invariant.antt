@@ -9,12 +9,13 @@ use Rattle.pg_backend.specs.Turns.{Turn, InTurn, AreCopied}
 use Rattle.pg_pair.specs.Copies.{turns_made, handed_for}
 use Rattle.pg_pair.specs.View.{Stream, arrived, PairView}
 
--- No more has reached an end than was sent to it.
+-- No more bytes have reached an end than were sent to it.
 abbrev pub IsWithin : Stream → Type 0
 IsWithin s = s.reached ≤ length s.sent
 
--- The client's part. The client has this history: it was fed what has reached it, its settled groups are all with the pair, it has
--- put out what was sent to the backend, and its calls have the pair's places.
+-- The client's part: by some history of it, it was fed the bytes that have reached it, it has put
+-- out what was sent to the backend, and its calls were made at the pair's places. All groups that
+-- it has settled are with the pair.
 abbrev pub ClientTied : {C : Type 0} → PairView C → Type 0
 ClientTied p = record {
   history : History;
@@ -27,9 +28,9 @@ ClientTied p = record {
   within : IsWithin p.to_client;
 }
 
--- The backend's part. Its script can be played, and it takes each message that has a spelling. The backend has this history: it
--- was given what has reached it, has found no fault in it, and has put out what was sent to the client. Only a broken way closes
--- it as lost.
+-- The backend's part: its script can be played, its limit is the greatest, and by some history of
+-- it, it was given the bytes that have reached it, found no fault in them, and has put out what was
+-- sent to the client. It counts as lost only once the way to it is broken.
 abbrev pub BackendTied : {C : Type 0} → PairView C → Type 0
 BackendTied p = record {
   checked : IsChecked p.backend.script;
@@ -43,8 +44,8 @@ BackendTied p = record {
   within : IsWithin p.to_backend;
 }
 
--- What ties both. The backend's script decides each of these turns of the client but the last before the next one is made. What is
--- sent for a turn's copies is chunks with one end at most, and the chunks are those that were handed over.
+-- What ties both: each request of these turns but the last is decided, by the copy messages sent
+-- for it. These are chunks and at most one end, and the chunks are those that the pair has noted.
 abbrev pub TurnsTied : {C : Type 0} → PairView C → List Turn → Type 0
 TurnsTied p turns = record {
   in_turn : InTurn p.backend.script.answers turns;
@@ -52,7 +53,8 @@ TurnsTied p turns = record {
   handed : p.handed ≡ handed_for turns;
 }
 
--- Client and backend are each what has reached them of the other, and the turns of the client's calls tie both.
+-- What holds of a pair at any time: of its client, of its backend, and of the requests that the
+-- client's calls made, with the copy messages sent for each.
 pub record Tied {C : Type 0} (p : PairView C) : Type 0 where
   pub client : ClientTied p
   pub backend : BackendTied p

@@ -18,7 +18,7 @@ use Rattle.pg_pair.specs.Event.{Applies}
 use Rattle.pg_pair.specs.Carrying.{Carrying, is_bad}
 use Rattle.pg_pair.specs.View.{DoesNothing, PairView, stream_of, waiting_at}
 
--- the event that delivers at most so many bytes of a way
+-- the event that delivers at most so many bytes along a way
 abbrev pub delivery_of : Way → ℕ → Event
 delivery_of ToBackend most = event.ToBackend most
 delivery_of ToClient most = event.ToClient most
@@ -30,8 +30,8 @@ break_of ToClient = event.BreakToClient
 
 -- ---- the other way
 
--- A client was fed these bytes in pieces, its settled groups were taken after each, and what it
--- put out came after what was sent.
+-- From the state `old`, with `before` sent, the client was fed these bytes in pieces, and its
+-- settled groups were taken after each. The last list is all that was sent by then.
 pub data IsFedOn (old : ClientView) (before : List ℕ)
     : List ℕ → ClientView → List ℕ → Type 0 where
   unfed : IsFedOn old before [] old before
@@ -40,30 +40,31 @@ pub data IsFedOn (old : ClientView) (before : List ℕ)
       → IsFedOn old before bytes client sent → Feeds client piece result fed sent after
       → IsFedOn old before (bytes ++ piece) (record fed { settled = [] }) after
 
--- The way to the backend has what the client put out as it was fed these bytes, after what was
--- sent, and is else as it was.
+-- The client was fed these bytes and became `client`. What it put out as it was fed comes after
+-- what was sent to the backend; that way is otherwise as it was.
 pub record PutsOut {C : Type 0}
     (p : PairView C) (bytes : List ℕ) (client : ClientView) (q : PairView C) : Type 0 where
   pub put : List ℕ
   pub grown : q.to_backend ≡ record p.to_backend { sent = p.to_backend.sent ++ put }
   pub fed : IsFedOn p.client p.to_backend.sent bytes client q.to_backend.sent
 
--- The other way, where these bytes have reached the end of this one.
+-- What becomes of the other way where these bytes were delivered along this one: the way to the
+-- client stays as it was, and the way to the backend grows by what the client puts out.
 abbrev pub LeavesOther : {C : Type 0} → Way → PairView C → List ℕ → PairView C → Type 0
 LeavesOther ToBackend p bytes q = q.to_client ≡ p.to_client
 LeavesOther ToClient p bytes q = (client : ClientView) × PutsOut p bytes client q
 
 -- ---- what moves
 
--- The lesser of what was asked for and what waits has moved, and the way is whole.
+-- The lesser of what was asked for and what waited has moved, and the way isn't broken.
 pub record MovesAll {C : Type 0} (w : Way) (most : ℕ)
     (p : PairView C) (moved : ℕ) (result : Applied) (q : PairView C) : Type 0 where
   pub lesser : moved ≡ min most (length (waiting_at w p))
   pub result_is : result ≡ delivery_applied None false moved
   pub whole : (stream_of w q).broken ≡ false
 
--- A piece was the last one, since the carrier failed, gave fewer or other bytes, or the end
--- answered a fault to it.
+-- The delivery ended with a piece that didn't go whole: the carrier failed, gave fewer or other
+-- bytes, or the end answered a fault.
 pub record FallsShort {C : Type 0} (carries : Carrying C)
     (w : Way) (most : ℕ) (p : PairView C) (result : Applied) (q : PairView C) : Type 0 where
   pub before : ℕ
@@ -71,14 +72,16 @@ pub record FallsShort {C : Type 0} (carries : Carrying C)
   pub goes : Goes carries w most p before between
   pub ends : EndsWithPiece carries w most before between result q
 
--- A shut way is left alone.
+-- How a delivery ends: along a shut way (true) nothing happens; else all that could move has moved,
+-- or a piece fell short.
 abbrev pub MovesUnless : {C : Type 0}
     → Bool → Carrying C → Way → ℕ → PairView C → ℕ → Applied → PairView C → Type 0
 MovesUnless true carries w most p moved result q = DoesNothing p result q
 MovesUnless false carries w most p moved result q =
     MovesAll w most p moved result q ⊎ FallsShort carries w most p result q
 
--- What a delivery of at most so many bytes along a way does to both ways.
+-- A delivery of at most `most` bytes along `w` moved `moved` bytes: no more than was asked for, no
+-- more than waited. `other` says what it did to the other way, `ends` why it moved no more.
 pub record Delivers {C : Type 0} (carries : Carrying C)
     (w : Way) (most : ℕ) (p : PairView C) (result : Applied) (q : PairView C) : Type 0 where
   pub moved : ℕ
@@ -91,20 +94,20 @@ pub record Delivers {C : Type 0} (carries : Carrying C)
   pub other : LeavesOther w p (take moved (waiting_at w p)) q
   pub ends : MovesUnless (is_shut w p) carries w most p moved result q
 
--- So it is of each delivery.
+-- Law: each delivery that is answered does what Delivers says.
 abbrev pub DeliveryMoves : {C : Type 0} → Carrying C → Type 0
 DeliveryMoves {C} carries =
     (w : Way) (most : ℕ) (p : PairView C) (result : Applied) (q : PairView C)
     → Applies carries (delivery_of w most) p (Ok result) q → Delivers carries w most p result q
 
--- Each piece arrives whole.
+-- By this relation a carrier never fails, and each piece arrives whole and unchanged.
 abbrev pub GivesWhole : {C : Type 0} → Carrying C → Type 0
 GivesWhole {C} carries =
     (old : C) (w : Way) (piece : List ℕ) (came : Result (List ℕ) CarryFault) (new : C)
     → carries old w piece came new → came ≡ Ok piece
 
--- With such a carrier a delivery that answers Done or Nothing, along a way that isn't shut, moves
--- the lesser of both.
+-- Law: with a carrier that gives each piece whole, a delivery that answers Done or Nothing, along a
+-- way that isn't shut, moves the lesser of what was asked for and what waited.
 abbrev pub WholeMoves : {C : Type 0} → Carrying C → Type 0
 WholeMoves {C} carries = GivesWhole carries
     → (w : Way) (most : ℕ) (p : PairView C) (result : Applied) (q : PairView C)
@@ -114,7 +117,7 @@ WholeMoves {C} carries = GivesWhole carries
 
 -- ---- what breaks a way
 
--- The carrier's last call failed, or gave other bytes.
+-- The carrier's last call failed, or gave a byte that wasn't sent.
 pub record CarriedBadly {C : Type 0}
     (carries : Carrying C) (w : Way) (carrier : C) : Type 0 where
   pub before : C
@@ -123,7 +126,8 @@ pub record CarriedBadly {C : Type 0}
   pub carried : carries before w piece came carrier
   pub bad : is_bad piece came ≡ true
 
--- Why a way breaks.
+-- Why an event has broken a way: it is the break event of this way, a delivery along it in which
+-- the carrier failed or gave other bytes, or it was answered P1 Memory.
 pub data WhyBroken {C : Type 0} (carries : Carrying C)
     (w : Way) (e : Event) (result : Result Applied PairFault) (q : PairView C) : Type 0 where
   break_event : e ≡ break_of w → WhyBroken carries w e result q
@@ -131,14 +135,14 @@ pub data WhyBroken {C : Type 0} (carries : Carrying C)
       → WhyBroken carries w e result q
   no_memory : result ≡ Err fault.Memory → WhyBroken carries w e result q
 
--- An event breaks a way only so, and mends none.
+-- An event breaks a way for no reason but those of WhyBroken, and a broken way stays broken.
 pub record BreaksOnly {C : Type 0} (carries : Carrying C) (e : Event)
     (p : PairView C) (result : Result Applied PairFault) (q : PairView C) : Type 0 where
   pub why : (w : Way) → (stream_of w p).broken ≡ false → (stream_of w q).broken ≡ true
       → WhyBroken carries w e result q
   pub stays : (w : Way) → (stream_of w p).broken ≡ true → (stream_of w q).broken ≡ true
 
--- So it is of each event.
+-- Law: BreaksOnly holds of each event.
 abbrev pub WaysBreak : {C : Type 0} → Carrying C → Type 0
 WaysBreak {C} carries =
     (e : Event) (p : PairView C) (result : Result Applied PairFault) (q : PairView C)

@@ -8,19 +8,21 @@ use Rattle.pg_pair.specs.declared.event.Applied.{Applied}
 use Rattle.pg_pair.specs.declared.event.Applied.TheVariants as applied
 use Rattle.pg_pair.specs.View.{DoesNothing, PairView}
 
--- A step of the backend: what it answers, and how its histories go on.
+-- One `step` of the backend, with its answer. `before` is all that was sent to the client until
+-- then, and `after` what was sent with it; each history of the backend is carried on.
 pub record BackendSteps (old : BackendState) (before : List ℕ)
     (answer : Result Bool BackendFault) (new : BackendState) (after : List ℕ) : Type 0 where
   pub call : Steps old before answer new after
   pub history : CarriesStep old before answer new after
 
--- what comes of a step
+-- the event's answer by that of `step`: Done where a packet or message was handled, Nothing where
+-- no whole one waits, or the backend's fault
 abbrev pub step_applied : Result Bool BackendFault → Applied
 step_applied (Ok true) = applied.Done
 step_applied (Ok false) = applied.Nothing
 step_applied (Err f) = applied.Backend f
 
--- The backend makes one step, and what it sends is sent to the client.
+-- The backend makes one step, and the bytes that it appends are sent to the client.
 pub record StepsOnce {C : Type 0} (p : PairView C) (result : Applied)
     (q : PairView C) : Type 0 where
   pub answer : Result Bool BackendFault
@@ -31,7 +33,7 @@ pub record StepsOnce {C : Type 0} (p : PairView C) (result : Applied)
     to_client = record p.to_client { sent = q.to_client.sent };
   }
 
--- A closed backend makes no step.
+-- A step event, by the backend's phase: a closed backend makes no step.
 abbrev pub StepsUnlessClosed : {C : Type 0}
     → BackPhase → PairView C → Applied → PairView C → Type 0
 StepsUnlessClosed back.Closed p result q = DoesNothing p result q

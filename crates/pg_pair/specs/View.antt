@@ -9,7 +9,8 @@ use Rattle.pg_pair.specs.declared.carry.Way.TheVariants.{ToBackend, ToClient}
 use Rattle.pg_pair.specs.declared.event.Applied.{Applied}
 use Rattle.pg_pair.specs.declared.event.Applied.TheVariants as applied
 
--- one way: all that one end has put out, how much of it has reached the other end, and whether the way is broken
+-- one way, that is one direction of the connection: all bytes that the sending end has put out, how
+-- many of them have reached the other end, and whether the way is broken
 pub record Stream : Type 0 where
   pub sent : List ℕ
   pub reached : ℕ
@@ -19,35 +20,38 @@ pub record Stream : Type 0 where
 abbrev pub arrived : Stream → List ℕ
 arrived s = take s.reached s.sent
 
--- the bytes that are under way
+-- the bytes that were sent and haven't reached the receiving end
 abbrev pub waiting : Stream → List ℕ
 waiting s = drop s.reached s.sent
 
--- both ends, what carries the bytes, the two ways between them, and what the pair keeps of the session
+-- a client, a backend, the carrier of their bytes and the two ways between them, and what the pair
+-- keeps of the session
 pub record PairView (C : Type 0) : Type 0 where
   pub client : ClientView
   pub backend : BackendState
   pub carrier : C
   pub to_backend : Stream
   pub to_client : Stream
-  -- for each call that the client has accepted, how many bytes had reached the client before it
+  -- for each call that the client has accepted, in order, how many bytes had reached the client
+  -- before it
   pub places : List ℕ
-  -- the groups that the client has settled
+  -- the groups that the client has settled, in order
   pub settled : List Settled
-  -- for each request that was made, the chunks that were handed over
+  -- for each request that the client made, the chunks that its caller handed over for its copies
   pub handed : List (List (List ℕ))
-  -- what the client said when the way to it broke
+  -- what the client's `lost` answered when the way to it broke; None before that, and where the
+  -- client was closed already
   pub loss : Option Loss
 
--- the way to the backend, or that to the client
+-- the way to the backend, or the way to the client
 abbrev pub stream_of : {C : Type 0} → Way → PairView C → Stream
 stream_of ToBackend p = p.to_backend
 stream_of ToClient p = p.to_client
 
--- the bytes that are under way there
+-- the bytes of this way that haven't reached its receiving end
 abbrev pub waiting_at : {C : Type 0} → Way → PairView C → List ℕ
 waiting_at w p = waiting (stream_of w p)
 
--- Nothing came of an event, and the pair is as it was.
+-- An event did nothing: Nothing is its answer, and the pair is as it was.
 abbrev pub DoesNothing : {C : Type 0} → PairView C → Applied → PairView C → Type 0
 DoesNothing p result q = (result ≡ applied.Nothing) × (q ≡ p)

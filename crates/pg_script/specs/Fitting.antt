@@ -10,32 +10,36 @@ use Rattle.pg_script.specs.declared.script.ScriptPart.{ScriptPart}
 use Rattle.pg_script.specs.Outcome.{complete}
 use Rattle.pg_script.specs.OwnError.{no_answer}
 
--- the part may answer a Query: it is a result, or a copy that is refused
+-- whether the part may answer a Query: it is a result, or a copy from the client that is refused
 abbrev pub answers_query : ScriptPart → Bool
 answers_query p = list_all is_result (complete p)
 
--- the part may answer the step
+-- whether the part may answer the step
 abbrev pub answers_step : Step → ScriptPart → Bool
 answers_step s p = list_any (is_answer s) (complete p)
 
--- part i answers step i, and only an error lets steps go without an answer
+-- whether part i answers step i, for all parts; there are as many parts as steps, or fewer where
+-- the answer has an error (`error`)
 abbrev pub answers_steps : Bool → List Step → List ScriptPart → Bool
 answers_steps error [] [] = true
 answers_steps error [] (p ∷ ps) = false
 answers_steps error (s ∷ ss) [] = error
 answers_steps error (s ∷ ss) (p ∷ ps) = answers_step s p && answers_steps error ss ps
 
--- the answer fits the request: its parts are results for a query, and for a group its parts answer the steps
+-- whether the answer fits the request: for a query its parts are results, for a group they answer
+-- its steps
 abbrev pub fits : Request → Answer → Bool
 fits (request.Query text) a = list_all answers_query a.parts
 fits (request.Group steps) a = answers_steps (is_some a.error) steps a.parts
 
--- the answer that a request gets where these are left: the first of them if it fits, else an internal error
+-- the answer that a request gets: the first that is left if it fits, else an internal error of the
+-- backend's own
 abbrev pub answer_for : List Answer → Request → Answer
 answer_for [] r = no_answer
 answer_for (a ∷ more) r = if fits r a then a else no_answer
 
--- the answers that are left for the requests after it
+-- the answers that are left after one more request, which has used up the first, whether it fitted
+-- or not
 abbrev pub others : List Answer → List Answer
 others [] = []
 others (a ∷ more) = more

@@ -7,7 +7,8 @@ use Rattle.pg_script.specs.declared.meaning.InCopy.TheVariants as copy
 use Rattle.pg_script.specs.declared.meaning.Meaning.{Meaning}
 use Rattle.pg_script.specs.declared.meaning.Meaning.TheVariants.{Asks, Adds, Closes, Drops, Leaves, Strays}
 
--- what a message of the client means between copies
+-- what a message means while a request is awaited: a query, one more step, the Sync of a group, no
+-- effect, the end of the session, or a message that may not stand there
 abbrev pub meaning : FrontMessage → Meaning
 meaning (front.Query text) = Asks text
 meaning (front.Parse name text types) = Adds (step.Parse name text types)
@@ -24,7 +25,8 @@ meaning (front.CopyFail reason) = Drops
 meaning front.Terminate = Leaves
 meaning (front.Password password) = Strays
 
--- what a message of the client means during a copy ("COPY Operations")
+-- what a message means during a copy from the client: a chunk, an end, no effect, the end of the
+-- session, or a message that may not stand there ("COPY Operations")
 abbrev pub in_copy : FrontMessage → InCopy
 in_copy (front.CopyData bytes) = copy.Chunk bytes
 in_copy front.CopyDone = copy.Done

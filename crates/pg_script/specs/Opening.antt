@@ -23,42 +23,47 @@ use Rattle.pg_script.specs.Session.{Place, Terminated, Stray, farewell, replies}
 abbrev pub pair_message : List ℕ × List ℕ → BackMessage
 pair_message p = back.ParameterStatus p.0 p.1
 
--- the message of the key with which a client may cancel, if there is one
+-- the BackendKeyData, if the script has a key
 abbrev pub key_messages : Option Key → List BackMessage
 key_messages None = []
 key_messages (Some key) = back.KeyData key.process key.secret ∷ []
 
--- authentication is done, the run-time parameters, the key, and the server is ready
+-- what a client that is let in is sent: AuthenticationOk, the run-time parameters, the key, and
+-- ReadyForQuery with status idle
 abbrev pub welcome : Script → List BackMessage
 welcome s = back.AuthOk ∷ (map pair_message s.pairs ++ key_messages s.key ++ back.Ready Idle ∷ [])
 
 -- ---- who is let in
 
--- the last value of the name user, and where there is none the one given
+-- the user that the pairs of a Startup name: the value of the last `user`; without one, the one
+-- given
 abbrev pub user_from : List ℕ → List (List ℕ × List ℕ) → List ℕ
 user_from user [] = user
 user_from user (p ∷ ps) = user_from (if bytes_eq p.0 (codes "user") then p.1 else user) ps
 
--- what a client is asked for
+-- the message that asks for a password, if the script wants one: AuthenticationCleartextPassword or
+-- AuthenticationMD5Password
 abbrev pub question : Auth → List BackMessage
 question Trust = []
 question (Cleartext password) = back.AuthCleartext ∷ []
 question (Md5 password salt) = back.AuthMd5 salt ∷ []
 
--- a client that names no user is asked for nothing
+-- what a client with this user is asked for; one whose user is empty is refused without a question
 abbrev pub asked : Auth → List ℕ → List BackMessage
 asked auth [] = []
 asked auth (c ∷ cs) = question auth
 
--- what becomes of a client that has sent a Startup: it is refused; its password is awaited; its messages end before that, where it
--- leaves or one can't stand there; or it is let in, and these messages come after
+-- what becomes of a client after its Startup: it is refused with an error; its password is awaited;
+-- before its password it sent a Terminate or a message that may not stand there (Stopped); or it is
+-- let in, and these messages follow
 pub data Admission : Type 0 where
   Refused : (fields : List ErrorField) → Admission
   Awaited : Admission
   Stopped : (place : Place) → Admission
   Admitted : (messages : List FrontMessage) → Admission
 
--- the first message has to be this password
+-- what becomes of a client that is asked for this password, by the messages it sends: the first of
+-- them has to be it
 abbrev pub by_password : List ℕ → List FrontMessage → Admission
 by_password expected [] = Awaited
 by_password expected (front.Password password ∷ ms) =
@@ -66,25 +71,25 @@ by_password expected (front.Password password ∷ ms) =
 by_password expected (front.Terminate ∷ ms) = Stopped Terminated
 by_password expected (m ∷ ms) = Stopped Stray
 
--- how the script asks who the client is
+-- what becomes of a client with this user and these messages, by the script's way of authentication
 abbrev pub by_auth : Auth → List ℕ → List FrontMessage → Admission
 by_auth Trust user ms = Admitted ms
 by_auth (Cleartext password) user ms = by_password password ms
 by_auth (Md5 password salt) user ms = by_password (md5_text user password salt) ms
 
--- what becomes of a client with this user: it is refused where it names none
+-- what becomes of a client with this user and these messages: one whose user is empty is refused
 abbrev pub admission : Auth → List ℕ → List FrontMessage → Admission
 admission auth [] ms = Refused no_user
 admission auth (c ∷ cs) ms = by_auth auth (c ∷ cs) ms
 
--- what is sent once that is known: an error, nothing yet, or the welcome with all that its messages are answered
+-- what is sent to a client after the question, by what becomes of it
 abbrev pub admission_messages : Script → Admission → List BackMessage
 admission_messages s (Refused fields) = back.ErrorResponse fields ∷ []
 admission_messages s Awaited = []
 admission_messages s (Stopped place) = farewell place
 admission_messages s (Admitted ms) = welcome s ++ replies s.answers ms
 
--- what is sent after a Startup with these parameters
+-- all that is sent for a Startup with these pairs and the messages after it
 abbrev pub started : Script → List (List ℕ × List ℕ) → List FrontMessage → List BackMessage
 started s pairs ms =
     let user = user_from [] pairs in
@@ -92,7 +97,7 @@ started s pairs ms =
 
 -- ---- all that is sent
 
--- what a backend sends: the one byte N, or a message
+-- one thing that a backend sends: the byte `N` to an SSLRequest or a GSSENCRequest, or a message
 pub data Sent : Type 0 where
   No : Sent
   Says : (message : BackMessage) → Sent

@@ -4,7 +4,7 @@ use Rattle.pg_wire.specs.value.ErrorField.{ErrorField}
 use Rattle.pg_wire.specs.value.Status.TheVariants.{Idle}
 use Rattle.pg_script.specs.declared.script.Answer.{Answer}
 
--- the fields of an error of the server's own ("Error and Notice Message Fields"): S, V, C and M
+-- the fields of an error of the backend's own: severity (S and V), code (C) and message (M)
 abbrev pub own_error : List ℕ → List ℕ → List ℕ → List ErrorField
 own_error severity code text =
     record { code = 83; value = severity } ∷ record { code = 86; value = severity }
@@ -26,7 +26,7 @@ abbrev pub canceled : List ℕ → List ErrorField
 canceled reason =
     own_error (codes "ERROR") (codes "57014") (codes "COPY failed: " ++ take 200 reason)
 
--- the error of a copy that a message ends which can't stand in a copy: a protocol_violation
+-- the error of a copy that is ended by a message which may not stand in one: a protocol_violation
 abbrev pub out_of_copy : List ErrorField
 out_of_copy = own_error (codes "ERROR") (codes "08P01") (codes "unexpected message in COPY")
 
@@ -36,15 +36,15 @@ out_of_copy = own_error (codes "ERROR") (codes "08P01") (codes "unexpected messa
 abbrev pub no_user : List ErrorField
 no_user = own_error (codes "FATAL") (codes "28000") (codes "no user in startup")
 
--- the error of a password that isn't the one that is awaited: an invalid_password
+-- the error of a wrong password: an invalid_password
 abbrev pub wrong_password : List ErrorField
 wrong_password =
     own_error (codes "FATAL") (codes "28P01") (codes "password authentication failed")
 
--- the error of a message that can't stand in its place: a protocol_violation
+-- the error of a message that may not stand in its place: a protocol_violation
 abbrev pub fatal_unexpected : List ErrorField
 fatal_unexpected = own_error (codes "FATAL") (codes "08P01") (codes "unexpected message")
 
--- the error of a faulty rest, of which no message can come: a protocol_violation
+-- the error of bytes that no packet or message can begin with: a protocol_violation
 abbrev pub fatal_bad : List ErrorField
 fatal_bad = own_error (codes "FATAL") (codes "08P01") (codes "bad message")

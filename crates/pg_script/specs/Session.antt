@@ -18,7 +18,7 @@ use Rattle.pg_script.specs.Meaning.{meaning, in_copy}
 use Rattle.pg_script.specs.OwnError.{fatal_unexpected}
 use Rattle.pg_script.specs.Replies.{Verdict, verdict, reply}
 
--- a request, what its answer came to if it is decided, and what was sent for it
+-- a request, its verdict (None while it is undecided), and what was sent for it
 pub record Exchange : Type 0 where
   pub request : Request
   pub verdict : Option Verdict
@@ -28,8 +28,8 @@ pub record Exchange : Type 0 where
 abbrev pub exchange : Request → Answer → List FrontMessage → Exchange
 exchange r a ms = record { request = r; verdict = verdict a ms; reply = reply a ms }
 
--- where the messages end: between requests, within a group of steps, in a copy that isn't decided, at a Terminate, or at a
--- message that can't stand in its place
+-- where the messages of a session end: between requests, within a group, in an undecided copy, at a
+-- Terminate, or at a message that may not stand there
 pub data Place : Type 0 where
   Between : Place
   Grouping : (steps : List Step) → Place
@@ -37,40 +37,43 @@ pub data Place : Type 0 where
   Terminated : Place
   Stray : Place
 
--- a session: each request with what it came to, and where the messages end
+-- the requests of a client that was let in, with what came of each, and where its messages end
 pub record Session : Type 0 where
   pub exchanges : List Exchange
   pub place : Place
 
--- no request was made, and the messages end there
+-- a session without a request, whose messages end there
 abbrev pub only : Place → Session
 only place = record { exchanges = []; place = place }
 
--- where messages end that have these steps after the last request: within a group, or between requests
+-- where messages end that have these steps after the last request: within a group, or between
+-- requests if there is none
 abbrev pub place_after : List Step → Place
 place_after [] = Between
 place_after (s ∷ ss) = Grouping (s ∷ ss)
 
--- where these messages end in a copy that they don't decide: it is under way until the client leaves
+-- where messages end that leave a copy undecided: in the copy, or at a Terminate
 abbrev pub copy_place : List InCopy → Place
 copy_place [] = Copying
 copy_place (copy.Leaves ∷ ms) = Terminated
 copy_place (m ∷ ms) = copy_place ms
 
--- the session of a request's exchange: undecided, the request is the last; decided, the rest follows, past the messages
--- that its copy took
+-- the session from this exchange on. Undecided, it is the last, and the messages end at
+-- `unfinished`; decided, `rest` has what follows, given how many messages its copy used up.
 abbrev pub begun : Exchange → Option Verdict → Place → (ℕ → Session) → Session
 begun e None unfinished rest = record { exchanges = e ∷ []; place = unfinished }
 begun e (Some v) unfinished rest =
     record { exchanges = e ∷ (rest v.taken).exchanges; place = (rest v.taken).place }
 
--- a request, and what comes after the messages that it takes
+-- the session from this request on, where these messages follow it; `rest` has what comes after as
+-- many of them as its copy used up
 abbrev pub begin : List Answer → Request → List FrontMessage → (ℕ → Session) → Session
 begin answers r ms rest =
     begun (exchange r (answer_for answers r) ms) (verdict (answer_for answers r) ms)
     (copy_place (map in_copy ms)) rest
 
--- what a message begins where these steps of a group have come before it, and these messages follow
+-- the session from a message on, by its meaning, after these steps of an open group. `ms` follow
+-- it; `rest` reads them past the first n, with the answers left and the steps so far.
 abbrev pub read : List Answer → Meaning → List Step → List FrontMessage
     → (ℕ → List Answer → List Step → Session) → Session
 read answers (Asks text) [] ms rest =
@@ -83,22 +86,23 @@ read answers Drops steps ms rest = rest 0 answers steps
 read answers Leaves steps ms rest = only Terminated
 read answers Strays steps ms rest = only Stray
 
--- the exchanges of the messages past the first n, which a copy has taken, where these steps of a group came before
+-- the session of the messages past the first n, which a copy has used up, with these answers left
+-- and these steps of an open group before
 abbrev pub cut : ℕ → List Answer → List Step → List FrontMessage → Session
 cut n answers steps [] = only (place_after steps)
 cut (suc n) answers steps (m ∷ ms) = cut n answers steps ms
 cut zero answers steps (m ∷ ms) = read answers (meaning m) steps ms (λ n a s. cut n a s ms)
 
--- the exchanges of the messages after authentication
+-- the session of the messages after authentication
 abbrev pub session : List Answer → List FrontMessage → Session
 session answers ms = cut 0 answers [] ms
 
--- the error that is sent last, where the messages end at one that can't stand in its place
+-- what is sent last: an error, where the messages end at one that may not stand there
 abbrev pub farewell : Place → List BackMessage
 farewell Stray = back.ErrorResponse fatal_unexpected ∷ []
 farewell _ = []
 
--- all that is sent in a session
+-- all that is sent in this session
 abbrev pub said : Session → List BackMessage
 said s = flat_map (λ e. e.reply) s.exchanges ++ farewell s.place
 
@@ -106,15 +110,16 @@ said s = flat_map (λ e. e.reply) s.exchanges ++ farewell s.place
 abbrev pub replies : List Answer → List FrontMessage → List BackMessage
 replies answers ms = said (session answers ms)
 
--- what is logged of a request: it, its outcome and the chunks of its copy, once it is decided
+-- the log's entry for a request, once it is decided: its outcome and the chunks that were taken for
+-- it
 abbrev pub logged : Request → Option Verdict → List Logged
 logged r None = []
 logged r (Some v) = record { request = r; outcome = v.outcome; loaded = v.loaded } ∷ []
 
--- the requests that are decided, with their outcomes and chunks
+-- the log of a session: an entry for each request that is decided
 abbrev pub decided : Session → List Logged
 decided s = flat_map (λ e. logged e.request e.verdict) s.exchanges
 
--- what is logged in the session of these messages
+-- the log of the session of these messages
 abbrev pub log_of : List Answer → List FrontMessage → List Logged
 log_of answers ms = decided (session answers ms)
