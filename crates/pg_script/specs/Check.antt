@@ -19,52 +19,57 @@ use Rattle.pg_script.specs.Opening.{pair_message, key_messages}
 
 -- ---- copies
 
--- the part is a copy from the client
+-- whether the part is a copy from the client
 abbrev pub is_copy_in : ScriptPart → Bool
 is_copy_in (part.CopyIn head load) = true
 is_copy_in p = false
 
--- the answer has at most one copy from the client
+-- whether the answer has at most one copy from the client
 abbrev pub has_one_copy : Answer → Bool
 has_one_copy a = nat_le (count_by is_copy_in a.parts) 1
 
--- Each answer has at most one copy from the client.
+-- Each answer of the script has at most one copy from the client.
 abbrev pub HasOneCopyEach : Script → Type 0
 HasOneCopyEach s = list_all has_one_copy s.answers ≡ true
 
 -- ---- messages
 
--- the messages that a part stands for: those of the part that is complete, or of the copy that is refused
+-- the messages that may be sent for a part; of a copy that is refused, its CopyInResponse and its
+-- error
 abbrev pub part_messages : ScriptPart → List BackMessage
 part_messages (part.CopyIn head (Refuse after fields)) =
     back.CopyIn head ∷ back.ErrorResponse fields ∷ []
 part_messages p = flat_map messages_of (complete p)
 
--- the messages that an answer stands for, whether it fits its request or not
+-- the messages that may be sent for an answer, ReadyForQuery aside, whether it fits its request or
+-- not
 abbrev pub answer_messages : Answer → List BackMessage
 answer_messages a =
     map aside_message a.before ++ (flat_map part_messages a.parts ++ error_sent a.error)
 
--- the messages that a script stands for
+-- the messages whose content the script gives: its run-time parameters, its key, and those of all
+-- its answers
 abbrev pub script_messages : Script → List BackMessage
 script_messages s =
     map pair_message s.pairs ++ (key_messages s.key ++ flat_map answer_messages s.answers)
 
--- Each message has a spelling.
+-- Each of the script's messages has a spelling.
 abbrev pub IsSpelledWhole : Script → Type 0
 IsSpelledWhole s = AllByRecursion (HasSpelling backend) (script_messages s)
 
--- No message has a fault. That is the same, as the numbers of a program are of their types.
+-- No encoder would refuse a message of the script. For a script in a program that means that each
+-- has a spelling, as its numbers are of their types.
 abbrev pub HasNoFault : Script → Type 0
 HasNoFault s = AllByRecursion (λ m. encode_fault backend m ≡ None) (script_messages s)
 
--- The script can be played.
+-- The script can be played: an answer has at most one copy from the client, and each message has a
+-- spelling.
 pub record IsChecked (s : Script) : Type 0 where
   pub one_copy : HasOneCopyEach s
   pub spelled : IsSpelledWhole s
 
--- A check answers Ok where the script can be played, and else the first reason why it can't. Want of memory is answered only where
--- there is no such reason.
+-- What `check` answers: Ok where the script can be played; S1 for an answer with two copies from
+-- the client, else S2 for a message without a spelling; S3 Memory only where neither holds.
 abbrev pub Checks : Script → Result Unit ScriptFault → Type 0
 Checks s (Ok x) = IsChecked s
 Checks s (Err faults.Copies) = HasOneCopyEach s → ⊥

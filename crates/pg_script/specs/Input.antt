@@ -21,13 +21,14 @@ use Rattle.pg_script.specs.Opening.{Sent, No, Says, sent_for, user_from, Admissi
 
 -- ---- the input
 
--- first packets, the messages after a Startup, and whether a faulty rest has ended them
+-- what a backend has handled: first packets, the messages after the Startup, and whether it has
+-- then found the rest faulty
 pub record Input : Type 0 where
   pub packets : List First
   pub messages : List FrontMessage
   pub faulty : Bool
 
--- a Startup was there, so that messages follow
+-- whether a Startup is among the packets, after which messages follow
 abbrev pub is_started : List First → Bool
 is_started [] = false
 is_started (first.Startup pairs ∷ packets) = true
@@ -43,17 +44,19 @@ pub record IsInput (limit : ℕ) (bytes : List ℕ) (i : Input) (rest : List ℕ
 
 -- ---- the rest, after first packets that may go on (false), or after a Startup (true)
 
--- The rest is faulty, for this reason.
+-- The rest is faulty for this reason, as first packets before the Startup (false) or as messages
+-- after it (true).
 abbrev pub IsFaultyRest : Bool → ℕ → List ℕ → WireFault → Type 0
 IsFaultyRest false limit rest f = IsFaultyPacket rest f
 IsFaultyRest true limit rest f = IsFaulty frontend limit rest f
 
--- The rest is open: no whole packet or message waits, and more bytes are to come.
+-- The rest is open: no whole packet (false) or message (true) waits, and with more bytes there may
+-- be one.
 abbrev pub IsOpenRest : Bool → ℕ → List ℕ → Type 0
 IsOpenRest false limit rest = IsOpenPacket rest
 IsOpenRest true limit rest = IsOpen frontend limit rest
 
--- One packet or message is taken off the front of the rest.
+-- From an input and its rest, one packet or message more is handled: the next input and its rest.
 pub data Takes (limit : ℕ) : Input → List ℕ → Input → List ℕ → Type 0 where
   packet_taken : (ps : List First) (p : First) (rest : List ℕ)
       → is_started ps ≡ false → IsPacket p
@@ -68,64 +71,65 @@ pub data Takes (limit : ℕ) : Input → List ℕ → Input → List ℕ → Typ
 
 -- ---- the transcript: all that is sent for the input
 
--- the error that is sent last where the rest is faulty
+-- the ErrorResponse that is sent last, where the rest was found faulty
 abbrev pub last_word : Bool → List Sent
 last_word false = []
 last_word true = Says (back.ErrorResponse fatal_bad) ∷ []
 
--- all that a backend sends for an input: the answers to its packets and messages, and an error for a faulty rest
+-- all that a backend sends for this input, in order
 abbrev pub transcript : Script → Input → List Sent
 transcript s i = sent_for s i.packets i.messages ++ last_word i.faulty
 
--- the bytes of what is sent: `N`, or a message's spelling
+-- its bytes: `N`, or the message's spelling
 abbrev pub sent_bytes : Sent → List ℕ
 sent_bytes No = 78 ∷ []
 sent_bytes (Says m) = spelling backend m
 
--- the transcript, spelled and joined
+-- the bytes of all that a backend sends for this input
 abbrev pub output : Script → Input → List ℕ
 output s i = flat_map sent_bytes (transcript s i)
 
--- What is sent has a spelling.
+-- If this is a message, it has a spelling; the byte `N` is one always.
 abbrev pub IsSpelled : Sent → Type 0
 IsSpelled No = Unit {0}
 IsSpelled (Says m) = HasSpelling backend m
 
 -- ---- the log and the phase
 
--- what is logged once it is known whether a client is let in: the requests of one that is
+-- the log by what became of a client: its requests, if it was let in, and else nothing
 abbrev pub admission_log : Script → Admission → List Logged
 admission_log s (Refused fields) = []
 admission_log s Awaited = []
 admission_log s (Stopped place) = []
 admission_log s (Admitted ms) = log_of s.answers ms
 
--- what is logged for these first packets and the messages after them
+-- the log by these first packets and the messages after them
 abbrev pub packets_log : Script → List First → List FrontMessage → List Logged
 packets_log s [] ms = []
 packets_log s (first.Startup pairs ∷ packets) ms =
     admission_log s (admission s.auth (user_from [] pairs) ms)
 packets_log s (p ∷ packets) ms = packets_log s packets ms
 
--- the requests of the input that are decided, with their outcomes and chunks
+-- the log of a backend that has handled this input
 abbrev pub input_log : Script → Input → List Logged
 input_log s i = packets_log s i.packets i.messages
 
--- where the input ends: before a Startup, before a password, at a Cancel or a client that is refused, or at a place of the messages
+-- where an input ends: among first packets (Opening); before the password (Asking); at a Cancel or
+-- a client that was refused (Refusal); or at this place of the messages after the Startup
 pub data End : Type 0 where
   Opening : End
   Asking : End
   Refusal : End
   At : (place : Place) → End
 
--- where an input ends once it is known whether a client is let in
+-- where an input ends, by what became of its client
 abbrev pub admission_end : Script → Admission → End
 admission_end s (Refused fields) = Refusal
 admission_end s Awaited = Asking
 admission_end s (Stopped place) = At place
 admission_end s (Admitted ms) = At (session s.answers ms).place
 
--- where these first packets and the messages after them end
+-- where an input of these first packets and the messages after them ends
 abbrev pub packets_end : Script → List First → List FrontMessage → End
 packets_end s [] ms = Opening
 packets_end s (first.Startup pairs ∷ packets) ms =
@@ -137,7 +141,7 @@ packets_end s (p ∷ packets) ms = packets_end s packets ms
 abbrev pub input_end : Script → Input → End
 input_end s i = packets_end s i.packets i.messages
 
--- the phase of a backend whose input ends in this place of the messages
+-- the phase of a backend whose messages end at this place
 abbrev pub place_phase : Place → BackPhase
 place_phase Between = phase.Ready
 place_phase (Grouping steps) = phase.Grouping
@@ -145,17 +149,18 @@ place_phase Copying = phase.CopyIn
 place_phase Terminated = phase.Closed
 place_phase Stray = phase.Closed
 
--- the phase of a backend whose input ends there
+-- the phase of a backend whose input ends so
 abbrev pub end_phase : End → BackPhase
 end_phase Opening = phase.First
 end_phase Asking = phase.Password
 end_phase Refusal = phase.Closed
 end_phase (At place) = place_phase place
 
--- the phase after the input, where nothing but the input has closed the backend
+-- the phase that this input leads to, if neither want of memory nor the loss of the connection
+-- closes the backend
 abbrev pub input_phase : Script → Input → BackPhase
 input_phase s i = if i.faulty then phase.Closed else end_phase (input_end s i)
 
--- The input ends in a message that can't stand in its place.
+-- The last message of the input is one that may not stand in its place.
 abbrev pub IsStray : Script → Input → Type 0
 IsStray s i = input_end s i ≡ At Stray

@@ -22,17 +22,17 @@ use Rattle.pg_script.specs.Turns.{Turn, turn_messages, AreCopies, InTurn, turn_e
 
 -- ---- one request
 
--- A verdict stands, whatever comes after the messages that decided it.
+-- A verdict is final: no message after those that decided it changes it.
 abbrev pub VerdictStands : Type 0
 VerdictStands = (a : Answer) (ms more : List FrontMessage) (v : Verdict)
     → verdict a ms ≡ Some v → verdict a (ms ++ more) ≡ Some v
 
--- So does the reply to a request that is decided.
+-- Once a request is decided, no further message changes the reply to it.
 abbrev pub ReplyStands : Type 0
 ReplyStands = (a : Answer) (ms more : List FrontMessage) (v : Verdict)
     → verdict a ms ≡ Some v → reply a (ms ++ more) ≡ reply a ms
 
--- A reply grows at its end alone as messages are added.
+-- More messages after a request only append to the reply.
 abbrev pub ReplyGrows : Type 0
 ReplyGrows = (a : Answer) (ms more : List FrontMessage)
     → IsPrefix (reply a ms) (reply a (ms ++ more))
@@ -41,55 +41,57 @@ ReplyGrows = (a : Answer) (ms more : List FrontMessage)
 abbrev pub AnswerFits : Type 0
 AnswerFits = (answers : List Answer) (r : Request) → fits r (answer_for answers r) ≡ true
 
--- The reply to a request that is decided is a segment that fits the request with the verdict's outcome.
+-- The reply to a decided request is a whole segment, which fits the request with the verdict's
+-- outcome.
 abbrev pub ReplyFits : Type 0
 ReplyFits = (r : Request) (a : Answer) (ms : List FrontMessage) (v : Verdict)
     → fits r a ≡ true → verdict a ms ≡ Some v → Fits r (reply a ms) v.outcome
 
--- Until it is decided, what is sent for a request begins a segment that fits it.
+-- What is sent for an undecided request is the beginning of a segment that fits it.
 abbrev pub ReplyBegins : Type 0
 ReplyBegins = (r : Request) (a : Answer) (ms : List FrontMessage)
     → fits r a ≡ true → verdict a ms ≡ None → segment.Begins r (reply a ms)
 
 -- ---- a session
 
--- What is sent in a session grows at its end alone as messages are added.
+-- More messages only append to what is sent in a session.
 abbrev pub RepliesGrow : Type 0
 RepliesGrow = (answers : List Answer) (ms more : List FrontMessage)
     → IsPrefix (replies answers ms) (replies answers (ms ++ more))
 
--- So does its log.
+-- More messages only append to the log of a session.
 abbrev pub SessionLogGrows : Type 0
 SessionLogGrows = (answers : List Answer) (ms more : List FrontMessage)
     → IsPrefix (log_of answers ms) (log_of answers (ms ++ more))
 
--- There is a segment for each entry of the log, which fits its request with its outcome.
+-- There are as many segments as log entries, and segment k fits the request of entry k with its
+-- outcome.
 abbrev pub FitEach : List Logged → List (List BackMessage) → Type 0
 FitEach [] [] = Unit {0}
 FitEach (l ∷ ls) (s ∷ ss) = Fits l.request s l.outcome × FitEach ls ss
 FitEach _ _ = ⊥
 
--- The whole segments of what is sent in a session fit the entries of its log.
+-- The whole segments of what is sent in a session fit the entries of its log, one each.
 abbrev pub SegmentsFitLog : Type 0
 SegmentsFitLog = (answers : List Answer) (ms : List FrontMessage)
     → FitEach (log_of answers ms) (segments (replies answers ms)).whole
 
--- how many copies from the client these messages begin
+-- how many CopyInResponse are among the messages
 abbrev pub copies_in : List BackMessage → ℕ
 copies_in [] = 0
 copies_in (back.CopyIn head ∷ ms) = suc (copies_in ms)
 copies_in (_ ∷ ms) = copies_in ms
 
--- Each whole segment begins one at most, and so does the rest.
+-- Each whole segment has at most one CopyInResponse, and so has the rest.
 abbrev pub HaveOneCopy : Segments → Type 0
 HaveOneCopy s = AllByRecursion (λ ms. copies_in ms ≤ 1) s.whole × copies_in s.rest ≤ 1
 
--- Where each answer has at most one copy from the client, so has each segment of what is sent in a session.
+-- Where each answer has at most one copy from the client, so has each segment of what is sent.
 abbrev pub OneCopyEach : Type 0
 OneCopyEach = (answers : List Answer) (ms : List FrontMessage)
     → list_all has_one_copy answers ≡ true → HaveOneCopy (segments (replies answers ms))
 
--- What a client that is let in was asked for, and what is sent first to it, is one segment.
+-- The question to a client that is let in, if there is one, and the welcome are the first segment.
 abbrev pub WelcomeIsSegment : Type 0
 WelcomeIsSegment = (s : Script) (user : List ℕ) (ms : List BackMessage)
     → segments (asked s.auth user ++ (welcome s ++ ms))
@@ -100,43 +102,46 @@ WelcomeIsSegment = (s : Script) (user : List ℕ) (ms : List BackMessage)
 
 -- ---- a client that takes turns
 
--- Its session is, request by request, what its own copy messages come to, though what is left of a copy may stand before the
--- next request.
+-- The session of a client that takes turns has, for each request, what its own copy messages
+-- decide. Those that are left over from a copy have no effect on the next request.
 abbrev pub TurnsRead : Type 0
 TurnsRead = (answers : List Answer) (ts : List Turn) → InTurn answers ts
     → session answers (flat_map turn_messages ts)
     ≡ record { exchanges = turn_exchanges answers ts; place = turn_place answers ts }
 
--- A Terminate after its turns ends the session, and changes nothing else.
+-- A Terminate after the last turn ends the session, and changes no exchange.
 abbrev pub TurnsEnd : Type 0
 TurnsEnd = (answers : List Answer) (ts : List Turn) → InTurn answers ts
     → session answers (flat_map turn_messages ts ++ front.Terminate ∷ [])
     ≡ record { exchanges = turn_exchanges answers ts; place = Terminated }
 
--- These messages are the first of its turns' and a Terminate.
+-- These messages are a prefix of all that the turns and a Terminate after them send.
 abbrev pub AreFirstOf : List FrontMessage → List Turn → Type 0
 AreFirstOf handled ts = IsPrefix handled (flat_map turn_messages ts ++ front.Terminate ∷ [])
 
--- The requests of the log are the first that it made.
+-- The log of a client that takes turns has the first of its requests, in order, however many of its
+-- messages were handled.
 abbrev pub TurnsLogged : Type 0
 TurnsLogged = (answers : List Answer) (ts : List Turn) (handled : List FrontMessage)
     → InTurn answers ts → AreFirstOf handled ts
     → IsPrefix (map (λ l. l.request) (log_of answers handled)) (map (λ t. t.request) ts)
 
--- The chunks that were taken for each of them are those that it handed over.
+-- Of a client that takes turns, the chunks that were taken for each request of the log are the
+-- first that it handed over for it, as Took says.
 abbrev pub TurnsLoaded : Type 0
 TurnsLoaded = (answers : List Answer) (ts : List Turn) (handled : List FrontMessage)
     → InTurn answers ts → AreCopied ts → AreFirstOf handled ts
     → TookEach (log_of answers handled) (map (λ t. chunks_of t.copies) ts)
 
--- Where each of its requests is decided, it may make the next one.
+-- A client that takes turns may make a next request once all that it made are in the log.
 abbrev pub TurnsGoOn : Type 0
 TurnsGoOn = (answers : List Answer) (ts : List Turn) (handled : List FrontMessage) (r : Request)
     → InTurn answers ts → IsPrefix handled (flat_map turn_messages ts)
     → length ts ≤ length (log_of answers handled)
     → InTurn answers (ts ++ record { request = r; copies = [] } ∷ [])
 
--- There the session stands between requests, and of the turns' messages copy messages alone are left.
+-- Once all requests of a client that takes turns are in the log, the session is between requests,
+-- and the messages not handled yet (`left`) are copy messages alone.
 abbrev pub TurnsLeft : Type 0
 TurnsLeft = (answers : List Answer) (ts : List Turn) (handled left : List FrontMessage)
     → InTurn answers ts → flat_map turn_messages ts ≡ handled ++ left
@@ -145,18 +150,19 @@ TurnsLeft = (answers : List Answer) (ts : List Turn) (handled left : List FrontM
 
 -- ---- all that a backend sends and logs
 
--- The second input has more than the first: more messages, or more first packets where no message had come.
+-- The second input has at least what the first has: the same packets with more messages, or more
+-- packets where no message has come. The first has found no faulty rest.
 abbrev pub IsExtendedBy : Input → Input → Type 0
 IsExtendedBy i j = (i.faulty ≡ false)
     × (((j.packets ≡ i.packets) × IsPrefix i.messages j.messages)
     ⊎ ((i.messages ≡ []) × IsPrefix i.packets j.packets))
 
--- The transcript grows at its end alone.
+-- A longer input only appends to what is sent.
 abbrev pub TranscriptGrows : Type 0
 TranscriptGrows = (s : Script) (i j : Input)
     → IsExtendedBy i j → IsPrefix (transcript s i) (transcript s j)
 
--- So does the log.
+-- A longer input only appends to the log.
 abbrev pub LogGrows : Type 0
 LogGrows = (s : Script) (i j : Input)
     → IsExtendedBy i j → IsPrefix (input_log s i) (input_log s j)

@@ -45,6 +45,6 @@ wrong_password =
 abbrev pub fatal_unexpected : List ErrorField
 fatal_unexpected = own_error (codes "FATAL") (codes "08P01") (codes "unexpected message")
 
--- the error of bytes that no packet or message can begin with: a protocol_violation
+-- the error of a faulty rest: a protocol_violation
 abbrev pub fatal_bad : List ErrorField
 fatal_bad = own_error (codes "FATAL") (codes "08P01") (codes "bad message")

@@ -1,4 +1,4 @@
--- What is told by messages: several messages that are written as one.
+-- Several messages that are written to a buffer as one.
 use Rattle.std.specs.Prelude.{ℕ, ◌≡◌, ◌++◌, List, None, Result, Ok, Err}
 use Rattle.std.specs.List.{flat_map, AllByRecursion}
 use Rattle.pg_wire.specs.fault.EncodeFault.{EncodeFault}
@@ -9,32 +9,36 @@ use Rattle.pg_script.specs.declared.fault.ScriptFault.TheVariants as scripts
 use Rattle.pg_wire.specs.Backend.{backend}
 use Rattle.pg_wire.specs.Direction.{spelling, encode_fault, HasSpelling}
 
--- No message has a fault.
+-- No encoder would refuse one of these messages.
 abbrev pub NoFault : List BackMessage → Type 0
 NoFault ms = AllByRecursion (λ m. encode_fault backend m ≡ None) ms
 
--- All are spelled in order; or some has a fault; or memory was refused, and none has a fault.
+-- Ok: each message has a spelling, and the bytes are all of these, in order. Memory: no message is
+-- at fault. Any other fault: some message is.
 abbrev pub AreTold : List BackMessage → List ℕ → Result Unit EncodeFault → Type 0
 AreTold ms added (Ok x) = AllByRecursion (HasSpelling backend) ms
     × (added ≡ flat_map (spelling backend) ms)
 AreTold ms added (Err faults.Memory) = NoFault ms
 AreTold ms added (Err f) = NoFault ms → ⊥
 
--- The messages were written to the end of the buffer. Where that failed, some bytes of them may stand there.
+-- The messages were appended to the buffer. Where that was refused, the spellings of some of them,
+-- or parts of these, may have been appended, and the caller cuts them off.
 pub record Tells (ms : List BackMessage) (old : List ℕ)
     (result : Result Unit EncodeFault) (new : List ℕ) : Type 0 where
   pub added : List ℕ
   pub appended : new ≡ old ++ added
   pub says : AreTold ms added result
 
--- what two attempts come to: Ok where both are, else the first fault that isn't want of memory, else want of memory
+-- the result of two writes, one after the other: Ok where both are, else the first fault other than
+-- Memory, else Memory
 abbrev pub both : Result Unit EncodeFault → Result Unit EncodeFault → Result Unit EncodeFault
 both (Ok x) second = second
 both (Err faults.Memory) (Ok x) = Err faults.Memory
 both (Err faults.Memory) (Err f) = Err f
 both (Err f) second = Err f
 
--- what a fault of a message means for its script
+-- what an encoder's fault in one of a script's messages is in `check`: S3 Memory for Memory, and
+-- else S2 Encode
 abbrev pub script_fault : EncodeFault → ScriptFault
 script_fault faults.Memory = scripts.Memory
 script_fault f = scripts.Encode

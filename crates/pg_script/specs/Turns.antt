@@ -16,27 +16,28 @@ use Rattle.pg_script.specs.Meaning.{in_copy}
 use Rattle.pg_script.specs.Replies.{Verdict, verdict}
 use Rattle.pg_script.specs.Session.{Exchange, exchange, Place, Between, copy_place}
 
--- a request, and what is sent for its copies
+-- a request, and the copy messages that its client sends for it before the next one
 pub record Turn : Type 0 where
   pub request : Request
   pub copies : List FrontMessage
 
--- the messages of a turn: the request's, and then those of its copies
+-- all that the client sends in a turn
 abbrev pub turn_messages : Turn → List FrontMessage
 turn_messages t = request_messages t.request ++ t.copies
 
--- a chunk of a copy, or an end of one
+-- whether the message is a CopyData, a CopyDone or a CopyFail
 abbrev pub is_copy : FrontMessage → Bool
 is_copy (front.CopyData bytes) = true
 is_copy front.CopyDone = true
 is_copy (front.CopyFail reason) = true
 is_copy m = false
 
--- Each message is a chunk of a copy or an end of one.
+-- Each message is a CopyData, a CopyDone or a CopyFail.
 abbrev pub AreCopies : List FrontMessage → Type 0
 AreCopies ms = AllByRecursion (λ m. is_copy m ≡ true) ms
 
--- Copy messages alone follow a request, and they decide it before the next request is made.
+-- The client takes turns: after each request it sends copy messages alone, and these decide the
+-- request before it makes the next one.
 abbrev pub InTurn : List Answer → List Turn → Type 0
 InTurn answers [] = Unit {0}
 InTurn answers (t ∷ []) = AreCopies t.copies
@@ -44,18 +45,19 @@ InTurn answers (t ∷ u ∷ ts) = AreCopies t.copies
     × IsSome (verdict (answer_for answers t.request) t.copies)
     × InTurn (others answers) (u ∷ ts)
 
--- each request with what its own copy messages come to
+-- the exchange of each turn's request, by its own copy messages and no later ones
 abbrev pub turn_exchanges : List Answer → List Turn → List Exchange
 turn_exchanges answers [] = []
 turn_exchanges answers (t ∷ ts) =
     exchange t.request (answer_for answers t.request) t.copies ∷ turn_exchanges (others answers) ts
 
--- where a turn ends: in its copy where that isn't decided, else between requests
+-- where a turn's messages end: between requests, once its request is decided (Some), and else in
+-- its copy
 abbrev pub one_place : Option Verdict → List FrontMessage → Place
 one_place None ms = copy_place (map in_copy ms)
 one_place (Some v) ms = Between
 
--- where the messages of the turns end: in the copy of the last request, or after it
+-- where the messages of these turns end: as those of the last turn
 abbrev pub turn_place : List Answer → List Turn → Place
 turn_place answers [] = Between
 turn_place answers (t ∷ []) = one_place (verdict (answer_for answers t.request) t.copies) t.copies
@@ -63,7 +65,7 @@ turn_place answers (t ∷ u ∷ ts) = turn_place (others answers) (u ∷ ts)
 
 -- ---- the data of copies
 
--- A copy as a client sends it: chunks, and then maybe its one end ("COPY Operations").
+-- The messages are chunks, and then at most one end of a copy ("COPY Operations").
 abbrev pub IsCopy : List FrontMessage → Type 0
 IsCopy [] = Unit {0}
 IsCopy (front.CopyData bytes ∷ ms) = IsCopy ms
@@ -71,27 +73,29 @@ IsCopy (front.CopyDone ∷ ms) = ms ≡ []
 IsCopy (front.CopyFail reason ∷ ms) = ms ≡ []
 IsCopy (m ∷ ms) = ⊥
 
--- What is sent for each turn's copies is chunks, and then maybe one end.
+-- What is sent for each turn's copies is chunks, and then at most one end.
 abbrev pub AreCopied : List Turn → Type 0
 AreCopied ts = AllByRecursion (λ t. IsCopy t.copies) ts
 
--- the chunks that a client hands over
+-- the bytes of the CopyData among these messages, in order
 abbrev pub chunks_of : List FrontMessage → List (List ℕ)
 chunks_of [] = []
 chunks_of (front.CopyData bytes ∷ ms) = bytes ∷ chunks_of ms
 chunks_of (m ∷ ms) = chunks_of ms
 
--- the part is a copy from the client, which is complete
+-- whether this part of an outcome is a copy from the client, which is always one that was accepted
 abbrev pub is_copied_in : Part → Bool
 is_copied_in (whole.CopyIn head tag) = true
 is_copied_in p = false
 
--- What was taken for a request is the first of the chunks that were handed over, and all of them where its copy is complete.
+-- Of one request: the chunks that the backend took are a prefix of those that the client handed
+-- over, and all of them where its outcome has a copy from the client.
 pub record Took (l : Logged) (handed : List (List ℕ)) : Type 0 where
   pub begins : IsPrefix l.loaded handed
   pub all : list_any is_copied_in l.outcome.parts ≡ true → l.loaded ≡ handed
 
--- So it is for each request of the log.
+-- Took holds of entry k of the log and list k of `handed`, for each entry. `handed` may have more
+-- lists.
 abbrev pub TookEach : List Logged → List (List (List ℕ)) → Type 0
 TookEach [] handed = Unit {0}
 TookEach (l ∷ ls) [] = ⊥

@@ -5,41 +5,46 @@ use Rattle.pg_wire.specs.declared.fault.WireFault.TheVariants as wire
 use Rattle.pg_message.specs.Direction.{Direction, spelling}
 use Rattle.pg_wire.specs.Stream.{IsWithin, IsStream, IsWhole, IsFaulty, IsOpen}
 
--- the bytes that it was given and has made no message of, its limit, and the fault that it found
+-- the bytes that were pushed and not yet given as messages, the greatest length field that is
+-- taken, and the fault that was found, if any
 pub record DecoderState : Type 0 where
   pub kept : List ℕ
   pub limit : ℕ
   pub fault : Option WireFault
 
--- A fault that is answered for good. Want of memory passes.
+-- A decoder may store this fault, as it is answered for good. Want of memory passes and is never
+-- stored.
 abbrev pub Stays : Option WireFault → Type 0
 Stays None = Unit {0}
 Stays (Some wire.Memory) = ⊥
 Stays (Some f) = Unit {0}
 
--- Where a fault was found, the rest has it.
+-- The rest has the stored fault, if there is one.
 abbrev pub FaultHolds : {M : Type 0} → Direction M → ℕ → List ℕ → Option WireFault → Type 0
 FaultHolds d limit rest None = Unit {0}
 FaultHolds d limit rest (Some f) = IsFaulty d limit rest f
 
--- The decoder was given these bytes, and has given these messages.
+-- The decoder was pushed these bytes in all, and has given these messages: they are the first of
+-- the stream, and the bytes kept are its rest.
 pub record HasTaken {M : Type 0} (d : Direction M) (s : DecoderState) (pushed : List ℕ)
     (given : List M) : Type 0 where
   pub stream : IsStream d s.limit pushed given s.kept
   pub fault : FaultHolds d s.limit s.kept s.fault
 
--- A push keeps the whole piece, or refuses it and changes nothing: with the fault that was found, or for want of memory,
--- which a piece without bytes never meets.
+-- A push keeps the whole piece, or refuses it and changes nothing: by the fault that was found
+-- before, or for want of memory, but never a piece without bytes.
 abbrev pub Pushes : DecoderState → List ℕ → Result Unit WireFault → DecoderState → Type 0
 Pushes old piece (Ok x) new = (old.fault ≡ None) × (new ≡ record old { kept = old.kept ++ piece })
 Pushes old piece (Err wire.Memory) new = (old.fault ≡ None) × (0 < length piece) × (new ≡ old)
 Pushes old piece (Err f) new = (old.fault ≡ Some f) × (new ≡ old)
 
--- A message is all there by its length field. Memory is wanted for nothing else, so never where the rest is open.
+-- All bytes of the next message are there, by its length field. Only there `next` asks for memory.
 abbrev pub WantsMemory : {M : Type 0} → Direction M → ℕ → List ℕ → Type 0
 WantsMemory d limit rest = (t : ℕ) × (len : ℕ) × IsWhole d limit rest t len
 
--- A call of next gives the message at the beginning of the rest, None where the rest is open, or the rest's fault.
+-- What `next` answers: the first message of the rest, which is dropped from it; None where the rest
+-- is open; a fault exactly where the rest has it, then and for good. Memory leaves the decoder as
+-- it was.
 abbrev pub Takes : {M : Type 0} → Direction M → DecoderState → Result (Option M) WireFault
     → DecoderState → Type 0
 Takes d old (Ok None) new = (old.fault ≡ None) × (new ≡ old) × IsOpen d old.limit old.kept
@@ -51,7 +56,7 @@ Takes d old (Err wire.Memory) new = (old.fault ≡ None) × (new ≡ old)
 Takes d old (Err f) new = ((old.fault ≡ Some f) × (new ≡ old))
     ⊎ ((old.fault ≡ None) × (new ≡ record old { fault = Some f }) × IsFaulty d old.limit old.kept f)
 
--- the messages given, after a call of next
+-- all messages given, after a call of `next` with this answer
 abbrev pub given_after : {M : Type 0} → List M → Result (Option M) WireFault → List M
 given_after given (Ok None) = given
 given_after given (Ok (Some m)) = given ++ m ∷ []

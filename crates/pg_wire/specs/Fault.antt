@@ -3,7 +3,7 @@ use Rattle.std.specs.Prelude.{List, ℕ, codes}
 use Rattle.pg_wire.specs.declared.fault.WireFault.{WireFault}
 use Rattle.pg_wire.specs.declared.fault.WireFault.TheVariants as wire
 
--- the code of the fault of a stream
+-- the code of a stream's fault, W1 to W6, in ASCII
 abbrev pub wire_code : WireFault → List ℕ
 wire_code (wire.UnknownTag tag) = codes "W1"
 wire_code (wire.ShortLength size) = codes "W2"

@@ -11,20 +11,21 @@ pub use Rattle.pg_message.specs.First.{parameter, code, content, packet_length, 
 pub use Rattle.pg_message.specs.First.{parameter_has_zero, has_no_name, packet_has_zero, packet_has_no_name, packet_fault_of, packet_fault, PacketIsOfType, IsPacket}
 pub use Rattle.pg_message.specs.First.{database_pair, startup_parameters}
 
--- no first packet comes after it
+-- whether no first packet may come after this one: a Startup or a Cancel
 abbrev pub is_last : First → Bool
 is_last (first.Startup pairs) = true
 is_last (first.Cancel process secret) = true
 is_last first.Ssl = false
 is_last first.Gss = false
 
--- No packet stands after a last one, and ended says whether the last one is there.
+-- No packet stands after a Startup or a Cancel, and `ended` says whether the last packet is one.
 abbrev pub EndsIn : List First → Bool → Type 0
 EndsIn [] ended = ended ≡ false
 EndsIn (p ∷ []) ended = ended ≡ is_last p
 EndsIn (p ∷ q ∷ packets) ended = (is_last p ≡ false) × EndsIn (q ∷ packets) ended
 
--- The bytes are these packets, one after the other, and a rest, which holds no more of them where they have ended.
+-- The bytes are these first packets, one after the other, and a rest. `ended` says whether the last
+-- packet is a Startup or a Cancel, after which no packet is read.
 pub record IsBeginning (bytes : List ℕ) (packets : List First) (ended : Bool)
     (rest : List ℕ) : Type 0 where
   pub whole : bytes ≡ flat_map packet packets ++ rest
@@ -33,12 +34,12 @@ pub record IsBeginning (bytes : List ℕ) (packets : List First) (ended : Bool)
 
 -- ---- what a rest is, where the packets have not ended
 
--- The first four bytes of the rest are there: the number that stands as the length.
+-- The first four bytes of the rest are there and are, as an Int32, the length n.
 pub record PacketHead (rest : List ℕ) (n : ℤ) : Type 0 where
   pub there : 4 ≤ length rest
   pub length_is : cast_signed w32 (from_be_bytes w32 (take 4 rest)) ≡ n
 
--- The next four bytes are there too: the number that stands as the code.
+-- The next four bytes are there too and are, as an Int32, the code c.
 pub record PacketCode (rest : List ℕ) (c : ℤ) : Type 0 where
   pub there : 8 ≤ length rest
   pub code_is : cast_signed w32 (from_be_bytes w32 (take 4 (drop 4 rest))) ≡ c
@@ -51,7 +52,8 @@ IsPacketLength n = (pos 8 ≤ℤ n) × (n ≤ℤ pos longest_packet)
 abbrev pub IsPacketCode : ℤ → Type 0
 IsPacketCode c = (p : First) × (pos (code p) ≡ c)
 
--- The bytes of the next packet are all there, by its length.
+-- All bytes of the next packet are there by its length `len`, which is 8 to 10,000, and its code c
+-- is one of the four.
 pub record IsWholePacket (rest : List ℕ) (c : ℤ) (len : ℕ) : Type 0 where
   pub head : PacketHead rest (pos len)
   pub code : PacketCode rest c
@@ -60,7 +62,7 @@ pub record IsWholePacket (rest : List ℕ) (c : ℤ) (len : ℕ) : Type 0 where
   pub not_long : len ≤ longest_packet
   pub there : len ≤ length rest
 
--- No packet has these bytes.
+-- These bytes are no packet's.
 abbrev pub NoPacket : List ℕ → Type 0
 NoPacket bytes = (p : First) → IsPacket p → packet p ≡ bytes → ⊥
 
@@ -76,11 +78,12 @@ IsFaultyPacket rest (wire.BadBody t) = (t ≡ 0) × (c : ℤ) × (len : ℕ) × 
     × NoPacket (take len rest)
 IsFaultyPacket rest wire.Memory = ⊥
 
--- No packet stands at the beginning of the rest.
+-- No packet's bytes stand at the beginning of the rest.
 abbrev pub BeginsNoPacket : List ℕ → Type 0
 BeginsNoPacket rest = (p : First) (more : List ℕ) → IsPacket p → rest ≡ packet p ++ more → ⊥
 
--- The rest doesn't begin with one more packet, and isn't faulty: more bytes are to come.
+-- The rest is open, where a first packet may come: it begins with no packet and isn't faulty, so
+-- more bytes are to come.
 pub record IsOpenPacket (rest : List ℕ) : Type 0 where
   pub no_packet : BeginsNoPacket rest
   pub no_fault : (f : WireFault) → IsFaultyPacket rest f → ⊥

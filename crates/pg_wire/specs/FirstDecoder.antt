@@ -5,37 +5,41 @@ use Rattle.pg_wire.specs.declared.fault.WireFault.TheVariants as wire
 use Rattle.pg_message.specs.declared.message.First.{First}
 use Rattle.pg_wire.specs.First.{IsPacket, packet, is_last, IsBeginning, longest_packet, IsWholePacket, IsFaultyPacket, IsOpenPacket}
 
--- the bytes that it was given and has made no packet of, whether the last packet was given, and the fault that it found
+-- the bytes that were pushed and not yet given as packets, whether a Startup or a Cancel was given,
+-- and the fault that was found, if any
 pub record FirstState : Type 0 where
   pub kept : List ℕ
   pub ended : Bool
   pub fault : Option WireFault
 
--- Where a fault was found, the rest has it, and the packets have not ended.
+-- The rest has the stored fault, if there is one, and no Startup or Cancel was given before it.
 abbrev pub PacketFaultHolds : FirstState → Option WireFault → Type 0
 PacketFaultHolds s None = Unit {0}
 PacketFaultHolds s (Some f) = (s.ended ≡ false) × IsFaultyPacket s.kept f
 
--- The decoder was given these bytes, and has given these packets.
+-- The decoder was pushed these bytes in all, and has given these first packets; the bytes kept are
+-- the rest after them.
 pub record HasBegun (s : FirstState) (pushed : List ℕ) (given : List First) : Type 0 where
   pub beginning : IsBeginning pushed given s.ended s.kept
   pub fault : PacketFaultHolds s s.fault
 
--- A push keeps the whole piece, or refuses it and changes nothing: with the fault that was found, or for want of memory,
--- which a piece without bytes never meets.
+-- A push keeps the whole piece, or refuses it and changes nothing: by the fault that was found
+-- before, or for want of memory, but never a piece without bytes.
 abbrev pub FirstPushes : FirstState → List ℕ → Result Unit WireFault → FirstState → Type 0
 FirstPushes old piece (Ok x) new = (old.fault ≡ None)
     × (new ≡ record old { kept = old.kept ++ piece })
 FirstPushes old piece (Err wire.Memory) new = (old.fault ≡ None) × (0 < length piece) × (new ≡ old)
 FirstPushes old piece (Err f) new = (old.fault ≡ Some f) × (new ≡ old)
 
--- Where None is answered, the packets have ended, or the rest is open and short of a packet.
+-- Why `next` answers None: a Startup or a Cancel was given (true), or the rest is open, with fewer
+-- bytes than the longest packet has.
 abbrev pub NoMorePackets : Bool → List ℕ → Type 0
 NoMorePackets true rest = Unit {0}
 NoMorePackets false rest = IsOpenPacket rest × (length rest < longest_packet)
 
--- A call of next gives the packet at the beginning of the rest, None where the rest is open or the packets have ended, or the
--- rest's fault. Memory is wanted only for a packet that is all there by its length.
+-- What `next` answers: the first packet of the rest, which is dropped from it; None as
+-- NoMorePackets says; a fault exactly where the rest has it; Memory only where all bytes of the
+-- packet are there.
 abbrev pub FirstTakes : FirstState → Result (Option First) WireFault → FirstState → Type 0
 FirstTakes old (Ok None) new = (old.fault ≡ None) × (new ≡ old) × NoMorePackets old.ended old.kept
 FirstTakes old (Ok (Some p)) new = (old.fault ≡ None) × (old.ended ≡ false) × IsPacket p
@@ -47,7 +51,7 @@ FirstTakes old (Err f) new = ((old.fault ≡ Some f) × (new ≡ old))
     ⊎ ((old.fault ≡ None) × (old.ended ≡ false) × (new ≡ record old { fault = Some f })
     × IsFaultyPacket old.kept f)
 
--- the packets given, after a call of next
+-- all packets given, after a call of `next` with this answer
 abbrev pub packets_after : List First → Result (Option First) WireFault → List First
 packets_after given (Ok None) = given
 packets_after given (Ok (Some p)) = given ++ p ∷ []

@@ -7,6 +7,7 @@ use Rattle.md5.specs.Md5.{md5}
 abbrev pub hex_digest : List ℕ → List ℕ
 hex_digest text = encode_lower (md5 text)
 
--- the documentation's concat('md5', md5(concat(md5(concat(password, username)), random-salt)))
+-- the text that answers an AuthMd5, of user, password and salt; in the documentation's words
+-- concat('md5', md5(concat(md5(concat(password, username)), random-salt)))
 unfoldable pub md5_text : List ℕ → List ℕ → List ℕ → List ℕ
 md5_text user password salt = codes "md5" ++ hex_digest (hex_digest (password ++ user) ++ salt)

@@ -28,7 +28,7 @@ Fields = List ErrorField
 
 -- ---- what a request is sent as ("Simple Query", "Extended Query")
 
--- a step as the message of its name
+-- the message that asks for a step: the one of its name
 abbrev pub step_message : Step → FrontMessage
 step_message (step.Parse name text types) = front.Parse name text types
 step_message (step.Bind portal statement formats values result_formats) = front.Bind portal statement formats values result_formats
@@ -36,14 +36,14 @@ step_message (step.Describe target name) = front.Describe target name
 step_message (step.Execute portal max_rows) = front.Execute portal max_rows
 step_message (step.Close target name) = front.Close target name
 
--- a query as one message; the steps of a group as theirs, and a Sync
+-- what a client sends for a request: one Query, or the messages of a group's steps and a Sync
 abbrev pub request_messages : Request → List FrontMessage
 request_messages (Query text) = front.Query text ∷ []
 request_messages (Group steps) = map step_message steps ++ front.Sync ∷ []
 
 -- ---- asides ("Asynchronous Operations")
 
--- what an aside says, if the message is one
+-- the message as an aside: a notice, a run-time parameter or a notification; None for any other
 abbrev pub aside_of : BackMessage → Option Aside
 aside_of (NoticeResponse fields) = Some (aside.Notice fields)
 aside_of (ParameterStatus name value) = Some (aside.Parameter name value)
@@ -60,12 +60,13 @@ without_asides ms = filter (λ m. is_none (aside_of m)) ms
 
 -- ---- results and answers ("Simple Query", "Extended Query", "COPY Operations")
 
--- the message that describes a statement's parameters; of a portal there is none
+-- the ParameterDescription in the answer to a Describe of a statement; of a portal (None) there is
+-- none
 abbrev pub parameters_sent : Option (List ℕ) → List BackMessage
 parameters_sent None = []
 parameters_sent (Some types) = ParameterDescription types ∷ []
 
--- the message that describes the rows, or says that there are none
+-- the RowDescription in the answer to a Describe, or NoData where no rows come
 abbrev pub columns_sent : Option (List Column) → BackMessage
 columns_sent None = NoData
 columns_sent (Some columns) = RowDescription columns
@@ -76,7 +77,7 @@ end_sent (ends.Complete tag) = CommandComplete tag
 end_sent ends.Empty = EmptyQuery
 end_sent ends.Suspended = PortalSuspended
 
--- the messages of one whole result of a query, or of the whole answer to one step
+-- the messages of a part: one whole result of a query, or the whole answer to one step
 abbrev pub messages_of : Part → List BackMessage
 messages_of (part.Rows columns rows tag) = RowDescription columns ∷ map DataRow rows
     ++ CommandComplete tag ∷ []
@@ -92,7 +93,7 @@ messages_of (part.Described parameters columns) = parameters_sent parameters
 messages_of (part.Executed rows end) = map DataRow rows ++ end_sent end ∷ []
 messages_of part.Shut = CloseComplete ∷ []
 
--- a result of a simple query
+-- whether the part is a result of a query
 abbrev pub is_result : Part → Bool
 is_result (part.Rows columns rows tag) = true
 is_result (part.Command tag) = true
@@ -101,7 +102,7 @@ is_result (part.CopyOut head chunks tag) = true
 is_result (part.CopyIn head tag) = true
 is_result _ = false
 
--- an answer to a step
+-- whether the part answers this step
 abbrev pub is_answer : Step → Part → Bool
 is_answer (step.Parse name text types) part.Parsed = true
 is_answer (step.Bind portal statement formats values result_formats) part.Bound = true
@@ -123,27 +124,28 @@ abbrev pub asked : Request → Asked
 asked (Query text) = Results
 asked (Group steps) = Steps steps
 
--- the parts answer what is asked, in order, and leave the rest of it
+-- The parts answer the first of what is asked, in order, and `rest` is still to be answered.
 abbrev pub Answers : Asked → List Part → Asked → Type 0
 Answers a [] rest = rest ≡ a
 Answers Results (p ∷ ps) rest = (is_result p ≡ true) × Answers Results ps rest
 Answers (Steps []) (p ∷ ps) rest = ⊥
 Answers (Steps (s ∷ ss)) (p ∷ ps) rest = (is_answer s p ≡ true) × Answers (Steps ss) ps rest
 
--- nothing more has to be answered
+-- Nothing more has to be answered: of a query that holds at any time, of a group after all steps.
 abbrev pub IsDone : Asked → Type 0
 IsDone Results = Unit {0}
 IsDone (Steps []) = Unit {0}
 IsDone (Steps (s ∷ ss)) = ⊥
 
--- the messages are the first ones of a next answer, maybe none, and not all of it
+-- The messages are the beginning of a next result or answer, or none, but not all of it.
 abbrev pub IsCutOff : Asked → List BackMessage → Type 0
 IsCutOff a messages = (messages ≡ [])
     ⊎ ((p : Part) × (next : BackMessage) × (others : List BackMessage) × (rest : Asked)
     × Answers a (p ∷ []) rest × (messages_of p ≡ messages ++ next ∷ others))
 
--- A request's messages up to its ReadyForQuery, asides left out: whole results or answers, and where an error comes, maybe the
--- first messages of one that it cuts off, the error, and further errors, which are dropped.
+-- The messages, asides and ReadyForQuery left out, are these parts, all that was asked for; or
+-- these parts, maybe the beginning of one more, which the error cuts off, that error and maybe
+-- further ones, which are dropped.
 abbrev pub Reads : Asked → List BackMessage → List Part → Option Fields → Type 0
 Reads a messages parts None = (rest : Asked) × Answers a parts rest × IsDone rest
     × (messages ≡ flat_map messages_of parts)
@@ -153,36 +155,38 @@ Reads a messages parts (Some fields) = (rest : Asked) × Answers a parts rest
     × (messages ≡ flat_map messages_of parts
     ++ (cut ++ ErrorResponse fields ∷ map ErrorResponse more))
 
--- A whole segment of messages answers the request with this outcome.
+-- The messages are a whole segment that answers the request with this outcome.
 pub record Fits (request : Request) (segment : List BackMessage) (outcome : Outcome) : Type 0 where
   pub body : List BackMessage
   pub closed : segment ≡ body ++ Ready outcome.status ∷ []
   pub asides : asides_of body ≡ outcome.asides
   pub reads : Reads (asked request) (without_asides body) outcome.parts outcome.error
 
--- The messages are the first ones of a segment that fits the request.
+-- The messages are the beginning of a segment that fits the request.
 abbrev pub Begins : Request → List BackMessage → Type 0
 Begins request messages = (more : List BackMessage) × (outcome : Outcome)
     × Fits request (messages ++ more) outcome
 
 -- ---- the segments of a session: its messages, cut after each ReadyForQuery
 
--- the whole segments, and the messages after the last ReadyForQuery
+-- a server's messages cut after each ReadyForQuery: the whole segments, and the messages after the
+-- last ReadyForQuery
 pub record Segments : Type 0 where
   pub whole : List (List BackMessage)
   pub rest : List BackMessage
 
--- the status that a ReadyForQuery says
+-- the transaction status, if the message is a ReadyForQuery
 abbrev pub status_of : BackMessage → Option Status
 status_of (Ready status) = Some status
 status_of _ = None
 
--- the fields of an error
+-- the fields, if the message is an ErrorResponse
 abbrev pub error_of : BackMessage → Option Fields
 error_of (ErrorResponse fields) = Some fields
 error_of _ = None
 
--- the message before these segments; a ReadyForQuery is one more, of itself alone
+-- these segments with the message m before them: a ReadyForQuery (one with a status) is a segment
+-- of its own, any other joins the first
 abbrev pub put_before : Option Status → BackMessage → List (List BackMessage) → List BackMessage
     → Segments
 put_before (Some status) m whole rest = record { whole = (m ∷ []) ∷ whole; rest = rest }

@@ -7,7 +7,7 @@ use Rattle.pg_wire.specs.declared.fault.WireFault.TheVariants as wire
 use Rattle.pg_message.specs.Direction.{Direction, spelling, length_field, HasSpelling}
 pub use Rattle.pg_message.specs.Message.{IsTag, NoMessage}
 
--- The message has a spelling whose length field is at most the limit.
+-- The message has a spelling, and its length field is at most the limit.
 pub record IsWithin {M : Type 0} (d : Direction M) (limit : ℕ) (m : M) : Type 0 where
   pub spelled : HasSpelling d m
   pub limited : length_field d m ≤ limit
@@ -20,13 +20,14 @@ pub record IsStream {M : Type 0} (d : Direction M) (limit : ℕ) (bytes : List �
 
 -- ---- what a rest is
 
--- The first five bytes of the rest are there: a tag, and the number that stands as the length field.
+-- The first five bytes of the rest are there: the tag t and, as an Int32, the length field n.
 pub record Head (rest : List ℕ) (t : ℕ) (n : ℤ) : Type 0 where
   pub there : 5 ≤ length rest
   pub tag_is : slice_index rest 0 ≡ t
   pub length_is : cast_signed w32 (from_be_bytes w32 (take 4 (drop 1 rest))) ≡ n
 
--- The bytes of the next message are all there, by its length field.
+-- All bytes of the next message are there by its length field `len`, which is 4 to the limit, and
+-- some message has its tag t.
 pub record IsWhole {M : Type 0} (d : Direction M) (limit : ℕ) (rest : List ℕ)
     (t len : ℕ) : Type 0 where
   pub head : Head rest t (pos len)
@@ -45,12 +46,13 @@ IsFaulty d limit rest (wire.BadBody t) = (len : ℕ) × IsWhole d limit rest t l
 IsFaulty d limit rest (wire.BadFirst c) = ⊥
 IsFaulty d limit rest wire.Memory = ⊥
 
--- No message stands at the beginning of the rest.
+-- No message's spelling stands at the beginning of the rest.
 abbrev pub BeginsNoMessage : {M : Type 0} → Direction M → ℕ → List ℕ → Type 0
 BeginsNoMessage {M} d limit rest = (m : M) (more : List ℕ) → IsWithin d limit m
     → rest ≡ spelling d m ++ more → ⊥
 
--- The rest doesn't begin with one more message, and isn't faulty: more bytes are to come.
+-- The rest is open: it begins with no message within the limit and isn't faulty, so more bytes are
+-- to come.
 pub record IsOpen {M : Type 0} (d : Direction M) (limit : ℕ) (rest : List ℕ) : Type 0 where
   pub no_message : BeginsNoMessage d limit rest
   pub no_fault : (f : WireFault) → IsFaulty d limit rest f → ⊥
