@@ -8,8 +8,8 @@ use Rattle.pg_copy.specs.Row.{Row}
 use Rattle.pg_copy.specs.Reading.{RowsRead, RowsEnding, Open, Done, Bad, after_rows}
 use Rattle.pg_copy.specs.BinaryPart.{bytes_at, head_reading, binary_reading, body_reading, trailer_reading, binary_at_end, binary_file_reading}
 
--- how many columns a row has, how long a value may be, the bytes that were given and are no part yet, where it stands, and
--- whether the input has ended
+-- a reader's columns, the most bytes that a value may have, the bytes that it keeps since they are
+-- no whole part yet, its stage, and whether `finish` was called
 pub record BinaryState : Type 0 where
   pub columns : ℕ
   pub limit : ℕ
@@ -17,7 +17,7 @@ pub record BinaryState : Type 0 where
   pub stage : BinaryStage
   pub ended : Bool
 
--- what is still to come from so many bytes
+-- what a reader at this stage still gives of these bytes; of an extension n bytes are to come
 abbrev pub binary_stage_reading : BinaryStage → ℕ → ℕ → List ℕ → RowsRead BinaryFault
 binary_stage_reading stages.Head columns limit bytes = binary_reading columns limit bytes
 binary_stage_reading (stages.Extension n) columns limit bytes =
@@ -27,21 +27,23 @@ binary_stage_reading stages.Closed columns limit bytes = trailer_reading bytes
 binary_stage_reading (stages.Failed fault) columns limit bytes =
     record { rows = []; ending = Bad fault }
 
--- what is still to come, if these bytes are pushed too
+-- what the reader still gives, if these bytes are pushed next
 abbrev pub binary_left : BinaryState → List ℕ → RowsRead BinaryFault
 binary_left s more = binary_stage_reading s.stage s.columns s.limit (s.kept ++ more)
 
--- what is still to come, if no more bytes are pushed
+-- what the reader still gives, if the input has ended
 abbrev pub binary_last : BinaryState → RowsRead BinaryFault
 binary_last s = binary_at_end (binary_left s [])
 
--- The reader was given these bytes, and has given these rows: what is left is what is left of the file.
+-- The reader was pushed these bytes in all, and has given these rows: they are the first that a
+-- file which begins so has, and what the reader still gives is the rest of that file's reading.
 pub record HasReadBinary (s : BinaryState) (pushed : List ℕ) (given : List Row) : Type 0 where
   pub so_far : s.ended ≡ false → (more : List ℕ)
       → binary_reading s.columns s.limit (pushed ++ more) ≡ after_rows given (binary_left s more)
   pub in_all : binary_file_reading s.columns s.limit pushed ≡ after_rows given (binary_last s)
 
--- the ending at which a reader stands, where it has looked for a row
+-- what stands after all rows, of a reader at this stage that keeps these bytes, while the input
+-- goes on
 abbrev pub binary_ending : BinaryStage → List ℕ → RowsEnding BinaryFault
 binary_ending stages.Head kept = Open kept
 binary_ending (stages.Extension n) kept = Open []
@@ -49,8 +51,8 @@ binary_ending stages.Rows kept = Open kept
 binary_ending stages.Closed kept = Done
 binary_ending (stages.Failed fault) kept = Bad fault
 
--- What is kept where a row is waited for: a part of what every head begins with, none of an extension, and among the rows
--- the part that isn't whole.
+-- What a reader keeps after None: fewer than 19 bytes of a head, nothing of an extension, and among
+-- the rows the bytes of one that isn't whole.
 abbrev pub WaitsWith : BinaryStage → List ℕ → Type 0
 WaitsWith stages.Head kept = length kept < 19
 WaitsWith (stages.Extension n) kept = kept ≡ []
@@ -58,7 +60,8 @@ WaitsWith stages.Rows kept = Unit {0}
 WaitsWith stages.Closed kept = kept ≡ []
 WaitsWith (stages.Failed fault) kept = Unit {0}
 
--- A piece is kept, but for what it has of an extension; after the trailer nothing is.
+-- what a reader at this stage keeps of a piece: all of it, but for bytes of an extension; after the
+-- trailer nothing
 abbrev pub kept_of : BinaryStage → List ℕ → List ℕ
 kept_of stages.Head piece = piece
 kept_of (stages.Extension n) piece = drop n piece
@@ -66,7 +69,7 @@ kept_of stages.Rows piece = piece
 kept_of stages.Closed piece = []
 kept_of (stages.Failed fault) piece = []
 
--- where the reader stands after a piece: an extension may end in it, and after the trailer a byte is a fault
+-- the stage after a piece: an extension may end in it, and a byte after the trailer is a fault
 abbrev pub stage_behind : BinaryStage → List ℕ → BinaryStage
 stage_behind stages.Head piece = stages.Head
 stage_behind (stages.Extension n) piece = if nat_lt (length piece) n
@@ -81,7 +84,7 @@ abbrev pub pushed_after : BinaryState → List ℕ → BinaryState
 pushed_after s piece =
     record s { kept = s.kept ++ kept_of s.stage piece; stage = stage_behind s.stage piece }
 
--- in the head or among the rows: bytes are still read
+-- The reader is in the head or among the rows, and has found neither trailer nor fault.
 abbrev pub IsReading : BinaryStage → Type 0
 IsReading stages.Head = Unit {0}
 IsReading (stages.Extension n) = Unit {0}
@@ -89,8 +92,9 @@ IsReading stages.Rows = Unit {0}
 IsReading stages.Closed = ⊥
 IsReading (stages.Failed fault) = ⊥
 
--- A push is refused with the fault that was found, or for want of memory, which a piece of which nothing is to be kept never
--- meets: one without bytes, one within the extension, or one after the trailer. Then nothing changes.
+-- A push takes the whole piece, or refuses it and changes nothing: by the fault that was found
+-- before, or for want of memory, but never a piece of which nothing is kept (no bytes, within an
+-- extension, after the trailer).
 abbrev pub PushesBinary : BinaryState → List ℕ → Result Unit BinaryFault → BinaryState → Type 0
 PushesBinary old piece (Ok x) new = ((f : BinaryFault) → old.stage ≡ stages.Failed f → ⊥)
     × (new ≡ pushed_after old piece)

@@ -13,8 +13,8 @@ use Rattle.pg_copy.specs.BinaryPart as binary
 
 -- ---- text
 
--- The lines of a file that are read, and the fields of a line, are what the bytes are by their units, and the bytes are no
--- other parts.
+-- `parts` cuts bytes at each mark that isn't escaped, and there is one such cut: so lines and
+-- fields are what the bytes say.
 pub record OneSplit : Type 0 where
   pub there : (mark : ℕ) (bytes : List ℕ) → (mark ≡ backslash → ⊥)
       → AreParts mark bytes (parts mark bytes)
@@ -22,9 +22,8 @@ pub record OneSplit : Type 0 where
       → AreParts mark bytes ps → AreParts mark bytes qs
       → ps ≡ qs
 
--- The value that a reader gives to a field is what the field spells, and a field spells one value at most. A field of a line is
--- closed, where the line is: no backslash that begins an escape stands last. So the row of a line has the values that the
--- line's fields spell.
+-- A field spells one value at most, and `field_value` is it, where no lone backslash stands last,
+-- as in a whole line. So a line's row has the values that its fields spell.
 pub record OneValue : Type 0 where
   pub there : (bytes : List ℕ) → ends_escaped false bytes ≡ false
       → IsField bytes (field_value bytes)
@@ -32,7 +31,8 @@ pub record OneValue : Type 0 where
   pub of_line : (columns : Option ℕ) (line : List ℕ) (row : Row) → line_row columns line ≡ Ok row
       → AreFields (parts delimiter line) row
 
--- The canonical lines of rows of a reader's width are read as those rows: in front of any bytes, and as a whole file.
+-- Canonical lines of rows that a reader may give are read as those rows, before any other bytes and
+-- as a whole file.
 pub record TextRoundTrip : Type 0 where
   pub before : (columns : Option ℕ) (rows : List Row) (rest : List ℕ)
       → AllByRecursion (FitsReader columns) rows
@@ -44,12 +44,12 @@ pub record TextRoundTrip : Type 0 where
 
 -- ---- binary
 
--- what a reader of binary files may be given
+-- a reader of binary files may have these columns and this limit (0 columns included)
 pub record AreBounds (columns limit : ℕ) : Type 0 where
   pub few : columns ≤ 32767
   pub short : limit ≤ 2147483647
 
--- What is read of the bytes of a binary file is what they are, and they are nothing else.
+-- `binary_reading` gives what the bytes of a binary file are, and they are nothing else.
 pub record OneFile : Type 0 where
   pub there : (columns limit : ℕ) (bytes : List ℕ) → AreBounds columns limit → IsBytes bytes
       → IsBinaryFile columns limit bytes (binary_reading columns limit bytes).rows
@@ -59,8 +59,8 @@ pub record OneFile : Type 0 where
       → IsBytes bytes → IsBinaryFile columns limit bytes rows ending
       → binary_reading columns limit bytes ≡ record { rows = rows; ending = ending }
 
--- A head and rows of a reader's width, with values within its limit, are read as those rows: in front of any bytes, and as a
--- whole file with its trailer. The head may have any low flags and any extension.
+-- A head, with any flags below bit 16 and any extension, and rows that a reader takes are read as
+-- those rows, before any other bytes and as a whole file with its trailer.
 pub record BinaryRoundTrip : Type 0 where
   pub before : (columns limit : ℕ) (h : List ℕ) (rows : List Row) (rest : List ℕ)
       → AreBounds columns limit → IsHead h

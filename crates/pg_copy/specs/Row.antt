@@ -4,7 +4,7 @@ use Rattle.std.specs.List.{list_any}
 use Rattle.pg_copy.specs.declared.fault.RowFault.{RowFault}
 use Rattle.pg_copy.specs.declared.fault.RowFault.TheVariants as faults
 
--- the values of a row, where None is null
+-- the values of a row; None is null
 abbrev pub Row : Type 0
 Row = List (Option (List ℕ))
 
@@ -12,28 +12,29 @@ Row = List (Option (List ℕ))
 abbrev pub most_fields : ℕ
 most_fields = 32767
 
--- no field, or too many
+-- whether a file has no such row for its number of fields: none, or more than 32,767
 abbrev pub is_misfit : Row → Bool
 is_misfit row = length row == 0 || nat_lt most_fields (length row)
 
--- longer than a binary file can say
+-- whether a value is longer than the length field of a binary file can say
 abbrev pub is_long : Option (List ℕ) → Bool
 is_long None = false
 is_long (Some bytes) = nat_lt 2147483647 (length bytes)
 
--- why a row has no line: its width
+-- why a row can't be written as text, if it can't: its number of fields
 abbrev pub text_fault : Row → Option RowFault
 text_fault row = if is_misfit row then Some (faults.Width (length row)) else None
 
--- why a row can't be written in binary: the first of these that holds
+-- why a row can't be written in binary, if it can't: its number of fields, else a value that is too
+-- long
 abbrev pub binary_fault : Row → Option RowFault
 binary_fault row =
     if is_misfit row then Some (faults.Width (length row))
     else if list_any is_long row then Some faults.FieldLong
     else None
 
--- What a writer does. A row without a fault is appended, or refused for want of memory; one with a fault is refused with it.
--- A refusal leaves the buffer as it was.
+-- What a writer answers for a row with this fault, or none, and these bytes: Ok, and they are
+-- appended; its fault; or, where it has none, Memory. A refusal leaves the buffer as it was.
 abbrev pub Writes : Option RowFault → List ℕ → List ℕ → Result Unit RowFault → List ℕ → Type 0
 Writes fault spelled old (Ok x) new = (fault ≡ None) × (new ≡ old ++ spelled)
 Writes fault spelled old (Err faults.Memory) new = (fault ≡ None) × (new ≡ old)

@@ -4,19 +4,20 @@ use Rattle.std.specs.List.{AllByRecursion}
 use Rattle.std.specs.Char.{digit_value}
 use Rattle.pg_copy.specs.Text.{backslash, null_mark, letter_value, digits_value}
 
--- no digit of the base stands first
+-- The bytes don't begin with a digit of this base.
 abbrev pub NoDigit : ℕ → List ℕ → Type 0
 NoDigit base [] = Unit {0}
 NoDigit base (c ∷ bs) = base ≤ digit_value c
 
--- Digits of a base, as many as there are, and at most so many: where there are fewer, none comes after them.
+-- These are 1 to `most` digits of the base, and as many as there are: if fewer than `most`, the
+-- bytes after them (`rest`) begin with no digit.
 pub record IsNumeral (base most : ℕ) (digits rest : List ℕ) : Type 0 where
   pub each : AllByRecursion (λ c. digit_value c < base) digits
   pub some : 0 < length digits
   pub few : length digits ≤ most
   pub all : (length digits ≡ most) ⊎ NoDigit base rest
 
--- These bytes after a backslash stand for a byte, where the rest comes after them.
+-- After a backslash these bytes stand for this byte, where `rest` comes after them.
 pub data IsEscape : List ℕ → List ℕ → ℕ → Type 0 where
   octal : (digits rest : List ℕ) → IsNumeral 8 3 digits rest
       → IsEscape digits rest (digits_value 8 digits % 256)
@@ -26,7 +27,7 @@ pub data IsEscape : List ℕ → List ℕ → ℕ → Type 0 where
   letter : (c : ℕ) (rest : List ℕ) → 8 ≤ digit_value c → (c ≡ 120 → ⊥)
       → IsEscape (c ∷ []) rest (letter_value c)
 
--- The bytes spell the text: each is itself, or an escape stands there.
+-- The bytes spell this text: each byte of it by itself, if it is no backslash, or by an escape.
 pub data IsText : List ℕ → List ℕ → Type 0 where
   nothing : IsText [] []
   plain : (b : ℕ) (bs text : List ℕ) → (b ≡ backslash → ⊥) → IsText bs text
@@ -34,7 +35,7 @@ pub data IsText : List ℕ → List ℕ → Type 0 where
   escaped : (escape bs : List ℕ) (b : ℕ) (text : List ℕ) → IsEscape escape bs b → IsText bs text
       → IsText (backslash ∷ (escape ++ bs)) (b ∷ text)
 
--- The bytes spell the field. Null is looked at before any escape.
+-- The field spells this value. Whether it is the null mark is looked at before any escape.
 abbrev pub IsField : List ℕ → Option (List ℕ) → Type 0
 IsField bytes None = bytes ≡ null_mark
 IsField bytes (Some text) = (bytes ≡ null_mark → ⊥) × IsText bytes text

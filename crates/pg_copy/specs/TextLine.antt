@@ -5,15 +5,16 @@ use Rattle.pg_copy.specs.TextField.{IsField}
 use Rattle.pg_copy.specs.Row.{Row}
 use Rattle.pg_copy.specs.Text.{backslash}
 
--- Whole units, none of which is the byte mark alone: bytes that are no backslash, and backslashes with the byte after each.
+-- No byte `mark` among these stands unescaped: they are bytes other than the mark and the
+-- backslash, and backslashes each with the byte after it.
 pub data AreUnits (mark : ℕ) : List ℕ → Type 0 where
   nothing : AreUnits mark []
   byte : (b : ℕ) (bs : List ℕ) → (b ≡ backslash → ⊥) → (b ≡ mark → ⊥) → AreUnits mark bs
       → AreUnits mark (b ∷ bs)
   escape : (b : ℕ) (bs : List ℕ) → AreUnits mark bs → AreUnits mark (backslash ∷ b ∷ bs)
 
--- The bytes are these parts, with the mark between two of them as a unit: the lines of a file and what stands after the last
--- newline, or the fields of a line. A lone backslash may stand last.
+-- The bytes are these parts with an unescaped byte `mark` between any two: lines and what stands
+-- after the last newline, or the fields of a line. The last part may end in a lone backslash.
 pub data AreParts (mark : ℕ) : List ℕ → List (List ℕ) → Type 0 where
   one : (p : List ℕ) → AreUnits mark p → AreParts mark p (p ∷ [])
   lone : (p : List ℕ) → AreUnits mark p
@@ -21,7 +22,7 @@ pub data AreParts (mark : ℕ) : List ℕ → List (List ℕ) → Type 0 where
   more : (p bytes : List ℕ) (ps : List (List ℕ)) → AreUnits mark p → AreParts mark bytes ps
       → AreParts mark (p ++ mark ∷ bytes) (p ∷ ps)
 
--- each of these parts spells the field of the row that stands in its place
+-- Field k of a line spells value k of the row, and there are as many of both.
 abbrev pub AreFields : List (List ℕ) → Row → Type 0
 AreFields [] [] = Unit {0}
 AreFields [] (v ∷ vs) = ⊥

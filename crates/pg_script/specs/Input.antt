@@ -89,7 +89,7 @@ sent_bytes (Says m) = spelling backend m
 abbrev pub output : Script → Input → List ℕ
 output s i = flat_map sent_bytes (transcript s i)
 
--- If this is a message, it has a spelling; the byte `N` is one always.
+-- If this is a message, it has a spelling.
 abbrev pub IsSpelled : Sent → Type 0
 IsSpelled No = Unit {0}
 IsSpelled (Says m) = HasSpelling backend m

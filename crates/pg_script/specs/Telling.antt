@@ -21,8 +21,8 @@ AreTold ms added (Ok x) = AllByRecursion (HasSpelling backend) ms
 AreTold ms added (Err faults.Memory) = NoFault ms
 AreTold ms added (Err f) = NoFault ms → ⊥
 
--- The messages were appended to the buffer. Where that was refused, the spellings of some of them,
--- or parts of these, may have been appended, and the caller cuts them off.
+-- The messages were appended to the buffer. Where the answer is a fault, some of their bytes may
+-- have been appended.
 pub record Tells (ms : List BackMessage) (old : List ℕ)
     (result : Result Unit EncodeFault) (new : List ℕ) : Type 0 where
   pub added : List ℕ
