@@ -9,7 +9,7 @@ use Rattle.pg_copy.specs.Reading.{RowsRead, RowsEnding, Open, Done, Bad, after_r
 use Rattle.pg_copy.specs.BinaryPart.{bytes_at, head_reading, binary_reading, body_reading, trailer_reading, binary_at_end, binary_file_reading}
 
 -- a reader's columns, the most bytes that a value may have, the bytes that it keeps since they are
--- no whole part yet, its stage, and whether `finish` was called
+-- no whole part yet, its stage, and whether `finish` has ended the input
 pub record BinaryState : Type 0 where
   pub columns : ℕ
   pub limit : ℕ

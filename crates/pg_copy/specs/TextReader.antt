@@ -9,7 +9,7 @@ use Rattle.pg_copy.specs.Reading.{RowsRead, RowsEnding, Open, Done, Ended, Bad, 
 use Rattle.pg_copy.specs.Text.{text_reading, text_at_end, text_file_reading}
 
 -- a reader's columns (None for any number), the bytes that it keeps since they are no whole row
--- yet, its stage, and whether `finish` was called
+-- yet, its stage, and whether `finish` has ended the input
 pub record TextState : Type 0 where
   pub columns : Option ℕ
   pub kept : List ℕ

@@ -9,27 +9,29 @@ use mathlib.Core.List.{IsPrefix}
 
 -- ---- a line: a name, a length in decimal and bytes in hexadecimal, parted by spaces
 
--- bytes in hexadecimal, or `-` for none
+-- bytes in hexadecimal, or `-` where there are none
 abbrev pub body_text : List ℕ → List ℕ
 body_text [] = 45 ∷ []
 body_text (b ∷ bytes) = hexadecimal (b ∷ bytes)
 
--- the line for a name, a length and bytes
+-- the line of a name, a length and bytes: with a space between them and a newline after
 abbrev pub line_of : List ℕ → ℕ → List ℕ → List ℕ
 line_of name n bytes = name ++ (32 ∷ []) ++ decimal n ++ (32 ∷ []) ++ body_text bytes ++ (10 ∷ [])
 
 -- ---- text that is collected and sent
 
--- at most so many bytes are collected before they are sent
+-- the most bytes that are collected before they are sent
 abbrev pub most_collected : ℕ
 most_collected = 65536
 
--- All was sent but what is collected still; where the sink failed, a prefix of all was sent.
+-- Of all the text, what was sent and what is still collected are the first and the last part; where
+-- the sink failed, what was sent is a prefix.
 abbrev pub IsSentBut : {A : Type 0} → Result A LinkFault → List ℕ → List ℕ → List ℕ → Type 0
 IsSentBut (Ok x) all sent collected = all ≡ sent ++ collected
 IsSentBut (Err fault) all sent collected = IsPrefix sent all
 
--- Text was put after what was collected, and pieces were sent: from the old collected text and sink to the new.
+-- Text was put after what was collected, and what had no room was sent to the sink in pieces.
+-- `collected'` and `sink'` are what is collected and the sink afterwards.
 pub record Puts {K A : Type 0} (takes : K → List ℕ → K → Type 0) (failures : K → ℕ)
     (collected : List ℕ) (sink : K) (text : List ℕ) (result : Result A LinkFault)
     (collected' : List ℕ) (sink' : K) : Type 0 where
@@ -38,7 +40,7 @@ pub record Puts {K A : Type 0} (takes : K → List ℕ → K → Type 0) (failur
   pub sent : IsSentBut result (collected ++ text) (concat pieces) collected'
   pub counted : Counts (failures sink) result (failures sink')
 
--- No more is collected than there is room for, if that was so before.
+-- If no more was collected before than there is room for, so it is afterwards.
 abbrev pub StaysWithin : List ℕ → List ℕ → Type 0
 StaysWithin collected collected' = length collected ≤ most_collected
     → length collected' ≤ most_collected

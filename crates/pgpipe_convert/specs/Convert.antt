@@ -19,90 +19,92 @@ use Rattle.pgpipe_base.specs.Receiving.{longest_piece}
 
 -- ---- the file that is read
 
--- an ending whose fault is the answer for it
+-- an ending, with its fault put as an answer of `convert`
 abbrev pub answered_ending : {F : Type 0} → (F → Converted) → RowsEnding F → RowsEnding Converted
 answered_ending answer (Open rest) = Open rest
 answered_ending answer Done = Done
 answered_ending answer Ended = Ended
 answered_ending answer (Bad f) = Bad (answer f)
 
--- a reading whose fault is the answer for it
+-- a reading, with its fault put as an answer of `convert`
 abbrev pub answered : {F : Type 0} → (F → Converted) → RowsRead F → RowsRead Converted
 answered answer r = record { rows = r.rows; ending = answered_ending answer r.ending }
 
--- What bytes are read as: as the beginning of a file or, where true is given, as a whole one.
+-- how a format reads bytes: as the beginning of a file (false) or as a whole file (true)
 abbrev pub FileReading : Type 0
 FileReading = Bool → List ℕ → RowsRead Converted
 
--- a file of text, with so many columns or with any number of them
+-- how COPY text is read, with so many columns or with any number (None)
 abbrev pub text_file : Option ℕ → FileReading
 text_file columns false bytes = answered converted.Text (text_reading columns bytes)
 text_file columns true bytes = answered converted.Text (text_file_reading columns bytes)
 
--- a binary file with so many columns, and values of at most so many bytes
+-- how COPY binary is read, with so many columns and values of at most `most` bytes
 abbrev pub binary_file : ℕ → ℕ → FileReading
 binary_file columns most false bytes = answered converted.Binary (binary_reading columns most bytes)
 binary_file columns most true bytes =
     answered converted.Binary (binary_file_reading columns most bytes)
 
--- the most bytes that a value of a binary file may have
+-- the most bytes that a value of a binary file may have in `convert`
 abbrev pub value_limit : ℕ
 value_limit = 1073741823
 
--- a file of this format, with so many columns
+-- how a file of this format and so many columns is read
 abbrev pub file_of : Format → ℕ → FileReading
 file_of format.Text columns = text_file (Some columns)
 file_of format.Binary columns = binary_file columns value_limit
 
--- nothing is left but this ending
+-- a reading without further rows, which ends so
 abbrev pub none_left : RowsEnding Converted → RowsRead Converted
 none_left ending = record { rows = []; ending = ending }
 
--- an ending of a whole file
+-- A whole file ends so: by its end mark or trailer, or by the end of a text file.
 abbrev pub IsEnd : RowsEnding Converted → Type 0
 IsEnd (Open rest) = ⊥
 IsEnd Done = Unit {0}
 IsEnd Ended = Unit {0}
 IsEnd (Bad f) = ⊥
 
--- The bytes are read as this: as the beginning of a file or, if the input has ended, as a whole one.
+-- The bytes are read as this: as the beginning of a file; or as a whole one, if the input has
+-- ended.
 abbrev pub IsReadAs : FileReading → Type 0 → List ℕ → RowsRead Converted → Type 0
 IsReadAs file ended bytes r = (file false bytes ≡ r) ⊎ (ended × (file true bytes ≡ r))
 
 -- ---- the file that is written
 
--- why a row has no place in a file of this format
+-- why a row can't be written in this format, if it can't
 abbrev pub row_fault : Format → Row → Option RowFault
 row_fault format.Text row = text_fault row
 row_fault format.Binary row = binary_fault row
 
--- The row has a place in a file of this format.
+-- The row can be written in this format.
 abbrev pub IsWritable : Format → Row → Type 0
 IsWritable to row = row_fault to row ≡ None
 
--- what is written for a row
+-- the bytes of a row in this format
 abbrev pub row_of : Format → Row → List ℕ
 row_of format.Text row = written_row row
 row_of format.Binary row = binary_row row
 
--- what stands before the rows: in text nothing
+-- what is written before the rows: nothing in text, a head in binary
 abbrev pub head_of : Format → List ℕ
 head_of format.Text = []
 head_of format.Binary = written_head
 
--- what stands after the rows: in text nothing
+-- what is written after the rows: nothing in text, the trailer in binary
 abbrev pub trailer_of : Format → List ℕ
 trailer_of format.Text = []
 trailer_of format.Binary = trailer
 
--- a trailer stands only after all the rows of a whole file
+-- what is written last, by the answer: a trailer only where the file was whole
 abbrev pub trailer_for : Format → Converted → List ℕ
 trailer_for to converted.Whole = trailer_of to
 trailer_for to _ = []
 
 -- ---- how much is converted
 
--- The text is the head and the rows of these bytes, each of which can be written, and this is left of the file.
+-- The text is the head and the first rows of these bytes, all of which can be written, and `left`
+-- is what the file has after those rows.
 pub record AreConverted (file : FileReading) (to : Format) (ended : Type 0) (bytes : List ℕ)
     (left : RowsRead Converted) (text : List ℕ) : Type 0 where
   pub rows : List Row
@@ -110,8 +112,8 @@ pub record AreConverted (file : FileReading) (to : Format) (ended : Type 0) (byt
   pub each_writable : AllByRecursion (IsWritable to) rows
   pub each_row : text ≡ head_of to ++ flat_map (row_of to) rows
 
--- The answer that is given where this is left of the file: Whole where nothing is; a row's fault where it stands first; and
--- else the fault that stands in the place of a row.
+-- The answer where `left` is what the file has after the rows written: Whole at its end; Row for a
+-- next row that can't be written; else the fault that stands there.
 abbrev pub IsAnswerFor : Format → RowsRead Converted → Converted → Type 0
 IsAnswerFor to left converted.Whole = (ending : RowsEnding Converted) × IsEnd ending
     × (left ≡ none_left ending)
@@ -119,7 +121,7 @@ IsAnswerFor to left (converted.Row f) = (row : Row) × (later : RowsRead Convert
     × (left ≡ after_rows (row ∷ []) later) × (row_fault to row ≡ Some f)
 IsAnswerFor to left c = left ≡ none_left (Bad c)
 
--- The text is the file that is written where this is the answer.
+-- The text is all that `convert` writes for these bytes where c is its answer.
 pub record IsOutput (file : FileReading) (to : Format) (ended : Type 0) (bytes : List ℕ)
     (c : Converted) (text : List ℕ) : Type 0 where
   pub left : RowsRead Converted
@@ -128,13 +130,14 @@ pub record IsOutput (file : FileReading) (to : Format) (ended : Type 0) (bytes :
   pub are_converted : AreConverted file to ended bytes left before
   pub with_trailer : text ≡ before ++ trailer_for to c
 
--- The text is the head and all the rows of these bytes, after which no fault stands.
+-- The text is the head and all rows of these bytes, none of which has a fault after it.
 pub record AreAllConverted (file : FileReading) (to : Format) (bytes text : List ℕ) : Type 0 where
   pub ending : RowsEnding Converted
   pub good : IsGood ending
   pub are_converted : AreConverted file to ⊥ bytes (none_left ending) text
 
--- The same for these bytes but the last piece.
+-- The text is the head and all rows of these bytes without the last piece, a piece being at most
+-- 65,536 bytes.
 pub record AreConvertedBefore (file : FileReading) (to : Format)
     (bytes text : List ℕ) : Type 0 where
   pub earlier : List ℕ
@@ -143,7 +146,8 @@ pub record AreConvertedBefore (file : FileReading) (to : Format)
   pub a_piece : length last ≤ longest_piece
   pub all_converted : AreAllConverted file to earlier text
 
--- The text is the head and rows of these bytes, and none is missing of those before the last piece.
+-- The text is the head and whole rows of these bytes, and no row of those before the last piece is
+-- missing.
 pub record AreMostlyConverted (file : FileReading) (to : Format) (ended : Type 0)
     (bytes text : List ℕ) : Type 0 where
   pub before : List ℕ
@@ -152,22 +156,23 @@ pub record AreMostlyConverted (file : FileReading) (to : Format) (ended : Type 0
   pub left : RowsRead Converted
   pub are_converted : AreConverted file to ended bytes left text
 
--- The text is a prefix of what is written for these bytes.
+-- The text is a prefix of what is written for these bytes, and may end within a row.
 abbrev pub ArePartlyConverted : FileReading → Format → Type 0 → List ℕ → List ℕ → Type 0
 ArePartlyConverted file to ended bytes text = (all : List ℕ) × IsPrefix text all
     × (((left : RowsRead Converted) × AreConverted file to ended bytes left all)
     ⊎ IsOutput file to ended bytes converted.Whole all)
 
--- What is written for these bytes but the last piece is no more than the text and what may be collected after it.
+-- At most 65,536 bytes of what is written for the bytes before the last piece weren't sent: so a
+-- failed sink is noticed soon.
 abbrev pub IsConvertedAtOnce : FileReading → Format → List ℕ → List ℕ → Type 0
 IsConvertedAtOnce file to bytes text = (before : List ℕ) × AreConvertedBefore file to bytes before
     × (length before ≤ most_collected + length text)
 
 -- ---- the answer
 
--- The answer for the bytes that were received, and the text that was sent. Where memory was refused, no row is missing of what
--- came before the last piece, unless it was refused at once. Device says that the sink broke, and then a prefix was sent and
--- little more was received, or that the source stopped, and then the head and all rows were sent.
+-- What `convert` answers, by the bytes received and the text sent. Memory: no row before the last
+-- piece is missing, or nothing was received or sent. Device: the sink broke (a prefix was sent), or
+-- the source stopped (the head and all rows were sent).
 abbrev pub ConvertAnswers : Type 0 → Type 0 → Type 0 → FileReading → Format → List ℕ → List ℕ
     → Result Converted ToolFault → Type 0
 ConvertAnswers stopped broke ended file to bytes text (Ok c) = IsOutput file to ended bytes c text
@@ -178,7 +183,7 @@ ConvertAnswers stopped broke ended file to bytes text (Err fault.Device) = (brok
     × ArePartlyConverted file to ended bytes text × IsConvertedAtOnce file to bytes text)
     ⊎ (stopped × AreAllConverted file to bytes text)
 
--- Where the file is whole, the source has ended.
+-- Where the answer is Whole, the source has ended.
 abbrev pub EndsFile : Type 0 → Result Converted ToolFault → Type 0
 EndsFile ended (Ok converted.Whole) = ended
 EndsFile ended _ = Unit {0}

@@ -36,29 +36,29 @@ use Rattle.pg_pair.specs.declared.event.Applied.TheVariants as applied
 
 -- ---- lines
 
--- the canonical line of a row, of which it has at most the first 32,767 fields
+-- a row as its canonical line of COPY text, of at most 32,767 fields; further ones are dropped
 abbrev pub text_line : Row → List ℕ
 text_line row = written_row (take most_fields row)
 
--- a line a row
+-- rows as canonical lines, one each
 abbrev pub text_lines : List Row → List ℕ
 text_lines rows = flat_map text_line rows
 
 -- ---- what several lines have
 
--- pairs of a code of one byte and a value
+-- a field of an error or a notice as two fields of a line: its code, of one byte, and its value
 abbrev pub error_field : ErrorField → Row
 error_field f = Some (f.code ∷ []) ∷ Some f.value ∷ []
 
--- the fields of an error or a notice, each as its code and its value
+-- the fields of an error or a notice, as two fields of a line each
 abbrev pub error_fields : List ErrorField → Row
 error_fields fields = flat_map error_field fields
 
--- the names of columns, a field each
+-- the names of these columns, one field each
 abbrev pub column_names : List Column → Row
 column_names columns = map (λ c. Some c.name) columns
 
--- an error, as a script says one: error and its fields
+-- the line `error`, with the error's fields
 abbrev pub error_row : List ErrorField → Row
 error_row fields = Some (codes "error") ∷ error_fields fields
 
@@ -67,72 +67,72 @@ abbrev pub format_word : Bool → List ℕ
 format_word false = codes "text"
 format_word true = codes "binary"
 
--- the letter of ReadyForQuery: I idle, T in a transaction block, E in a failed one
+-- the transaction status of a ReadyForQuery as its letter
 abbrev pub status_letter : Status → List ℕ
 status_letter status.Idle = codes "I"
 status_letter status.InBlock = codes "T"
 status_letter status.Failed = codes "E"
 
--- the formats of a copy: what all of them are, and their number
+-- what a CopyInResponse or CopyOutResponse says: the format, and the number of columns
 abbrev pub head_fields : CopyHead → Row
 head_fields head = Some (format_word head.binary) ∷ Some (decimal (length head.formats)) ∷ []
 
--- query with its text, or group with the number of its steps
+-- a request as two fields: `query` and its text, or `group` and the number of its steps
 abbrev pub request_fields : Request → Row
 request_fields (request.Query text) = Some (codes "query") ∷ Some text ∷ []
 request_fields (request.Group steps) = Some (codes "group") ∷ Some (decimal (length steps)) ∷ []
 
 -- ---- a settled group: the request, its asides, its parts, its error and its status, in the form of a script
 
--- notice with its fields, set with a parameter and its value, or notify with process, channel and
--- payload
+-- the line of an aside: `notice` with its fields, `set` with a parameter and its value, or `notify`
+-- with process, channel and payload
 abbrev pub aside_row : Aside → Row
 aside_row (aside.Notice fields) = Some (codes "notice") ∷ error_fields fields
 aside_row (aside.Parameter name value) = Some (codes "set") ∷ Some name ∷ Some value ∷ []
 aside_row (aside.Notification process channel payload) =
     Some (codes "notify") ∷ Some (signed_decimal process) ∷ Some channel ∷ Some payload ∷ []
 
--- a row of results: row and its values
+-- the line `row`, with the values of a DataRow
 abbrev pub value_row : Row → Row
 value_row values = Some (codes "row") ∷ values
 
--- the bytes of one CopyData: chunk and these bytes
+-- the line `chunk`, with the bytes of a CopyData
 abbrev pub chunk_row : List ℕ → Row
 chunk_row bytes = Some (codes "chunk") ∷ Some bytes ∷ []
 
--- rows with the tag of its CommandComplete and the names of its columns; the rows stand in lines of
--- their own after it
+-- the line `rows`, with the tag and the names of the columns; the rows have lines of their own
+-- after it
 abbrev pub rows_row : List Column → List ℕ → Row
 rows_row columns tag = Some (codes "rows") ∷ Some tag ∷ column_names columns
 
--- copyout with its tag and what the server said of its formats; the chunks stand in lines of their
--- own after it
+-- the line `copyout`, with the tag, the format and the number of columns; the chunks have lines of
+-- their own after it
 abbrev pub copy_out_row : CopyHead → List ℕ → Row
 copy_out_row head tag = Some (codes "copyout") ∷ Some tag ∷ head_fields head
 
--- copyin with what the server said of its formats, and the tag of a copy that was accepted
+-- the line `copyin`, with the format, the number of columns, `accept` and the tag
 abbrev pub copy_in_row : CopyHead → List ℕ → Row
 copy_in_row head tag =
     Some (codes "copyin") ∷ head_fields head ++ Some (codes "accept") ∷ Some tag ∷ []
 
--- where the parameters are told, they stand in a line of their own before
+-- the line `paramtypes` before a `described` of a statement; of a portal (None) there is none
 abbrev pub parameter_rows : Option (List ℕ) → List Row
 parameter_rows None = []
 parameter_rows (Some types) =
     (Some (codes "paramtypes") ∷ map (λ oid. Some (decimal oid)) types) ∷ []
 
--- described with the names of the columns, or alone where there are no rows
+-- the line `described`, with the names of the columns; without any where no rows come
 abbrev pub described_row : Option (List Column) → Row
 described_row None = Some (codes "described") ∷ []
 described_row (Some columns) = Some (codes "described") ∷ column_names columns
 
--- executed and how the Execute ended: complete with a tag, empty, or suspended
+-- the line `executed`, with how the Execute ended: `complete` and the tag, `empty`, or `suspended`
 abbrev pub executed_row : ExecEnd → Row
 executed_row (ends.Complete tag) = Some (codes "executed") ∷ Some (codes "complete") ∷ Some tag ∷ []
 executed_row ends.Empty = Some (codes "executed") ∷ Some (codes "empty") ∷ []
 executed_row ends.Suspended = Some (codes "executed") ∷ Some (codes "suspended") ∷ []
 
--- the lines of one result
+-- the lines of one part of an outcome
 abbrev pub part_rows : Part → List Row
 part_rows (part.Rows columns rows tag) = rows_row columns tag ∷ map value_row rows
 part_rows (part.Command tag) = (Some (codes "command") ∷ Some tag ∷ []) ∷ []
@@ -146,16 +146,16 @@ part_rows (part.Described parameters columns) = parameter_rows parameters
 part_rows (part.Executed rows end) = executed_row end ∷ map value_row rows
 part_rows part.Shut = (Some (codes "shut") ∷ []) ∷ []
 
--- the line of the error, if there is one
+-- the line `error`, if the outcome has an error
 abbrev pub outcome_error_rows : Option (List ErrorField) → List Row
 outcome_error_rows None = []
 outcome_error_rows (Some fields) = error_row fields ∷ []
 
--- status and its letter
+-- the line `status`, with the letter of the transaction status
 abbrev pub status_row : Status → Row
 status_row s = Some (codes "status") ∷ Some (status_letter s) ∷ []
 
--- the lines of a settled group: what was asked, the asides, the results, the error and the status
+-- the lines of a settled group: the request, the asides, the parts, the error and the status
 abbrev pub settled_rows : Settled → List Row
 settled_rows s =
     (Some (codes "settled") ∷ request_fields s.request) ∷ map aside_row s.outcome.asides
@@ -164,23 +164,24 @@ settled_rows s =
 
 -- ---- refused calls and faults
 
--- what a fault of the client's feed has beside its code: the decoder's code, or the server's error
+-- the fields after the code of a client's fault: of F1 the code of the stream's fault, of F5 and F6
+-- the fields of the server's error
 abbrev pub feed_details : FeedFault → Row
 feed_details (feed.Wire fault) = Some (wire_code fault) ∷ []
 feed_details (feed.StartupError fields) = error_fields fields
 feed_details (feed.ServerEnd fields) = error_fields fields
 feed_details _ = []
 
--- what a fault of the backend's step has beside its code: the decoder's code
+-- the fields after the code of a backend's fault: of K1 the code of the stream's fault
 abbrev pub backend_details : BackendFault → Row
 backend_details (backend.Wire fault) = Some (wire_code fault) ∷ []
 backend_details _ = []
 
--- fault, its code and what it has beside it
+-- the line `fault`, with a code and the fields after it
 abbrev pub fault_row : List ℕ → Row → Row
 fault_row code details = Some (codes "fault") ∷ Some code ∷ details
 
--- what an event was answered
+-- the line of an event's answer, if it is one of Refused, Client, Backend and Carrier
 abbrev pub answer_rows : Applied → List Row
 answer_rows applied.Done = []
 answer_rows applied.Nothing = []
@@ -192,57 +193,59 @@ answer_rows applied.Carrier = fault_row (codes "carry") [] ∷ []
 
 -- ---- a lost connection
 
--- the request that is lost, or none
+-- the request that isn't settled as fields, or `none`
 abbrev pub unsettled_fields : Option Request → Row
 unsettled_fields None = Some (codes "none") ∷ []
 unsettled_fields (Some r) = request_fields r
 
--- whether an error had come for the lost request: error, or clear
+-- the word for whether an error had come for the request that isn't settled
 abbrev pub error_word : Bool → List ℕ
 error_word false = codes "clear"
 error_word true = codes "error"
 
--- lost, whether an error had come, and the request
+-- the line `lost`, with whether an error had come, and the request that isn't settled
 abbrev pub lost_row : Loss → Row
 lost_row loss =
     Some (codes "lost") ∷ Some (error_word loss.seen_error) ∷ unsettled_fields loss.unsettled
 
--- the line of a loss, if one was told
+-- the line `lost`, if there is a loss
 abbrev pub loss_rows : Option Loss → List Row
 loss_rows None = []
 loss_rows (Some loss) = lost_row loss ∷ []
 
 -- ---- an event: the groups that it settled, what it was answered, and the loss that it told
 
--- the lines of an event
+-- the lines of an event: the groups that were settled in it, its answer, and the loss that it
+-- brought
 abbrev pub event_rows : List Settled → Applied → Option Loss → List Row
 event_rows settled answer loss = flat_map settled_rows settled ++ answer_rows answer
     ++ loss_rows loss
 
 -- ---- the end
 
--- the most chunks of a line
+-- the most chunks in one line `loaded`
 abbrev pub most_chunks : ℕ
 most_chunks = 32765
 
--- loaded, the number of the request, counted from 1, and chunks
+-- the line `loaded`, with a request's number, counted from 1, and chunks
 abbrev pub loaded_row : ℕ → List (List ℕ) → Row
 loaded_row k chunks = Some (codes "loaded") ∷ Some (decimal k) ∷ map Some chunks
 
--- the chunks that request k loaded: at most so many a line, and no line where there are none; n is at least their number
+-- the lines `loaded` of request k: its chunks, at most 32,765 a line, and no line without chunks. n
+-- only bounds the recursion: it is at least the number of chunks.
 abbrev pub loaded_rows_of : ℕ → ℕ → List (List ℕ) → List Row
 loaded_rows_of zero k chunks = []
 loaded_rows_of (suc n) k [] = []
 loaded_rows_of (suc n) k (c ∷ cs) =
     loaded_row k (take most_chunks (c ∷ cs)) ∷ loaded_rows_of n k (drop most_chunks (c ∷ cs))
 
--- for the requests from number k on
+-- the lines `loaded` of these log entries, the first of which is of request k
 abbrev pub loaded_rows : ℕ → List Logged → List Row
 loaded_rows k [] = []
 loaded_rows k (entry ∷ entries) = loaded_rows_of (length entry.loaded) k entry.loaded
     ++ loaded_rows (k + 1) entries
 
--- the word for where the client stands
+-- the word for the client's phase
 abbrev pub client_word : Phase → List ℕ
 client_word phase.New = codes "new"
 client_word phase.Starting = codes "starting"
@@ -251,7 +254,7 @@ client_word phase.Busy = codes "busy"
 client_word phase.CopyingIn = codes "copying"
 client_word (phase.Closed cause) = codes "closed"
 
--- the word for where the backend stands
+-- the word for the backend's phase
 abbrev pub backend_word : BackPhase → List ℕ
 backend_word back_phase.First = codes "first"
 backend_word back_phase.Password = codes "password"
@@ -260,7 +263,8 @@ backend_word back_phase.Grouping = codes "grouping"
 backend_word back_phase.CopyIn = codes "copying"
 backend_word back_phase.Closed = codes "closed"
 
--- the closing lines: what was loaded, and where both ends stand
+-- the last lines of a loop: the chunks that were loaded for each request, and the phases of both
+-- ends
 abbrev pub closing_rows : List Logged → Phase → BackPhase → List Row
 closing_rows log client backend =
     loaded_rows 1 log ++ (Some (codes "client") ∷ Some (client_word client) ∷ [])

@@ -23,71 +23,76 @@ use mathlib.Core.List.{IsPrefix}
 
 -- ---- what is to happen
 
--- an event, and how often it happens again at most: only where something came of the time before
+-- an event to come, and how many times it may happen again after that: it does while something
+-- comes of it
 pub record Doing : Type 0 where
   pub event : Event
   pub again : ℕ
 
--- an event that happens so often at most
+-- an event that happens at most so many times
 abbrev pub times : ℕ → Event → List Doing
 times zero e = []
 times (suc n) e = record { event = e; again = n } ∷ []
 
--- how often an event of a flow happens at most
+-- the most times that an event of a flow happens
 abbrev pub most_times : ℕ
 most_times = 2 ^ 64 - 1
 
--- all that waits is delivered to the backend, it steps while something whole waits, and all that waits is delivered to the client
+-- half a flow: deliveries to the backend while a byte moves, steps while something is handled, and
+-- deliveries to the client while a byte moves, of `cut` bytes each
 abbrev pub flow_once : ℕ → List Doing
 flow_once cut = times most_times (event.ToBackend cut) ++ times most_times event.Step
     ++ times most_times (event.ToClient cut)
 
--- what happens for a line of CALLS: its event once, or for a flow what waits, twice over
+-- the events of a line of CALLS: its own event once, or those of a flow
 abbrev pub line_doings : ℕ → CallLine → List Doing
 line_doings cut (line.Event e) = times 1 e
 line_doings cut line.Flow = flow_once cut ++ flow_once cut
 -- a file that isn't filled in; a loop has none
 line_doings cut (line.File path) = []
 
--- all that is to happen, where so many bytes are delivered at a time in a flow
+-- the events of all lines of CALLS; a delivery of a flow has at most `cut` bytes
 abbrev pub doings : ℕ → List CallLine → List Doing
 doings cut lines = flat_map (line_doings cut) lines
 
 -- ---- what happens
 
--- the event did nothing
+-- whether the answer is Nothing
 abbrev pub is_nothing : Applied → Bool
 is_nothing applied.Nothing = true
 is_nothing _ = false
 
--- the carrier failed or gave other bytes, and the end answered no fault
+-- whether the answer is Carrier: the carrier failed or gave other bytes, and the end answered no
+-- fault
 abbrev pub is_carrier : Applied → Bool
 is_carrier applied.Carrier = true
 is_carrier _ = false
 
--- nothing came of an event: a delivery moved no byte, or another event did nothing
+-- whether nothing came of an event from pair p to q: a delivery moved no byte, another event was
+-- answered Nothing
 abbrev pub came_to_nothing : {C : Type 0} → Event → PairView C → Applied → PairView C → Bool
 came_to_nothing (event.ToBackend n) p answer q = nat_eq q.to_backend.reached p.to_backend.reached
 came_to_nothing (event.ToClient n) p answer q = nat_eq q.to_client.reached p.to_client.reached
 came_to_nothing e p answer q = is_nothing answer
 
--- what is left of an event once it has happened
+-- what is still to come of an event that has just happened: nothing where nothing came of it (true)
 abbrev pub left_to_happen : Bool → Doing → List Doing
 left_to_happen true d = []
 left_to_happen false d = times d.again d.event
 
--- the loss that an event told
+-- the loss that an event brought, by the pair's loss before it and after it
 abbrev pub new_loss : Option Loss → Option Loss → Option Loss
 new_loss None after = after
 new_loss (Some loss) after = None
 
--- the rows of an event between these states of the pair
+-- the lines of an event with this answer, from pair p to q, as rows
 abbrev pub rows_between : {C : Type 0} → PairView C → Applied → PairView C → List Row
 rows_between p answer q =
     event_rows (drop (length p.settled) q.settled) answer (new_loss p.loss q.loss)
 
--- Of all that is to happen the first events have happened, one after the other, and this is left. Their rows are these, and the
--- carrier has failed at one of them or not.
+-- From the pair `begun` the first of all the events have happened, one after the other. They led to
+-- this pair; these are still to come, these are their rows, and this says whether one was answered
+-- Carrier.
 pub data Happened {C : Type 0} (carries : Carrying C) (begun : PairView C)
     (all : List Doing) : PairView C → List Doing → List Row → Bool → Type 0 where
   nothing : Happened carries begun all begun all [] false
@@ -100,7 +105,7 @@ pub data Happened {C : Type 0} (carries : Carrying C) (begun : PairView C)
 
 -- ---- what is sent
 
--- The text is the lines of the events that have happened.
+-- The text is the lines of the events that have happened so far.
 pub record IsTextSoFar {C : Type 0} (carries : Carrying C) (begun : PairView C) (all : List Doing)
     (text : List ℕ) : Type 0 where
   pub pair : PairView C
@@ -110,12 +115,12 @@ pub record IsTextSoFar {C : Type 0} (carries : Carrying C) (begun : PairView C) 
   pub happened : Happened carries begun all pair left rows failed
   pub text_is : text ≡ text_lines rows
 
--- the rows of the closing lines: what the backend loaded, and where both ends stand
+-- the closing lines of this pair, as rows
 abbrev pub ending_of : {C : Type 0} → PairView C → List Row
 ending_of p =
     closing_rows p.backend.log (client.phase_of p.client) (backend.phase_of p.backend.stage)
 
--- All has happened, and the text is the lines of the events, and then the closing lines.
+-- All events have happened, and the text is their lines and the closing lines.
 pub record IsWholeText {C : Type 0} (carries : Carrying C) (begun : PairView C) (all : List Doing)
     (failed : Bool) (text : List ℕ) : Type 0 where
   pub pair : PairView C
@@ -123,18 +128,20 @@ pub record IsWholeText {C : Type 0} (carries : Carrying C) (begun : PairView C) 
   pub happened : Happened carries begun all pair [] rows failed
   pub text_is : text ≡ text_lines (rows ++ ending_of pair)
 
--- The text is a prefix of these.
+-- The text is a prefix of the lines of the events that have happened, or of all with the closing
+-- lines, and may end within a line.
 abbrev pub IsPartOfText : {C : Type 0} → Carrying C → PairView C → List Doing → List ℕ → Type 0
 IsPartOfText carries begun all text = (whole : List ℕ) × IsPrefix text whole
     × (IsTextSoFar carries begun all whole
     ⊎ ((failed : Bool) × IsWholeText carries begun all failed whole))
 
--- the answer says that the carrier failed
+-- whether the answer is that the carrier failed
 abbrev pub says_carrier_failed : Ran → Bool
 says_carrier_failed ran.Whole = false
 says_carrier_failed ran.CarrierFailed = true
 
--- The answer for what has happened, and the text that was sent. Where memory was refused, no line of that event was sent.
+-- What `run_loop` answers, by the text sent. Ok: all lines. Memory: whole lines, up to the event
+-- where memory was refused. Device: the sink broke, and a prefix was sent.
 abbrev pub LoopAnswers : {C : Type 0} → Type 0 → Carrying C → PairView C → List Doing → List ℕ
     → Result Ran ToolFault → Type 0
 LoopAnswers broke carries begun all text (Ok r) =

@@ -8,6 +8,6 @@ use Rattle.pgpipe_base.specs.Outbox.{line_of}
 abbrev pub line : {M : Type 0} → Direction M → M → List ℕ
 line d m = line_of (d.tag m ∷ []) (length_field d m) (d.body m)
 
--- the lines of messages, one for each
+-- the lines of these messages, in order
 abbrev pub lines : {M : Type 0} → Direction M → List M → List ℕ
 lines d messages = flat_map (line d) messages

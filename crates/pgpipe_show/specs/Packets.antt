@@ -21,24 +21,24 @@ word first.Gss = 103 ∷ 115 ∷ 115 ∷ []
 abbrev pub packet_line : First → List ℕ
 packet_line p = line_of (word p) (packet_length p) (to_be_bytes w32 (code p) ++ content p)
 
--- the lines of packets, one for each
+-- the lines of these first packets, in order
 abbrev pub packet_lines : List First → List ℕ
 packet_lines packets = flat_map packet_line packets
 
--- what comes after a packet
+-- what may come after this packet: messages, nothing that is read, or another packet
 abbrev pub after : First → Next
 after (first.Startup pairs) = next.Message
 after (first.Cancel process secret) = next.Nothing
 after first.Ssl = next.Packet
 after first.Gss = next.Packet
 
--- what comes after packets, which the last of them says
+-- what may come after these packets, by the last of them; at first a packet
 abbrev pub next_after : List First → Next
 next_after [] = next.Packet
 next_after (p ∷ []) = after p
 next_after (p ∷ q ∷ packets) = next_after (q ∷ packets)
 
--- no packet is to come
+-- whether no further first packet may come
 abbrev pub have_ended : Next → Bool
 have_ended next.Packet = false
 have_ended next.Message = true

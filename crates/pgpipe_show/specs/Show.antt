@@ -19,13 +19,13 @@ use Rattle.pgpipe_base.specs.Receiving.{longest_piece}
 use Rattle.pgpipe_base.specs.Outbox.{most_collected}
 use mathlib.Core.List.{IsPrefix}
 
--- the greatest length field
+-- the greatest length field of a message that is shown
 abbrev pub limit : ℕ
 limit = longest
 
 -- ---- the messages of one direction
 
--- The bytes are messages and this rest, and the text is the lines of these messages.
+-- The bytes are messages of this direction and this rest, and the text is the messages' lines.
 pub record AreMessages {M : Type 0} (d : Direction M) (bytes text rest : List ℕ) : Type 0 where
   pub messages : List M
   pub stream : IsStream d limit bytes messages rest
@@ -33,12 +33,14 @@ pub record AreMessages {M : Type 0} (d : Direction M) (bytes text rest : List �
 
 -- ---- what a client sends
 
--- What stands after the packets, the lines for it, and its rest: messages after a Startup, and else a rest alone.
+-- Of the bytes after the first packets, the text is the messages' lines, and `rest` what comes
+-- after these. Without a Startup all of them are rest, and the text is empty.
 abbrev pub ComesAfter : Next → List ℕ → List ℕ → List ℕ → Type 0
 ComesAfter next.Message following text rest = AreMessages frontend following text rest
 ComesAfter _ following text rest = (text ≡ []) × (rest ≡ following)
 
--- The bytes are packets, what comes after them and this rest, and the text is the packets' lines and the messages' lines.
+-- The bytes of a client are first packets, maybe messages, and this rest, and the text is the lines
+-- of both. `n` says what may come next.
 pub record IsClientSide (bytes text : List ℕ) (n : Next) (rest : List ℕ) : Type 0 where
   pub packets : List First
   pub following : List ℕ
@@ -50,19 +52,20 @@ pub record IsClientSide (bytes text : List ℕ) (n : Next) (rest : List ℕ) : T
 
 -- ---- either side
 
--- The text is the lines for these bytes but the rest, after which this is to come. Of a backend messages are.
+-- The bytes of a client (true) or a backend (false) are what this text has the lines of, and this
+-- rest, where `n` may come next.
 abbrev pub AreShown : Bool → List ℕ → List ℕ → Next → List ℕ → Type 0
 AreShown false bytes text n rest = (n ≡ next.Message) × AreMessages backend bytes text rest
 AreShown true bytes text n rest = IsClientSide bytes text n rest
 
--- The rest is no whole packet or message yet, and has no fault. After a Cancel it may be anything.
+-- The rest is open, where n may come next. After a Cancel any rest is, as nothing more is read.
 abbrev pub IsOpenFor : Bool → Next → List ℕ → Type 0
 IsOpenFor false n rest = IsOpen backend limit rest
 IsOpenFor true next.Packet rest = IsOpenPacket rest
 IsOpenFor true next.Message rest = IsOpen frontend limit rest
 IsOpenFor true next.Nothing rest = Unit {0}
 
--- The rest has this fault.
+-- The rest is faulty for this reason, where n may come next. After a Cancel no rest is.
 abbrev pub IsFaultyFor : Bool → Next → List ℕ → WireFault → Type 0
 IsFaultyFor false n rest f = IsFaulty backend limit rest f
 IsFaultyFor true next.Packet rest f = IsFaultyPacket rest f
@@ -71,14 +74,15 @@ IsFaultyFor true next.Nothing rest f = ⊥
 
 -- ---- how much is shown
 
--- The text is the lines for all of these bytes but an open rest.
+-- The text has a line for all that is whole in these bytes, and the rest of them is open.
 pub record AreAllShown (front : Bool) (bytes text : List ℕ) : Type 0 where
   pub n : Next
   pub rest : List ℕ
   pub shown : AreShown front bytes text n rest
   pub is_open : IsOpenFor front n rest
 
--- The text is the lines for all of these bytes but the last piece, and an open rest before it.
+-- The text has the lines for these bytes without the last piece, a piece being at most 65,536
+-- bytes, and the rest before that piece is open.
 pub record AreShownBefore (front : Bool) (bytes text : List ℕ) : Type 0 where
   pub earlier : List ℕ
   pub last : List ℕ
@@ -86,7 +90,8 @@ pub record AreShownBefore (front : Bool) (bytes text : List ℕ) : Type 0 where
   pub a_piece : length last ≤ longest_piece
   pub shown : AreAllShown front earlier text
 
--- The text is whole lines for these bytes, and none is missing for those before the last piece.
+-- The text is whole lines for these bytes, and none of those for the bytes before the last piece is
+-- missing.
 pub record AreMostlyShown (front : Bool) (bytes text : List ℕ) : Type 0 where
   pub before : List ℕ
   pub shown_before : AreShownBefore front bytes before
@@ -95,21 +100,22 @@ pub record AreMostlyShown (front : Bool) (bytes text : List ℕ) : Type 0 where
   pub rest : List ℕ
   pub shown : AreShown front bytes text n rest
 
--- The text is a prefix of the lines for these bytes.
+-- The text is a prefix of the lines for these bytes, and may end within a line.
 abbrev pub ArePartlyShown : Bool → List ℕ → List ℕ → Type 0
 ArePartlyShown front bytes text = (all rest : List ℕ) × (n : Next) × AreShown front bytes all n rest
     × IsPrefix text all
 
--- The lines for all of these bytes but the last piece are no more than the text and what may be collected after it.
+-- At most 65,536 bytes of lines, for the bytes before the last piece, weren't sent: so a failed
+-- sink is noticed soon.
 abbrev pub IsShownAtOnce : Bool → List ℕ → List ℕ → Type 0
 IsShownAtOnce front bytes text = (before : List ℕ) × AreShownBefore front bytes before
     × (length before ≤ most_collected + length text)
 
 -- ---- the answer
 
--- The answer for the bytes that were received, of a client or else of a backend, and the text that was sent. Where memory was
--- refused, no line is missing for what came before the last piece. Device says that the sink broke, and then a prefix of the
--- lines was sent and little more was received, or that the source stopped, and then all of them were sent.
+-- What `show` answers, by the bytes received and the text sent: Whole without a rest, Rest with its
+-- size, or the rest's fault. Memory: no line is missing for what came before the last piece.
+-- Device: the sink broke (a prefix was sent), or the source stopped (all was sent).
 abbrev pub ShowAnswers : Type 0 → Type 0 → Bool → List ℕ → List ℕ → Result Shown ToolFault → Type 0
 ShowAnswers stopped broke front bytes text (Ok shown.Whole) = (n : Next)
     × AreShown front bytes text n []
@@ -122,7 +128,7 @@ ShowAnswers stopped broke front bytes text (Err fault.Device) =
     (broke × ArePartlyShown front bytes text
     × IsShownAtOnce front bytes text) ⊎ (stopped × AreAllShown front bytes text)
 
--- Where the stream is whole or has an open rest, the source has ended.
+-- Where the answer is Whole or Rest, the source has ended.
 abbrev pub EndsStream : Type 0 → Result Shown ToolFault → Type 0
 EndsStream ended (Ok shown.Whole) = ended
 EndsStream ended (Ok (shown.Rest n)) = ended
