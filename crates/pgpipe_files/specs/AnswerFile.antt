@@ -26,7 +26,7 @@ use Rattle.pgpipe_files.specs.Arguments.{◌>>=◌, text_at, read_at, copy_head_
 -- ---- an answer of which lines are read: what it is without its last part, that part, and the types of the parameters of the
 -- `described` in the next line
 
--- an answer with this status and nothing else
+-- an answer with this status, of which no other line is read yet
 abbrev pub new_answer : Status → OpenAnswer
 new_answer status = record {
   answer = record { before = []; parts = []; error = None; status = status };
@@ -34,22 +34,22 @@ new_answer status = record {
   types = None;
 }
 
--- the last part stands after the others
+-- the answer with this part, if there is one, after its others
 abbrev pub with_part : Option ScriptPart → Answer → Answer
 with_part None answer = answer
 with_part (Some p) answer = record answer { parts = answer.parts ++ p ∷ [] }
 
--- with one part more
+-- the open answer with this part as its last, to which `row` and `chunk` may add
 abbrev pub begins_part : OpenAnswer → ScriptPart → OpenAnswer
 begins_part o p = record o { answer = with_part o.last o.answer; last = Some p }
 
--- with one thing more that is said before the answer
+-- the open answer with one more aside, which is sent before its parts
 abbrev pub says_before : OpenAnswer → Aside → OpenAnswer
 says_before o a = record o { answer = record o.answer { before = o.answer.before ++ a ∷ [] } }
 
 -- ---- what fields say
 
--- a column of no table, of the type text, in the text format
+-- a column with this name of no table, of type text (OID 25), in the text format
 abbrev pub text_column : List ℕ → Column
 text_column name = record {
   name = name;
@@ -61,70 +61,72 @@ text_column name = record {
   format = pos 0;
 }
 
--- columns of these names
+-- the columns that all these fields name
 abbrev pub text_columns : Row → Option (List Column)
 text_columns fields = texts_of fields >>= λ names. Some (map text_column names)
 
--- without a name there are no columns
+-- the columns of a `described`: without a name, none (NoData)
 abbrev pub if_any : List Column → Option (List Column)
 if_any [] = None
 if_any (column ∷ columns) = Some (column ∷ columns)
 
--- what becomes of a copy from the client
+-- how a copy from the client ends, by the fields after `accept` or `refuse`: a tag; or a number and
+-- an error's fields
 abbrev pub load_by : LoadWay → Row → Option Load
 load_by loads.Accept fields = text_of fields >>= λ tag. Some (load.Accept tag)
 load_by loads.Refuse fields =
     read_at number fields >>= λ n. error_fields_of n.1 >>= λ errors. Some (load.Refuse n.0 errors)
 
--- what becomes of a copy from the client, the word for it first
+-- how a copy from the client ends, by the fields from `accept` or `refuse` on
 abbrev pub load_of : Row → Option Load
 load_of fields = read_at load_way fields >>= λ w. load_by w.0 w.1
 
--- how a run ended
+-- how an Execute ended, by the fields after the word for it: a tag after `complete`, else none
 abbrev pub end_by : EndWay → Row → Option ExecEnd
 end_by ends.Complete fields = text_of fields >>= λ tag. Some (end.Complete tag)
 end_by ends.Empty fields = nothing_of fields >>= λ _. Some end.Empty
 end_by ends.Suspended fields = nothing_of fields >>= λ _. Some end.Suspended
 
--- how a run ended, the word for it first
+-- how an Execute ended, by the fields from the word for it on
 abbrev pub end_of : Row → Option ExecEnd
 end_of fields = read_at end_way fields >>= λ w. end_by w.0 w.1
 
 -- ---- lines
 
--- the last part with one row more; only rows and a run have rows
+-- the last part with one row more, where it is a `rows` or an `executed`
 abbrev pub with_values : Option ScriptPart → Row → Option ScriptPart
 with_values (Some (part.Rows columns rows tag)) values = Some (part.Rows columns (rows
     ++ values ∷ []) tag)
 with_values (Some (part.Executed rows end)) values = Some (part.Executed (rows ++ values ∷ []) end)
 with_values _ values = None
 
--- the last part with one chunk more; only a copy to the client has chunks
+-- the last part with one chunk more, where it is a `copyout`
 abbrev pub with_chunk : Option ScriptPart → List ℕ → Option ScriptPart
 with_chunk (Some (part.CopyOut head chunks tag)) bytes = Some (part.CopyOut head (chunks
     ++ bytes ∷ []) tag)
 with_chunk _ bytes = None
 
--- the answer with its last part grown to this, where the line could be read so
+-- the open answer with this in place of its last part, where the line has a meaning
 abbrev pub grows : OpenAnswer → Option ScriptPart → Option OpenAnswer
 grows o read = read >>= λ p. Some (record o { last = Some p })
 
--- a part whose line is its verb alone
+-- a line that begins this part and has no field after its verb
 abbrev pub begins_alone : OpenAnswer → Row → ScriptPart → Option OpenAnswer
 begins_alone o fields p = nothing_of fields >>= λ _. Some (begins_part o p)
 
--- where nothing stands yet
+-- the line has a meaning only where this wasn't said before
 abbrev pub if_none : {A : Type 0} → Option A → Option Unit
 if_none None = Some tt
 if_none (Some x) = None
 
--- what a Describe is answered, with these types of parameters where they were told
+-- a line `described`, with the types of a statement's parameters where a `paramtypes` stands before
+-- it
 abbrev pub described : OpenAnswer → Option (List ℕ) → Row → Option OpenAnswer
 described o parameters fields =
     text_columns fields
     >>= λ columns. Some (begins_part o (part.Described parameters (if_any columns)))
 
--- a line in the row of this number, where no `paramtypes` stands in the line before
+-- the open answer after a line in row n, where no `paramtypes` stands in the line before
 abbrev pub part_line : OpenAnswer → ℕ → AnswerVerb → Row → Option OpenAnswer
 part_line o n verb.Notice fields = error_fields_of fields
     >>= λ f. Some (says_before o (aside.Notice f))
@@ -159,17 +161,18 @@ part_line o n verb.Error fields =
     if_none o.answer.error >>= λ _. error_fields_of fields
     >>= λ f. Some (record o { answer = record o.answer { error = Some f } })
 
--- after `paramtypes` only `described` can stand
+-- the open answer after a line in row n; where a `paramtypes` stands in the line before (Some),
+-- only `described` has a meaning
 abbrev pub line_after : Option Types → OpenAnswer → ℕ → AnswerVerb → Row → Option OpenAnswer
 line_after None o n v fields = part_line o n v fields
 line_after (Some types) o n verb.Described fields = described o (Some types.types) fields
 line_after (Some types) o n v fields = None
 
--- a line in the row of this number, in its place; a `paramtypes` waits for the next line alone
+-- the open answer after a line in row n with this verb, or None where the line has no meaning there
 unfoldable pub answer_line : OpenAnswer → ℕ → AnswerVerb → Row → Option OpenAnswer
 answer_line o n v fields = line_after o.types (record o { types = None }) n v fields
 
--- an answer is whole where no `paramtypes` was its last line
+-- the answer once its lines are read; it isn't whole where the last one is a `paramtypes`
 abbrev pub whole_answer : OpenAnswer → Option Types → Option Answer
 whole_answer o None = Some (with_part o.last o.answer)
 whole_answer o (Some types) = None

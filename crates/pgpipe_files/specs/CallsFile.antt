@@ -22,18 +22,20 @@ use Rattle.pgpipe_files.specs.Verb.{call_verb, step_verb, target_of}
 use Rattle.pgpipe_files.specs.Arguments.{◌>>=◌, text_at, read_at, pair_at, signed_number, if_all, nothing_of, text_of, pair_of, number_of, numbers_of}
 use Rattle.pgpipe_files.specs.Lines.{with_file, in_the_end}
 
--- What a line says that happens: an event, a flow, or that the bytes of the file of this path are handed over.
+-- what a line of CALLS asks for: an event; a flow; or that the bytes of the file at this path are
+-- handed over as chunks
 pub data Said : Type 0 where
   Happens : Event → Said
   Flows : Said
   HandsOver : List ℕ → Said
 
--- what CALLS says
+-- what CALLS asks for: the client's settings, and what is to happen, in order
 pub record CallsSaid : Type 0 where
   pub settings : Settings
   pub lines : List Said
 
--- what was read of CALLS so far: the settings, what happens, whether `start` was read, and the group that is open
+-- what the lines of CALLS so far ask for: the settings, what is to happen, whether `start` was
+-- among them, and the group that is open, if one is
 pub record CallsSoFar : Type 0 where
   pub settings : Settings
   pub lines : List Said
@@ -42,31 +44,32 @@ pub record CallsSoFar : Type 0 where
 
 -- ---- lines in no group
 
--- a setting stands before `start`
+-- the line has a meaning only before `start`
 abbrev pub if_before_start : CallsSoFar → Option Unit
 if_before_start s = if s.started then None else Some tt
 
--- a setting, where its fields can be read and `start` was not
+-- a line that sets what `make` says, where its fields can be read, and before `start` alone
 abbrev pub set : {A : Type 0} → CallsSoFar → Option A → (A → Settings) → Option CallsSoFar
 set s read make = if_before_start s >>= λ _. read >>= λ x. Some (record s { settings = make x })
 
--- with one thing more that happens
+-- the same with one thing more that is to happen
 abbrev pub says : CallsSoFar → Said → CallsSoFar
 says s said = record s { lines = s.lines ++ said ∷ [] }
 
--- a line that says this, where its fields can be read
+-- a line that asks for what `make` says, where its fields can be read
 abbrev pub said : {A : Type 0} → CallsSoFar → Option A → (A → Said) → Option CallsSoFar
 said s read make = read >>= λ x. Some (says s (make x))
 
--- a line that says this event, where its fields can be read
+-- a line that asks for the event that `make` says, where its fields can be read
 abbrev pub called : {A : Type 0} → CallsSoFar → Option A → (A → Event) → Option CallsSoFar
 called s read make = said s read (λ x. Happens (make x))
 
--- a path is UTF-8
+-- the path, where it is UTF-8
 abbrev pub path : List ℕ → Option (List ℕ)
 path bytes = if is_utf8 bytes then Some bytes else None
 
--- a line in the row of this number
+-- what CALLS asks for after a line in row n that stands in no group; None where it has no meaning
+-- there
 abbrev pub call_line : CallsSoFar → ℕ → CallVerb → Row → Option CallsSoFar
 call_line s n verb.User fields = set s (text_of fields) (λ user. record s.settings { user = user })
 call_line s n verb.Database fields =
@@ -96,11 +99,12 @@ call_line s n verb.Flow fields = said s (nothing_of fields) (λ _. Flows)
 
 -- ---- lines in a group
 
--- a statement or a portal, and its name
+-- the fields of a `describe` or `close`: S or P, and the name of the statement or the portal
 abbrev pub named_of : Row → Option (Target × List ℕ)
 named_of fields = read_at target_of fields >>= λ t. text_of t.1 >>= λ name. Some (t.0, name)
 
--- the step of a line; the values of a `bind` are in the text format, as are the columns that come of it
+-- the step that a line in a group asks for. The values of a `bind` are in the text format, and so
+-- are the columns of its result.
 abbrev pub step_of : StepVerb → Row → Option Step
 step_of step_line.Parse fields =
     pair_at fields >>= λ p. numbers_of p.1 >>= λ types. Some (step.Parse p.0.0 p.0.1 types)
@@ -111,12 +115,13 @@ step_of step_line.Execute fields =
     text_at fields >>= λ t. read_at signed_number t.1 >>= λ n. if_all (step.Execute t.0 n.0) n.1
 step_of step_line.Close fields = named_of fields >>= λ named. Some (step.Close named.0 named.1)
 
--- `sync` ends the group: it is a request of its steps
+-- the line `sync`, which makes the group's steps one request
 abbrev pub sync_said : CallsSoFar → Group → Row → Option CallsSoFar
 sync_said s group fields =
     called s (nothing_of fields) (λ _. event.Call (call.Request (request.Group group.steps)))
 
--- a line in a group: a step, or the `sync` that ends it
+-- what CALLS asks for after a line in this group: a step more (Some), or the `sync` that ends the
+-- group
 abbrev pub step_or_sync : CallsSoFar → Group → Option StepVerb → List ℕ → Row → Option CallsSoFar
 step_or_sync s group (Some v) word fields =
     step_of v fields
@@ -124,26 +129,28 @@ step_or_sync s group (Some v) word fields =
 step_or_sync s group None word fields =
     if bytes_eq word (codes "sync") then sync_said s group fields else None
 
--- a line with this word first, in a group
+-- what CALLS asks for after a line that begins with this word, in this group
 abbrev pub in_group : CallsSoFar → Group → List ℕ → Row → Option CallsSoFar
 in_group s group word fields = step_or_sync s group (step_verb word) word fields
 
 -- ---- the file
 
--- a line with this word first, in no group
+-- what CALLS asks for after a line in row n that begins with this word, in no group
 abbrev pub in_no_group : CallsSoFar → ℕ → List ℕ → Row → Option CallsSoFar
 in_no_group s n word fields = call_verb word >>= λ v. call_line s n v fields
 
--- a line by where it stands: in a group or in none
+-- what CALLS asks for after a line in row n that begins with this word, in this group or in none
 abbrev pub calls_line_by : Option Group → CallsSoFar → ℕ → List ℕ → Row → Option CallsSoFar
 calls_line_by (Some group) s n word fields = in_group s group word fields
 calls_line_by None s n word fields = in_no_group s n word fields
 
--- a line with this word first, in its place; where a group was open, its line says whether it still is
+-- what CALLS asks for after a line in row n that begins with this word; None where it has no
+-- meaning there
 unfoldable pub calls_line : CallsSoFar → ℕ → List ℕ → Row → Option CallsSoFar
 calls_line s n word fields = calls_line_by s.group (record s { group = None }) n word fields
 
--- before the first line: no user is an empty one, and the limit is the greatest that a client takes
+-- what CALLS asks for before its first line: an empty user, and the greatest limit that a client
+-- takes
 abbrev pub no_calls : CallsSoFar
 no_calls = record {
   settings = record { user = []; database = None; pairs = []; password = None; limit = 1073741823 };
@@ -152,27 +159,27 @@ no_calls = record {
   group = None;
 }
 
--- what CALLS says in the end, unless a group is open
+-- what CALLS asks for in all, where no group is open; else the number of the row of that `group`
 abbrev pub closed_calls : CallsSoFar → Option Group → Result CallsSaid ℕ
 closed_calls s None = Ok (record { settings = s.settings; lines = s.lines })
 closed_calls s (Some group) = Err group.row
 
--- after the last line: a group that is open is refused at its own line
+-- what CALLS asks for in all; a `group` without its `sync` is refused, by the number of its row
 abbrev pub calls_said : CallsSoFar → Result CallsSaid ℕ
 calls_said s = closed_calls s s.group
 
--- What the bytes of CALLS are read as, or the number of the row that is refused.
+-- What the bytes of CALLS ask for, or the number of the first row that has no meaning in its place.
 unfoldable pub calls_of : List ℕ → Result CallsSaid ℕ
 calls_of bytes = in_the_end (with_file calls_line no_calls bytes) calls_said
 
 -- ---- what was read, as the program has it
 
--- what a line of the program says
+-- what a line as the program stores it (`CallLine`) asks for
 abbrev pub line_said : CallLine → Said
 line_said (line.Event e) = Happens e
 line_said line.Flow = Flows
 line_said (line.File path) = HandsOver (string_bytes path)
 
--- what the calls of the program say
+-- what CALLS as the program stores it (`Calls`) asks for
 abbrev pub what_is_said : Calls → CallsSaid
 what_is_said calls = record { settings = calls.settings; lines = map line_said calls.lines }

@@ -8,23 +8,24 @@ use Rattle.pg_copy.specs.Reading.{RowsEnding, Bad}
 use Rattle.pg_copy.specs.Text.{text_file_reading}
 use Rattle.pgpipe_files.specs.Arguments.{◌>>=◌, text_at}
 
--- one empty field, as an empty line is
+-- whether the row is that of an empty line: one empty field
 abbrev pub is_blank : Row → Bool
 is_blank (Some [] ∷ []) = true
 is_blank _ = false
 
--- A row that is blank says nothing; any other is a line, whose first field is its verb.
+-- what is read with row n too: a blank row changes nothing, and of any other the first field is the
+-- verb
 abbrev pub with_row : {S : Type 0} → (S → ℕ → List ℕ → Row → Option S) → S → ℕ → Row → Option S
 with_row line so_far n row =
     if is_blank row then Some so_far else (text_at row >>= λ verb. line so_far n verb.0 verb.1)
 
--- what comes of a row of this number: it is refused, or there is more
+-- the number of row n, where it has no meaning, and else what `more` gives
 abbrev pub or_refused : {S A : Type 0} → ℕ → Option S → (S → Result A ℕ) → Result A ℕ
 or_refused n None more = Err n
 or_refused n (Some so_far) more = more so_far
 
--- What rows from this number on are read as, or the number of the first that is refused. A fault of the text format stands in the
--- place of a row.
+-- What is read with these rows too, the first of which has number n; or the number of the first
+-- that has no meaning. A fault of the text format stands in the place of a row.
 unfoldable pub with_rows : {S : Type 0} → (S → ℕ → List ℕ → Row → Option S) → S → ℕ → List Row
     → RowsEnding TextFault
     → Result S ℕ
@@ -33,13 +34,15 @@ with_rows line so_far n [] ending = Ok so_far
 with_rows line so_far n (row ∷ rows) ending =
     or_refused n (with_row line so_far n row) (λ next. with_rows line next (n + 1) rows ending)
 
--- what the rows of a whole file are read as; they are numbered from 1
+-- what is read with all rows of this file, numbered from 1, or the number of the first that has no
+-- meaning
 abbrev pub with_file : {S : Type 0} → (S → ℕ → List ℕ → Row → Option S) → S → List ℕ → Result S ℕ
 with_file line so_far bytes =
     with_rows line so_far 1 (text_file_reading None bytes).rows
     (text_file_reading None bytes).ending
 
--- what all that was read is in the end
+-- what the whole file is read as, by what `end` makes of all its lines, or the number of a row that
+-- is refused
 abbrev pub in_the_end : {S A : Type 0} → Result S ℕ → (S → Result A ℕ) → Result A ℕ
 in_the_end (Ok so_far) end = end so_far
 in_the_end (Err n) end = Err n

@@ -22,7 +22,8 @@ use Rattle.pgpipe_files.specs.Arguments.{◌>>=◌, read_at, signed_number, if_a
 use Rattle.pgpipe_files.specs.Lines.{with_file, in_the_end}
 use Rattle.pgpipe_files.specs.AnswerFile.{answer_line, if_none, new_answer, whole_answer, with_part}
 
--- what was read of SCRIPT so far: what stands before the answers, the answers that are whole, and the one that lines are read of
+-- what the lines of SCRIPT so far say: what stands before the answers, the answers that are whole,
+-- and the open one, if there is one
 pub record ScriptSoFar : Type 0 where
   pub auth : Option Auth
   pub pairs : List (List ℕ × List ℕ)
@@ -36,23 +37,24 @@ pub record ScriptSoFar : Type 0 where
 abbrev pub salt_of : List ℕ → Option (List ℕ)
 salt_of digits = result_ok (decode_sized digits 4)
 
--- how a client is let in
+-- how a client is let in, by the fields after the word for the way
 abbrev pub auth_by : AuthWay → Row → Option Auth
 auth_by way.Trust fields = nothing_of fields >>= λ _. Some auth.Trust
 auth_by way.Cleartext fields = text_of fields >>= λ password. Some (auth.Cleartext password)
 auth_by way.Md5 fields = pair_of fields >>= λ p. salt_of p.1 >>= λ salt. Some (auth.Md5 p.0 salt)
 
--- the way in which a client is let in, with its password and its salt where it has them
+-- how a client is let in, by the fields from the word for the way on: `trust`, `cleartext` and a
+-- password, or `md5`, a password and a salt
 abbrev pub auth_of : Row → Option Auth
 auth_of fields = read_at auth_way fields >>= λ w. auth_by w.0 w.1
 
--- the process and the secret of a BackendKeyData
+-- the process and the secret of a BackendKeyData, as the only fields
 abbrev pub key_of : Row → Option Key
 key_of fields =
     read_at signed_number fields >>= λ p. read_at signed_number p.1
     >>= λ s. if_all (record { process = p.0; secret = s.0 }) s.1
 
--- the status that a letter stands for
+-- the transaction status that this letter stands for
 abbrev pub status_named : List ℕ → Option Status
 status_named letter =
     if bytes_eq letter (codes "I") then Some status.Idle
@@ -62,17 +64,17 @@ status_named letter =
 
 -- ---- lines
 
--- the answer that lines are read of, if there is one, stands after the others
+-- the script so far with this open answer, if there is one, as a whole one after the others
 abbrev pub closed_by : Option OpenAnswer → ScriptSoFar → Option ScriptSoFar
 closed_by None s = Some s
 closed_by (Some o) s =
     whole_answer o o.types >>= λ a. Some (record s { answers = s.answers ++ a ∷ []; begun = None })
 
--- the answer that lines are read of is whole, and stands after the others
+-- the script so far with its open answer, if there is one, as a whole one after the others
 abbrev pub closed : ScriptSoFar → Option ScriptSoFar
 closed s = closed_by s.begun s
 
--- a line that stands in no answer, or begins one
+-- the script so far after a line that belongs to no answer, or begins one
 abbrev pub own_line : ScriptSoFar → ScriptVerb → Row → Option ScriptSoFar
 own_line s verb.Auth fields =
     if_none s.begun >>= λ _. auth_of fields >>= λ a. if_none s.auth
@@ -86,47 +88,52 @@ own_line s verb.Answer fields =
     text_of fields >>= λ letter. status_named letter >>= λ st. closed s
     >>= λ next. Some (record next { begun = Some (new_answer st) })
 
--- a line with this word first, that stands in an answer
+-- the script so far after a line in row n that begins with this word and belongs to the open answer
 abbrev pub in_answer : ScriptSoFar → Option OpenAnswer → ℕ → List ℕ → Row → Option ScriptSoFar
 in_answer s None n word fields = None
 in_answer s (Some o) n word fields =
     answer_verb word >>= λ v. answer_line o n v fields
     >>= λ next. Some (record s { begun = Some next })
 
--- a line whose word is one of those that stand in no answer, or another one
+-- the script so far after a line in row n: one with this verb (Some), or else a line of the open
+-- answer
 abbrev pub script_line_by : Option ScriptVerb → ScriptSoFar → ℕ → List ℕ → Row → Option ScriptSoFar
 script_line_by (Some v) s n word fields = own_line s v fields
 script_line_by None s n word fields = in_answer s s.begun n word fields
 
--- a line with this word first, in its place
+-- the script so far after a line in row n that begins with this word; None where it has no meaning
+-- there
 unfoldable pub script_line : ScriptSoFar → ℕ → List ℕ → Row → Option ScriptSoFar
 script_line s n word fields = script_line_by (script_verb word) s n word fields
 
 -- ---- the file
 
--- nothing was read
+-- what SCRIPT says before its first line
 abbrev pub no_script : ScriptSoFar
 no_script = record { auth = None; pairs = []; key = None; answers = []; begun = None }
 
--- without a line `auth` each client is let in
+-- the script with these answers; without a line `auth` each client is let in
 abbrev pub script_with : ScriptSoFar → List Answer → Script
 script_with s answers =
     record { auth = unwrap_or s.auth auth.Trust; pairs = s.pairs; key = s.key; answers = answers }
 
--- the script with its last answer; a line `paramtypes` that still waits is refused
+-- the script with its open answer as the last; a `paramtypes` without its `described` is refused,
+-- by the number of its row
 abbrev pub answer_said : ScriptSoFar → OpenAnswer → Option Types → Result Script ℕ
 answer_said s o None = Ok (script_with s (s.answers ++ with_part o.last o.answer ∷ []))
 answer_said s o (Some types) = Err types.row
 
--- the script with the answer that lines were read of last, if there is one
+-- the script with this open answer, if there is one, as the last
 abbrev pub said_by : Option OpenAnswer → ScriptSoFar → Result Script ℕ
 said_by None s = Ok (script_with s s.answers)
 said_by (Some o) s = answer_said s o o.types
 
--- after the last line: `paramtypes` without its `described` is refused at its own line
+-- the script once all lines are read; a `paramtypes` without its `described` is refused, by the
+-- number of its row
 abbrev pub script_said : ScriptSoFar → Result Script ℕ
 script_said s = said_by s.begun s
 
--- What the bytes of SCRIPT are read as, or the number of the row that is refused.
+-- The script that the bytes of SCRIPT say, or the number of the first row that has no meaning in
+-- its place.
 unfoldable pub script_of : List ℕ → Result Script ℕ
 script_of bytes = in_the_end (with_file script_line no_script bytes) script_said

@@ -20,7 +20,7 @@ use Rattle.pg_wire.specs.value.Target.TheVariants as target
 use Rattle.pgpipe_files.specs.declared.verb.ScriptVerb.{ScriptVerb}
 use Rattle.pgpipe_files.specs.declared.verb.ScriptVerb.TheVariants as script
 
--- of SCRIPT, in no answer or at its beginning
+-- the verb of a line of SCRIPT that belongs to no answer, or begins one
 abbrev pub script_verb : List ℕ → Option ScriptVerb
 script_verb word =
     if bytes_eq word (codes "auth") then Some script.Auth
@@ -29,7 +29,7 @@ script_verb word =
     else if bytes_eq word (codes "answer") then Some script.Answer
     else None
 
--- how a line `auth` has a client let in
+-- the word after `auth`: how a client is let in
 abbrev pub auth_way : List ℕ → Option AuthWay
 auth_way word =
     if bytes_eq word (codes "trust") then Some way.Trust
@@ -37,7 +37,7 @@ auth_way word =
     else if bytes_eq word (codes "md5") then Some way.Md5
     else None
 
--- of SCRIPT, in an answer
+-- the verb of a line of SCRIPT that belongs to an answer
 abbrev pub answer_verb : List ℕ → Option AnswerVerb
 answer_verb word =
     if bytes_eq word (codes "notice") then Some answer.Notice
@@ -59,21 +59,21 @@ answer_verb word =
     else if bytes_eq word (codes "error") then Some answer.Error
     else None
 
--- the format of a copy
+-- the word for the format of a copy
 abbrev pub format_of : List ℕ → Option CopyFormat
 format_of word =
     if bytes_eq word (codes "text") then Some format.Text
     else if bytes_eq word (codes "binary") then Some format.Binary
     else None
 
--- what becomes of a copy from the client
+-- the word for how a copy from the client ends
 abbrev pub load_way : List ℕ → Option LoadWay
 load_way word =
     if bytes_eq word (codes "accept") then Some load.Accept
     else if bytes_eq word (codes "refuse") then Some load.Refuse
     else None
 
--- how the run of a portal ended
+-- the word for how an Execute ended
 abbrev pub end_way : List ℕ → Option EndWay
 end_way word =
     if bytes_eq word (codes "complete") then Some end.Complete
@@ -81,7 +81,7 @@ end_way word =
     else if bytes_eq word (codes "suspended") then Some end.Suspended
     else None
 
--- of CALLS, in a group
+-- the verb of a line of CALLS in a group; `sync` isn't among these
 abbrev pub step_verb : List ℕ → Option StepVerb
 step_verb word =
     if bytes_eq word (codes "parse") then Some step.Parse
@@ -91,14 +91,14 @@ step_verb word =
     else if bytes_eq word (codes "close") then Some step.Close
     else None
 
--- what the letter of a step names
+-- the letter after `describe` or `close`: S for a statement, P for a portal
 abbrev pub target_of : List ℕ → Option Target
 target_of letter =
     if bytes_eq letter (codes "S") then Some target.Statement
     else if bytes_eq letter (codes "P") then Some target.Portal
     else None
 
--- of CALLS, in no group
+-- the verb of a line of CALLS in no group
 abbrev pub call_verb : List ℕ → Option CallVerb
 call_verb word =
     if bytes_eq word (codes "user") then Some call.User

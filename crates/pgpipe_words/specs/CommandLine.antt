@@ -5,44 +5,45 @@ use Rattle.clap.specs.declared.builder.action.ArgAction.TheVariants.{SetTrue}
 use Rattle.clap.specs.declared.builder.value_parser.ValueParser.{ValueParser}
 use Rattle.clap.specs.declared.builder.value_parser.ValueParser.TheVariants as parser
 
--- the parser that takes the names of the two formats, and no other text
+-- A parser of clap that takes the words `text` and `binary` and no other.
 abbrev pub IsFormats : ValueParser → Type 0
 IsFormats (parser.Names names) =
     map (λ name. name.now) names.now ≡ codes "text" ∷ codes "binary" ∷ []
 IsFormats _ = ⊥
 
--- `--front`, which has no value
+-- the flag `--front`
 abbrev pub front : Rule
 front = record (new_rule (codes "front")) { long = Some (codes "front"); action = Some SetTrue }
 
--- an option with one value, `--name VALUE`
+-- an option with one value that this parser takes: `--name VALUE`
 abbrev pub option : Text → ValueParser → Rule
 option name values =
     record (new_rule name) { long = Some name; value_names = 1; parser = Some values }
 
--- an argument that has to be given
+-- an argument that must be given
 abbrev pub required : Rule → Rule
 required rule = record rule { required = true }
 
--- `show`, with `--front` or without
+-- the subcommand `show`: a flag `--front`
 abbrev pub show : Shape
 show = (with_rule (new_app (codes "show")) front).top
 
--- `convert`, with both formats and the number of columns, 1 to 32,767
+-- the subcommand `convert`: `--from`, `--to` and `--columns` (1 to 32,767), which must all be given
 abbrev pub convert : ValueParser → Shape
 convert formats = (with_rule (with_rule (with_rule (new_app (codes "convert"))
     (required (option (codes "from") formats)))
     (required (option (codes "to") formats)))
     (required (option (codes "columns") (parser.Signed (pos 1) (pos 32767))))).top
 
--- the paths of both files stand after the options, SCRIPT first
+-- the subcommand `loop`: `--cut` (1 to 4,096), which may be left out, and the paths SCRIPT and
+-- CALLS
 abbrev pub loop : Shape
 loop = (with_rule (with_rule (with_rule (new_app (codes "loop"))
     (option (codes "cut") (parser.Signed (pos 1) (pos 4096))))
     (required (new_rule (codes "SCRIPT"))))
     (required (new_rule (codes "CALLS")))).top
 
--- the whole command line: `pgpipe` with its three subcommands
+-- the whole command line: `pgpipe`, with its three subcommands
 abbrev pub command_line : ValueParser → App
 command_line formats =
     with_subcommand

@@ -26,7 +26,8 @@ use Rattle.pgpipe_words.specs.LoopFiles.{ReadsScript, ReadsCalls}
 
 -- ---- what the work of a task comes to
 
--- A stream was shown with this answer, from the one source to the other and from the one sink to the other.
+-- `show` was run and answered this. It received these pieces from `source` and sent these to
+-- `sink`, and what it promises holds of them.
 pub record WasShown {S K : Type 0} (gives : S → List ℕ → S → Type 0) (source_failures : S → ℕ)
     (has_ended : S → Type 0) (takes : K → List ℕ → K → Type 0) (failures : K → ℕ) (front : Bool)
     (source : S) (sink : K) (answer : Result Shown ToolFault) (source' : S)
@@ -42,7 +43,8 @@ pub record WasShown {S K : Type 0} (gives : S → List ℕ → S → Type 0) (so
   pub source_counts : CountsNoFailure (source_failures source) answer (source_failures source')
   pub sink_counts : CountsNoFailure (failures sink) answer (failures sink')
 
--- A file of the one format was converted to the other.
+-- `convert` was run, with these formats and columns, and answered this. It received these pieces
+-- from `source` and sent these to `sink`, and what it promises holds of them.
 pub record WasConverted {S K : Type 0} (gives : S → List ℕ → S → Type 0) (source_failures : S → ℕ)
     (has_ended : S → Type 0) (takes : K → List ℕ → K → Type 0) (failures : K → ℕ) (from to : Format)
     (columns : ℕ) (source : S) (sink : K) (answer : Result Converted ToolFault) (source' : S)
@@ -59,7 +61,8 @@ pub record WasConverted {S K : Type 0} (gives : S → List ℕ → S → Type 0)
   pub source_counts : CountsNoFailure (source_failures source) answer (source_failures source')
   pub sink_counts : CountsNoFailure (failures sink) answer (failures sink')
 
--- A loop of this script and these calls was run.
+-- `run_loop` was run, with a new pair of this script and these settings, and answered this. It sent
+-- these pieces to `sink`, and what it promises holds of them.
 pub record WasRun {C K : Type 0} (carries : Carrying C) (takes : K → List ℕ → K → Type 0)
     (failures : K → ℕ) (cut : ℕ) (script : Script) (calls : Calls) (carrier : C) (sink : K)
     (answer : Result Ran ToolFault) (sink' : K) : Type 0 where
@@ -75,32 +78,35 @@ pub record WasRun {C K : Type 0} (carries : Carrying C) (takes : K → List ℕ 
 -- first is the result, and nothing is sent
 module _ {C K : Type 0} (carries : Carrying C) (takes : K → List ℕ → K → Type 0) (failures : K
     → ℕ) (carrier : C) (cut : ℕ) (sink : K) (result : Result Unit Failure) (sink' : K) where
-  -- The loop failed so, and nothing was sent.
+  -- This failure is the result, and nothing was sent.
   abbrev pub FailsBy : Failure → Type 0
   FailsBy f = (result ≡ Err f) × (sink' ≡ sink)
 
-  -- The loop was run, if the script can be played; else its fault is the failure.
+  -- By what `check` answered: the loop was run if the script can be played, and else the script's
+  -- fault is the failure.
   abbrev pub RunsJudged : Script → Calls → Result Unit ScriptFault → Type 0
   RunsJudged script calls (Ok x) = (answer : Result Ran ToolFault)
       × WasRun carries takes failures cut script calls carrier sink answer sink'
       × LoopResults answer result
   RunsJudged script calls (Err fault) = FailsBy (check_failure fault)
 
-  -- The script was judged once the calls were read, or what was wrong with the calls is the
-  -- failure.
+  -- By what came of CALLS: the script was judged where CALLS could be read, and else its failure is
+  -- the result.
   abbrev pub RunsCalls : Script → Result Calls Failure → Type 0
   RunsCalls script (Ok calls) = (judged : Result Unit ScriptFault) × Checks script judged
       × RunsJudged script calls judged
   RunsCalls script (Err f) = FailsBy f
 
   module _ (holds : List ℕ → List ℕ → Type 0) (fails : List ℕ → Failure → Type 0) where
-    -- The calls were read once the script was, or what was wrong with the script is the failure.
+    -- By what came of SCRIPT: CALLS was read where SCRIPT could be, and else its failure is the
+    -- result.
     abbrev pub RunsScript : List ℕ → Result Script Failure → Type 0
     RunsScript calls_path (Ok script) = (calls : Result Calls Failure)
         × ReadsCalls holds fails calls_path calls × RunsCalls script calls
     RunsScript calls_path (Err f) = FailsBy f
 
-    -- A loop of the files of these two paths, SCRIPT first.
+    -- A loop of the files at these two paths was run, or failed by the first thing that was wrong:
+    -- SCRIPT is read first, then CALLS with its files, and then the script is judged.
     abbrev pub RunsFiles : List ℕ → List ℕ → Type 0
     RunsFiles script_path calls_path = (script : Result Script Failure)
         × ReadsScript holds fails script_path script × RunsScript calls_path script
@@ -109,14 +115,14 @@ module _ {C K : Type 0} (carries : Carrying C) (takes : K → List ℕ → K →
 
 module _ {S K : Type 0} (gives : S → List ℕ → S → Type 0) (source_failures : S → ℕ) (has_ended : S
     → Type 0) (takes : K → List ℕ → K → Type 0) (failures : K → ℕ) where
-  -- A stream was shown, and the result is what the answer means.
+  -- `show` was run, and the task's result is what its answer means for the program.
   abbrev pub DoesShow : Bool → S → K → Result Unit Failure → S → K → Type 0
   DoesShow front source sink result source' sink' = (answer : Result Shown ToolFault)
       × WasShown gives source_failures has_ended takes failures front source sink answer source'
       sink'
       × ShowResults answer result
 
-  -- A file was converted, and the result is what the answer means.
+  -- `convert` was run, and the task's result is what its answer means for the program.
   abbrev pub DoesConvert : Format → Format → ℕ → S → K → Result Unit Failure → S → K → Type 0
   DoesConvert from to columns source sink result source' sink' =
       (answer : Result Converted ToolFault)
@@ -125,7 +131,9 @@ module _ {S K : Type 0} (gives : S → List ℕ → S → Type 0) (source_failur
 
   module _ {C : Type 0} (holds : List ℕ → List ℕ → Type 0) (fails : List ℕ → Failure → Type 0)
       (carries : Carrying C) (carrier : C) where
-    -- The task is done: a stream shown, a file converted, or a loop run.
+    -- The task was done with this result: a stream was shown, a file converted, or a loop run.
+    -- `holds` and `fails` say of a file store which bytes a path has, and by what failure it can't
+    -- be read.
     abbrev pub DoesTask : Task → S → K → Result Unit Failure → S → K → Type 0
     DoesTask (task.Show front) source sink result source' sink' =
         DoesShow front source sink result source' sink'

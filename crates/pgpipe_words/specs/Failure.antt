@@ -19,7 +19,8 @@ use Rattle.pgpipe_show.specs.declared.show.Shown.TheVariants as shown
 use Rattle.pgpipe_base.specs.declared.fault.ToolFault.{ToolFault}
 use Rattle.pgpipe_base.specs.declared.fault.ToolFault.TheVariants as fault
 
--- the exit status
+-- the exit status: 1 for a wrong word, 2 for a fault of what was read, 3 for a failed file, stream
+-- or carrier, 4 for want of memory
 abbrev pub failure_status : Failure → ℕ
 failure_status failure.NotUtf8 = 1
 failure_status (failure.Rest n) = 2
@@ -33,7 +34,8 @@ failure_status (failure.Check f) = 2
 failure_status failure.Device = 3
 failure_status failure.Memory = 4
 
--- what the answer of show means for the program
+-- What the answer of `show` means for the program: success where the stream is whole, and else a
+-- failure.
 abbrev pub ShowResults : Result Shown ToolFault → Result Unit Failure → Type 0
 ShowResults (Ok shown.Whole) r = r ≡ Ok tt
 ShowResults (Ok (shown.Rest n)) r = r ≡ Err (failure.Rest n)
@@ -41,7 +43,8 @@ ShowResults (Ok (shown.Fault f)) r = r ≡ Err (failure.Fault f)
 ShowResults (Err fault.Device) r = r ≡ Err failure.Device
 ShowResults (Err fault.Memory) r = r ≡ Err failure.Memory
 
--- what the answer of a conversion means for the program
+-- What the answer of `convert` means for the program: success where the file is whole, and else a
+-- failure.
 abbrev pub ConversionResults : Result Converted ToolFault → Result Unit Failure → Type 0
 ConversionResults (Ok converted.Whole) r = r ≡ Ok tt
 ConversionResults (Ok (converted.Text f)) r = r ≡ Err (failure.Text f)
@@ -50,33 +53,35 @@ ConversionResults (Ok (converted.Row f)) r = r ≡ Err (failure.Row f)
 ConversionResults (Err fault.Device) r = r ≡ Err failure.Device
 ConversionResults (Err fault.Memory) r = r ≡ Err failure.Memory
 
--- what a fault of SCRIPT means for the program
+-- what a fault in reading SCRIPT means for the program
 abbrev pub script_failure : LineFault → Failure
 script_failure (line.Line n) = failure.Script n
 script_failure line.Memory = failure.Memory
 
--- what a fault of CALLS means for the program
+-- what a fault in reading CALLS means for the program
 abbrev pub calls_failure : LineFault → Failure
 calls_failure (line.Line n) = failure.Calls n
 calls_failure line.Memory = failure.Memory
 
--- what a fault of the script, once it is read, means for the program
+-- what the answer of `check`, that a script can't be played, means for the program
 abbrev pub check_failure : ScriptFault → Failure
 check_failure check.Memory = failure.Memory
 check_failure f = failure.Check f
 
--- what the answer of a loop means for the program
+-- What the answer of `run_loop` means for the program: success where no event was answered Carrier,
+-- and else a failure.
 abbrev pub LoopResults : Result Ran ToolFault → Result Unit Failure → Type 0
 LoopResults (Ok ran.Whole) r = r ≡ Ok tt
 LoopResults (Ok ran.CarrierFailed) r = r ≡ Err failure.Device
 LoopResults (Err fault.Device) r = r ≡ Err failure.Device
 LoopResults (Err fault.Memory) r = r ≡ Err failure.Memory
 
--- Help was asked for, and the words are no mistake.
+-- This kind of clap's errors is no mistake in the words: help or the version was asked for.
 abbrev pub IsHelp : ErrorKind → Type 0
 IsHelp k = (k ≡ kind.DisplayHelp) ⊎ (k ≡ kind.DisplayVersion)
 
--- Help ends with status 0, and a mistake in the words with 1; the text may not be printed, and want of memory is told as such.
+-- How the program ends where clap has an error for the words: help with status 0, a mistake with 1.
+-- Where the text can't be printed that is the failure Device, and want of memory is Memory.
 abbrev pub Explains : ErrorKind → Result ExitCode Failure → Type 0
 Explains k (Ok code) = (k ≢ kind.OutOfMemory) × (IsHelp k → exit_status code ≡ 0)
     × ((IsHelp k → ⊥) → exit_status code ≡ 1)

@@ -11,7 +11,7 @@ use Rattle.pgpipe_words.specs.declared.tasks.Task.{Task}
 use Rattle.pgpipe_words.specs.declared.tasks.Task.TheVariants as task
 use Rattle.pgpipe_words.specs.CommandLine.{IsFormats, command_line}
 
--- a task that can be done: a row has at least one field, and at most 32,767, and a delivery 1 to 4,096 bytes
+-- The numbers of the task are in range: 1 to 32,767 columns, and deliveries of 1 to 4,096 bytes.
 abbrev pub IsTask : Task → Type 0
 IsTask (task.Show front) = Unit {0}
 IsTask (task.Convert from to columns) = (0 < columns) × (columns ≤ 32767)
@@ -19,18 +19,18 @@ IsTask (task.Loop cut script calls) = (0 < cut) × (cut ≤ 4096)
 
 -- ---- what was found for an argument
 
--- The format of this name; no name is taken but these two.
+-- the format that an argument names; clap takes no name but `text` and `binary`
 abbrev pub format_named : Option Text → Format
 format_named None = format.Text
 format_named (Some name) = if bytes_eq name (codes "binary") then format.Binary else format.Text
 
--- The text is this number in decimal digits, where a plus may stand first.
+-- The argument is this number in decimal digits, which a plus may stand before.
 abbrev pub IsNumber : Option Text → ℕ → Type 0
 IsNumber None n = ⊥
 IsNumber (Some text) n = IsNumeral 10 (without_leading_plus text)
     × (digits_value 10 (without_leading_plus text) ≡ n)
 
--- A flag was given or not.
+-- Whether a flag was given, by what clap found for it.
 pub record IsFlag (found : Option Text) (given : Bool) : Type 0 where
   pub if_true : found ≡ Some (codes "true") → given ≡ true
   pub if_false : found ≡ Some (codes "false") → given ≡ false
@@ -38,12 +38,12 @@ pub record IsFlag (found : Option Text) (given : Bool) : Type 0 where
 
 -- ---- the task of a subcommand, by what was found for its arguments
 
--- a stream of a client where `--front` was given, and else of a backend
+-- The task is to show a client's stream, if `--front` was given, and else a backend's.
 abbrev pub IsShowOf : List Row → Task → Type 0
 IsShowOf found (task.Show front) = IsFlag (one_of (codes "front") found) front
 IsShowOf found _ = ⊥
 
--- a conversion between the formats that were named, with as many columns as were named
+-- The task is a conversion with the formats and the number of columns that were given.
 abbrev pub IsConversionOf : List Row → Task → Type 0
 IsConversionOf found (task.Convert from to columns) =
     (from ≡ format_named (first_of (codes "from") found))
@@ -51,7 +51,8 @@ IsConversionOf found (task.Convert from to columns) =
     × ((n : ℕ) → IsNumber (one_of (codes "columns") found) n → 0 < n → n ≤ 32767 → columns ≡ n)
 IsConversionOf found _ = ⊥
 
--- a loop over the files that were named, and with deliveries of as many bytes as were named, 4,096 where no number was
+-- The task is a loop over the files that were given, with deliveries of as many bytes as `--cut`
+-- says, or 4,096 without it.
 abbrev pub IsLoopOf : List Row → Task → Type 0
 IsLoopOf found (task.Loop cut script calls) =
     (string_bytes script ≡ unwrap_or (first_of (codes "SCRIPT") found) [])
@@ -62,19 +63,19 @@ IsLoopOf found _ = ⊥
 
 -- ---- the task of the words
 
--- The subcommand of this name asks for this task.
+-- The subcommand of this name, with these arguments, asks for this task.
 pub record IsNamed (name : Text) (found : List Row) (t : Task) : Type 0 where
   pub show : name ≡ codes "show" → IsShowOf found t
   pub convert : name ≡ codes "convert" → IsConversionOf found t
   pub loop : name ≡ codes "loop" → IsLoopOf found t
 
--- The words without a subcommand ask for a backend's stream to be shown, and others for what their subcommand says.
+-- What clap found asks for this task: without a subcommand it is to show a backend's stream.
 abbrev pub IsAskedFor : Option (Text × List Row) → Task → Type 0
 IsAskedFor None t = t ≡ task.Show false
 IsAskedFor (Some subcommand) t = IsNamed subcommand.0 subcommand.1 t
 
--- What the words come to: the task that they ask for, or an error of a kind that they have; none has but want of memory
--- where the command line takes them.
+-- What the words come to: the task that they ask for, or an error of the kind that clap has for
+-- them. Where the words are right, want of memory is the only error.
 pub record IsReadOf (words : List Text) (result : Result Task Error) : Type 0 where
   pub formats : ValueParser
   pub are_formats : IsFormats formats

@@ -1,5 +1,4 @@
--- What a driver knows of its client, and what it does with it. The history is a value that it keeps for contracts alone, and no code
--- stores.
+-- What a driver knows of its client, and what it does with it. A history is a value of contracts alone: no code stores it.
 use Rattle.std.specs.Prelude.{◌≡◌, ℕ, ◌≤◌, ◌-◌, ◌^◌, ◌⊎◌, List, [], ◌++◌, length, None, Result, Ok, Err, IfOk}
 use Rattle.std.specs.List.{FoldsTo, concat}
 use Rattle.pg_wire.specs.Link.{HasRisen}
@@ -17,18 +16,21 @@ use Rattle.test_client.specs.declared.driver.DriverFault.TheVariants as faults
 
 -- ---- what a driver knows
 
--- A client that a request may be asked: it stands ready, no group waits to be taken, and this is its history.
+-- The client may be asked the next request: its phase is Ready, and no settled group waits to be
+-- taken.
 pub record AwaitsRequest (client : ClientView) : Type 0 where
   pub history : History
   pub is_its_own : IsHistoryOf history client
   pub ready : phase_of client ≡ phase.Ready
   pub none_waits : client.settled ≡ []
 
--- The client has a history, by which the laws of a client say what happened, and what it loses where it ends here.
+-- The client has some history: so the laws of pg_client say what happened to it, and `lost` which
+-- request is in doubt.
 abbrev pub HasHistory : ClientView → Type 0
 HasHistory client = (h : History) × IsHistoryOf h client
 
--- A history of the client goes on from this one: it was fed these bytes, with no call more and no group taken more.
+-- The client has a history that is `past` with these bytes fed after it, and with no further call
+-- and no further group taken.
 pub record IsLater (past : History) (bytes : List ℕ) (client : ClientView) : Type 0 where
   pub history : History
   pub is_its_own : IsHistoryOf history client
@@ -38,19 +40,23 @@ pub record IsLater (past : History) (bytes : List ℕ) (client : ClientView) : T
 
 -- ---- why it has no answer
 
--- at most so many pieces are received for one answer
+-- the most pieces that are received for one answer
 abbrev pub most_receives : ℕ
 most_receives = 2 ^ 64 - 1
 
--- Counted are the failed calls of the source and those of the sink: one of the two failed since.
+-- Between these counts of failed calls (of the source, of the sink) a call of the source or of the
+-- sink failed.
 abbrev pub HasFailed : ℕ × ℕ → ℕ × ℕ → Type 0
 HasFailed was now = HasRisen was.0 now.0 ⊎ HasRisen was.1 now.1
 
--- neither failed
+-- Between these counts of failed calls (of the source, of the sink) none failed.
 abbrev pub NoneFailed : ℕ × ℕ → ℕ × ℕ → Type 0
 NoneFailed was now = (now.0 ≡ was.0) × (now.1 ≡ was.1)
 
--- What a fault says, where these pieces were received: of the call, of the link, and how the client is left.
+-- What a fault of the driver says: the client refused the call, before any piece was received
+-- (Call); `feed` closed the client by this fault (Feed); a call of source or sink failed (Link),
+-- which none did for any other fault; the source has ended; or as many pieces as may be came
+-- without an answer; or the client awaits a copy.
 abbrev pub Fails : (refused : CallFault → Type 0) (ended : Type 0) (was now : ℕ × ℕ) → List (List ℕ)
     → ClientView → DriverFault → Type 0
 Fails refused ended was now pieces client (faults.Call f) =
@@ -64,19 +70,20 @@ Fails refused ended was now pieces client faults.Endless =
 Fails refused ended was now pieces client faults.CopyIn =
     NoneFailed was now × (phase_of client ≡ phase.CopyingIn)
 
--- No call of the link failed, or this is why there is no answer.
+-- Of a driver's result: no call of source or sink failed, or its fault is true, as Fails says.
 abbrev pub Comes : {A : Type 0} (refused : CallFault → Type 0) (ended : Type 0) (was now : ℕ × ℕ)
     → List (List ℕ) → ClientView → Result A DriverFault → Type 0
 Comes refused ended was now pieces client (Ok x) = NoneFailed was now
 Comes refused ended was now pieces client (Err f) = Fails refused ended was now pieces client f
 
--- no call is made that a client could refuse
+-- for a driver that makes no call: no refusal is possible
 abbrev pub never : CallFault → Type 0
 never f = ⊥
 
 -- ---- what it does
 
--- A driver received these pieces, and its client was fed them: its history goes on from one with what was called and taken.
+-- The driver received these pieces, and its client was fed them. Each history of the old client
+-- goes on in the new one, with what `append` adds (a call, a group taken) and with the bytes fed.
 pub record Drives {S A : Type 0} (gives : S → List ℕ → S → Type 0)
     (refused : CallFault → Type 0) (ended : Type 0) (was now : ℕ × ℕ) (append : History → History)
     (source : S) (old : ClientView) (result : Result A DriverFault)
@@ -86,27 +93,29 @@ pub record Drives {S A : Type 0} (gives : S → List ℕ → S → Type 0)
   pub later : (h : History) → IsHistoryOf h old → IsLater (append h) (concat pieces) new
   pub comes : Comes refused ended was now pieces new result
 
--- One piece was received, and the client is open after it.
+-- Just one piece was received, and the client is open after it.
 pub record HasReceived (pieces : List (List ℕ)) (client : ClientView) : Type 0 where
   pub one : length pieces ≡ 1
   pub is_open : client.closed ≡ None
 
--- the call was made, unless this fault says that the client refused it
+-- a history after a fault: with this call, unless the fault is that the client refused it
 abbrev pub with_failed : Settings → Call → DriverFault → History → History
 with_failed settings c (faults.Call f) h = h
 with_failed settings c _ h = with_call settings c h
 
--- the session was started, unless the client refused it
+-- a history after `connect`: with `start`, unless the client refused it
 abbrev pub with_start : Settings → Result ClientView DriverFault → History → History
 with_start settings (Ok client) h = with_call settings Start h
 with_start settings (Err f) h = with_failed settings Start f h
 
--- the request was made, unless the client refused it, and its group was taken, if there is one
+-- a history after `ask`: with this request, unless the client refused it, and with its group taken,
+-- if it was answered
 abbrev pub with_asked : Settings → Request → Result Settled DriverFault → History → History
 with_asked settings r (Ok group) h = with_given group (with_call settings (Ask r) h)
 with_asked settings r (Err f) h = with_failed settings (Ask r) f h
 
--- A driver began with a new client of these settings, did this with it, and left it so.
+-- The driver began with a new client of these settings (`fresh`), `did` this with it, and `left` is
+-- the client afterwards, which it answers where it could connect.
 pub record Connects (settings : Settings) (result : Result ClientView DriverFault)
     (did : ClientView → ClientView → Type 0) : Type 0 where
   pub fresh : ClientView
