@@ -1,4 +1,5 @@
--- What a driver knows of its client, and what it does with it. A history is a value of contracts alone: no code stores it.
+-- What a driver knows of its client, and what it does with it. A history is a value of contracts
+-- alone: no code stores it.
 use Rattle.std.specs.Prelude.{◌≡◌, ℕ, ◌≤◌, ◌-◌, ◌^◌, ◌⊎◌, List, [], ◌++◌, length, None, Result, Ok, Err, IfOk}
 use Rattle.std.specs.List.{FoldsTo, concat}
 use Rattle.pg_wire.specs.Link.{HasRisen}
@@ -53,10 +54,9 @@ HasFailed was now = HasRisen was.0 now.0 ⊎ HasRisen was.1 now.1
 abbrev pub NoneFailed : ℕ × ℕ → ℕ × ℕ → Type 0
 NoneFailed was now = (now.0 ≡ was.0) × (now.1 ≡ was.1)
 
--- What a fault of the driver says: the client refused the call, before any piece was received
--- (Call); `feed` closed the client by this fault (Feed); a call of source or sink failed (Link),
--- which none did for any other fault; the source has ended; or as many pieces as may be came
--- without an answer; or the client awaits a copy.
+-- What is true of each fault: the client refused the call, before any piece; `feed` closed the
+-- client by it; a call of source or sink failed; the source had ended; 2^64 - 1 pieces were
+-- received; or the client awaits a copy. For any fault but Link no call failed.
 abbrev pub Fails : (refused : CallFault → Type 0) (ended : Type 0) (was now : ℕ × ℕ) → List (List ℕ)
     → ClientView → DriverFault → Type 0
 Fails refused ended was now pieces client (faults.Call f) =
