@@ -115,7 +115,8 @@ impl Backend {
         }
     }
 
-    /// The connection is gone: the backend is closed, unless it was. A request that isn't decided isn't logged.
+    /// Says that the connection is gone: the backend is closed, unless it was before. A request
+    /// that isn't decided is never logged.
     pub fn lost(&mut self)
         ensures call { self.new ≡ record self.old { stage = lost_stage self.old.stage } }
         ensures history { Carries self.old self.new unchanged }
@@ -315,7 +316,7 @@ impl Backend {
         answer
     }
 
-    /// What the backend is doing.
+    /// What the backend awaits, or that it is closed.
     pub fn phase(&self) -> BackPhase
         ensures { result ≡ phase_of self.now.stage }
     {
@@ -334,7 +335,8 @@ impl Backend {
         }
     }
 
-    /// The requests that are decided, in their order.
+    /// The log: each request that is decided, in order, with its outcome and the chunks that were
+    /// taken for it.
     pub fn log(&self) -> &[Logged]
         ensures { result.now ≡ self.now.log }
     {

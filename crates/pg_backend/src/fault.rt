@@ -8,19 +8,22 @@ use pg_wire::WireFault;
 use std::alloc::{AllocError, AllocFailed};
 use thiserror::Error;
 
-/// Why a backend refuses a call.
+/// What a call of a backend answers where it fails.
 #[derive(Clone, Copy, Debug, PartialEq, Eq, Error)]
 pub enum BackendFault {
-    /// The client's stream has this fault. It was told so, and the backend is closed.
+    /// The client's stream has this fault. An ErrorResponse with severity FATAL goes out, and the
+    /// backend is closed.
     #[error("K1 Wire {0}")]
     Wire(WireFault),
-    /// Memory was refused.
+    /// Memory was refused. After `push` nothing has changed; after `step` the backend is closed,
+    /// with its output and log as they were.
     #[error("K2 Memory")]
     Memory,
     /// The backend was closed before the call, which changed nothing.
     #[error("K3 Closed")]
     Closed,
-    /// A message with this tag came where none such may stand. The client was told so, and the backend is closed.
+    /// A message with this tag may not stand in its place. An ErrorResponse with severity FATAL
+    /// goes out, and the backend is closed.
     #[error("K4 Unexpected {0}")]
     Unexpected(u8),
 }

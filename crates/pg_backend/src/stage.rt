@@ -28,9 +28,9 @@ pub enum Awaits {
 /// Where a message leads.
 #[derive(Drop)]
 pub enum Next {
-    /// The session goes on.
+    /// The session goes on, and awaits this.
     Goes(Awaits),
-    /// The client has left, or was refused.
+    /// The session is over: the client sent a Terminate, or was refused.
     Ends,
     /// The message, which has this tag, can't stand in its place.
     Strays(u8),

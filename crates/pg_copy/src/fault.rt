@@ -24,7 +24,7 @@ pub enum TextFault {
 /// reader answers it for good; after Memory it is unchanged (PostgreSQL documentation, page COPY, "Binary Format").
 #[derive(Clone, Copy, Debug, Drop, PartialEq, Eq, Error)]
 pub enum BinaryFault {
-    /// Eleven bytes are there and aren't the signature.
+    /// The first eleven bytes of the file aren't the signature.
     #[error("B1 Signature")]
     Signature,
     /// The flags, this number, have one of the bits 16 to 31, which a reader must know.

@@ -110,9 +110,10 @@ impl TextReader {
         }
     }
 
-    /// The next row, or None where no whole line waits or the end mark was read. A fault is found where no more rows stand
-    /// before it, and is then answered for good. Memory is answered only where a row waits, and leaves the reader unchanged
-    /// (PostgreSQL documentation, page COPY, "Text Format").
+    /// The next row, or None where no whole line waits or the end mark was read. A fault is
+    /// answered once all rows before it were given, and then for good. Memory is answered only
+    /// where a row waits, and leaves the reader unchanged (PostgreSQL documentation, page COPY,
+    /// "Text Format").
     pub fn next(&mut self) -> Result<Option<Row>, TextFault>
         requires { self.old.ended ≡ false }
         ensures read { (pushed : List ℕ) (given : List Row) → HasReadText self.old pushed given

@@ -6,7 +6,7 @@ ghost use Rattle.pg_pair.specs.Carrying.{longest_piece};
 
 use thiserror::Error;
 
-/// A way between the two ends.
+/// A direction of the connection: what one end sends reaches the other along it.
 #[derive(Clone, Copy, Debug, PartialEq, Eq)]
 pub enum Way {
     /// From the client to the backend.
@@ -15,12 +15,12 @@ pub enum Way {
     ToClient,
 }
 
-/// A carrier brought nothing, since what is after it failed.
+/// The carrier failed: no byte of the piece arrived.
 #[derive(Clone, Copy, Debug, PartialEq, Eq, Error)]
 #[error("the carrier failed")]
 pub struct CarryFault;
 
-/// Carries bytes both ways.
+/// Carries the bytes that each end sends to the other, piece by piece.
 pub trait Carry: Drop {
     // How many calls have failed.
     ghost failures: { Self → ℕ };
@@ -28,8 +28,9 @@ pub trait Carry: Drop {
     // A call may carry a piece along a way so, with these bytes arriving or with a fault, and leave the carrier so.
     ghost carries: { Carrying Self };
 
-    /// Carries a piece of 1 to 4,096 bytes, and answers how many bytes arrived, which stand at the beginning of `into`. A fault is
-    /// answered only where what is behind the carrier failed in this call, and is counted.
+    /// Carries a piece of 1 to 4,096 bytes, and answers how many bytes arrived, at most those of
+    /// the piece. They stand at the beginning of `into`, which is as long as the piece. A fault is
+    /// answered only where carrying failed in this call, and is counted.
     fn carry(&mut self, way: Way, piece: &[u8], into: &mut [u8]) -> Result<usize, CarryFault>
         requires same_length { length into.old ≡ length piece.now }
         requires some { 0 < length piece.now }
@@ -39,7 +40,7 @@ pub trait Carry: Drop {
         ensures counted { CountsFaults result (failures self.old) (failures self.new) };
 }
 
-/// Carries each piece whole, in memory.
+/// Gives each piece whole and unchanged, in memory, and never fails.
 #[derive(Clone, Copy, Debug, PartialEq, Eq)]
 pub struct Direct;
 

@@ -8,11 +8,11 @@ use thiserror::Error;
 /// A call of the client.
 #[derive(Clone, Debug, PartialEq, Eq, Drop)]
 pub enum Call {
-    /// Puts the startup packet out.
+    /// Sends the startup packet.
     Start,
     /// Makes a request.
     Request(Request),
-    /// Hands a chunk of a copy over.
+    /// Hands over a chunk of a copy: the bytes of one CopyData.
     Chunk(Seq<u8>),
     /// Says that the data of a copy is complete.
     Done,
@@ -25,26 +25,30 @@ pub enum Call {
 /// What may happen to a pair.
 #[derive(Clone, Debug, PartialEq, Eq, Drop)]
 pub enum Event {
-    /// The client is called.
+    /// This call of the client is made.
     Call(Call),
-    /// The backend makes one step.
+    /// The backend handles one first packet or message, if a whole one waits.
     Step,
-    /// At most so many bytes of those that wait are delivered to the backend.
+    /// At most so many bytes, the first of those that wait on the way, are delivered to the
+    /// backend.
     ToBackend(u32),
-    /// At most so many bytes of those that wait are delivered to the client.
+    /// At most so many bytes, the first of those that wait on the way, are delivered to the client.
     ToClient(u32),
-    /// The way to the backend breaks: nothing arrives there any more.
+    /// The way to the backend breaks: nothing more arrives along it, and the backend is closed as
+    /// lost.
     BreakToBackend,
-    /// The way to the client breaks: nothing arrives there any more.
+    /// The way to the client breaks: nothing more arrives along it, and the client is closed as
+    /// lost.
     BreakToClient,
 }
 
 /// What came of an event.
 #[derive(Clone, Debug, PartialEq, Eq, Drop)]
 pub enum Applied {
-    /// It had its effect, and met no refusal and no fault.
+    /// It was done, with no refusal and no fault.
     Done,
-    /// It did nothing.
+    /// Nothing was done: a delivery moved no byte, a step found no whole packet or message, the way
+    /// is broken, or the end is closed.
     Nothing,
     /// The client refused the call, and is as it was.
     Refused {
@@ -53,15 +57,16 @@ pub enum Applied {
         /// Why it was refused.
         fault: CallFault,
     },
-    /// The client answered a fault to bytes that reached it.
+    /// The client answered this fault (F1 to F7) to the bytes that reached it last, and is closed.
     Client(FeedFault),
-    /// The backend answered a fault to a step, or to bytes that came to it.
+    /// The backend answered this fault: K1, K2 or K4 to a step, after which it is closed; or K2 to
+    /// bytes that were delivered, which haven't reached it then.
     Backend(BackendFault),
     /// The carrier failed or gave other bytes, and the receiving end answered no fault. The way is broken.
     Carrier,
 }
 
-/// Why an event was dropped.
+/// Why an event wasn't applied.
 #[derive(Clone, Copy, Debug, PartialEq, Eq, Error)]
 pub enum PairFault {
     /// Memory for what the pair keeps of a call was refused. Both ways break as by the two break events, and what was settled

@@ -8,7 +8,7 @@ ghost use Rattle.pg_pair.specs.Headline.{Headline};
 use crate::carry::Carry;
 use crate::known::known;
 
-/// What is so of a pair at any time implies the headline.
+/// What holds of a pair at any time (`Tied`) implies the theorem (`Headline`).
 pub fn headline<C: Carry>()
     ensures { (p : PairView C) → Tied p → Headline p }
 {

@@ -88,8 +88,9 @@ impl<C: Carry> Pair<C> {
     ghost use Rattle.pg_pair.specs.Private.Passing.{Passes};
     ghost use Rattle.pg_pair.specs.View.{stream_of};
 
-    /// A pair of a client with these settings, whose limit is from 64 to 1,073,741,823, and a backend that plays this script,
-    /// whose `check` has answered Ok. Neither has begun. It takes no memory.
+    /// A new client with these settings, whose limit is from 64 to 1,073,741,823, and a new backend
+    /// that plays this script, whose `check` has answered Ok. Nothing is sent yet. It takes no
+    /// memory.
     pub fn new(alloc: Global, settings: Settings, script: Script, carrier: C) -> Pair<C>
         requires limit { IsLimit settings.limit }
         requires checked { IsChecked script }
@@ -181,14 +182,15 @@ impl<C: Carry> Pair<C> {
         self.handed.as_slice()
     }
 
-    /// What the client said when the way to it broke, if it wasn't closed by then.
+    /// What the client's `lost` answered when the way to it broke: the request in doubt, if there
+    /// is one. None before that, and where the client was closed already.
     pub fn loss(&self) -> Option<&Loss>
         ensures { option_copied result ≡ self.now.loss }
     {
         self.loss.as_ref()
     }
 
-    /// All that was put out along a way.
+    /// All bytes that were sent along a way.
     pub fn sent(&self, way: Way) -> &[u8]
         ensures { result.now ≡ (stream_of way self.now).sent }
     {
@@ -209,7 +211,7 @@ impl<C: Carry> Pair<C> {
         }
     }
 
-    /// Whether a way is broken, so that nothing arrives there any more.
+    /// Whether a way is broken, so that nothing more arrives along it.
     pub fn broken(&self, way: Way) -> bool
         ensures { result ≡ (stream_of way self.now).broken }
     {
@@ -233,7 +235,7 @@ impl<C: Carry> Pair<C> {
         &self.backend
     }
 
-    /// What carries the bytes.
+    /// The carrier.
     pub fn carrier(&self) -> &C
         ensures { result.now ≡ self.now.carrier }
     {

@@ -8,10 +8,10 @@ pub enum ScriptFault {
     /// An answer has two or more copies from the client.
     #[error("S1 Copies")]
     Copies,
-    /// A message that the script stands for has no spelling, in an answer that fits its request or not.
+    /// A message of the script has no spelling, be it in an answer that fits its request or not.
     #[error("S2 Encode")]
     Encode,
-    /// Memory was refused.
+    /// Memory was refused, and neither of the others holds.
     #[error("S3 Memory")]
     Memory,
 }

@@ -76,17 +76,19 @@ pub fn turns_logged()
     ensures { TurnsLogged }
 {}
 
-/// The chunks that were taken for each of them are those that it handed over.
+/// The chunks that were taken for each request of the log are the first that a client handed over
+/// for it that takes turns.
 pub fn turns_loaded()
     ensures { TurnsLoaded }
 {}
 
-/// Where each of its requests is decided, it may make the next one.
+/// A client that takes turns may make a next request once all that it made are decided.
 pub fn turns_go_on()
     ensures { TurnsGoOn }
 {}
 
-/// There the session stands between requests, and copy messages alone are left of the turns.
+/// Once all requests of a client that takes turns are decided, the session is between requests, and
+/// copy messages alone are left to handle.
 pub fn turns_left()
     ensures { TurnsLeft }
 {}

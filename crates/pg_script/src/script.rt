@@ -11,14 +11,15 @@ pub struct Key {
     pub secret: i32,
 }
 
-/// How a client has to say who it is ("Start-up").
+/// How a client is authenticated ("Start-up").
 #[derive(Clone, Debug, PartialEq, Eq, Drop)]
 pub enum Auth {
     /// Each user is let in.
     Trust,
-    /// It sends this password ("AuthenticationCleartextPassword").
+    /// One that sends this password, when asked by AuthenticationCleartextPassword, is let in.
     Cleartext(Seq<u8>),
-    /// It sends the answer to a question with this salt ("AuthenticationMD5Password").
+    /// One that sends the right answer to AuthenticationMD5Password, made of this password and salt
+    /// and its user, is let in.
     Md5 {
         /// The password.
         password: Seq<u8>,
@@ -27,16 +28,17 @@ pub enum Auth {
     },
 }
 
-/// What becomes of a copy that the client sends ("COPY Operations").
+/// How a copy from the client ends ("COPY Operations").
 #[derive(Clone, Debug, PartialEq, Eq, Drop)]
 pub enum Load {
-    /// It is taken, and complete with this tag.
+    /// Its chunks are taken, and after its CopyDone it is complete with this tag.
     Accept(Seq<u8>),
-    /// It is refused.
+    /// It is refused with an error, and its request is decided by that.
     Refuse {
-        /// With the chunk of this number, counted from 1; at once where this is 0.
+        /// It is refused at the chunk of this number, counted from 1, or at its CopyDone before
+        /// that; at once where this is 0.
         after: u32,
-        /// With this error.
+        /// The error.
         fields: Fields,
     },
 }
@@ -99,7 +101,7 @@ pub enum ScriptPart {
 /// there are as many parts as steps, or an error and not more parts than steps.
 #[derive(Clone, Debug, PartialEq, Eq, Drop)]
 pub struct Answer {
-    /// What is said before it ("Asynchronous Operations").
+    /// The asides, which are sent before the parts ("Asynchronous Operations").
     pub before: Seq<Aside>,
     /// The whole results, or the answers to steps.
     pub parts: Seq<ScriptPart>,
@@ -112,11 +114,11 @@ pub struct Answer {
 /// What a backend answers: request number k gets answer number k.
 #[derive(Clone, Debug, PartialEq, Eq, Drop)]
 pub struct Script {
-    /// How a client has to say who it is.
+    /// How a client is authenticated.
     pub auth: Auth,
-    /// The run-time parameters that are told at the start: names and values.
+    /// The run-time parameters that a client is sent once it is let in: names and values.
     pub pairs: Seq<(Seq<u8>, Seq<u8>)>,
-    /// The key that is told at the start, if there is one.
+    /// The key of the BackendKeyData that a client is sent once it is let in, if there is one.
     pub key: Option<Key>,
     /// The answers, in the order of the requests.
     pub answers: Seq<Answer>,
@@ -127,8 +129,8 @@ pub struct Script {
 pub struct Logged {
     /// What the client asked for.
     pub request: Request,
-    /// How it ended.
+    /// Its outcome.
     pub outcome: Outcome,
-    /// The chunks that were taken for it.
+    /// The chunks that were taken for its copy from the client, in order.
     pub loaded: Seq<Seq<u8>>,
 }

@@ -38,12 +38,12 @@ pub fn both(
     }
 }
 
-/// What is told by messages.
+/// What is sent as messages.
 pub trait Tell: Drop {
     // the messages
     ghost messages: { Self → List BackMessage };
 
-    /// Appends the messages.
+    /// Appends its messages. After a fault some of their bytes may have been appended.
     fn tell(&self, out: &mut Vec<u8>) -> Result<(), EncodeFault>
         ensures { Tells (messages self.now) out.old.items result out.new.items };
 }

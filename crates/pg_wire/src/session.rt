@@ -159,6 +159,7 @@ pub struct Outcome {
     pub error: Option<Fields>,
     /// The transaction status after the request.
     pub status: Status,
-    /// What was said beside it, in order.
+    /// The notices, run-time parameters and notifications that came before its ReadyForQuery, in
+    /// order.
     pub asides: Seq<Aside>,
 }

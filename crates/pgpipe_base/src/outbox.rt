@@ -10,7 +10,7 @@ use pg_wire::{LinkFault, Sink};
 use std::alloc::{AllocError, Global};
 use std::marker::Model;
 
-/// How many bytes are collected before they are sent.
+/// The most bytes that are collected before they are sent.
 pub const ROOM: usize = 65_536;
 
 // The most bytes before a line's hexadecimal: a name of 7 letters, a number of 10 digits, and a space after each.

@@ -1,7 +1,7 @@
 //! How much is received.
 
-/// How many bytes are received at once.
+/// The most bytes that are received at once.
 pub const PIECE: usize = 65_536;
 
-/// How many calls of `receive` are made at most.
+/// The most calls of `receive` that one task makes: 2^40.
 pub const MOST_RECEIVES: u64 = 1_099_511_627_776;

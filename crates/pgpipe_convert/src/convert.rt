@@ -24,7 +24,7 @@ pub enum Converted {
     Text(TextFault),
     /// With this fault in the place of a part of a binary file.
     Binary(BinaryFault),
-    /// With a row that the other format can't have.
+    /// With a row that can't be written in the other format, for this reason.
     Row(RowFault),
 }
 

@@ -36,7 +36,7 @@ pub enum CallLine {
     File(String),
 }
 
-/// What CALLS says.
+/// What CALLS asks for: the client's settings, and what is to happen.
 #[derive(Debug, PartialEq, Eq, Drop)]
 pub struct Calls {
     /// What the client is made with. The limit is 1,073,741,823.
@@ -46,7 +46,7 @@ pub struct Calls {
 }
 
 impl Calls {
-    /// The path of the first file that is left.
+    /// The path of the first file that still stands among the lines, if one does.
     #[tactic(auto, using(crate::proofs::Files::path_at))]
     pub fn next_file(&self) -> Option<&str>
         ensures { option_copied result ≡ next_file self.now.lines }

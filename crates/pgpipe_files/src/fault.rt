@@ -10,8 +10,8 @@ use thiserror::Error;
 /// Why SCRIPT or CALLS isn't read.
 #[derive(Clone, Copy, Debug, PartialEq, Eq, Error)]
 pub enum LineFault {
-    /// The row of this number, counted from 1, is none of the file's lines, stands where it may not, or has a fault of the text
-    /// format.
+    /// The line in the row of this number, counted from 1, has no meaning in its place, or has a
+    /// fault of the text format.
     #[error("line {0}")]
     Line(usize),
     /// Memory was refused.

@@ -19,31 +19,33 @@ use thiserror::Error;
 /// Why the program ends with a status other than 0.
 #[derive(Debug, Drop, Error)]
 pub enum Failure {
-    /// A word is no text.
+    /// A word of the command line isn't UTF-8.
     #[error("a word is not UTF-8")]
     NotUtf8,
-    /// The input ends with so many bytes that are no whole message.
+    /// The stream ends with so many bytes that are no whole message, or come after a Cancel.
     #[error("rest {0}")]
     Rest(usize),
-    /// The input has a fault.
+    /// The stream has this fault.
     #[error("{0}")]
     Fault(WireFault),
-    /// The text file on the input has a fault.
+    /// The COPY text file has this fault.
     #[error("{0}")]
     Text(TextFault),
-    /// The binary file on the input has a fault.
+    /// The COPY binary file has this fault.
     #[error("{0}")]
     Binary(BinaryFault),
-    /// A row of the input has no place in the other format.
+    /// A row can't be written in the other format, for this reason.
     #[error("{0}")]
     Row(RowFault),
-    /// This row of SCRIPT is refused.
+    /// The line of SCRIPT in this row, counted from 1, has no meaning there or has a fault of the
+    /// text format.
     #[error("SCRIPT line {0}")]
     Script(usize),
-    /// This row of CALLS is refused.
+    /// The line of CALLS in this row, counted from 1, has no meaning there or has a fault of the
+    /// text format.
     #[error("CALLS line {0}")]
     Calls(usize),
-    /// The script can't be played.
+    /// The script can't be played, for this reason.
     #[error("{0}")]
     Check(ScriptFault),
     /// A file, a stream or a carrier failed.
@@ -55,7 +57,8 @@ pub enum Failure {
 }
 
 impl Failure {
-    /// The exit status.
+    /// The program's exit status: 1 for a wrong word, 2 for a rest or a fault of what was read, 3
+    /// for Device, 4 for Memory.
     pub fn status(&self) -> u8
         ensures { result ≡ failure_status self.now }
     {

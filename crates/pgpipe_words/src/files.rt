@@ -8,15 +8,15 @@ use crate::failure::{Failure, file_failure};
 use std::fs;
 use std::rt::Files;
 
-/// What has files by their paths.
+/// Where the files of a loop come from, by their paths.
 pub trait FileStore {
     /// The file of this path may have these bytes.
     ghost holds: { Self → List ℕ → List ℕ → Type 0 };
 
-    /// The file of this path may be refused so.
+    /// Reading the file of this path may fail so.
     ghost fails: { Self → List ℕ → Failure → Type 0 };
 
-    /// The bytes of a file.
+    /// The bytes of the file at this path, or why it can't be read.
     fn read(&self, path: &str) -> Result<Vec<u8>, Failure>
         ensures held { IfOk result (λ bytes. holds self.now path.now bytes.items) }
         ensures failed { IfErr result (λ failure. fails self.now path.now failure) };

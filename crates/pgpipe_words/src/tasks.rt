@@ -15,7 +15,7 @@ use std::alloc::{AllocError, Global};
 pub enum Task {
     /// Show the stream on standard input.
     Show {
-        /// It is a client's.
+        /// Whether it is what a client sent; else it is what a server sent.
         front: bool,
     },
     /// Convert the COPY file on standard input.

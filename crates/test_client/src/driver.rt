@@ -21,10 +21,10 @@ const PIECE: usize = 4_096;
 /// Why a driver has no answer.
 #[derive(Debug, PartialEq, Eq, Drop, Error)]
 pub enum DriverFault {
-    /// The client refused the call, and nothing was done.
+    /// The client refused the call, which sent and changed nothing.
     #[error(transparent)]
     Call(CallFault),
-    /// The client refused what came, and is closed.
+    /// The client answered this fault to what the server sent, and is closed.
     #[error(transparent)]
     Feed(FeedFault),
     /// A call of the source or of the sink failed.
@@ -36,7 +36,8 @@ pub enum DriverFault {
     /// The answer had no end in 18,446,744,073,709,551,615 pieces.
     #[error("the server's answer has no end")]
     Endless,
-    /// The server waits for the data of a copy, which this driver doesn't have.
+    /// The server awaits the data of a copy, which this driver can't send. The client is left in
+    /// phase CopyingIn.
     #[error("the server waits for the data of a copy")]
     CopyIn,
 }

@@ -18,7 +18,8 @@ use std::alloc::{AllocError, Global};
 // The most chunks of a line.
 const MOST_CHUNKS: usize = 32_765;
 
-/// The lines of an event: the groups that it settled, what it was answered, and the loss that it told.
+/// The lines of an event, as COPY text: the groups that were settled in it, its answer, and the
+/// loss that it brought, if it brought one.
 pub fn event_lines(
     alloc: Global,
     settled: &[Settled],
@@ -35,7 +36,8 @@ pub fn event_lines(
     Ok(lines.into_text())
 }
 
-/// The closing lines: the chunks that the backend loaded, and where both ends stand.
+/// The closing lines of a loop, as COPY text: the chunks that the backend took for each request,
+/// and the phases of both ends.
 pub fn closing_lines(
     alloc: Global,
     log: &[Logged],
