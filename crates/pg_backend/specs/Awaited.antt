@@ -1,4 +1,4 @@
--- What is awaited after these packets and messages: what is known of all messages that may still come.
+-- What a backend awaits, by what any further messages would come to after those that have come.
 use Rattle.std.specs.Prelude.{◌≡◌, ℕ, ◌<◌, length, List, [], ◌∷◌, ◌++◌, map}
 use Rattle.pg_wire.specs.message.First.{First}
 use Rattle.pg_wire.specs.message.FrontMessage.{FrontMessage}

@@ -9,7 +9,7 @@ use Rattle.pg_backend.specs.declared.fault.BackendFault.{BackendFault}
 use Rattle.pg_backend.specs.declared.fault.BackendFault.TheVariants as faults
 use Rattle.pg_backend.specs.declared.stage.ClosedBy.TheVariants as closed_by
 use Rattle.pg_backend.specs.declared.stage.BackStage.TheVariants as stage
--- Where a backend stands, and what it went through.
+-- A backend's stage and its histories.
 pub use Rattle.pg_backend.specs.Stage.{BackendState, awaited_end, phase_of, is_spared, was_lost}
 pub use Rattle.pg_backend.specs.Stage.{phase_by, IsWaiting, IsBroken, IsThere, WantsMemory}
 pub use Rattle.pg_backend.specs.Stage.{IsSound, stored, lost_stage}

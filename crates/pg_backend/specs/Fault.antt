@@ -1,4 +1,4 @@
--- The codes of what a backend answers to a call that it refuses, under which docs/PROTOCOL.md tells when each comes.
+-- The codes of a backend's faults. When each comes stands in docs/PROTOCOL.md, under its code.
 use Rattle.std.specs.Prelude.{List, ℕ, codes}
 use Rattle.pg_backend.specs.declared.fault.BackendFault.{BackendFault}
 use Rattle.pg_backend.specs.declared.fault.BackendFault.TheVariants as backend

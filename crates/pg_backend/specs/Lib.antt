@@ -1,4 +1,4 @@
--- What a reader must believe: where a backend stands, what it went through, and what each call does.
+-- What a reader must believe: a backend's stage, its histories, and what each call does.
 pub mod Stage
 pub mod Awaited
 pub mod History

@@ -1,4 +1,4 @@
--- Where a backend stands: at first packets, at messages, or closed.
+-- The stage of a backend: at first packets, at messages, or closed.
 use Rattle.std.specs.Prelude.{ℕ, ℤ, ◌≡◌, Bool, true, false, List, ◌++◌, ◌⊎◌, None}
 use Rattle.pg_wire.specs.declared.fault.WireFault.{WireFault}
 use Rattle.pg_wire.specs.Decoder as decoder

@@ -117,7 +117,7 @@ WholeMoves {C} carries = GivesWhole carries
 
 -- ---- what breaks a way
 
--- The carrier's last call failed, or gave a byte that wasn't sent.
+-- The carrier's last call failed, or a byte arrived by it that isn't the one sent.
 pub record CarriedBadly {C : Type 0}
     (carries : Carrying C) (w : Way) (carrier : C) : Type 0 where
   pub before : C

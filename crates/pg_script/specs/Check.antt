@@ -41,8 +41,8 @@ part_messages (part.CopyIn head (Refuse after fields)) =
     back.CopyIn head ∷ back.ErrorResponse fields ∷ []
 part_messages p = flat_map messages_of (complete p)
 
--- the messages that may be sent for an answer, ReadyForQuery aside, whether it fits its request or
--- not
+-- the messages that may be sent for an answer, but for ReadyForQuery, whether it fits its request
+-- or not
 abbrev pub answer_messages : Answer → List BackMessage
 answer_messages a =
     map aside_message a.before ++ (flat_map part_messages a.parts ++ error_sent a.error)

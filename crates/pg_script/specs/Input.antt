@@ -161,6 +161,6 @@ end_phase (At place) = place_phase place
 abbrev pub input_phase : Script → Input → BackPhase
 input_phase s i = if i.faulty then phase.Closed else end_phase (input_end s i)
 
--- The last message of the input is one that may not stand in its place.
+-- Some message of the input may not stand in its place. What comes after it isn't read.
 abbrev pub IsStray : Script → Input → Type 0
 IsStray s i = input_end s i ≡ At Stray

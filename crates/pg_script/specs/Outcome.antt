@@ -9,7 +9,7 @@ use Rattle.pg_script.specs.declared.script.Load.TheVariants.{Accept, Refuse}
 use Rattle.pg_script.specs.declared.script.ScriptPart.{ScriptPart}
 use Rattle.pg_script.specs.declared.script.ScriptPart.TheVariants as part
 
--- what a part of an answer is in an outcome; a copy that is refused is none
+-- the part of an outcome that a part of an answer becomes; a copy that is refused becomes none
 abbrev pub complete : ScriptPart → List Part
 complete (part.Rows columns rows tag) = whole.Rows columns rows tag ∷ []
 complete (part.Command tag) = whole.Command tag ∷ []
@@ -23,11 +23,11 @@ complete (part.Described parameters columns) = whole.Described parameters column
 complete (part.Executed rows end) = whole.Executed rows end ∷ []
 complete part.Shut = whole.Shut ∷ []
 
--- the parts of an outcome for these parts of an answer, in order
+-- the parts of an outcome that these parts of an answer become, in order
 abbrev pub parts_of : List ScriptPart → List Part
 parts_of parts = flat_map complete parts
 
--- the outcome of an answer that is sent as a whole, each of its copies accepted
+-- the outcome of an answer that is sent to its end: its parts, its error, its status and its asides
 abbrev pub whole_outcome : Answer → Outcome
 whole_outcome a =
     record { parts = parts_of a.parts; error = a.error; status = a.status; asides = a.before }

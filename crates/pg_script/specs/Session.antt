@@ -29,7 +29,7 @@ abbrev pub exchange : Request → Answer → List FrontMessage → Exchange
 exchange r a ms = record { request = r; verdict = verdict a ms; reply = reply a ms }
 
 -- where the messages of a session end: between requests, within a group, in an undecided copy, at a
--- Terminate, or at a message that may not stand there
+-- Terminate, or at a message that may not stand there. After the last two no message is read.
 pub data Place : Type 0 where
   Between : Place
   Grouping : (steps : List Step) → Place

@@ -57,7 +57,7 @@ abbrev pub one_place : Option Verdict → List FrontMessage → Place
 one_place None ms = copy_place (map in_copy ms)
 one_place (Some v) ms = Between
 
--- where the messages of these turns end: as those of the last turn
+-- where the messages of these turns end: as those of the last one, or between requests without any
 abbrev pub turn_place : List Answer → List Turn → Place
 turn_place answers [] = Between
 turn_place answers (t ∷ []) = one_place (verdict (answer_for answers t.request) t.copies) t.copies

@@ -1,4 +1,4 @@
--- The codes of what a decoder finds wrong, under which docs/PROTOCOL.md tells when each comes.
+-- The codes of a stream's faults. When each comes stands in docs/PROTOCOL.md, under its code.
 use Rattle.std.specs.Prelude.{List, ℕ, codes}
 use Rattle.pg_wire.specs.declared.fault.WireFault.{WireFault}
 use Rattle.pg_wire.specs.declared.fault.WireFault.TheVariants as wire

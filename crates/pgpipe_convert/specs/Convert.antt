@@ -130,7 +130,7 @@ pub record IsOutput (file : FileReading) (to : Format) (ended : Type 0) (bytes :
   pub are_converted : AreConverted file to ended bytes left before
   pub with_trailer : text ≡ before ++ trailer_for to c
 
--- The text is the head and all rows of these bytes, none of which has a fault after it.
+-- The text is the head and all rows of these bytes, and no fault comes after the rows.
 pub record AreAllConverted (file : FileReading) (to : Format) (bytes text : List ℕ) : Type 0 where
   pub ending : RowsEnding Converted
   pub good : IsGood ending

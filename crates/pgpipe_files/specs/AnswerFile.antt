@@ -114,7 +114,7 @@ grows o read = read >>= λ p. Some (record o { last = Some p })
 abbrev pub begins_alone : OpenAnswer → Row → ScriptPart → Option OpenAnswer
 begins_alone o fields p = nothing_of fields >>= λ _. Some (begins_part o p)
 
--- the line has a meaning only where this wasn't said before
+-- a line that has a meaning only where nothing of its kind stands before it
 abbrev pub if_none : {A : Type 0} → Option A → Option Unit
 if_none None = Some tt
 if_none (Some x) = None

@@ -1,4 +1,4 @@
--- The files that calls name, and what stands in their place.
+-- The files that CALLS names, and the chunks that stand in their place once they are read.
 use Rattle.std.specs.Prelude.{ℕ, zero, suc, List, [], ◌∷◌, ◌++◌, take, drop, length, Option, Some, None, string_bytes}
 use Rattle.pg_pair.specs.declared.event.Call.TheVariants as call
 use Rattle.pg_pair.specs.declared.event.Event.TheVariants as event

@@ -1,5 +1,5 @@
--- What a reader must believe: what each line of CALLS and of SCRIPT is read as in its place, the files that calls name, and what stands
--- in their place.
+-- What a reader must believe: what each line of CALLS and of SCRIPT is read as in its place, and
+-- what stands in the place of a file that CALLS names.
 pub mod Verb
 pub mod Arguments
 pub mod Lines

@@ -13,7 +13,7 @@ abbrev pub is_blank : Row → Bool
 is_blank (Some [] ∷ []) = true
 is_blank _ = false
 
--- what is read with row n too: a blank row changes nothing, and of any other the first field is the
+-- what is read with row n too: a blank row changes nothing, and in any other the first field is the
 -- verb
 abbrev pub with_row : {S : Type 0} → (S → ℕ → List ℕ → Row → Option S) → S → ℕ → Row → Option S
 with_row line so_far n row =

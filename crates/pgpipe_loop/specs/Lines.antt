@@ -155,7 +155,7 @@ outcome_error_rows (Some fields) = error_row fields ∷ []
 abbrev pub status_row : Status → Row
 status_row s = Some (codes "status") ∷ Some (status_letter s) ∷ []
 
--- the lines of a settled group: the request, the asides, the parts, the error and the status
+-- the lines of a settled group: its request, its asides, its parts, its error and its status
 abbrev pub settled_rows : Settled → List Row
 settled_rows s =
     (Some (codes "settled") ∷ request_fields s.request) ∷ map aside_row s.outcome.asides
@@ -213,7 +213,7 @@ abbrev pub loss_rows : Option Loss → List Row
 loss_rows None = []
 loss_rows (Some loss) = lost_row loss ∷ []
 
--- ---- an event: the groups that it settled, what it was answered, and the loss that it told
+-- ---- an event: the groups that were settled in it, its answer, and the loss that it brought
 
 -- the lines of an event: the groups that were settled in it, its answer, and the loss that it
 -- brought

@@ -24,7 +24,7 @@ use Rattle.pgpipe_words.specs.declared.tasks.Task.TheVariants as task
 use Rattle.pgpipe_words.specs.Failure.{ShowResults, ConversionResults, LoopResults, check_failure}
 use Rattle.pgpipe_words.specs.LoopFiles.{ReadsScript, ReadsCalls}
 
--- ---- what the work of a task comes to
+-- ---- a tool's run, by what it received, sent and answered
 
 -- `show` was run and answered this. It received these pieces from `source` and sent these to
 -- `sink`, and what it promises holds of them.
