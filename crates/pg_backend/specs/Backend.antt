@@ -21,8 +21,8 @@ pub use Rattle.pg_backend.specs.History.{with_fault}
 abbrev pub IsClosed : BackendState → Type 0
 IsClosed b = phase_of b.stage ≡ phase.Closed
 
--- A push stores the whole piece, or refuses it and changes nothing: where the backend is closed, or for want of memory, which a
--- piece without bytes never meets.
+-- A push stores the whole piece, or refuses it and changes nothing: where the backend is closed, or
+-- for want of memory, which a piece without bytes never meets.
 abbrev pub Stores : BackendState → List ℕ → Result Unit BackendFault → BackendState → Type 0
 Stores old piece (Ok x) new = (IsClosed old → ⊥)
     × (new ≡ record old { stage = stored old.stage piece })

@@ -1,4 +1,5 @@
--- What a backend went through, from its beginning. It is a value, which no backend stores, and which each call carries on.
+-- What a backend went through, from its beginning. It is a value, which no backend stores, and
+-- which each call carries on.
 use Rattle.std.specs.Prelude.{ℕ, ◌≡◌, true, false, List, [], ◌∷◌, ◌++◌}
 use Rattle.std.specs.List.{AllByRecursion}
 use Rattle.pg_wire.specs.message.FrontMessage.{FrontMessage}
@@ -88,7 +89,7 @@ abbrev pub with_handled : Input → List ℕ → List ℕ → History → Histor
 with_handled input rest added h =
     record h { input = input; rest = rest; sent = h.sent ++ added }
 
--- an input with one message more
+-- an input with this message more, as its last
 abbrev pub with_message : FrontMessage → Input → Input
 with_message m i = record i { messages = i.messages ++ m ∷ [] }
 

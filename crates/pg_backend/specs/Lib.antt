@@ -6,7 +6,8 @@ pub mod Backend
 pub mod Fault
 -- Words of private functions, which no public contract cites.
 pub mod Private
--- What pg_script defines and the contracts here speak of. Who uses pg_backend names it through these lines.
+-- What pg_script defines and the contracts here speak of. Who uses pg_backend names it through
+-- these lines.
 pub use Rattle.pg_script.specs.Lists
 pub use Rattle.pg_script.specs.OwnError
 pub use Rattle.pg_script.specs.Meaning

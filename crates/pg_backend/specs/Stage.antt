@@ -62,13 +62,13 @@ phase_by s p = p
 
 -- ---- the rest
 
--- No whole packet or message waits, and the rest is open.
+-- No whole packet or message waits, and the rest is open. A closed backend awaits nothing.
 abbrev pub IsWaiting : BackStage → Type 0
 IsWaiting (stage.First d) = IsOpenPacket d.kept
 IsWaiting (stage.Open d a) = IsOpen frontend d.limit d.kept
 IsWaiting (stage.Closed by) = ⊥
 
--- The rest is faulty, for this reason.
+-- The rest is faulty, for this reason. That of a closed backend isn't looked at.
 abbrev pub IsBroken : BackStage → WireFault → Type 0
 IsBroken (stage.First d) f = IsFaultyPacket d.kept f
 IsBroken (stage.Open d a) f = IsFaulty frontend d.limit d.kept f

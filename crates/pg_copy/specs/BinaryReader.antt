@@ -1,4 +1,5 @@
--- A reader of a binary file as its callers see it, what its calls do, and what it was given and has given.
+-- A reader of a binary file as its callers see it, what its calls do, and what it was given and has
+-- given.
 use Rattle.std.specs.Prelude.{◌≡◌, ℕ, ◌-◌, ◌<◌, ◌⊎◌, nat_lt, if◌then◌else◌, Bool, false, List, [], ◌∷◌, ◌++◌, length, drop, Result, Ok, Err}
 use Rattle.pg_copy.specs.declared.fault.BinaryFault.{BinaryFault}
 use Rattle.pg_copy.specs.declared.fault.BinaryFault.TheVariants.{AfterTrailer, Memory}
@@ -79,7 +80,7 @@ stage_behind stages.Closed [] = stages.Closed
 stage_behind stages.Closed (b ∷ bs) = stages.Failed AfterTrailer
 stage_behind (stages.Failed fault) piece = stages.Failed fault
 
--- the reader after a piece that it took
+-- the reader after a push that took this piece
 abbrev pub pushed_after : BinaryState → List ℕ → BinaryState
 pushed_after s piece =
     record s { kept = s.kept ++ kept_of s.stage piece; stage = stage_behind s.stage piece }

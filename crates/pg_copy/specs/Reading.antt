@@ -1,4 +1,5 @@
--- What the bytes of a file, or of its beginning, are read as; and what a call answers that looks for the next row.
+-- What the bytes of a file, or of its beginning, are read as; and what a call answers that looks
+-- for the next row.
 use Rattle.std.specs.Prelude.{◌≡◌, ℕ, ◌<◌, ◌⊎◌, List, [], ◌∷◌, ◌++◌, length, Option, Some, None, Result, Ok, Err}
 use Rattle.pg_copy.specs.Row.{Row}
 

@@ -1,4 +1,5 @@
--- COPY text files (PostgreSQL documentation, page COPY, "Text Format"). Bytes are numbers below 256.
+-- COPY text files (PostgreSQL documentation, page COPY, "Text Format"). Bytes are numbers below
+-- 256.
 use Rattle.std.specs.Prelude.{◌≡◌, ◌<◌, ℕ, zero, suc, ◌+◌, ◌*◌, ◌%◌, Bool, true, false, ◌==◌, nat_lt, nat_le, if◌then◌else◌, List, [], ◌∷◌, ◌++◌, length, take, map, fold, Option, Some, None, Result, Ok, Err}
 use Rattle.std.specs.List.{take_while, flat_map, join_with_byte, onto_first}
 use Rattle.std.specs.Char.{digit_value}
@@ -26,11 +27,11 @@ null_mark = backslash ∷ 78 ∷ []
 abbrev pub newline : ℕ
 newline = 10
 
--- the byte that may stand in a line only after a backslash
+-- the byte that a line may have only after a backslash
 abbrev pub carriage_return : ℕ
 carriage_return = 13
 
--- the line that ends the rows: \.
+-- the line that ends the rows, \. without its newline
 abbrev pub end_mark : List ℕ
 end_mark = backslash ∷ 46 ∷ []
 
@@ -74,7 +75,7 @@ letter_value c =
     else if c == 114 then 13
     else c
 
--- the number with these digits in a base
+-- the number that these digits of a base say, the highest first
 abbrev pub digits_value : ℕ → List ℕ → ℕ
 digits_value base digits = fold (λ n c. n * base + digit_value c) 0 digits
 

@@ -1,4 +1,5 @@
--- What a field of a text file spells, by the kinds of its units (PostgreSQL documentation, page COPY, "Text Format").
+-- What a field of a text file spells, by the kinds of its units (PostgreSQL documentation, page
+-- COPY, "Text Format").
 use Rattle.std.specs.Prelude.{◌≡◌, ℕ, ◌<◌, ◌≤◌, ◌%◌, ◌⊎◌, List, [], ◌∷◌, ◌++◌, length, Option, Some, None}
 use Rattle.std.specs.List.{AllByRecursion}
 use Rattle.std.specs.Char.{digit_value}

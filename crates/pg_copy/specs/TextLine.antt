@@ -1,5 +1,5 @@
--- The lines of a text file, and the fields of a line, by the kinds of their units (PostgreSQL documentation, page COPY,
--- "Text Format").
+-- The lines of a text file, and the fields of a line, by the kinds of their units (PostgreSQL
+-- documentation, page COPY, "Text Format").
 use Rattle.std.specs.Prelude.{◌≡◌, ℕ, List, [], ◌∷◌, ◌++◌}
 use Rattle.pg_copy.specs.TextField.{IsField}
 use Rattle.pg_copy.specs.Row.{Row}

@@ -1,4 +1,5 @@
--- A reader of a text file as its callers see it, what its calls do, and what it was given and has given.
+-- A reader of a text file as its callers see it, what its calls do, and what it was given and has
+-- given.
 use Rattle.std.specs.Prelude.{◌≡◌, ℕ, ◌<◌, ◌⊎◌, Bool, false, List, [], ◌++◌, length, Option, Result, Ok, Err}
 use Rattle.pg_copy.specs.declared.fault.TextFault.{TextFault}
 use Rattle.pg_copy.specs.declared.fault.TextFault.TheVariants.{Memory}
@@ -57,7 +58,7 @@ kept_at stages.Lines s piece = record s { kept = s.kept ++ piece }
 kept_at stages.Marked s piece = s
 kept_at (stages.Failed fault) s piece = s
 
--- the reader after a piece that it took
+-- the reader after a push that took this piece
 abbrev pub kept_after : TextState → List ℕ → TextState
 kept_after s piece = kept_at s.stage s piece
 

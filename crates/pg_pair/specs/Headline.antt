@@ -70,7 +70,8 @@ pub record StandsReady {C : Type 0} (p : PairView C) : Type 0 where
   pub phase : backend.phase_of p.backend.stage ≡ backend_phase.Ready
   pub left : ∥ LeavesCopies p ∥₁
 
--- The headline: what the client reports settled is what the backend has answered.
+-- The theorem of a pair, true at any time: what the client has settled is what the backend has
+-- answered.
 pub record Headline {C : Type 0} (p : PairView C) : Type 0 where
   -- the settled groups are, in order, a beginning of those that the backend has answered, each
   -- with its request and its outcome
@@ -85,6 +86,6 @@ pub record Headline {C : Type 0} (p : PairView C) : Type 0 where
   -- of the requests that were made at most one isn't settled
   pub one_at_most : length p.handed ≤ suc (length p.settled)
   -- where the client's phase is Ready, so is the backend's, with copy messages alone left to drop,
-  -- unless the way to the backend is broken or a step of it was refused memory
+  -- unless the way to the backend is broken or a step of the backend was refused memory
   pub ready : client.phase_of p.client ≡ client_phase.Ready
       → p.to_backend.broken ≡ false → is_spared p.backend.stage ≡ true → StandsReady p

@@ -13,9 +13,9 @@ use Rattle.pg_pair.specs.View.{Stream, arrived, PairView}
 abbrev pub IsWithin : Stream → Type 0
 IsWithin s = s.reached ≤ length s.sent
 
--- The client's part: by some history of it, it was fed the bytes that have reached it, it has put
--- out what was sent to the backend, and its calls were made at the pair's places. All groups that
--- it has settled are with the pair.
+-- The client's part: it has a history by which it was fed the bytes that have reached it, has put
+-- out what was sent to the backend, and was called at the pair's places. All groups that it has
+-- settled are with the pair.
 abbrev pub ClientTied : {C : Type 0} → PairView C → Type 0
 ClientTied p = record {
   history : History;
@@ -28,9 +28,9 @@ ClientTied p = record {
   within : IsWithin p.to_client;
 }
 
--- The backend's part: its script can be played, its limit is the greatest, and by some history of
--- it, it was given the bytes that have reached it, found no fault in them, and has put out what was
--- sent to the client. It counts as lost only once the way to it is broken.
+-- The backend's part: its script can be played, and its limit is the greatest. It has a history by
+-- which it was given the bytes that have reached it, found no fault in them, and has put out what
+-- was sent to the client. It counts as lost only once the way to it is broken.
 abbrev pub BackendTied : {C : Type 0} → PairView C → Type 0
 BackendTied p = record {
   checked : IsChecked p.backend.script;

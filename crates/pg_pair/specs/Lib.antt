@@ -1,5 +1,6 @@
--- What a reader must believe: a pair as its callers see it, what a carrier does, what each event does to a pair, what holds of a
--- pair at any time, and what that means for the groups that its client has settled.
+-- What a reader must believe: a pair as its callers see it, what a carrier does, what each event
+-- does to a pair, what holds of a pair at any time, and what that means for the groups that its
+-- client has settled.
 pub mod View
 pub mod Beginning
 pub mod Carrying

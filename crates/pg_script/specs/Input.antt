@@ -1,4 +1,5 @@
--- What a backend has handled of the bytes that it was given, and what follows from it: its output, its log, its phase.
+-- What a backend has handled of the bytes that it was given, and what follows from it: its output,
+-- its log, its phase.
 use Rattle.std.specs.Prelude.{◌≡◌, ℕ, Bool, true, false, List, [], ◌∷◌, ◌++◌, if◌then◌else◌}
 use Rattle.std.specs.List.{flat_map}
 use Rattle.pg_wire.specs.declared.fault.WireFault.{WireFault}
@@ -34,7 +35,8 @@ is_started [] = false
 is_started (first.Startup pairs ∷ packets) = true
 is_started (p ∷ packets) = is_started packets
 
--- The bytes are these first packets, then these messages, then a rest. Messages come after a Startup alone.
+-- The bytes are these first packets, then these messages, then a rest. Messages come after a
+-- Startup alone.
 pub record IsInput (limit : ℕ) (bytes : List ℕ) (i : Input) (rest : List ℕ) : Type 0 where
   pub after_packets : List ℕ
   pub ended : Bool
@@ -137,7 +139,7 @@ packets_end s (first.Startup pairs ∷ packets) ms =
 packets_end s (first.Cancel process secret ∷ packets) ms = Refusal
 packets_end s (p ∷ packets) ms = packets_end s packets ms
 
--- where the input ends
+-- where the input ends, of a backend with this script
 abbrev pub input_end : Script → Input → End
 input_end s i = packets_end s i.packets i.messages
 

@@ -37,7 +37,8 @@ abbrev pub ReplyGrows : Type 0
 ReplyGrows = (a : Answer) (ms more : List FrontMessage)
     → IsPrefix (reply a ms) (reply a (ms ++ more))
 
--- The answer that a request gets fits it.
+-- The answer that a request gets fits it, since the internal error that stands for a missing answer
+-- fits each request.
 abbrev pub AnswerFits : Type 0
 AnswerFits = (answers : List Answer) (r : Request) → fits r (answer_for answers r) ≡ true
 

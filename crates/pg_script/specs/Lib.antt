@@ -1,5 +1,6 @@
--- What a reader must believe: what a script's answers come to and what is sent for them, and which scripts can be played.
--- A file that is named as a module of src/ says what the calls of that module do; the others are over a whole session.
+-- What a reader must believe: what a script's answers come to and what is sent for them, and which
+-- scripts can be played. A file that is named as a module of src/ says what the calls of that
+-- module do; the others are over a whole session.
 pub mod Lists
 pub mod OwnError
 pub mod Meaning

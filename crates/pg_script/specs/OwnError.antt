@@ -1,4 +1,5 @@
--- The errors that a backend sends on its own account, which no script says ("PostgreSQL Error Codes").
+-- The errors that a backend sends on its own account, which no script says ("PostgreSQL Error
+-- Codes").
 use Rattle.std.specs.Prelude.{ℕ, List, [], ◌∷◌, ◌++◌, Some, take, codes}
 use Rattle.pg_wire.specs.value.ErrorField.{ErrorField}
 use Rattle.pg_wire.specs.value.Status.TheVariants.{Idle}
@@ -12,7 +13,7 @@ own_error severity code text =
 
 -- ---- errors of a request, which leave the session open
 
--- the answer that stands for one that is missing or doesn't fit: an internal_error
+-- the answer to a request for which the script has none that fits: an internal_error
 abbrev pub no_answer : Answer
 no_answer = record {
   before = [];
@@ -21,7 +22,8 @@ no_answer = record {
   status = Idle;
 }
 
--- the error of a copy that the client gives up by a CopyFail: a query_canceled, with the first bytes of the client's reason
+-- the error of a copy that the client ends by a CopyFail: a query_canceled, with the first 200
+-- bytes of the client's reason
 abbrev pub canceled : List ℕ → List ErrorField
 canceled reason =
     own_error (codes "ERROR") (codes "57014") (codes "COPY failed: " ++ take 200 reason)

@@ -1,5 +1,5 @@
--- What a client sends that takes turns ("Message Flow"): a request and what it sends for that request's copies, and the next
--- request once this one is decided.
+-- What a client sends that takes turns ("Message Flow"): a request and what it sends for that
+-- request's copies, and the next request once this one is decided.
 use Rattle.std.specs.Prelude.{ℕ, ◌≡◌, Bool, true, false, IsSome, List, [], ◌∷◌, ◌++◌, Option, Some, None, map}
 use Rattle.std.specs.List.{list_any, AllByRecursion}
 use Rattle.pg_wire.specs.message.FrontMessage.{FrontMessage}

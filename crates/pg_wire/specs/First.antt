@@ -1,5 +1,5 @@
--- What a connection begins with: first packets, and the rest after them (Frontend/Backend Protocol, "Start-up"). How a packet is
--- spelled is passed on.
+-- What a connection begins with: first packets, and the rest after them (Frontend/Backend Protocol,
+-- "Start-up"). How a packet is spelled is passed on.
 use Rattle.std.specs.Prelude.{ℕ, ℤ, pos, ◌≡◌, ◌≤◌, ◌<ℤ◌, ◌≤ℤ◌, Bool, true, false, List, [], ◌∷◌, ◌++◌, length, take, drop}
 use Rattle.std.specs.List.{flat_map, AllByRecursion}
 use Rattle.std.specs.Int.{w32, from_be_bytes, cast_signed}
@@ -44,11 +44,11 @@ pub record PacketCode (rest : List ℕ) (c : ℤ) : Type 0 where
   pub there : 8 ≤ length rest
   pub code_is : cast_signed w32 (from_be_bytes w32 (take 4 (drop 4 rest))) ≡ c
 
--- The length is one that a packet may have.
+-- The length is 8 to 10,000, as a first packet's may be.
 abbrev pub IsPacketLength : ℤ → Type 0
 IsPacketLength n = (pos 8 ≤ℤ n) × (n ≤ℤ pos longest_packet)
 
--- Some packet has this code.
+-- The code is that of a Startup, a Cancel, an Ssl or a Gss.
 abbrev pub IsPacketCode : ℤ → Type 0
 IsPacketCode c = (p : First) × (pos (code p) ≡ c)
 
@@ -66,8 +66,8 @@ pub record IsWholePacket (rest : List ℕ) (c : ℤ) (len : ℕ) : Type 0 where
 abbrev pub NoPacket : List ℕ → Type 0
 NoPacket bytes = (p : First) → IsPacket p → packet p ≡ bytes → ⊥
 
--- The rest is faulty, for this reason. Each reason is looked at only where those above it don't hold. A packet has no tag, so
--- the tag of a bad body is 0.
+-- The rest is faulty, for this reason. Each reason is looked at only where those above it don't
+-- hold. A packet has no tag, so the tag of a bad body is 0.
 abbrev pub IsFaultyPacket : List ℕ → WireFault → Type 0
 IsFaultyPacket rest (wire.UnknownTag t) = ⊥
 IsFaultyPacket rest (wire.ShortLength n) = PacketHead rest n × (n <ℤ pos 8)

@@ -1,4 +1,5 @@
--- A decoder of first packets as its callers see it, what its calls do, and what it was given and has given.
+-- A decoder of first packets as its callers see it, what its calls do, and what it was given and
+-- has given.
 use Rattle.std.specs.Prelude.{ℕ, ℤ, ◌≡◌, ◌<◌, ◌++◌, ◌∷◌, [], ◌⊎◌, Bool, true, false, List, length, Option, Some, None, Result, Ok, Err}
 use Rattle.pg_wire.specs.declared.fault.WireFault.{WireFault}
 use Rattle.pg_wire.specs.declared.fault.WireFault.TheVariants as wire

@@ -66,7 +66,7 @@ OneBeginning = (bytes : List ℕ) (ps qs : List First) (e f : Bool) (x y : List 
     → IsBeginning bytes ps e x → IsBeginning bytes qs f y → ReadsNoFurther f y
     → (later : List First) × (qs ≡ ps ++ later) × (x ≡ flat_map packet later ++ y)
 
--- A faulty rest begins no packet.
+-- A rest that is faulty for a first packet begins no packet.
 abbrev pub FaultyBeginsNoPacket : Type 0
 FaultyBeginsNoPacket = (rest : List ℕ) (f : WireFault) → IsFaultyPacket rest f → BeginsNoPacket rest
 

@@ -1,4 +1,5 @@
--- What a reader must believe: how messages are spelled, which have a spelling, what a stream is, and what each call does.
+-- What a reader must believe: how messages are spelled, which have a spelling, what a stream is,
+-- and what each call does.
 pub mod Stream
 pub mod Decoder
 pub mod First
@@ -9,7 +10,8 @@ pub mod Fault
 pub mod Segment
 -- Words of private functions, which no public contract cites.
 pub mod Private
--- What the crates below define and the contracts here speak of. Who uses pg_wire names it through these lines.
+-- What the crates below define and the contracts here speak of. Who uses pg_wire names it through
+-- these lines.
 pub use Rattle.pg_layout.specs.Field
 pub use Rattle.pg_message.specs.Direction
 pub use Rattle.pg_message.specs.Backend

@@ -1,4 +1,5 @@
--- Segments: what a server may send for one request, up to its ReadyForQuery (Frontend/Backend Protocol, "Message Flow").
+-- Segments: what a server may send for one request, up to its ReadyForQuery (Frontend/Backend
+-- Protocol, "Message Flow").
 use Rattle.std.specs.Prelude.{◌≡◌, ℕ, Bool, true, false, List, [], ◌∷◌, ◌++◌, map, filter, filter_map, Option, Some, None, is_none, ◌⊎◌}
 use Rattle.std.specs.List.{flat_map}
 use Rattle.pg_message.specs.declared.message.BackMessage.{BackMessage}
@@ -50,7 +51,7 @@ aside_of (ParameterStatus name value) = Some (aside.Parameter name value)
 aside_of (Notification process channel payload) = Some (aside.Notification process channel payload)
 aside_of _ = None
 
--- the asides among the messages, in order
+-- the asides among the messages, in their order
 abbrev pub asides_of : List BackMessage → List Aside
 asides_of ms = filter_map aside_of ms
 
@@ -114,7 +115,7 @@ is_answer _ _ = false
 
 -- ---- what a request's segment is
 
--- what is still to be answered: any number of results, or these steps in order
+-- what a server has still to answer: any number of results, or these steps in order
 pub data Asked : Type 0 where
   Results : Asked
   Steps : List Step → Asked

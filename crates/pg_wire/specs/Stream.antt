@@ -1,4 +1,5 @@
--- A stream of one direction: messages, and the rest after them (Frontend/Backend Protocol, "Overview", "Message Formats").
+-- A stream of one direction: messages, and the rest after them (Frontend/Backend Protocol,
+-- "Overview", "Message Formats").
 use Rattle.std.specs.Prelude.{ℕ, ℤ, pos, ◌≡◌, ◌≤◌, ◌+◌, ◌-◌, ◌<ℤ◌, List, ◌++◌, length, take, drop, slice_index}
 use Rattle.std.specs.List.{flat_map, AllByRecursion}
 use Rattle.std.specs.Int.{w32, from_be_bytes, cast_signed}
@@ -36,7 +37,8 @@ pub record IsWhole {M : Type 0} (d : Direction M) (limit : ℕ) (rest : List ℕ
   pub not_long : len ≤ limit
   pub there : len + 1 ≤ length rest
 
--- The rest is faulty, for this reason. Each reason is looked at only where those above it don't hold.
+-- The rest is faulty, for this reason. Each reason is looked at only where those above it don't
+-- hold.
 abbrev pub IsFaulty : {M : Type 0} → Direction M → ℕ → List ℕ → WireFault → Type 0
 IsFaulty d limit rest (wire.UnknownTag t) = (n : ℤ) × Head rest t n × (IsTag d t → ⊥)
 IsFaulty d limit rest (wire.ShortLength n) = (t : ℕ) × Head rest t n × IsTag d t × (n <ℤ pos 4)

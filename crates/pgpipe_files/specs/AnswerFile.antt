@@ -23,8 +23,8 @@ use Rattle.pgpipe_files.specs.declared.verb.LoadWay.TheVariants as loads
 use Rattle.pgpipe_files.specs.Verb.{end_way, load_way}
 use Rattle.pgpipe_files.specs.Arguments.{◌>>=◌, text_at, read_at, copy_head_at, number, signed_number, if_all, nothing_of, text_of, pair_of, numbers_of, texts_of, error_fields_of}
 
--- ---- an answer of which lines are read: what it is without its last part, that part, and the types of the parameters of the
--- `described` in the next line
+-- ---- an answer of which lines are read: what it is without its last part, that part, and the
+-- types of the parameters of the `described` in the next line
 
 -- an answer with this status, of which no other line is read yet
 abbrev pub new_answer : Status → OpenAnswer

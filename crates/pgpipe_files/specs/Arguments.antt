@@ -1,5 +1,6 @@
--- What the fields of a line are read as: a value, and with it the fields after it where more are to come; or nothing, where
--- they aren't of the kind that is asked for. A field is a list of bytes, or null.
+-- What the fields of a line are read as: a value, and with it the fields after it where more are to
+-- come; or nothing, where they aren't of the kind that is asked for. A field is a list of bytes, or
+-- null.
 use Rattle.std.specs.Prelude.{ℕ, ℤ, pos, neg_ℤ, nat_le, true, false, if◌then◌else◌, List, [], ◌∷◌, drop, replicate, Option, Some, None, option_map}
 use Rattle.std.specs.Str.{all_ascii_digits}
 use Rattle.std.specs.Str.Parse.{digits_value, starts_with_minus}

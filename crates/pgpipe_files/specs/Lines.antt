@@ -1,6 +1,6 @@
--- What the rows of a file are read as, one after the other. What a line means is a function of what was read so far, the number of
--- the line's row, its verb, and the fields after it. It gives what is read with the line, or nothing where the line has no
--- meaning there.
+-- What the rows of a file are read as, one after the other. What a line means is a function of what
+-- was read so far, the number of the line's row, its verb, and the fields after it. It gives what
+-- is read with the line, or nothing where the line has no meaning there.
 use Rattle.std.specs.Prelude.{ℕ, ◌+◌, Bool, true, false, if◌then◌else◌, List, [], ◌∷◌, Option, Some, None, Result, Ok, Err}
 use Rattle.pg_copy.specs.declared.fault.TextFault.{TextFault}
 use Rattle.pg_copy.specs.Row.{Row}

@@ -82,7 +82,8 @@ abbrev pub request_fields : Request → Row
 request_fields (request.Query text) = Some (codes "query") ∷ Some text ∷ []
 request_fields (request.Group steps) = Some (codes "group") ∷ Some (decimal (length steps)) ∷ []
 
--- ---- a settled group: the request, its asides, its parts, its error and its status, in the form of a script
+-- ---- a settled group: the request, its asides, its parts, its error and its status, in the form
+-- of a script
 
 -- the line of an aside: `notice` with its fields, `set` with a parameter and its value, or `notify`
 -- with process, channel and payload

@@ -1,4 +1,5 @@
--- What a reader must believe: the line of a message, the line of a first packet, and what is shown of a stream.
+-- What a reader must believe: the line of a message, the line of a first packet, and what is shown
+-- of a stream.
 pub mod Messages
 pub mod Packets
 pub mod Show

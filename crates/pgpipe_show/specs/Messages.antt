@@ -1,4 +1,5 @@
--- The line of a message: its tag as a letter, its length field in decimal and its body in hexadecimal, parted by spaces.
+-- The line of a message: its tag as a letter, its length field in decimal and its body in
+-- hexadecimal, parted by spaces.
 use Rattle.std.specs.Prelude.{ℕ, List, [], ◌∷◌}
 use Rattle.std.specs.List.{flat_map}
 use Rattle.pg_wire.specs.Direction.{Direction, length_field}

@@ -1,5 +1,5 @@
--- The line of a first packet, and what comes after one: a line is a word for the packet, its length in decimal and the bytes
--- after the length in hexadecimal, parted by spaces.
+-- The line of a first packet, and what comes after one: a line is a word for the packet, its length
+-- in decimal and the bytes after the length in hexadecimal, parted by spaces.
 use Rattle.std.specs.Prelude.{ℕ, Bool, true, false, List, [], ◌∷◌, ◌++◌}
 use Rattle.std.specs.Int.{w32, to_be_bytes}
 use Rattle.std.specs.List.{flat_map}

@@ -74,8 +74,8 @@ pub record WasRun {C K : Type 0} (carries : Carrying C) (takes : K → List ℕ 
       (loop.doings cut calls.lines) (concat sent) answer
   pub sink_counts : CountsNoFailure (failures sink) answer (failures sink')
 
--- ---- a loop of two files: SCRIPT is read, then CALLS with the files that it names, and then the script is judged; what fails
--- first is the result, and nothing is sent
+-- ---- a loop of two files: SCRIPT is read, then CALLS with the files that it names, and then the
+-- script is judged; what fails first is the result, and nothing is sent
 module _ {C K : Type 0} (carries : Carrying C) (takes : K → List ℕ → K → Type 0) (failures : K
     → ℕ) (carrier : C) (cut : ℕ) (sink : K) (result : Result Unit Failure) (sink' : K) where
   -- This failure is the result, and nothing was sent.

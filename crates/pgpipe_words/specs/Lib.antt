@@ -1,5 +1,5 @@
--- What a reader must believe: the command line, the tasks that its words ask for, how a loop's files are read, what is done for
--- a task, and how it ends.
+-- What a reader must believe: the command line, the tasks that its words ask for, how a loop's
+-- files are read, what is done for a task, and how it ends.
 pub mod CommandLine
 pub mod Tasks
 pub mod Failure
