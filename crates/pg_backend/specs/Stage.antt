@@ -19,7 +19,7 @@ use Rattle.pg_backend.specs.declared.stage.BackStage.{BackStage}
 use Rattle.pg_backend.specs.declared.stage.BackStage.TheVariants as stage
 
 -- a backend as its callers see it: its script, the limit of a message's length field, the answers
--- that no request has used up, its stage, and its log
+-- that no decided request has used up, its stage, and its log
 pub record BackendState : Type 0 where
   pub script : Script
   pub limit : ℕ

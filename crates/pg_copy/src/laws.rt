@@ -3,12 +3,14 @@
 
 ghost use Rattle.pg_copy.specs.Laws.{OneSplit, OneValue, TextRoundTrip, OneFile, BinaryRoundTrip};
 
-/// The bytes of a text file are lines in one way, and a line is fields in one way: those that are read.
+/// The bytes of a text file are lines in one way, and a line is fields in one way: those that a
+/// reader takes.
 pub fn one_split()
     ensures { OneSplit }
 {}
 
-/// A field of a text file spells one value, which is the one that is read, in its place of the row.
+/// A field of a text file spells one value at most: the one that a reader gives in its place of the
+/// row.
 pub fn one_value()
     ensures { OneValue }
 {}
@@ -18,7 +20,7 @@ pub fn text_round_trip()
     ensures { TextRoundTrip }
 {}
 
-/// The bytes of a binary file are one file: the one that is read.
+/// The bytes of a binary file are a head, rows and a rest in one way: the one that a reader takes.
 pub fn one_file()
     ensures { OneFile }
 {}

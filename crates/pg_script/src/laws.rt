@@ -6,17 +6,17 @@ ghost use Rattle.pg_script.specs.Laws.{SegmentsFitLog, OneCopyEach, WelcomeIsSeg
 ghost use Rattle.pg_script.specs.Laws.{TurnsEnd, TurnsLogged, TurnsLoaded, TurnsGoOn, TurnsLeft};
 ghost use Rattle.pg_script.specs.Laws.{TranscriptGrows, LogGrows};
 
-/// Messages after those that decided a request don't change its verdict.
+/// A verdict is final: no message after those that decided a request changes it.
 pub fn verdict_stands()
     ensures { VerdictStands }
 {}
 
-/// Messages after those that decided a request don't change its reply.
+/// Once a request is decided, no further message changes the reply to it.
 pub fn reply_stands()
     ensures { ReplyStands }
 {}
 
-/// A reply grows at its end alone.
+/// More messages after a request only append to the reply.
 pub fn reply_grows()
     ensures { ReplyGrows }
 {}
@@ -26,22 +26,23 @@ pub fn answer_fits()
     ensures { AnswerFits }
 {}
 
-/// The reply to a request that is decided fits the request with the verdict's outcome.
+/// The reply to a decided request is a whole segment, which fits the request with the verdict's
+/// outcome.
 pub fn reply_fits()
     ensures { ReplyFits }
 {}
 
-/// The reply to a request that isn't decided begins what fits it.
+/// What is sent for an undecided request is the beginning of a segment that fits it.
 pub fn reply_begins()
     ensures { ReplyBegins }
 {}
 
-/// What is sent in a session grows at its end alone.
+/// More messages only append to what is sent in a session.
 pub fn replies_grow()
     ensures { RepliesGrow }
 {}
 
-/// Its log grows at its end alone.
+/// More messages only append to the log of a session.
 pub fn session_log_grows()
     ensures { SessionLogGrows }
 {}
@@ -56,22 +57,24 @@ pub fn one_copy_each()
     ensures { OneCopyEach }
 {}
 
-/// What is sent first to a client that is let in is one segment.
+/// What a client that is let in is sent up to its first ReadyForQuery, a question for its password
+/// included, is one segment.
 pub fn welcome_is_segment()
     ensures { WelcomeIsSegment }
 {}
 
-/// The session of a client that takes turns is, request by request, what its own copy messages come to.
+/// The session of a client that takes turns has, for each request, what its own copy messages
+/// decide.
 pub fn turns_read()
     ensures { TurnsRead }
 {}
 
-/// A Terminate after the turns ends the session, and changes nothing else.
+/// A Terminate after the last turn ends the session, and changes no exchange.
 pub fn turns_end()
     ensures { TurnsEnd }
 {}
 
-/// The requests of the log are the first that a client made that takes turns.
+/// The log of a client that takes turns has the first of its requests, in order.
 pub fn turns_logged()
     ensures { TurnsLogged }
 {}
@@ -93,12 +96,12 @@ pub fn turns_left()
     ensures { TurnsLeft }
 {}
 
-/// What a backend sends grows at its end alone.
+/// A longer input only appends to what a backend sends.
 pub fn transcript_grows()
     ensures { TranscriptGrows }
 {}
 
-/// Its log grows at its end alone.
+/// A longer input only appends to a backend's log.
 pub fn log_grows()
     ensures { LogGrows }
 {}

@@ -8,11 +8,11 @@ use pg_wire::{FrontMessage, Seq, Step};
 
 /// What a message means where a request is awaited.
 pub enum Meaning {
-    /// It is a request.
+    /// A query, with its text.
     Asks(Seq<u8>),
-    /// It adds a step to a group.
+    /// One more step of a group.
     Adds(Step),
-    /// It closes a group, which is then a request.
+    /// A Sync: the group is complete, and is a request.
     Closes,
     /// It has no effect.
     Drops,

@@ -4,7 +4,7 @@ ghost use Rattle.pg_wire.specs.Laws.{OneSpelling, OneReading, FaultyBeginsNone, 
 
 use pg_message::Message;
 
-/// No message has the bytes of another, and none begins another.
+/// Two messages with the same bytes are one, and no message's bytes begin another's.
 pub fn one_spelling<M: Message>()
     ensures { OneSpelling M.direction }
 {
@@ -35,7 +35,7 @@ pub fn round_trip<M: Message>()
     M::one_to_one();
 }
 
-/// No first packet has the bytes of another, and none begins another.
+/// Two first packets with the same bytes are one, and no packet's bytes begin another's.
 pub fn one_packet()
     ensures { OnePacket }
 {}
@@ -45,12 +45,12 @@ pub fn one_beginning()
     ensures { OneBeginning }
 {}
 
-/// A rest that is faulty for a first packet begins none.
+/// A rest that is faulty for a first packet begins no packet.
 pub fn faulty_begins_no_packet()
     ensures { FaultyBeginsNoPacket }
 {}
 
-/// A rest is faulty for one reason at most, as that of a first packet too.
+/// A rest where a first packet may come is faulty for one reason at most.
 pub fn one_packet_fault()
     ensures { OnePacketFault }
 {}
