@@ -78,7 +78,7 @@ IsFaultyPacket rest (wire.BadBody t) = (t ≡ 0) × (c : ℤ) × (len : ℕ) × 
     × NoPacket (take len rest)
 IsFaultyPacket rest wire.Memory = ⊥
 
--- No packet's bytes stand at the beginning of the rest.
+-- The rest begins with no first packet.
 abbrev pub BeginsNoPacket : List ℕ → Type 0
 BeginsNoPacket rest = (p : First) (more : List ℕ) → IsPacket p → rest ≡ packet p ++ more → ⊥
 

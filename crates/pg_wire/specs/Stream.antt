@@ -48,7 +48,7 @@ IsFaulty d limit rest (wire.BadBody t) = (len : ℕ) × IsWhole d limit rest t l
 IsFaulty d limit rest (wire.BadFirst c) = ⊥
 IsFaulty d limit rest wire.Memory = ⊥
 
--- No message's spelling stands at the beginning of the rest.
+-- The rest begins with no message within the limit.
 abbrev pub BeginsNoMessage : {M : Type 0} → Direction M → ℕ → List ℕ → Type 0
 BeginsNoMessage {M} d limit rest = (m : M) (more : List ℕ) → IsWithin d limit m
     → rest ≡ spelling d m ++ more → ⊥
