@@ -72,8 +72,8 @@ pub record Undecided (a : Answer) (load : Load)
   pub chunks : loaded ≡ chunks_in (map in_copy since)
   pub room : NotRefused load (length loaded)
 
--- After these messages the session awaits this, and the answers `left` are for later requests; in a
--- copy the first of them is the answer of its request.
+-- After these messages the session awaits this, and the answers `left` aren't used up: the first of
+-- them is for the next request, or in a copy for the copy's own.
 abbrev pub SessionAwaits : List Answer → List FrontMessage → List Answer → Awaits → Type 0
 SessionAwaits answers ms left (awaits.Password expected) = ⊥
 SessionAwaits answers ms left (awaits.Request steps) = (done : List Exchange)

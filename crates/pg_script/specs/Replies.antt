@@ -81,7 +81,7 @@ aside_message (aside.Parameter name value) = back.ParameterStatus name value
 aside_message (aside.Notification process channel payload) =
     back.Notification process channel payload
 
--- the messages of these parts, none of which is a copy that is refused
+-- the messages of these parts; a copy that is refused has none here
 abbrev pub parts_sent : List ScriptPart → List BackMessage
 parts_sent parts = flat_map messages_of (parts_of parts)
 
