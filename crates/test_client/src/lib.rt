@@ -3,7 +3,5 @@
 #![tactic(auto)]
 
 mod driver;
-#[cfg(test)]
-mod tests;
 
 pub use driver::{DriverFault, ask, connect};
