@@ -2,3 +2,5 @@
 pub mod Definitions
 pub mod Machine
 pub mod Handling
+-- What proofs above cite of the crate below.
+pub use Rattle.pg_script.proofs.Beginnings

@@ -17,7 +17,7 @@ use Rattle.pg_script.specs.Input.{admission_log, packets_log, At, admission_end,
 use Rattle.pg_script.specs.Meaning.{in_copy}
 use Rattle.pg_script.specs.Opening.{Sent, Says, by_password, admission_messages, sent_for}
 use Rattle.pg_script.specs.Replies.{Copies, shape}
-use Rattle.pg_script.specs.Session.{Exchange, Session, begin, cut, session, replies, log_of}
+use Rattle.pg_script.specs.Session.{Exchange, Session, from_request, session_past, session, replies, log_of}
 use Rattle.pg_backend.specs.declared.stage.Awaits.{Awaits}
 use Rattle.pg_backend.specs.declared.stage.Awaits.TheVariants as awaits
 
@@ -31,16 +31,17 @@ prepend done s = record { exchanges = done ++ s.exchanges; place = s.place }
 -- read with the answers `left`, after these steps of a group that is open.
 pub record BetweenRequests (answers : List Answer) (ms : List FrontMessage)
     (done : List Exchange) (left : List Answer) (steps : List Step) : Type 0 where
-  pub goes_on : (more : List FrontMessage)
-      → session answers (ms ++ more) ≡ prepend done (cut 0 left steps more)
+  pub continues : (more : List FrontMessage)
+      → session answers (ms ++ more) ≡ prepend done (session_past 0 left steps more)
 
 -- After `ms` this request is undecided: `since` came after it, and whatever comes next is read as
 -- more of its copy.
 pub record WithinRequest (answers : List Answer) (ms : List FrontMessage) (done : List Exchange)
     (left : List Answer) (r : Request) (since : List FrontMessage) : Type 0 where
-  pub goes_on : (more : List FrontMessage)
+  pub continues : (more : List FrontMessage)
       → session answers (ms ++ more)
-      ≡ prepend done (begin left r (since ++ more) (λ n. cut n (others left) [] (since ++ more)))
+      ≡ prepend done (from_request left r (since ++ more)
+      (λ n. session_past n (others left) [] (since ++ more)))
 
 -- the bytes of the CopyData among the messages of a copy, in order
 abbrev pub chunks_in : List InCopy → List (List ℕ)

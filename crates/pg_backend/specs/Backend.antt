@@ -3,15 +3,15 @@ use Rattle.std.specs.Prelude.{ℕ, ◌≡◌, ◌<◌, Bool, true, false, List, 
 use Rattle.pg_wire.specs.message.FrontMessage.{FrontMessage}
 use Rattle.pg_wire.specs.Frontend.{frontend}
 use Rattle.pg_script.specs.declared.phase.BackPhase.TheVariants as phase
-use Rattle.pg_script.specs.Input.{Input, is_started, IsFaultyRest, IsOpenRest, Takes, IsStray}
+use Rattle.pg_script.specs.Input.{Input, is_started, IsFaultyRest, IsOpenRest, HandlesNext, IsStray}
 use Rattle.pg_script.specs.Lists.{IsPrefix}
 use Rattle.pg_backend.specs.declared.fault.BackendFault.{BackendFault}
 use Rattle.pg_backend.specs.declared.fault.BackendFault.TheVariants as faults
 use Rattle.pg_backend.specs.declared.stage.ClosedBy.TheVariants as closed_by
 use Rattle.pg_backend.specs.declared.stage.BackStage.TheVariants as stage
 -- A backend's stage and its histories.
-pub use Rattle.pg_backend.specs.Stage.{BackendState, awaited_end, phase_of, is_spared, was_lost}
-pub use Rattle.pg_backend.specs.Stage.{phase_by, IsWaiting, IsBroken, IsThere, WantsMemory}
+pub use Rattle.pg_backend.specs.Stage.{BackendState, awaited_end, phase_of, had_memory, was_lost}
+pub use Rattle.pg_backend.specs.Stage.{phase_by, IsWaiting, HasFaultyRest, IsNextWhole, WantsMemory}
 pub use Rattle.pg_backend.specs.Stage.{IsSound, stored, lost_stage}
 pub use Rattle.pg_backend.specs.History.{History, IsHistoryOf, HasHandled, Carries, blank}
 pub use Rattle.pg_backend.specs.History.{unchanged, with_pushed, with_handled, with_message}
@@ -35,7 +35,7 @@ Stores old piece (Err f) new = ⊥
 pub record PlaysOn (old new : BackendState) : Type 0 where
   pub script_is : new.script ≡ old.script
   pub limit_is : new.limit ≡ old.limit
-  pub had_memory : is_spared new.stage ≡ true
+  pub not_starved : had_memory new.stage ≡ true
   pub not_lost : was_lost new.stage ≡ false
 
 -- What `step` answers: false where nothing whole waits; true for a packet or message that may stand
@@ -48,7 +48,7 @@ Steps old before (Ok true) new after = (IsClosed old → ⊥)
     × PlaysOn old new × IsPrefix old.log new.log × IsPrefix before after
 Steps old before (Err (faults.Unexpected t)) new after = (IsClosed old → ⊥)
     × PlaysOn old new × IsClosed new × (new.log ≡ old.log) × IsPrefix before after
-Steps old before (Err (faults.Wire f)) new after = IsBroken old.stage f
+Steps old before (Err (faults.Wire f)) new after = HasFaultyRest old.stage f
     × (new ≡ record old { stage = stage.Closed closed_by.Input }) × IsPrefix before after
 Steps old before (Err faults.Memory) new after = WantsMemory old.stage
     × (new ≡ record old { stage = stage.Closed closed_by.Memory }) × (after ≡ before)
@@ -61,11 +61,11 @@ abbrev pub Handles : History → List ℕ
 Handles h added old (Ok false) new = IsOpenRest (is_started h.input.packets) old.limit h.rest
     × IsHistoryOf h new
 Handles h added old (Ok true) new = (i : Input) × (rest : List ℕ)
-    × Takes old.limit h.input h.rest i rest × (IsStray old.script i → ⊥)
+    × HandlesNext old.limit h.input h.rest i rest × (IsStray old.script i → ⊥)
     × IsHistoryOf (with_handled i rest added h) new
 Handles h added old (Err (faults.Unexpected t)) new = (m : FrontMessage) × (rest : List ℕ)
     × (frontend.tag m ≡ t)
-    × Takes old.limit h.input h.rest (with_message m h.input) rest
+    × HandlesNext old.limit h.input h.rest (with_message m h.input) rest
     × IsStray old.script (with_message m h.input)
     × IsHistoryOf (with_handled (with_message m h.input) rest added h) new
 Handles h added old (Err (faults.Wire f)) new =

@@ -44,9 +44,9 @@ phase_of (stage.Closed by) = phase.Closed
 
 -- No step of the backend was refused memory: such a step would have closed it, and nothing opens a
 -- closed backend.
-abbrev pub is_spared : BackStage → Bool
-is_spared (stage.Closed closed_by.Memory) = false
-is_spared s = true
+abbrev pub had_memory : BackStage → Bool
+had_memory (stage.Closed closed_by.Memory) = false
+had_memory s = true
 
 -- whether it was the loss of its connection that closed the backend
 abbrev pub was_lost : BackStage → Bool
@@ -69,22 +69,22 @@ IsWaiting (stage.Open d a) = IsOpen frontend d.limit d.kept
 IsWaiting (stage.Closed by) = ⊥
 
 -- The rest is faulty, for this reason. That of a closed backend isn't looked at.
-abbrev pub IsBroken : BackStage → WireFault → Type 0
-IsBroken (stage.First d) f = IsFaultyPacket d.kept f
-IsBroken (stage.Open d a) f = IsFaulty frontend d.limit d.kept f
-IsBroken (stage.Closed by) f = ⊥
+abbrev pub HasFaultyRest : BackStage → WireFault → Type 0
+HasFaultyRest (stage.First d) f = IsFaultyPacket d.kept f
+HasFaultyRest (stage.Open d a) f = IsFaulty frontend d.limit d.kept f
+HasFaultyRest (stage.Closed by) f = ⊥
 
 -- All bytes of the next packet or message are there, by its length field.
-abbrev pub IsThere : BackStage → Type 0
-IsThere (stage.First d) = (c : ℤ) × (len : ℕ) × IsWholePacket d.kept c len
-IsThere (stage.Open d a) = decoder.WantsMemory frontend d.limit d.kept
-IsThere (stage.Closed by) = ⊥
+abbrev pub IsNextWhole : BackStage → Type 0
+IsNextWhole (stage.First d) = (c : ℤ) × (len : ℕ) × IsWholePacket d.kept c len
+IsNextWhole (stage.Open d a) = decoder.WantsMemory frontend d.limit d.kept
+IsNextWhole (stage.Closed by) = ⊥
 
 -- Where a step may be refused memory: all bytes of the next packet or message are there, or the
 -- rest is faulty. In a closed backend never.
 abbrev pub WantsMemory : BackStage → Type 0
 WantsMemory (stage.Closed by) = ⊥
-WantsMemory s = IsThere s ⊎ (IsWaiting s → ⊥)
+WantsMemory s = IsNextWhole s ⊎ (IsWaiting s → ⊥)
 
 -- While a backend is open, its decoder has found no fault and has the backend's limit; before the
 -- Startup more first packets may come.

@@ -8,7 +8,7 @@ ghost use Rattle.pg_script.specs.Replies.{aside_message, parts_sent, error_sent,
 ghost use Rattle.pg_script.specs.declared.script.Load.TheVariants.{Refuse};
 ghost use Rattle.pg_backend.specs.Awaited.{NotRefused};
 ghost use Rattle.pg_backend.specs.Private.Moves.{parts_before, parts_after};
-ghost use Rattle.pg_script.specs.Telling.{Tells};
+ghost use Rattle.pg_script.specs.Telling.{EncodesAll};
 ghost use Rattle.pg_backend.specs.Private.Answering.{IsSplit, Gives, BeginsCopy, Opens, Decides};
 
 use crate::fault::BackendFault;
@@ -54,7 +54,8 @@ fn split_at_copy(parts: &[ScriptPart]) -> Split<'_>
 
 /// An error, if there is one, and ReadyForQuery.
 fn tell_end(error: &Option<Fields>, status: Status, out: &mut Vec<u8>) -> Result<(), EncodeFault>
-    ensures { Tells (error_sent error.now ++ Ready status ∷ []) out.old.items result out.new.items }
+    ensures { EncodesAll (error_sent error.now ++ Ready status ∷ [])
+        out.old.items result out.new.items }
 {
     let so_far = tell_error(error, out);
     both(so_far, encode(&BackMessage::Ready(status), out))
@@ -62,7 +63,7 @@ fn tell_end(error: &Option<Fields>, status: Status, out: &mut Vec<u8>) -> Result
 
 /// These parts, and the end of the answer.
 fn tell_rest(answer: &Answer, parts: &[ScriptPart], out: &mut Vec<u8>) -> Result<(), EncodeFault>
-    ensures { Tells (parts_sent parts.now ++ end_sent answer.now.error answer.now)
+    ensures { EncodesAll (parts_sent parts.now ++ end_sent answer.now.error answer.now)
         out.old.items result out.new.items }
 {
     let so_far = tell_all(parts, out);
@@ -71,7 +72,7 @@ fn tell_rest(answer: &Answer, parts: &[ScriptPart], out: &mut Vec<u8>) -> Result
 
 /// An answer with these parts.
 fn tell_whole(answer: &Answer, parts: &[ScriptPart], out: &mut Vec<u8>) -> Result<(), EncodeFault>
-    ensures { Tells (map aside_message answer.now.before
+    ensures { EncodesAll (map aside_message answer.now.before
         ++ (parts_sent parts.now ++ end_sent answer.now.error answer.now))
         out.old.items result out.new.items }
 {
@@ -86,7 +87,7 @@ fn tell_opening(
     head: &CopyHead,
     out: &mut Vec<u8>,
 ) -> Result<(), EncodeFault>
-    ensures { Tells (map aside_message answer.now.before
+    ensures { EncodesAll (map aside_message answer.now.before
         ++ (parts_sent parts.now ++ CopyIn head.now ∷ []))
         out.old.items result out.new.items }
 {
@@ -104,7 +105,7 @@ fn tell_refusal(
     error: &Option<Fields>,
     out: &mut Vec<u8>,
 ) -> Result<(), EncodeFault>
-    ensures { Tells (map aside_message answer.now.before
+    ensures { EncodesAll (map aside_message answer.now.before
         ++ (parts_sent parts.now ++ CopyIn head.now ∷ end_sent error.now answer.now))
         out.old.items result out.new.items }
 {
@@ -119,7 +120,7 @@ fn tell_completion(
     parts: &[ScriptPart],
     out: &mut Vec<u8>,
 ) -> Result<(), EncodeFault>
-    ensures { Tells (CommandComplete tag.now
+    ensures { EncodesAll (CommandComplete tag.now
         ∷ (parts_sent parts.now ++ end_sent answer.now.error answer.now))
         out.old.items result out.new.items }
 {

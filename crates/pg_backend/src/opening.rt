@@ -3,7 +3,7 @@
 ghost use Rattle.std.specs.Prelude.{◌≡◌, ◌==◌, ◌<◌, [], length, IsTrue, ◌↔◌};
 ghost use Rattle.pg_script.specs.Opening.{welcome, user_from};
 ghost use Rattle.pg_backend.specs.Private.Opening.{Greets};
-ghost use Rattle.pg_script.specs.Telling.{Tells};
+ghost use Rattle.pg_script.specs.Telling.{EncodesAll};
 
 use crate::answering::or_memory;
 use crate::fault::BackendFault;
@@ -29,7 +29,7 @@ pub fn user(pairs: &[(Seq<u8>, Seq<u8>)]) -> &[u8]
 
 /// AuthenticationOk, the run-time parameters, the key, and that the server is ready ("Start-up").
 pub fn tell_welcome(script: &Script, out: &mut Vec<u8>) -> Result<(), EncodeFault>
-    ensures { Tells (welcome script.now) out.old.items result out.new.items }
+    ensures { EncodesAll (welcome script.now) out.old.items result out.new.items }
 {
     let so_far = encode(&BackMessage::AuthOk, out);
     let so_far = both(so_far, tell_all(script.pairs.as_slice(), out));

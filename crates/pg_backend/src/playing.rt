@@ -6,7 +6,7 @@ ghost use Rattle.pg_script.specs.declared.meaning.InCopy.TheVariants.{Chunk};
 ghost use Rattle.pg_script.specs.Fitting.{answer_for};
 ghost use Rattle.pg_script.specs.OwnError.{no_answer};
 ghost use Rattle.pg_script.specs.Meaning.{meaning, in_copy};
-ghost use Rattle.pg_backend.specs.Private.Moves.{load_result, refuses_at, asked, between, effect};
+ghost use Rattle.pg_backend.specs.Private.Moves.{load_result, refuses_at, requested, between, effect};
 ghost use Rattle.pg_backend.specs.Private.Moves.{entered, entering, has_effect, move, decided};
 ghost use Rattle.pg_backend.specs.Private.Moves.{strays};
 ghost use Rattle.pg_backend.specs.Private.Answering.{Opens};
@@ -138,7 +138,7 @@ impl Playing {
 
     /// Answers a request, and logs it if it is decided.
     fn ask(&mut self, request: Request, out: &mut Vec<u8>) -> Result<Next, BackendFault>
-        ensures { Moves (asked self.old.left request)
+        ensures { Moves (requested self.old.left request)
             self.old out.old.items result self.new out.new.items }
     {
         match self.open(request, out)? {

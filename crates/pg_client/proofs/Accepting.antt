@@ -10,23 +10,24 @@ use Rattle.pg_client.specs.declared.phase.Cause.{Cause}
 use Rattle.pg_client.specs.declared.phase.Cause.TheVariants as cause
 use Rattle.pg_client.specs.declared.phase.Phase.{Phase}
 use Rattle.pg_client.specs.declared.phase.Phase.TheVariants as phase
-use Rattle.pg_client.specs.declared.place.CopyAnswer.{CopyAnswer}
-use Rattle.pg_client.specs.declared.place.CopyAnswer.TheVariants.{Awaited, Done, Refused}
-use Rattle.pg_client.specs.declared.place.Open.TheVariants as begun
-use Rattle.pg_client.specs.declared.place.Stage.{Stage}
-use Rattle.pg_client.specs.declared.place.Stage.TheVariants.{Within}
-use Rattle.pg_client.specs.declared.place.Stand.{Stand}
-use Rattle.pg_client.specs.declared.place.Stand.TheVariants.{New, Starting, Idle, Busy}
-use Rattle.pg_client.specs.declared.place.Welcome.TheVariants.{Fresh}
+use Rattle.pg_client.specs.declared.segment.CopyAnswer.{CopyAnswer}
+use Rattle.pg_client.specs.declared.segment.CopyAnswer.TheVariants.{Awaited, Done, Refused}
+use Rattle.pg_client.specs.declared.segment.begun.Open.TheVariants as begun
+use Rattle.pg_client.specs.Segment.{Stage, Within}
+use Rattle.pg_client.specs.declared.stand.Stand.{Stand}
+use Rattle.pg_client.specs.declared.stand.Stand.TheVariants.{New, Starting, Idle, Busy}
+use Rattle.pg_client.specs.declared.startup.Welcome.TheVariants.{Fresh}
 use Rattle.pg_client.specs.declared.settings.Settings.{Settings}
 use Rattle.pg_client.specs.declared.settled.Settled.{Settled}
-use Rattle.pg_client.specs.Session.{requests_in, Call, Start, Ask, Chunk, CopyEnd, CopyFail, Terminate, Happening, Did, Came, Expected, IsStarted, IsTerminated, HasPlace, IsAllowed, AreAllowed}
+use Rattle.pg_client.specs.declared.call.Call.{Call}
+use Rattle.pg_client.specs.declared.call.Call.TheVariants as call
+use Rattle.pg_client.specs.Session.{requests_in, Happening, Did, Came, Expected, IsStarted, IsTerminated, MayBeCalled, IsAllowed, AreAllowed}
 use Rattle.pg_client.specs.Client.{ClientView, phase_of, phase_with, stand_phase, busy_phase_of, IsOpenPhase, Shows}
 use Rattle.pg_client.specs.Sent.{sent_at, sent_in, sent_by, IsSpelled, IsSpelledAt}
 use Rattle.pg_client.specs.Closed.{Ends}
 use Rattle.pg_client.specs.History.{with_ends, happenings, with_call, Carries}
 use Rattle.pg_client.specs.Calls.{Accepts}
-use Rattle.pg_client.specs.Judged.{Stands}
+use Rattle.pg_client.specs.Stand.{Stands}
 use Rattle.pg_client.specs.Private.Calling.{with_answer, with_request}
 use Rattle.pg_client.proofs.Agreeing.{answer_is_said}
 use Rattle.pg_client.proofs.FactsHold.{stand_facts}
@@ -39,13 +40,13 @@ use Rattle.pg_client.proofs.Merging.{merged-did, ends_within, places_more, order
 
 -- the cause of a close that a call is
 abbrev pub closing : Call → Option Cause
-closing Terminate = Some cause.Terminated
+closing call.Terminate = Some cause.Terminated
 closing _ = None
 
 -- the call may be made wherever the client stands so, and it stands there then
 pub record Follows (old : Stand) (c : Call) (new : Stand) : Type 0 where
   pub stands : (hs : List Happening) (settled : List Settled) → Stands hs old settled → Stands (hs ++ Did c ∷ []) new settled
-  pub in_place : (hs : List Happening) (settled : List Settled) → AnswerIsSaid hs → Stands hs old settled → HasPlace hs c
+  pub in_place : (hs : List Happening) (settled : List Settled) → AnswerIsSaid hs → Stands hs old settled → MayBeCalled hs c
 
 pub sent_more : (settings : Settings) (hs : List Happening) (h : Happening) → sent_in settings (hs ++ h ∷ []) ≡ sent_in settings hs ++ sent_at settings h
 sent_more settings [] h = append-nil (sent_at settings h)
@@ -56,28 +57,28 @@ spelled_more settings [] h all one = (one, tt)
 spelled_more settings (x ∷ xs) h all one = (all.0, spelled_more settings xs h all.1 one)
 
 NotYet : Happening → Type 0
-NotYet (Did Terminate) = ⊥
+NotYet (Did call.Terminate) = ⊥
 NotYet _ = Unit {0}
 
 pub not_terminated_more : (hs : List Happening) (h : Happening) → (IsTerminated hs → ⊥) → (IsTerminated (h ∷ []) → ⊥) → IsTerminated (hs ++ h ∷ []) → ⊥
 not_terminated_more [] h none one t = one t
-not_terminated_more (Did Terminate ∷ hs) h none one t = none tt
+not_terminated_more (Did call.Terminate ∷ hs) h none one t = none tt
 not_terminated_more (Did _ ∷ hs) h none one t = not_terminated_more hs h none one t
 not_terminated_more (Came x ∷ hs) h none one t = not_terminated_more hs h none one t
 
-terminated_last : (hs : List Happening) → IsTerminated (hs ++ Did Terminate ∷ [])
+terminated_last : (hs : List Happening) → IsTerminated (hs ++ Did call.Terminate ∷ [])
 terminated_last [] = tt
-terminated_last (Did Terminate ∷ hs) = tt
+terminated_last (Did call.Terminate ∷ hs) = tt
 terminated_last (Did _ ∷ hs) = terminated_last hs
 terminated_last (Came x ∷ hs) = terminated_last hs
 
 terminated_by : (hs : List Happening) (c : Call) → (IsTerminated hs → ⊥) → IsTerminated (hs ++ Did c ∷ []) ↔ (closing c ≡ Some cause.Terminated)
-terminated_by hs Terminate none = (λ t. refl, λ e. terminated_last hs)
-terminated_by hs Start none = (λ t. absurd (not_terminated_more hs (Did Start) none (λ k. k) t), λ e. cc)
-terminated_by hs (Ask r) none = (λ t. absurd (not_terminated_more hs (Did (Ask r)) none (λ k. k) t), λ e. cc)
-terminated_by hs (Chunk b) none = (λ t. absurd (not_terminated_more hs (Did (Chunk b)) none (λ k. k) t), λ e. cc)
-terminated_by hs CopyEnd none = (λ t. absurd (not_terminated_more hs (Did CopyEnd) none (λ k. k) t), λ e. cc)
-terminated_by hs (CopyFail b) none = (λ t. absurd (not_terminated_more hs (Did (CopyFail b)) none (λ k. k) t), λ e. cc)
+terminated_by hs call.Terminate none = (λ t. refl, λ e. terminated_last hs)
+terminated_by hs call.Start none = (λ t. absurd (not_terminated_more hs (Did call.Start) none (λ k. k) t), λ e. cc)
+terminated_by hs (call.Request r) none = (λ t. absurd (not_terminated_more hs (Did (call.Request r)) none (λ k. k) t), λ e. cc)
+terminated_by hs (call.Chunk b) none = (λ t. absurd (not_terminated_more hs (Did (call.Chunk b)) none (λ k. k) t), λ e. cc)
+terminated_by hs call.Done none = (λ t. absurd (not_terminated_more hs (Did call.Done) none (λ k. k) t), λ e. cc)
+terminated_by hs (call.Fail b) none = (λ t. absurd (not_terminated_more hs (Did (call.Fail b)) none (λ k. k) t), λ e. cc)
 
 -- the calls stay allowed after a message, and after one more that is
 abbrev Next : List Happening → Happening → Type 0
@@ -98,7 +99,7 @@ allowed_more hs h all new before c later e =
     at_split (z ∷ zs) is k = all before c zs (is ∙ ap (λ (x : Happening). before ++ x ∷ zs) (let y : z ∷ (zs ++ h ∷ []) ≡ Did c ∷ later = k in cc))
 
 ends_open : (settings : Settings) (hs : List Happening) (rest kept : List ℕ) (c : Call) → Ends settings hs rest kept None → Ends settings (hs ++ Did c ∷ []) rest kept (closing c)
-ends_open settings hs rest kept Terminate h = (h, (hs, refl))
+ends_open settings hs rest kept call.Terminate h = (h, (hs, refl))
 ends_open settings hs rest kept _ h = h
 
 shows_same : (stand : Stand) (closed : Option Cause) → Shows stand stand closed false
@@ -160,11 +161,11 @@ last_asked requests earlier request e none = by earlier (sym none ∙ e)
     by [] k = cc
     by (r ∷ rs) k = cc
 
-start_follows : (stand : Stand) → stand_phase stand ≡ phase.New → Follows stand Start (Starting Fresh)
+start_follows : (stand : Stand) → stand_phase stand ≡ phase.New → Follows stand call.Start (Starting Fresh)
 start_follows New e = record { stands = λ hs settled h. did_start hs settled h; in_place = λ hs settled same h started. subst IsStarted h.0 started }
 start_follows (Starting w) e = absurd cc
 start_follows (Idle asides) e = absurd cc
-start_follows (Busy request parts stage asides answer) e = absurd (never stage answer e)
+start_follows (Busy segment) e = absurd (never segment.stage segment.answer e)
   where
     never : (s : Stage) (a : CopyAnswer) → busy_phase_of s a ≡ phase.New → ⊥
     never (Within (begun.CopyIn head)) Awaited k = cc
@@ -172,11 +173,11 @@ start_follows (Busy request parts stage asides answer) e = absurd (never stage a
     never (Within (begun.CopyIn head)) Refused k = cc
     never _ a k = cc
 
-ask_follows : (stand : Stand) (request : Request) → stand_phase stand ≡ phase.Ready → Follows stand (Ask request) (with_request stand request)
+ask_follows : (stand : Stand) (request : Request) → stand_phase stand ≡ phase.Ready → Follows stand (call.Request request) (with_request stand request)
 ask_follows New request e = absurd cc
 ask_follows (Starting w) request e = absurd cc
 ask_follows (Idle asides) request e = record { stands = λ hs settled h. did_ask hs request asides settled h; in_place = λ hs settled same h. (h.0, (stand_facts hs (Idle asides) settled h).ready.0 refl) }
-ask_follows (Busy q parts stage asides answer) request e = absurd (never stage answer e)
+ask_follows (Busy segment) request e = absurd (never segment.stage segment.answer e)
   where
     never : (s : Stage) (a : CopyAnswer) → busy_phase_of s a ≡ phase.Ready → ⊥
     never (Within (begun.CopyIn head)) Awaited k = cc
@@ -184,38 +185,38 @@ ask_follows (Busy q parts stage asides answer) request e = absurd (never stage a
     never (Within (begun.CopyIn head)) Refused k = cc
     never _ a k = cc
 
-chunk_follows : (stand : Stand) (bytes : List ℕ) → stand_phase stand ≡ phase.CopyingIn → Follows stand (Chunk bytes) stand
+chunk_follows : (stand : Stand) (bytes : List ℕ) → stand_phase stand ≡ phase.CopyingIn → Follows stand (call.Chunk bytes) stand
 chunk_follows New bytes e = absurd cc
 chunk_follows (Starting w) bytes e = absurd cc
 chunk_follows (Idle asides) bytes e = absurd cc
-chunk_follows (Busy request parts stage asides answer) bytes e = record {
-  stands = λ hs settled h. did_chunk hs request parts stage asides answer settled h bytes;
-  in_place = λ hs settled same h. (last_asked (requests_in hs) h.1.earlier request h.1.last, copying_in hs same ((stand_facts hs (Busy request parts stage asides answer) settled h).copying.0 e));
+chunk_follows (Busy segment) bytes e = record {
+  stands = λ hs settled h. did_chunk hs segment settled h bytes;
+  in_place = λ hs settled same h. (last_asked (requests_in hs) h.1.earlier segment.request h.1.last, copying_in hs same ((stand_facts hs (Busy segment) settled h).copying.0 e));
 }
 
-copy_end_follows : (stand : Stand) → stand_phase stand ≡ phase.CopyingIn → Follows stand CopyEnd (with_answer stand Done)
+copy_end_follows : (stand : Stand) → stand_phase stand ≡ phase.CopyingIn → Follows stand call.Done (with_answer stand Done)
 copy_end_follows New e = absurd cc
 copy_end_follows (Starting w) e = absurd cc
 copy_end_follows (Idle asides) e = absurd cc
-copy_end_follows (Busy request parts stage asides answer) e = record {
-  stands = λ hs settled h. did_copy_end hs request parts stage asides answer settled h;
-  in_place = λ hs settled same h. (last_asked (requests_in hs) h.1.earlier request h.1.last, copying_in hs same ((stand_facts hs (Busy request parts stage asides answer) settled h).copying.0 e));
+copy_end_follows (Busy segment) e = record {
+  stands = λ hs settled h. did_copy_end hs segment settled h;
+  in_place = λ hs settled same h. (last_asked (requests_in hs) h.1.earlier segment.request h.1.last, copying_in hs same ((stand_facts hs (Busy segment) settled h).copying.0 e));
 }
 
-copy_fail_follows : (stand : Stand) (reason : List ℕ) → stand_phase stand ≡ phase.CopyingIn → Follows stand (CopyFail reason) (with_answer stand Refused)
+copy_fail_follows : (stand : Stand) (reason : List ℕ) → stand_phase stand ≡ phase.CopyingIn → Follows stand (call.Fail reason) (with_answer stand Refused)
 copy_fail_follows New reason e = absurd cc
 copy_fail_follows (Starting w) reason e = absurd cc
 copy_fail_follows (Idle asides) reason e = absurd cc
-copy_fail_follows (Busy request parts stage asides answer) reason e = record {
-  stands = λ hs settled h. did_copy_fail hs request parts stage asides answer settled h reason;
-  in_place = λ hs settled same h. (last_asked (requests_in hs) h.1.earlier request h.1.last, copying_in hs same ((stand_facts hs (Busy request parts stage asides answer) settled h).copying.0 e));
+copy_fail_follows (Busy segment) reason e = record {
+  stands = λ hs settled h. did_copy_fail hs segment settled h reason;
+  in_place = λ hs settled same h. (last_asked (requests_in hs) h.1.earlier segment.request h.1.last, copying_in hs same ((stand_facts hs (Busy segment) settled h).copying.0 e));
 }
 
-terminate_follows : (stand : Stand) → IsOpenPhase (stand_phase stand) → Follows stand Terminate stand
+terminate_follows : (stand : Stand) → IsOpenPhase (stand_phase stand) → Follows stand call.Terminate stand
 terminate_follows New o = absurd o
 terminate_follows (Starting w) o = record { stands = λ hs settled h. did_terminate hs (Starting w) settled h.0 h; in_place = λ hs settled same h. h.0 }
 terminate_follows (Idle asides) o = record { stands = λ hs settled h. did_terminate hs (Idle asides) settled h.0 h; in_place = λ hs settled same h. h.0 }
-terminate_follows (Busy request parts stage asides answer) o = record { stands = λ hs settled h. did_terminate hs (Busy request parts stage asides answer) settled h.0 h; in_place = λ hs settled same h. h.0 }
+terminate_follows (Busy segment) o = record { stands = λ hs settled h. did_terminate hs (Busy segment) settled h.0 h; in_place = λ hs settled same h. h.0 }
 
 -- ---- the calls, by the fields of a value that was opened
 
@@ -243,28 +244,28 @@ module _ (v old : ClientView) (before after : List ℕ) (same : v ≡ old) where
       let at = at_stand v old p same e is_open in
       subst (λ (x : ClientView). Accepts c x (record v { stand = stand }) before after) same (accepts_open v stand c before after goes_on at.0 (follows at.1) spelled put)
 
-  pub start_accepted : phase_of old ≡ phase.New → IsSpelled v.settings Start → after ≡ before ++ sent_by v.settings Start → Accepts Start old (record v { stand = Starting Fresh }) before after
-  start_accepted e = accepted Start phase.New (Starting Fresh) refl (λ c k. cc) e (start_follows v.stand)
+  pub start_accepted : phase_of old ≡ phase.New → IsSpelled v.settings call.Start → after ≡ before ++ sent_by v.settings call.Start → Accepts call.Start old (record v { stand = Starting Fresh }) before after
+  start_accepted e = accepted call.Start phase.New (Starting Fresh) refl (λ c k. cc) e (start_follows v.stand)
 
-  pub request_accepted : (request : Request) → phase_of old ≡ phase.Ready → IsSpelled v.settings (Ask request) → after ≡ before ++ sent_by v.settings (Ask request) → Accepts (Ask request) old (record v { stand = with_request v.stand request }) before after
-  request_accepted request e = accepted (Ask request) phase.Ready (with_request v.stand request) refl (λ c k. cc) e (ask_follows v.stand request)
+  pub request_accepted : (request : Request) → phase_of old ≡ phase.Ready → IsSpelled v.settings (call.Request request) → after ≡ before ++ sent_by v.settings (call.Request request) → Accepts (call.Request request) old (record v { stand = with_request v.stand request }) before after
+  request_accepted request e = accepted (call.Request request) phase.Ready (with_request v.stand request) refl (λ c k. cc) e (ask_follows v.stand request)
 
-  pub chunk_accepted : (bytes : List ℕ) → phase_of old ≡ phase.CopyingIn → IsSpelled v.settings (Chunk bytes) → after ≡ before ++ sent_by v.settings (Chunk bytes) → Accepts (Chunk bytes) old v before after
-  chunk_accepted bytes e = accepted (Chunk bytes) phase.CopyingIn v.stand refl (λ c k. cc) e (chunk_follows v.stand bytes)
+  pub chunk_accepted : (bytes : List ℕ) → phase_of old ≡ phase.CopyingIn → IsSpelled v.settings (call.Chunk bytes) → after ≡ before ++ sent_by v.settings (call.Chunk bytes) → Accepts (call.Chunk bytes) old v before after
+  chunk_accepted bytes e = accepted (call.Chunk bytes) phase.CopyingIn v.stand refl (λ c k. cc) e (chunk_follows v.stand bytes)
 
-  pub copy_done_accepted : phase_of old ≡ phase.CopyingIn → IsSpelled v.settings CopyEnd → after ≡ before ++ sent_by v.settings CopyEnd → Accepts CopyEnd old (record v { stand = with_answer v.stand Done }) before after
-  copy_done_accepted e = accepted CopyEnd phase.CopyingIn (with_answer v.stand Done) refl (λ c k. cc) e (copy_end_follows v.stand)
+  pub copy_done_accepted : phase_of old ≡ phase.CopyingIn → IsSpelled v.settings call.Done → after ≡ before ++ sent_by v.settings call.Done → Accepts call.Done old (record v { stand = with_answer v.stand Done }) before after
+  copy_done_accepted e = accepted call.Done phase.CopyingIn (with_answer v.stand Done) refl (λ c k. cc) e (copy_end_follows v.stand)
 
-  pub copy_fail_accepted : (reason : List ℕ) → phase_of old ≡ phase.CopyingIn → IsSpelled v.settings (CopyFail reason) → after ≡ before ++ sent_by v.settings (CopyFail reason) → Accepts (CopyFail reason) old (record v { stand = with_answer v.stand Refused }) before after
-  copy_fail_accepted reason e = accepted (CopyFail reason) phase.CopyingIn (with_answer v.stand Refused) refl (λ c k. cc) e (copy_fail_follows v.stand reason)
+  pub copy_fail_accepted : (reason : List ℕ) → phase_of old ≡ phase.CopyingIn → IsSpelled v.settings (call.Fail reason) → after ≡ before ++ sent_by v.settings (call.Fail reason) → Accepts (call.Fail reason) old (record v { stand = with_answer v.stand Refused }) before after
+  copy_fail_accepted reason e = accepted (call.Fail reason) phase.CopyingIn (with_answer v.stand Refused) refl (λ c k. cc) e (copy_fail_follows v.stand reason)
 
-  pub terminate_accepted : IsOpenPhase (phase_of old) → IsSpelled v.settings Terminate → after ≡ before ++ sent_by v.settings Terminate → Accepts Terminate old (record v { closed = Some cause.Terminated }) before after
+  pub terminate_accepted : IsOpenPhase (phase_of old) → IsSpelled v.settings call.Terminate → after ≡ before ++ sent_by v.settings call.Terminate → Accepts call.Terminate old (record v { closed = Some cause.Terminated }) before after
   terminate_accepted o spelled put =
       let none : v.closed ≡ None = phase_open v.closed v.stand (λ c k. subst IsOpenPhase (ap phase_of (sym same) ∙ k) o) in
       let there : IsOpenPhase (stand_phase v.stand) = subst (λ (x : Option Cause). IsOpenPhase (phase_with x v.stand)) none (subst (λ (x : ClientView). IsOpenPhase (phase_of x)) (sym same) o) in
-      subst (λ (x : ClientView). Accepts Terminate x (record v { closed = Some cause.Terminated }) before after) same (record {
+      subst (λ (x : ClientView). Accepts call.Terminate x (record v { closed = Some cause.Terminated }) before after) same (record {
         settings = refl;
         others = refl;
         put = put;
-        history = call_carries v v.stand Terminate none (terminate_follows v.stand there) spelled;
+        history = call_carries v v.stand call.Terminate none (terminate_follows v.stand there) spelled;
       })

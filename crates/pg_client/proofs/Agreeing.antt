@@ -9,10 +9,12 @@ use Rattle.pg_wire.specs.value.CopyHead.{CopyHead}
 use Rattle.pg_wire.specs.value.Status.{Status}
 use Rattle.pg_wire.specs.declared.session.Aside.{Aside}
 use Rattle.pg_wire.specs.Segment.{aside_of, without_asides, Segments, status_of}
-use Rattle.pg_client.specs.declared.place.CopyAnswer.{CopyAnswer}
-use Rattle.pg_client.specs.declared.place.CopyAnswer.TheVariants.{Awaited, Done, Refused}
-use Rattle.pg_client.specs.Session.{Call, Start, Ask, Chunk, CopyEnd, CopyFail, Terminate, Happening, Did, Came, whole_in, rest_in, EndInCopyIn, IsAside, IsNoCopyIn, IsSaid, IsReady, IsCopyingIn, AreAllowed}
-use Rattle.pg_client.specs.Machine.{copy_answer_after, copy_answer}
+use Rattle.pg_client.specs.declared.segment.CopyAnswer.{CopyAnswer}
+use Rattle.pg_client.specs.declared.segment.CopyAnswer.TheVariants.{Awaited, Done, Refused}
+use Rattle.pg_client.specs.declared.call.Call.{Call}
+use Rattle.pg_client.specs.declared.call.Call.TheVariants as call
+use Rattle.pg_client.specs.Session.{Happening, Did, Came, whole_in, rest_in, EndInCopyIn, IsAside, IsNoCopyIn, IsCalledForLastCopy, IsReady, IsCopyingIn, AreAllowed}
+use Rattle.pg_client.specs.Stand.{copy_answer_after, copy_answer}
 use Rattle.pg_client.proofs.Beginnings.{segments_did, segments_came, AreAsked, AllAfter, after_begins, kept_aside, along, are_asked}
 use Rattle.pg_client.proofs.Happening.{copy_answer_from-more}
 use Rattle.pg_client.proofs.OneMessage.{put_after}
@@ -60,10 +62,10 @@ one_more : (zs : List Happening) (h : Happening) → AllByRecursion IsNoCopyIn z
 one_more [] h all one = (one, tt)
 one_more (z ∷ zs) h all one = (all.0, one_more zs h all.1 one)
 
-said_now : (c : Call) (hs : List Happening) → IsSaid c (hs ++ Did c ∷ [])
+said_now : (c : Call) (hs : List Happening) → IsCalledForLastCopy c (hs ++ Did c ∷ [])
 said_now c hs = record { before = hs; since = []; called = refl; for_the_last = tt }
 
-said_on : (c : Call) (hs : List Happening) (h : Happening) → IsNoCopyIn h → IsSaid c hs → IsSaid c (hs ++ h ∷ [])
+said_on : (c : Call) (hs : List Happening) (h : Happening) → IsNoCopyIn h → IsCalledForLastCopy c hs → IsCalledForLastCopy c (hs ++ h ∷ [])
 said_on c hs h none s = record {
   before = s.before;
   since = s.since ++ h ∷ [];
@@ -71,22 +73,22 @@ said_on c hs h none s = record {
   for_the_last = one_more s.since h s.for_the_last none;
 }
 
-said_back : (c : Call) (hs : List Happening) (h : Happening) → IsSaid c (hs ++ h ∷ []) → (h ≡ Did c) ⊎ (IsSaid c hs × IsNoCopyIn h)
+said_back : (c : Call) (hs : List Happening) (h : Happening) → IsCalledForLastCopy c (hs ++ h ∷ []) → (h ≡ Did c) ⊎ (IsCalledForLastCopy c hs × IsNoCopyIn h)
 said_back c hs h s =
     let f = front_splits hs h s.before (Did c) s.since s.called in
     at_split f.0 f.1 (append_cancel_left s.before (f.0 ++ h ∷ []) (Did c ∷ s.since) (sym (append_assoc s.before f.0 (h ∷ [])) ∙ ap (λ (x : List Happening). x ++ h ∷ []) (sym f.1) ∙ s.called))
   where
-    at_split : (zs : List Happening) → hs ≡ s.before ++ zs → zs ++ h ∷ [] ≡ Did c ∷ s.since → (h ≡ Did c) ⊎ (IsSaid c hs × IsNoCopyIn h)
+    at_split : (zs : List Happening) → hs ≡ s.before ++ zs → zs ++ h ∷ [] ≡ Did c ∷ s.since → (h ≡ Did c) ⊎ (IsCalledForLastCopy c hs × IsNoCopyIn h)
     at_split [] is k = inl (let y : h ∷ [] ≡ Did c ∷ s.since = k in cc)
     at_split (z ∷ zs) is k =
         let y : z ∷ (zs ++ h ∷ []) ≡ Did c ∷ s.since = k in
         let p = front_of zs h (subst (AllByRecursion IsNoCopyIn) (let e : s.since ≡ zs ++ h ∷ [] = cc in e) s.for_the_last) in
         inr (record { before = s.before; since = zs; called = is ∙ ap (λ (x : Happening). s.before ++ x ∷ zs) cc; for_the_last = p.0 }, p.1)
 
-unsaid_on : (c : Call) (hs : List Happening) (h : Happening) → (h ≡ Did c → ⊥) → (IsSaid c hs → ⊥) → IsSaid c (hs ++ h ∷ []) → ⊥
+unsaid_on : (c : Call) (hs : List Happening) (h : Happening) → (h ≡ Did c → ⊥) → (IsCalledForLastCopy c hs → ⊥) → IsCalledForLastCopy c (hs ++ h ∷ []) → ⊥
 unsaid_on c hs h other none k = by (said_back c hs h k)
   where
-    by : (h ≡ Did c) ⊎ (IsSaid c hs × IsNoCopyIn h) → ⊥
+    by : (h ≡ Did c) ⊎ (IsCalledForLastCopy c hs × IsNoCopyIn h) → ⊥
     by (inl e) = other e
     by (inr p) = none p.0
 
@@ -94,12 +96,12 @@ unsaid_on c hs h other none k = by (said_back c hs h k)
 
 -- neither a CopyInResponse nor a call that ends a copy
 abbrev LeavesSaid : Happening → Type 0
-LeavesSaid h = IsNoCopyIn h × (h ≡ Did CopyEnd → ⊥) × ((reason : List ℕ) → h ≡ Did (CopyFail reason) → ⊥)
+LeavesSaid h = IsNoCopyIn h × (h ≡ Did call.Done → ⊥) × ((reason : List ℕ) → h ≡ Did (call.Fail reason) → ⊥)
 
 says_on : (answer : CopyAnswer) (hs : List Happening) (h : Happening) → LeavesSaid h → Says answer hs → Says answer (hs ++ h ∷ [])
-says_on Awaited hs h l s = (unsaid_on CopyEnd hs h l.1 s.0, λ reason. unsaid_on (CopyFail reason) hs h (l.2 reason) (s.1 reason))
-says_on Done hs h l s = said_on CopyEnd hs h l.0 s
-says_on Refused hs h l s = (unsaid_on CopyEnd hs h l.1 s.0, s.1, said_on (CopyFail s.1) hs h l.0 s.2)
+says_on Awaited hs h l s = (unsaid_on call.Done hs h l.1 s.0, λ reason. unsaid_on (call.Fail reason) hs h (l.2 reason) (s.1 reason))
+says_on Done hs h l s = said_on call.Done hs h l.0 s
+says_on Refused hs h l s = (unsaid_on call.Done hs h l.1 s.0, s.1, said_on (call.Fail s.1) hs h l.0 s.2)
 
 aside_leaves : (m : BackMessage) → IsAside m → LeavesSaid (Came m)
 aside_leaves m aside = (no_copy m aside, λ e. cc, λ reason e. cc)
@@ -109,12 +111,12 @@ aside_leaves m aside = (no_copy m aside, λ e. cc, λ reason e. cc)
     no_copy _ some = tt
 
 begun_anew : (hs : List Happening) (head : CopyHead) → Says Awaited (hs ++ Came (back.CopyIn head) ∷ [])
-begun_anew hs head = (never CopyEnd, λ reason. never (CopyFail reason))
+begun_anew hs head = (never call.Done, λ reason. never (call.Fail reason))
   where
-    never : (c : Call) → IsSaid c (hs ++ Came (back.CopyIn head) ∷ []) → ⊥
+    never : (c : Call) → IsCalledForLastCopy c (hs ++ Came (back.CopyIn head) ∷ []) → ⊥
     never c k = by (said_back c hs (Came (back.CopyIn head)) k)
       where
-        by : (Came (back.CopyIn head) ≡ Did c) ⊎ (IsSaid c hs × IsNoCopyIn (Came (back.CopyIn head))) → ⊥
+        by : (Came (back.CopyIn head) ≡ Did c) ⊎ (IsCalledForLastCopy c hs × IsNoCopyIn (Came (back.CopyIn head))) → ⊥
         by (inl e) = cc
         by (inr p) = p.1
 
@@ -138,12 +140,12 @@ pub answer_is_said : (hs : List Happening) → AllAfter hs → AreAllowed hs →
 answer_is_said hs after allowed = along AnswerIsSaid hs (λ k. absurd (no_copy_in [] refl k)) step
   where
     step : (before : List Happening) (h : Happening) (later : List Happening) → hs ≡ before ++ h ∷ later → AnswerIsSaid before → AnswerIsSaid (before ++ h ∷ [])
-    step before (Did Start) later e a = called before Start (tt, λ k. cc, λ reason k. cc) refl a
-    step before (Did (Ask r)) later e a = λ k. absurd (not_ready before (are_asked before (after_begins before (Did (Ask r) ∷ later) (subst AllAfter e after))) (allowed before (Ask r) later e).in_place.1 (did_ends before (Ask r) k))
-    step before (Did (Chunk b)) later e a = called before (Chunk b) (tt, λ k. cc, λ reason k. cc) refl a
-    step before (Did CopyEnd) later e a = λ k. kept_more before (Did CopyEnd) (said_now CopyEnd before)
-    step before (Did (CopyFail b)) later e a = λ k.
-        let copying : IsCopyingIn before = (allowed before (CopyFail b) later e).in_place.1 in
-        kept_more before (Did (CopyFail b)) (unsaid_on CopyEnd before (Did (CopyFail b)) (λ x. cc) copying.1, b, said_now (CopyFail b) before)
-    step before (Did Terminate) later e a = called before Terminate (tt, λ k. cc, λ reason k. cc) refl a
+    step before (Did call.Start) later e a = called before call.Start (tt, λ k. cc, λ reason k. cc) refl a
+    step before (Did (call.Request r)) later e a = λ k. absurd (not_ready before (are_asked before (after_begins before (Did (call.Request r) ∷ later) (subst AllAfter e after))) (allowed before (call.Request r) later e).in_place.1 (did_ends before (call.Request r) k))
+    step before (Did (call.Chunk b)) later e a = called before (call.Chunk b) (tt, λ k. cc, λ reason k. cc) refl a
+    step before (Did call.Done) later e a = λ k. kept_more before (Did call.Done) (said_now call.Done before)
+    step before (Did (call.Fail b)) later e a = λ k.
+        let copying : IsCopyingIn before = (allowed before (call.Fail b) later e).in_place.1 in
+        kept_more before (Did (call.Fail b)) (unsaid_on call.Done before (Did (call.Fail b)) (λ x. cc) copying.1, b, said_now (call.Fail b) before)
+    step before (Did call.Terminate) later e a = called before call.Terminate (tt, λ k. cc, λ reason k. cc) refl a
     step before (Came m) later e a = λ k. kept_more before (Came m) (came before m (status_of m) (aside_of m) refl a (subst (λ (s : Segments). EndInCopyIn s.rest) (segments_came before m) k))

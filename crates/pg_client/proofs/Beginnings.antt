@@ -10,7 +10,9 @@ use Rattle.pg_wire.specs.value.Status.{Status}
 use Rattle.pg_wire.specs.declared.session.Aside.{Aside}
 use Rattle.pg_wire.specs.declared.session.Request.{Request}
 use Rattle.pg_wire.specs.Segment.{aside_of, without_asides, Fits, Begins, Segments, segments, status_of}
-use Rattle.pg_client.specs.Session.{Call, Start, Ask, Chunk, CopyEnd, CopyFail, Terminate, Happening, Did, Came, messages_in, requests_in, whole_in, rest_in, IsStartup, BeginsStartup, FitAll, IsSession, IsAside, IsAfterItsCall, can_answer, Expected, AreAllowed}
+use Rattle.pg_client.specs.declared.call.Call.{Call}
+use Rattle.pg_client.specs.declared.call.Call.TheVariants as call
+use Rattle.pg_client.specs.Session.{Happening, Did, Came, messages_in, requests_in, whole_in, rest_in, IsStartup, BeginsStartup, FitAll, IsSession, IsAside, IsAfterItsCall, can_answer, Expected, AreAllowed}
 use Rattle.pg_client.proofs.Happening.{all_front, requests_in-more}
 use Rattle.pg_client.proofs.OneMessage.{put_after, segments-more}
 use Rattle.pg_client.proofs.Outcomes.{kept_with, without_asides-append}
@@ -52,7 +54,7 @@ more_requests requests (r ∷ []) whole rest l (inr p) = inl (omega (arith, p.0,
 more_requests requests (r ∷ q ∷ qs) whole rest l a = absurd (omega (arith, l))
 
 one_request : (c : Call) → length (requests_in (Did c ∷ [])) ≤ 1
-one_request (Ask r) = omega arith
+one_request (call.Request r) = omega arith
 one_request _ = omega arith
 
 pub kept_aside : (rest : List BackMessage) (m : BackMessage) → IsAside m → without_asides (rest ++ m ∷ []) ≡ without_asides rest
@@ -116,12 +118,12 @@ are_answered hs all = along IsAnswered hs (omega arith) step
     same before c none a = omega (arith, a, ap length (requests_in-more before (Did c)), length-append (requests_in before) (requests_in (Did c ∷ [])), ap length none, ap (λ (s : Segments). length s.whole) (segments_did before c))
 
     step : (before : List Happening) (h : Happening) (later : List Happening) → hs ≡ before ++ h ∷ later → IsAnswered before → IsAnswered (before ++ h ∷ [])
-    step before (Did (Ask r)) later e a = omega (arith, (all before (Ask r) later e).in_place.1, ap length (requests_in-more before (Did (Ask r))), length-append (requests_in before) (r ∷ []), ap (λ (s : Segments). length s.whole) (segments_did before (Ask r)))
-    step before (Did Start) later e a = same before Start refl a
-    step before (Did (Chunk b)) later e a = same before (Chunk b) refl a
-    step before (Did CopyEnd) later e a = same before CopyEnd refl a
-    step before (Did (CopyFail b)) later e a = same before (CopyFail b) refl a
-    step before (Did Terminate) later e a = same before Terminate refl a
+    step before (Did (call.Request r)) later e a = omega (arith, (all before (call.Request r) later e).in_place.1, ap length (requests_in-more before (Did (call.Request r))), length-append (requests_in before) (r ∷ []), ap (λ (s : Segments). length s.whole) (segments_did before (call.Request r)))
+    step before (Did call.Start) later e a = same before call.Start refl a
+    step before (Did (call.Chunk b)) later e a = same before (call.Chunk b) refl a
+    step before (Did call.Done) later e a = same before call.Done refl a
+    step before (Did (call.Fail b)) later e a = same before (call.Fail b) refl a
+    step before (Did call.Terminate) later e a = same before call.Terminate refl a
     step before (Came m) later e a = omega (arith, a, ap length (requests_came before m), ap (λ (s : Segments). length s.whole) (segments_came before m), whole_grows (status_of m) m (whole_in before) (rest_in before))
 
 -- ---- the session, one happening before

@@ -1,10 +1,10 @@
--- Whole parts, and what an error cuts off, are read to the place that they say.
+-- Whole parts, and what an error cuts off, are read to what they say.
 use Rattle.std.proofs.Common.{◌≡◌, ℕ, List, [], ◌∷◌, ◌++◌, map, Option, Some, None, true, refl, sym, ap, ◌∙◌, append_assoc}
 use Rattle.std.specs.Prelude.{ℤ}
 use Rattle.std.specs.List.{flat_map}
 use Rattle.std.proofs.lemmas.List.{append-nil}
 use Rattle.pg_wire.specs.message.BackMessage.{BackMessage}
-use Rattle.pg_wire.specs.message.BackMessage.TheVariants.{Ready, RowDescription, DataRow, CommandComplete, EmptyQuery, ParseComplete, BindComplete, CloseComplete, NoData, PortalSuspended, ParameterDescription, ErrorResponse, CopyData, CopyDone}
+use Rattle.pg_wire.specs.message.BackMessage.TheVariants.{RowDescription, DataRow, CommandComplete, EmptyQuery, ParseComplete, BindComplete, CloseComplete, NoData, PortalSuspended, ParameterDescription, CopyData, CopyDone}
 use Rattle.pg_wire.specs.message.BackMessage.TheVariants as back
 use Rattle.pg_wire.specs.value.Column.{Column}
 use Rattle.pg_wire.specs.value.CopyHead.{CopyHead}
@@ -15,20 +15,17 @@ use Rattle.pg_wire.specs.declared.session.Part.{Part}
 use Rattle.pg_wire.specs.declared.session.Part.TheVariants as part
 use Rattle.pg_wire.specs.declared.session.Step.{Step}
 use Rattle.pg_wire.specs.declared.session.Step.TheVariants as step
-use Rattle.pg_client.specs.declared.place.Open.{Open}
-use Rattle.pg_client.specs.declared.place.Open.TheVariants as begun
-use Rattle.pg_client.specs.declared.place.Progress.{Progress}
-use Rattle.pg_client.specs.declared.place.Stage.{Stage}
-use Rattle.pg_client.specs.declared.place.Stage.TheVariants.{Within}
-use Rattle.pg_wire.specs.Segment.{error_of, Asked, Results, Steps, Answers, is_result, is_answer, messages_of, parameters_sent, columns_sent, end_sent}
-use Rattle.pg_client.specs.Place.{begins, left, Place, after_progress, read, read_from}
+use Rattle.pg_client.specs.declared.segment.begun.Open.{Open}
+use Rattle.pg_client.specs.declared.segment.begun.Open.TheVariants as begun
+use Rattle.pg_wire.specs.Segment.{error_of, Asked, Results, Steps, Answers, is_result, is_answer, messages_of, parameters_sent, columns_sent, execute_end_sent}
+use Rattle.pg_client.specs.Segment.{Progress, Stage, Within, begins, left, Reading, after_progress, read, read_from}
 use Rattle.pg_client.proofs.Sound.{left_is, Answers-more}
 
-abbrev pub at : List Part → Stage → Option Place
+abbrev pub at : List Part → Stage → Option Reading
 at parts stage = Some (record { parts = parts; stage = stage })
 
-pub read_from-append : (a : Asked) (place : Option Place) (xs ys : List BackMessage) → read_from a place (xs ++ ys) ≡ read_from a (read_from a place xs) ys
-read_from-append a place [] ys = refl
+pub read_from-append : (a : Asked) (reading : Option Reading) (xs ys : List BackMessage) → read_from a reading (xs ++ ys) ≡ read_from a (read_from a reading xs) ys
+read_from-append a reading [] ys = refl
 read_from-append a None (x ∷ xs) ys = sym (none_stays ys)
   where
     none_stays : (zs : List BackMessage) → read_from a None zs ≡ None
@@ -60,7 +57,7 @@ last_of (part.CopyIn head tag) = CommandComplete tag
 last_of part.Parsed = ParseComplete
 last_of part.Bound = BindComplete
 last_of (part.Described parameters columns) = columns_sent columns
-last_of (part.Executed rows end) = end_sent end
+last_of (part.Executed rows end) = execute_end_sent end
 last_of part.Shut = CloseComplete
 
 pub front_last : (p : Part) → messages_of p ≡ front_of p ++ last_of p ∷ []
@@ -92,16 +89,16 @@ pub record Passes (a : Asked) (parts : List Part) (p : Part) : Type 0 where
 result_passes : (a : Asked) (parts : List Part) (p : Part) → left a parts ≡ Results → is_result p ≡ true → Passes a parts p
 result_passes a parts (part.Rows columns rows tag) e h = record {
   open_part = begun.Rows columns rows;
-  front = ap (λ (q : Option Place). read_from a q (map DataRow rows)) (opening a parts Results (RowDescription columns) _ e refl refl) ∙ rows_loop a parts columns [] rows;
+  front = ap (λ (q : Option Reading). read_from a q (map DataRow rows)) (opening a parts Results (RowDescription columns) _ e refl refl) ∙ rows_loop a parts columns [] rows;
   last = refl;
 }
 result_passes a parts (part.Command tag) e h = record { open_part = begun.Nothing; front = refl; last = opening a parts Results (CommandComplete tag) _ e refl refl }
 result_passes a parts part.Empty e h = record { open_part = begun.Nothing; front = refl; last = opening a parts Results EmptyQuery _ e refl refl }
 result_passes a parts (part.CopyOut head chunks tag) e h = record {
   open_part = begun.CopyOutEnded head chunks;
-  front = ap (λ (q : Option Place). read_from a q (map CopyData chunks ++ CopyDone ∷ [])) (opening a parts Results (back.CopyOut head) _ e refl refl)
+  front = ap (λ (q : Option Reading). read_from a q (map CopyData chunks ++ CopyDone ∷ [])) (opening a parts Results (back.CopyOut head) _ e refl refl)
       ∙ read_from-append a (at parts (Within (begun.CopyOut head []))) (map CopyData chunks) (CopyDone ∷ [])
-      ∙ ap (λ (q : Option Place). read_from a q (CopyDone ∷ [])) (chunks_loop a parts head [] chunks);
+      ∙ ap (λ (q : Option Reading). read_from a q (CopyDone ∷ [])) (chunks_loop a parts head [] chunks);
   last = refl;
 }
 result_passes a parts (part.CopyIn head tag) e h = record { open_part = begun.CopyIn head; front = opening a parts Results (back.CopyIn head) _ e refl refl; last = refl }
@@ -113,11 +110,11 @@ executed_passes a parts portal max_rows ss [] ends.Empty e = record { open_part 
 executed_passes a parts portal max_rows ss [] ends.Suspended e = record { open_part = begun.Nothing; front = refl; last = opening a parts _ PortalSuspended _ e refl refl }
 executed_passes a parts portal max_rows ss (r ∷ rs) end e = record {
   open_part = begun.Executed (r ∷ rs);
-  front = ap (λ (q : Option Place). read_from a q (map DataRow rs)) (opening a parts _ (DataRow r) _ e refl refl) ∙ executed_loop a parts (r ∷ []) rs;
+  front = ap (λ (q : Option Reading). read_from a q (map DataRow rs)) (opening a parts _ (DataRow r) _ e refl refl) ∙ executed_loop a parts (r ∷ []) rs;
   last = closes end;
 }
   where
-    closes : (w : ExecEnd) → read a (record { parts = parts; stage = Within (begun.Executed (r ∷ rs)) }) (end_sent w) ≡ at (parts ++ part.Executed (r ∷ rs) w ∷ []) (Within begun.Nothing)
+    closes : (w : ExecEnd) → read a (record { parts = parts; stage = Within (begun.Executed (r ∷ rs)) }) (execute_end_sent w) ≡ at (parts ++ part.Executed (r ∷ rs) w ∷ []) (Within begun.Nothing)
     closes (ends.Complete tag) = refl
     closes ends.Empty = refl
     closes ends.Suspended = refl
@@ -155,7 +152,7 @@ pub part_read : (a : Asked) (parts : List Part) (p : Part) → Passes a parts p 
 part_read a parts p h =
     ap (λ (ms : List BackMessage). read_from a (at parts (Within begun.Nothing)) ms) (front_last p)
     ∙ read_from-append a (at parts (Within begun.Nothing)) (front_of p) (last_of p ∷ [])
-    ∙ ap (λ (q : Option Place). read_from a q (last_of p ∷ [])) h.front
+    ∙ ap (λ (q : Option Reading). read_from a q (last_of p ∷ [])) h.front
     ∙ h.last
 
 -- ---- whole parts
@@ -173,6 +170,6 @@ parts_read a done l [] rest h k = rw append-nil refl
 parts_read a done l (p ∷ ps) rest h k =
     let s = split_first l p ps rest k in
     read_from-append a (at done (Within begun.Nothing)) (messages_of p) (flat_map messages_of ps)
-    ∙ ap (λ (q : Option Place). read_from a q (flat_map messages_of ps)) (part_read a done p (part_passes a done l p s.0 (left_is a done l h) s.1))
+    ∙ ap (λ (q : Option Reading). read_from a q (flat_map messages_of ps)) (part_read a done p (part_passes a done l p s.0 (left_is a done l h) s.1))
     ∙ parts_read a (done ++ p ∷ []) s.0 ps rest (Answers-more a done l p s.0 h s.1) s.2
     ∙ ap (λ (x : List Part). at x (Within begun.Nothing)) (append_assoc done (p ∷ []) ps)

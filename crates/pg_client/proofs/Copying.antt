@@ -11,12 +11,15 @@ use Rattle.pg_wire.specs.value.Status.{Status}
 use Rattle.pg_wire.specs.declared.session.Aside.{Aside}
 use Rattle.pg_wire.specs.declared.session.Request.{Request}
 use Rattle.pg_wire.specs.Segment.{aside_of, without_asides, Segments, segments, status_of}
-use Rattle.pg_client.specs.declared.place.CopyAnswer.{CopyAnswer}
-use Rattle.pg_client.specs.declared.place.CopyAnswer.TheVariants.{Awaited, Done, Refused}
-use Rattle.pg_client.specs.Session.{Call, Start, Ask, Chunk, CopyEnd, CopyFail, Terminate, Happening, Did, Came, messages_in, requests_in, whole_in, rest_in, EndInCopyIn, IsAside, IsStarted, IsTerminated, IsReady, IsCopyingIn, AreAllowed}
-use Rattle.pg_client.specs.Machine.{copy_answer_after, copy_answer}
-use Rattle.pg_client.specs.Turns.{Turn, turns_of, calls_in}
-use Rattle.pg_client.specs.Answering.{turns_in, turns_with, with_copy, last_copies, copies_ended, copies_begun, IsChunkOrAside, IsCopyingSince}
+use Rattle.pg_client.specs.declared.segment.CopyAnswer.{CopyAnswer}
+use Rattle.pg_client.specs.declared.segment.CopyAnswer.TheVariants.{Awaited, Done, Refused}
+use Rattle.pg_client.specs.declared.call.Call.{Call}
+use Rattle.pg_client.specs.declared.call.Call.TheVariants as call
+use Rattle.pg_client.specs.Session.{Happening, Did, Came, messages_in, requests_in, whole_in, rest_in, EndInCopyIn, IsAside, IsStarted, IsTerminated, IsReady, IsCopyingIn, AreAllowed}
+use Rattle.pg_client.specs.Stand.{copy_answer_after, copy_answer}
+use Rattle.pg_wire.specs.Turns.{Turn, copies_begun}
+use Rattle.pg_client.specs.Turns.{turns_of, calls_in}
+use Rattle.pg_client.specs.Answering.{turns_in, turns_with, with_copy, last_copies, copies_ended, IsChunkOrAside, IsCopyingSince}
 use Rattle.pg_client.proofs.Agreeing.{never_ends, no_copy_in, aside_says_nothing, is_aside, not_ready, copying_begun, answer_is_said}
 use Rattle.pg_client.proofs.Beginnings.{segments_did, segments_came, requests_came, AreAsked, AllAfter, after_begins, allowed_begins, kept_aside, along, are_asked, are_answered}
 use Rattle.pg_client.proofs.Happening.{requests_in-more, IsStarted-more, copy_answer_from-more}
@@ -39,9 +42,9 @@ since_more hs h one s = record {
   chunks = chunks_more s.later h s.chunks one;
 }
 
-terminated_within : (before later : List Happening) → IsTerminated (before ++ Did Terminate ∷ later)
+terminated_within : (before later : List Happening) → IsTerminated (before ++ Did call.Terminate ∷ later)
 terminated_within [] later = tt
-terminated_within (Did Terminate ∷ hs) later = tt
+terminated_within (Did call.Terminate ∷ hs) later = tt
 terminated_within (Did _ ∷ hs) later = terminated_within hs later
 terminated_within (Came x ∷ hs) later = terminated_within hs later
 
@@ -83,12 +86,12 @@ module _ (hs : List Happening) (after : AllAfter hs) (allowed : AreAllowed hs) (
 
   copies_step : (before : List Happening) (h : Happening) (later : List Happening) → hs ≡ before ++ h ∷ later → Copies before → Copies (before ++ h ∷ [])
   unfolding Copies
-  copies_step before (Did Start) later e copies k = absurd (not_started before (begun_after before (Did Start) later e) (allowed before Start later e).in_place (did_copying before Start k).0)
-  copies_step before (Did (Ask r)) later e copies k = absurd (not_ready before (are_asked before (begun_after before (Did (Ask r)) later e)) (allowed before (Ask r) later e).in_place.1 (did_copying before (Ask r) k).0)
-  copies_step before (Did (Chunk b)) later e copies k = since_more before (Did (Chunk b)) tt (copies (did_copying before (Chunk b) k))
-  copies_step before (Did CopyEnd) later e copies k = absurd (let d : Done ≡ Awaited = (did_copying before CopyEnd k).1 in cc)
-  copies_step before (Did (CopyFail b)) later e copies k = absurd (let d : Refused ≡ Awaited = (did_copying before (CopyFail b) k).1 in cc)
-  copies_step before (Did Terminate) later e copies k = absurd (not_terminated (subst IsTerminated (sym e) (terminated_within before later)))
+  copies_step before (Did call.Start) later e copies k = absurd (not_started before (begun_after before (Did call.Start) later e) (allowed before call.Start later e).in_place (did_copying before call.Start k).0)
+  copies_step before (Did (call.Request r)) later e copies k = absurd (not_ready before (are_asked before (begun_after before (Did (call.Request r)) later e)) (allowed before (call.Request r) later e).in_place.1 (did_copying before (call.Request r) k).0)
+  copies_step before (Did (call.Chunk b)) later e copies k = since_more before (Did (call.Chunk b)) tt (copies (did_copying before (call.Chunk b) k))
+  copies_step before (Did call.Done) later e copies k = absurd (let d : Done ≡ Awaited = (did_copying before call.Done k).1 in cc)
+  copies_step before (Did (call.Fail b)) later e copies k = absurd (let d : Refused ≡ Awaited = (did_copying before (call.Fail b) k).1 in cc)
+  copies_step before (Did call.Terminate) later e copies k = absurd (not_terminated (subst IsTerminated (sym e) (terminated_within before later)))
   copies_step before (Came m) later e copies k =
       came_copying before m (status_of m) (aside_of m) refl copies (subst (λ (s : Segments). EndInCopyIn s.rest) (segments_came before m) k.0) (sym (copy_answer_from-more Awaited before (Came m)) ∙ k.1)
 
@@ -158,10 +161,10 @@ module _ (hs : List Happening) (after : AllAfter hs) (allowed : AreAllowed hs) w
     one_open = λ k. absurd (other (copy_answer before) (did_copying before c k).1);
   }
 
-  did_ask : (before : List Happening) (r : Request) → AreAsked before → IsReady before → InBalance (before ++ Did (Ask r) ∷ [])
+  did_ask : (before : List Happening) (r : Request) → AreAsked before → IsReady before → InBalance (before ++ Did (call.Request r) ∷ [])
   did_ask before r asked ready = record {
-    level = λ le. omega (arith, ended_did before (Ask r), ap copies_ended (none_asked (turns_in before) r));
-    one_open = λ k. absurd (not_ready before asked ready (did_copying before (Ask r) k).0);
+    level = λ le. omega (arith, ended_did before (call.Request r), ap copies_ended (none_asked (turns_in before) r));
+    one_open = λ k. absurd (not_ready before asked ready (did_copying before (call.Request r) k).0);
   }
 
   came_level : (before : List Happening) (m : BackMessage) (p : Option Status) → length (requests_in before) ≤ length (whole_in before) → InBalance before → length (put_after p m (whole_in before) (rest_in before)).whole ≤ length (requests_in before) → EndedIn before ≤ copies_begun (put_after p m (whole_in before) (rest_in before)).rest
@@ -179,12 +182,12 @@ module _ (hs : List Happening) (after : AllAfter hs) (allowed : AreAllowed hs) w
   awaited_then before c later e copying = copy_awaited before (answer_is_said before (after_begins before (Did c ∷ later) (subst AllAfter e after)) (allowed_begins before (Did c ∷ later) (subst AreAllowed e allowed))) copying
 
   balance_step : (before : List Happening) (h : Happening) (later : List Happening) → hs ≡ before ++ h ∷ later → InBalance before → InBalance (before ++ h ∷ [])
-  balance_step before (Did Start) later e b = did_plainly before Start refl (λ a. refl) (omega arith) b
-  balance_step before (Did (Ask r)) later e b = did_ask before r (are_asked before (after_begins before (Did (Ask r) ∷ later) (subst AllAfter e after))) (allowed before (Ask r) later e).in_place.1
-  balance_step before (Did (Chunk x)) later e b = did_plainly before (Chunk x) refl (λ a. refl) (omega (arith, ended_with (front.CopyData x) (turns_in before))) b
-  balance_step before (Did CopyEnd) later e b = did_end before CopyEnd (λ a k. cc) (ended_with front.CopyDone (turns_in before)) (awaited_then before CopyEnd later e (allowed before CopyEnd later e).in_place.1) b
-  balance_step before (Did (CopyFail x)) later e b = did_end before (CopyFail x) (λ a k. cc) (ended_with (front.CopyFail x) (turns_in before)) (awaited_then before (CopyFail x) later e (allowed before (CopyFail x) later e).in_place.1) b
-  balance_step before (Did Terminate) later e b = did_plainly before Terminate refl (λ a. refl) (omega arith) b
+  balance_step before (Did call.Start) later e b = did_plainly before call.Start refl (λ a. refl) (omega arith) b
+  balance_step before (Did (call.Request r)) later e b = did_ask before r (are_asked before (after_begins before (Did (call.Request r) ∷ later) (subst AllAfter e after))) (allowed before (call.Request r) later e).in_place.1
+  balance_step before (Did (call.Chunk x)) later e b = did_plainly before (call.Chunk x) refl (λ a. refl) (omega (arith, ended_with (front.CopyData x) (turns_in before))) b
+  balance_step before (Did call.Done) later e b = did_end before call.Done (λ a k. cc) (ended_with front.CopyDone (turns_in before)) (awaited_then before call.Done later e (allowed before call.Done later e).in_place.1) b
+  balance_step before (Did (call.Fail x)) later e b = did_end before (call.Fail x) (λ a k. cc) (ended_with (front.CopyFail x) (turns_in before)) (awaited_then before (call.Fail x) later e (allowed before (call.Fail x) later e).in_place.1) b
+  balance_step before (Did call.Terminate) later e b = did_plainly before call.Terminate refl (λ a. refl) (omega arith) b
   balance_step before (Came m) later e b = record {
     level = λ le. omega (arith, ended_came before m, ap (λ (s : Segments). copies_begun s.rest) (segments_came before m), came_level before m (status_of m) (are_answered before (allowed_begins before (Came m ∷ later) (subst AreAllowed e allowed))) b (omega (arith, le, ap (λ (s : Segments). length s.whole) (segments_came before m), ap length (requests_came before m))));
     one_open = λ k. omega (arith, ended_came before m, ap (λ (s : Segments). copies_begun s.rest) (segments_came before m), came_open before m (status_of m) (aside_of m) refl (after before m later e).asked_for b (subst (λ (s : Segments). EndInCopyIn s.rest) (segments_came before m) k.0) (sym (copy_answer_from-more Awaited before (Came m)) ∙ k.1));

@@ -13,10 +13,12 @@ use Rattle.pg_client.specs.Answering.{AllSettled, calls_of}
 use Rattle.pg_client.specs.Client.{ClientView, phase_of}
 use Rattle.pg_client.specs.Driving.{IsFedOn, IsLeftBy, requests_by}
 use Rattle.pg_client.specs.Facts.{IsPhase}
-use Rattle.pg_client.specs.Feed.{Answers, Feeds, FeedsWith}
+use Rattle.pg_client.specs.Feed.{FeedAnswers, Feeds, FeedsByCause}
 use Rattle.pg_client.specs.History.{Calls, History, IsHistoryOf, happenings, with_fed, with_heard}
-use Rattle.pg_client.specs.Session.{Ask, Happening, IsReady, groups_in, requests_in, whole_in}
-use Rattle.pg_client.specs.Turns.{Turn, turns_of}
+use Rattle.pg_client.specs.declared.call.Call.TheVariants as call
+use Rattle.pg_client.specs.Session.{Happening, IsReady, groups_in, requests_in, whole_in}
+use Rattle.pg_wire.specs.Turns.{Turn}
+use Rattle.pg_client.specs.Turns.{turns_of}
 use Rattle.pg_client.proofs.Facts.{history_facts}
 use Rattle.pg_client.proofs.Ordering.{keeps_order, one_more}
 use Rattle.pg_client.proofs.SettlingLast.{all_settled}
@@ -24,9 +26,9 @@ use Rattle.pg_client.proofs.TakingTurns.{groups_length, not_empty, takes_turns}
 
 -- ---- the requests of the calls
 
-pub asked_last : (calls : Calls) (r : Request) (place : ℕ) → requests_by (calls ++ (Ask r, place) ∷ []) ≡ requests_by calls ++ r ∷ []
+pub asked_last : (calls : Calls) (r : Request) (place : ℕ) → requests_by (calls ++ (call.Request r, place) ∷ []) ≡ requests_by calls ++ r ∷ []
 asked_last calls r place =
-    ap (map (λ (t : Turn). t.request)) (one_more calls (Ask r) place)
+    ap (map (λ (t : Turn). t.request)) (one_more calls (call.Request r) place)
     ∙ map-append (λ (t : Turn). t.request) (turns_of (calls_of calls)) (record { request = r; copies = [] } ∷ [])
 
 pub all_settled_by_calls : (h : History) (client : ClientView) → IsHistoryOf h client → phase_of client ≡ phase.Ready → AllSettled (requests_by h.calls) (h.given ++ client.settled)
@@ -54,7 +56,7 @@ ready_again h client r none asked settled =
 
 -- ---- a feed
 
-left_by : (settings : Settings) (hs : List Happening) (rest piece : List ℕ) (result : Result Unit FeedFault) (closed : Option Cause) → Answers settings hs rest piece result closed → IsLeftBy result closed
+left_by : (settings : Settings) (hs : List Happening) (rest piece : List ℕ) (result : Result Unit FeedFault) (closed : Option Cause) → FeedAnswers settings hs rest piece result closed → IsLeftBy result closed
 left_by settings hs rest piece (Ok x) closed a = a
 left_by settings hs rest piece (Err (feeding.Wire f)) closed a = a.1
 left_by settings hs rest piece (Err feeding.Memory) closed a = a.1
@@ -71,7 +73,7 @@ not_both closed c some none = cc
 pub fed_on : (h : History) (old new : ClientView) (piece : List ℕ) (result : Result Unit FeedFault) (before after : List ℕ) → IsHistoryOf h old → Feeds old piece result new before after → IsFedOn h piece result old new
 fed_on h old new piece result before after r feeds = by old.closed refl feeds
   where
-    by : (o : Option Cause) → old.closed ≡ o → FeedsWith o old piece result new before after → IsFedOn h piece result old new
+    by : (o : Option Cause) → old.closed ≡ o → FeedsByCause o old piece result new before after → IsFedOn h piece result old new
     by None e f =
         let k = f.hears h r in
         let past : History = with_heard k.more k.rest f.added (with_fed piece h) in

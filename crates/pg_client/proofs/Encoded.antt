@@ -12,7 +12,7 @@ use Rattle.pg_wire.specs.Frontend.{frontend}
 use Rattle.pg_wire.specs.Segment.{step_message}
 use Rattle.pg_wire.specs.message.FrontMessage.TheVariants.{Sync}
 use Rattle.pg_wire.specs.declared.session.Step.{Step}
-use Rattle.pg_client.specs.Client.{or_else}
+use Rattle.pg_client.specs.Client.{option_or}
 use Rattle.pg_client.specs.Sent.{first_fault}
 use Rattle.pg_client.specs.Private.Sending.{Puts, ArePut, Lengthens, starved_after}
 
@@ -31,8 +31,8 @@ encoded m before after e = record {
 
 -- the messages before one that has none are no reason
 first_fault_at : (before more : List FrontMessage) (m : FrontMessage) (f : EncodeFault) → AllByRecursion (HasSpelling frontend) before → encode_fault frontend m ≡ Some f → first_fault (before ++ m ∷ more) ≡ Some f
-first_fault_at [] more m f all e = ap (λ (o : Option EncodeFault). or_else o (first_fault more)) e
-first_fault_at (b ∷ bs) more m f all e = ap (λ (o : Option EncodeFault). or_else o (first_fault (bs ++ m ∷ more))) all.0.no_fault ∙ first_fault_at bs more m f all.1 e
+first_fault_at [] more m f all e = ap (λ (o : Option EncodeFault). option_or o (first_fault more)) e
+first_fault_at (b ∷ bs) more m f all e = ap (λ (o : Option EncodeFault). option_or o (first_fault (bs ++ m ∷ more))) all.0.no_fault ∙ first_fault_at bs more m f all.1 e
 
 split_at_item : {A : Type 0} (xs : List A) (i : ℕ) (x : A) → i < length xs → x ≡ get_or xs i x → xs ≡ take i xs ++ x ∷ drop (suc i) xs
 split_at_item [] i x lt e = absurd (omega (arith, lt))
@@ -49,25 +49,25 @@ all_spelled : (ms : List FrontMessage) (m : FrontMessage) → AllByRecursion (Ha
 all_spelled [] m all one = (one, tt)
 all_spelled (x ∷ xs) m all one = (all.0, all_spelled xs m all.1 one)
 
-both_none : (o p : Option EncodeFault) → or_else o p ≡ None → (o ≡ None) × (p ≡ None)
+both_none : (o p : Option EncodeFault) → option_or o p ≡ None → (o ≡ None) × (p ≡ None)
 both_none None p e = (refl, e)
 both_none (Some f) p e = absurd cc
 
 first_none : (ms : List FrontMessage) (m : FrontMessage) → first_fault ms ≡ None → encode_fault frontend m ≡ None → first_fault (ms ++ m ∷ []) ≡ None
-first_none [] m e one = ap (λ (o : Option EncodeFault). or_else o None) one
+first_none [] m e one = ap (λ (o : Option EncodeFault). option_or o None) one
 first_none (x ∷ xs) m e one =
     let k = both_none (encode_fault frontend x) (first_fault xs) e in
-    ap (λ (o : Option EncodeFault). or_else o (first_fault (xs ++ m ∷ []))) k.0 ∙ first_none xs m k.1 one
+    ap (λ (o : Option EncodeFault). option_or o (first_fault (xs ++ m ∷ []))) k.0 ∙ first_none xs m k.1 one
 
 first_some : (ms more : List FrontMessage) (m : FrontMessage) (f : EncodeFault) → first_fault ms ≡ None → encode_fault frontend m ≡ Some f → first_fault (ms ++ m ∷ more) ≡ Some f
-first_some [] more m f e one = ap (λ (o : Option EncodeFault). or_else o (first_fault more)) one
+first_some [] more m f e one = ap (λ (o : Option EncodeFault). option_or o (first_fault more)) one
 first_some (x ∷ xs) more m f e one =
     let k = both_none (encode_fault frontend x) (first_fault xs) e in
-    ap (λ (o : Option EncodeFault). or_else o (first_fault (xs ++ m ∷ more))) k.0 ∙ first_some xs more m f k.1 one
+    ap (λ (o : Option EncodeFault). option_or o (first_fault (xs ++ m ∷ more))) k.0 ∙ first_some xs more m f k.1 one
 
 none_first : (ms : List FrontMessage) → AllByRecursion (HasSpelling frontend) ms → first_fault ms ≡ None
 none_first [] all = refl
-none_first (m ∷ ms) all = ap (λ (o : Option EncodeFault). or_else o (first_fault ms)) all.0.no_fault ∙ none_first ms all.1
+none_first (m ∷ ms) all = ap (λ (o : Option EncodeFault). option_or o (first_fault ms)) all.0.no_fault ∙ none_first ms all.1
 
 ok_is : (a b : Bool) → (let x : Result Bool EncodeFault = Ok a in let y : Result Bool EncodeFault = Ok b in x ≡ y) → b ≡ a
 ok_is a b e = cc

@@ -4,13 +4,12 @@ use Rattle.std.specs.Prelude.{◌↔◌}
 use Rattle.pg_client.specs.declared.phase.Cause.{Cause}
 use Rattle.pg_client.specs.declared.phase.Phase.{Phase}
 use Rattle.pg_client.specs.declared.phase.Phase.TheVariants as phase
-use Rattle.pg_client.specs.declared.place.CopyAnswer.{CopyAnswer}
-use Rattle.pg_client.specs.declared.place.CopyAnswer.TheVariants.{Awaited, Done, Refused}
-use Rattle.pg_client.specs.declared.place.Open.TheVariants as begun
-use Rattle.pg_client.specs.declared.place.Stage.{Stage}
-use Rattle.pg_client.specs.declared.place.Stage.TheVariants.{Within}
-use Rattle.pg_client.specs.declared.place.Stand.{Stand}
-use Rattle.pg_client.specs.declared.place.Stand.TheVariants.{New, Starting, Idle, Busy}
+use Rattle.pg_client.specs.declared.segment.CopyAnswer.{CopyAnswer}
+use Rattle.pg_client.specs.declared.segment.CopyAnswer.TheVariants.{Awaited, Done, Refused}
+use Rattle.pg_client.specs.declared.segment.begun.Open.TheVariants as begun
+use Rattle.pg_client.specs.Segment.{Stage, Within}
+use Rattle.pg_client.specs.declared.stand.Stand.{Stand}
+use Rattle.pg_client.specs.declared.stand.Stand.TheVariants.{New, Starting, Idle, Busy}
 use Rattle.pg_client.specs.declared.settled.Settled.{Settled}
 use Rattle.pg_client.specs.Session.{Happening, IsStarted, IsStarting, IsReady, IsCopyingIn}
 use Rattle.pg_client.specs.Client.{ClientView, stand_phase, busy_phase_of, phase_with, Shows}
@@ -24,7 +23,7 @@ never_closed : (stand : Stand) (c : Cause) → stand_phase stand ≡ phase.Close
 never_closed New c e = cc
 never_closed (Starting w) c e = cc
 never_closed (Idle asides) c e = cc
-never_closed (Busy request parts stage asides answer) c e = by stage answer e
+never_closed (Busy segment) c e = by segment.stage segment.answer e
   where
     by : (s : Stage) (a : CopyAnswer) → busy_phase_of s a ≡ phase.Closed c → ⊥
     by (Within (begun.CopyIn head)) Awaited k = cc

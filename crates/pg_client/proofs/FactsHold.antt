@@ -10,37 +10,33 @@ use Rattle.pg_wire.specs.declared.session.Aside.{Aside}
 use Rattle.pg_wire.specs.declared.session.Part.{Part}
 use Rattle.pg_wire.specs.declared.session.Request.{Request}
 use Rattle.pg_wire.specs.Segment.{error_of, Fields, aside_of, without_asides, Asked as What, asked}
-use Rattle.pg_client.specs.declared.place.Open.TheVariants as begun
-use Rattle.pg_client.specs.declared.place.Progress.{Progress}
-use Rattle.pg_client.specs.declared.place.Progress.TheVariants.{Grows, Closes, Stuck}
-use Rattle.pg_client.specs.declared.place.Stage.{Stage}
-use Rattle.pg_client.specs.declared.place.Stage.TheVariants.{Within, Failed}
-use Rattle.pg_client.specs.declared.place.CopyAnswer.{CopyAnswer}
-use Rattle.pg_client.specs.declared.place.CopyAnswer.TheVariants.{Awaited, Done, Refused}
-use Rattle.pg_client.specs.declared.place.Welcome.{Welcome}
-use Rattle.pg_client.specs.declared.place.Welcome.TheVariants.{Fresh, Asked, Admitted}
-use Rattle.pg_client.specs.declared.place.Stand.{Stand}
-use Rattle.pg_client.specs.declared.place.Stand.TheVariants.{New, Starting, Idle, Busy}
+use Rattle.pg_client.specs.declared.segment.begun.Open.TheVariants as begun
+use Rattle.pg_client.specs.declared.segment.CopyAnswer.{CopyAnswer}
+use Rattle.pg_client.specs.declared.segment.CopyAnswer.TheVariants.{Awaited, Done, Refused}
+use Rattle.pg_client.specs.declared.startup.Welcome.{Welcome}
+use Rattle.pg_client.specs.declared.startup.Welcome.TheVariants.{Fresh, Asked, Admitted}
+use Rattle.pg_client.specs.declared.stand.Stand.{Stand}
+use Rattle.pg_client.specs.declared.stand.Stand.TheVariants.{New, Starting, Idle, Busy}
 use Rattle.pg_client.specs.declared.settled.Settled.{Settled}
 use Rattle.pg_client.specs.declared.phase.Phase.{Phase}
 use Rattle.pg_client.specs.declared.phase.Phase.TheVariants as phase
-use Rattle.pg_client.specs.Place.{left, Place, read, read_by, read_from, after_progress, progress}
+use Rattle.pg_client.specs.Startup.{greet, greet_from, greet_all}
+use Rattle.pg_client.specs.Segment.{SegmentView, Progress, Grows, Closes, Stuck, Stage, Within, Failed, left, Reading, read, read_by, read_from, after_progress, progress, reading_of}
+use Rattle.pg_client.specs.Stand.{copy_answer, EachSettled, Stands}
 use Rattle.pg_client.specs.Session.{Happening, requests_in, rest_in, IsStarted, IsStarting, IsReady, EndInCopyIn, groups_in}
 use Rattle.pg_client.specs.Client.{stand_phase, busy_phase_of, unsettled_of, has_failed, stage_failed}
 use Rattle.pg_client.specs.Lost.{has_error}
-use Rattle.pg_client.specs.Machine.{greet, greet_from, greet_all, copy_answer}
-use Rattle.pg_client.specs.Judged.{SettledAs, Stands}
-use Rattle.pg_client.specs.Facts.{SettledInOrder}
+use Rattle.pg_client.specs.Facts.{FirstSettled}
 use Rattle.pg_client.proofs.Complete.{at}
 use Rattle.pg_client.proofs.Outcomes.{kept_with}
-use Rattle.pg_client.proofs.Startup.{greet_from-append}
-use Rattle.pg_client.proofs.OneMessage.{SettledAs-length, ends_open, open_ends}
+use Rattle.pg_client.proofs.Greeting.{greet_from-append}
+use Rattle.pg_client.proofs.OneMessage.{EachSettled-length, ends_open, open_ends}
 use Rattle.pg_client.proofs.Said.{IsCopyAwaited}
 
 -- ---- errors
 
-errors_by : (a : What) (place : Option Place) (b : Bool) (ms : List BackMessage) → IfSome place (λ q. stage_failed q.stage ≡ b) → IfSome (read_from a place ms) (λ q. stage_failed q.stage ≡ b || list_any (λ m. is_some (error_of m)) ms)
-errors_by a place false [] h = h
+errors_by : (a : What) (reading : Option Reading) (b : Bool) (ms : List BackMessage) → IfSome reading (λ q. stage_failed q.stage ≡ b) → IfSome (read_from a reading ms) (λ q. stage_failed q.stage ≡ b || list_any (λ m. is_some (error_of m)) ms)
+errors_by a reading false [] h = h
 errors_by a None true [] h = tt
 errors_by a (Some p) true [] h = h
 errors_by a None b (m ∷ ms) h = tt
@@ -53,7 +49,7 @@ errors_by a (Some p) b (m ∷ ms) h = subst (λ (x : Bool). IfSome (read_from a 
     by_progress : (parts : List Part) (now : Progress) → IfSome (after_progress parts now) (λ q. stage_failed q.stage ≡ false)
     by_progress parts (Grows w) = refl
     by_progress parts (Closes w) = refl
-    by_progress parts Stuck = tt
+    by_progress parts (Stuck t) = tt
 
     stage_by : (stage : Stage) (e : Option Fields) → IfSome (read_by a p.parts stage e m) (λ q. stage_failed q.stage ≡ stage_failed stage || is_some e)
     stage_by (Within o) (Some fields) = refl
@@ -101,12 +97,12 @@ greets_no_error (Some w) (m ∷ ms) v e =
 
 -- ---- groups
 
-in_order_all : (rs : List Request) (ss : List (List BackMessage)) (ts : List Settled) → SettledAs rs ss ts → SettledInOrder rs ss ts
+in_order_all : (rs : List Request) (ss : List (List BackMessage)) (ts : List Settled) → EachSettled rs ss ts → FirstSettled rs ss ts
 in_order_all [] [] [] h = tt
 in_order_all (r ∷ rs) (s ∷ ss) (t ∷ ts) h = (h.0, h.1, in_order_all rs ss ts h.2)
 in_order_all _ _ _ h = absurd h
 
-in_order_first : (rs : List Request) (r : Request) (ss : List (List BackMessage)) (ts : List Settled) → SettledAs rs ss ts → SettledInOrder (rs ++ r ∷ []) ss ts
+in_order_first : (rs : List Request) (r : Request) (ss : List (List BackMessage)) (ts : List Settled) → EachSettled rs ss ts → FirstSettled (rs ++ r ∷ []) ss ts
 in_order_first [] r [] [] h = tt
 in_order_first (q ∷ rs) r (s ∷ ss) (t ∷ ts) h = (h.0, h.1, in_order_first rs r ss ts h.2)
 in_order_first _ r _ _ h = absurd h
@@ -131,7 +127,7 @@ greets_no_copy core before head w e g = go (greet_all before) (sym (ap greet_all
 -- ---- by where the client stands
 
 pub record StandFacts (hs : List Happening) (stand : Stand) (settled : List Settled) : Type 0 where
-  pub in_order : SettledInOrder (requests_in hs) (groups_in hs) settled
+  pub in_order : FirstSettled (requests_in hs) (groups_in hs) settled
   pub new : (stand_phase stand ≡ phase.New) ↔ (IsStarted hs → ⊥)
   pub starting : (stand_phase stand ≡ phase.Starting) ↔ IsStarting hs
   pub ready : (stand_phase stand ≡ phase.Ready) ↔ IsReady hs
@@ -153,9 +149,9 @@ module _ (hs : List Happening) (settled : List Settled) where
 
   idle_facts : (asides : List Aside) → Stands hs (Idle asides) settled → StandFacts hs (Idle asides) settled
   idle_facts asides h =
-      let len = SettledAs-length (requests_in hs) h.1.groups.groups settled h.1.groups.settled_as in
+      let len = EachSettled-length (requests_in hs) h.1.groups.groups settled h.1.groups.settled_as in
       record {
-        in_order = subst (λ (x : List (List BackMessage)). SettledInOrder (requests_in hs) (drop 1 x) settled) (sym h.1.groups.cut) (in_order_all (requests_in hs) h.1.groups.groups settled h.1.groups.settled_as);
+        in_order = subst (λ (x : List (List BackMessage)). FirstSettled (requests_in hs) (drop 1 x) settled) (sym h.1.groups.cut) (in_order_all (requests_in hs) h.1.groups.groups settled h.1.groups.settled_as);
         new = (λ k. cc, λ k. absurd (k h.0));
         starting = (λ k. cc, λ k. absurd (let f : [] ≡ h.1.groups.startup ∷ h.1.groups.groups = sym k.1 ∙ h.1.groups.cut in cc));
         ready = (λ k. ap length h.1.groups.cut ∙ ap suc len, λ k. refl);
@@ -164,9 +160,9 @@ module _ (hs : List Happening) (settled : List Settled) where
         seen_error = sym (sym (errors_kept (rest_in hs)) ∙ ap has_error h.1.only_asides);
       }
 
-  module _ (request : Request) (parts : List Part) (stage : Stage) (asides : List Aside) (answer : CopyAnswer) (h : Stands hs (Busy request parts stage asides answer) settled) where
+  module _ (segment : SegmentView) (h : Stands hs (Busy segment) settled) where
     len : length h.1.groups.groups ≡ length h.1.earlier
-    len = SettledAs-length h.1.earlier h.1.groups.groups settled h.1.groups.settled_as
+    len = EachSettled-length h.1.earlier h.1.groups.groups settled h.1.groups.settled_as
 
     -- busy or copying in
     copying_now : (s : Stage) (a : CopyAnswer) → busy_phase_of s a ≡ phase.CopyingIn → (head : CopyHead) × (s ≡ Within (begun.CopyIn head)) × (a ≡ Awaited)
@@ -181,23 +177,23 @@ module _ (hs : List Happening) (settled : List Settled) where
     busy_or_copying (Within (begun.CopyIn head)) Refused p b c k = b (sym k)
     busy_or_copying _ a p b c k = b (sym k)
 
-    busy_facts : StandFacts hs (Busy request parts stage asides answer) settled
+    busy_facts : StandFacts hs (Busy segment) settled
     busy_facts = record {
-      in_order = subst (λ (x : List (List BackMessage)). SettledInOrder (requests_in hs) (drop 1 x) settled) (sym h.1.groups.cut)
-          (subst (λ (rs : List Request). SettledInOrder rs h.1.groups.groups settled) (sym h.1.last) (in_order_first h.1.earlier request h.1.groups.groups settled h.1.groups.settled_as));
-      new = (λ k. absurd (busy_or_copying stage answer phase.New (λ x. cc) (λ x. cc) k), λ k. absurd (k h.0));
-      starting = (λ k. absurd (busy_or_copying stage answer phase.Starting (λ x. cc) (λ x. cc) k), λ k. absurd (let f : [] ≡ h.1.groups.startup ∷ h.1.groups.groups = sym k.1 ∙ h.1.groups.cut in cc));
-      ready = (λ k. absurd (busy_or_copying stage answer phase.Ready (λ x. cc) (λ x. cc) k), λ k. absurd (omega (arith, len, k, ap length h.1.groups.cut, ap length h.1.last, length-append h.1.earlier (request ∷ []))));
-      copying = (λ k. opened (copying_now stage answer k), λ k. closing k.0 k.1);
-      unsettled = sym (ap (λ (x : List (List BackMessage)). slice_get (requests_in hs) (length (drop 1 x))) h.1.groups.cut ∙ ap (λ (rs : List Request). slice_get rs (length h.1.groups.groups)) h.1.last ∙ last_one h.1.earlier request (length h.1.groups.groups) len);
-      seen_error = subst (λ (x : Option Place). IfSome x (λ q. stage_failed q.stage ≡ has_error (without_asides (rest_in hs)))) h.1.place (errors_by (asked request) (at [] (Within begun.Nothing)) false (without_asides (rest_in hs)) refl) ∙ errors_kept (rest_in hs);
+      in_order = subst (λ (x : List (List BackMessage)). FirstSettled (requests_in hs) (drop 1 x) settled) (sym h.1.groups.cut)
+          (subst (λ (rs : List Request). FirstSettled rs h.1.groups.groups settled) (sym h.1.last) (in_order_first h.1.earlier segment.request h.1.groups.groups settled h.1.groups.settled_as));
+      new = (λ k. absurd (busy_or_copying segment.stage segment.answer phase.New (λ x. cc) (λ x. cc) k), λ k. absurd (k h.0));
+      starting = (λ k. absurd (busy_or_copying segment.stage segment.answer phase.Starting (λ x. cc) (λ x. cc) k), λ k. absurd (let f : [] ≡ h.1.groups.startup ∷ h.1.groups.groups = sym k.1 ∙ h.1.groups.cut in cc));
+      ready = (λ k. absurd (busy_or_copying segment.stage segment.answer phase.Ready (λ x. cc) (λ x. cc) k), λ k. absurd (omega (arith, len, k, ap length h.1.groups.cut, ap length h.1.last, length-append h.1.earlier (segment.request ∷ []))));
+      copying = (λ k. opened (copying_now segment.stage segment.answer k), λ k. closing k.0 k.1);
+      unsettled = sym (ap (λ (x : List (List BackMessage)). slice_get (requests_in hs) (length (drop 1 x))) h.1.groups.cut ∙ ap (λ (rs : List Request). slice_get rs (length h.1.groups.groups)) h.1.last ∙ last_one h.1.earlier segment.request (length h.1.groups.groups) len);
+      seen_error = subst (λ (x : Option Reading). IfSome x (λ q. stage_failed q.stage ≡ has_error (without_asides (rest_in hs)))) h.1.reading (errors_by (asked segment.request) (at [] (Within begun.Nothing)) false (without_asides (rest_in hs)) refl) ∙ errors_kept (rest_in hs);
     }
       where
-        opened : (head : CopyHead) × (stage ≡ Within (begun.CopyIn head)) × (answer ≡ Awaited) → IsCopyAwaited hs
-        opened k = let o = open_ends (asked request) (without_asides (rest_in hs)) parts k.0 (h.1.place ∙ ap (at parts) k.1) in ((o.0, k.0, o.1), sym h.1.answer_is ∙ k.2)
+        opened : (head : CopyHead) × (segment.stage ≡ Within (begun.CopyIn head)) × (segment.answer ≡ Awaited) → IsCopyAwaited hs
+        opened k = let o = open_ends (asked segment.request) (without_asides (rest_in hs)) segment.parts k.0 (h.1.reading ∙ ap (at segment.parts) k.1) in ((o.0, k.0, o.1), sym h.1.answer_is ∙ k.2)
 
-        closing : EndInCopyIn (rest_in hs) → copy_answer hs ≡ Awaited → busy_phase_of stage answer ≡ phase.CopyingIn
-        closing ends a = rw (ends_open (asked request) (without_asides (rest_in hs)) ends.0 ends.1 (record { parts = parts; stage = stage }) ends.2 h.1.place, h.1.answer_is ∙ a) refl
+        closing : EndInCopyIn (rest_in hs) → copy_answer hs ≡ Awaited → busy_phase_of segment.stage segment.answer ≡ phase.CopyingIn
+        closing ends a = rw (ends_open (asked segment.request) (without_asides (rest_in hs)) ends.0 ends.1 (reading_of segment) ends.2 h.1.reading, h.1.answer_is ∙ a) refl
 
 -- ---- all
 
@@ -216,4 +212,4 @@ pub stand_facts : (hs : List Happening) (stand : Stand) (settled : List Settled)
 stand_facts hs New settled h = subst (λ (x : List Happening). StandFacts x New settled) (sym h.0) (new_facts settled h.1)
 stand_facts hs (Starting w) settled h = starting_facts hs settled w h
 stand_facts hs (Idle asides) settled h = idle_facts hs settled asides h
-stand_facts hs (Busy request parts stage asides answer) settled h = busy_facts hs settled request parts stage asides answer h
+stand_facts hs (Busy segment) settled h = busy_facts hs settled segment h

@@ -4,18 +4,17 @@ use Rattle.std.specs.Prelude.{◌⊎◌}
 use Rattle.pg_wire.specs.message.BackMessage.{BackMessage}
 use Rattle.pg_wire.specs.message.BackMessage.TheVariants as back
 use Rattle.pg_wire.specs.Segment.{error_of, without_asides}
-use Rattle.pg_client.specs.declared.place.Stand.{Stand}
-use Rattle.pg_client.specs.declared.place.Stand.TheVariants.{New, Starting, Idle, Busy}
-use Rattle.pg_client.specs.declared.place.Welcome.TheVariants.{Fresh, Asked, Admitted}
+use Rattle.pg_client.specs.declared.stand.Stand.{Stand}
+use Rattle.pg_client.specs.declared.stand.Stand.TheVariants.{New, Starting, Idle, Busy}
+use Rattle.pg_client.specs.declared.startup.Welcome.TheVariants.{Fresh, Asked, Admitted}
 use Rattle.pg_client.specs.declared.settled.Settled.{Settled}
 use Rattle.pg_client.specs.Session.{Happening, rest_in, AsksPassword, key_data, IsStarted, IsStarting, IsReady}
-use Rattle.pg_client.specs.Closed.{IsFresh, IsError, AsksOther, HasNoName, IsFaultFor}
-use Rattle.pg_client.specs.Machine.{Rejected, hear_with}
-use Rattle.pg_client.specs.Judged.{Stands}
+use Rattle.pg_client.specs.Closed.{AwaitsAuthentication, IsError, AsksOther, IsOnlyUnexpected, IsFaultFor}
+use Rattle.pg_client.specs.Stand.{Rejected, hear_with, Stands}
 use Rattle.pg_client.specs.Private.Hearing.{fault_at, fresh_fault, later_fault, idle_fault}
 use Rattle.pg_client.proofs.FactsHold.{stand_facts}
-use Rattle.pg_client.proofs.OneMessage.{SettledAs-length}
-use Rattle.pg_client.proofs.Startup.{Greeted, greet_sound}
+use Rattle.pg_client.proofs.OneMessage.{EachSettled-length}
+use Rattle.pg_client.proofs.Greeting.{Greeted, greet_sound}
 
 abbrev asks : BackMessage → Bool
 asks back.AuthCleartext = true
@@ -35,10 +34,10 @@ no_question_by : (m : BackMessage) → asks m ≡ false → (AsksPassword m ⊎ 
 no_question_by m none (inl q) = (let k : false ≡ true = sym none ∙ question_asks m q in cc)
 no_question_by m none (inr (code, bytes, is)) = (let k : asks (back.AuthOther code bytes) ≡ false = subst (λ (x : BackMessage). asks x ≡ false) is none in cc)
 
-plain_fresh : (hs : List Happening) (m : BackMessage) → error_of m ≡ None → asks m ≡ false → HasNoName hs m
+plain_fresh : (hs : List Happening) (m : BackMessage) → error_of m ≡ None → asks m ≡ false → IsOnlyUnexpected hs m
 plain_fresh hs m error question = record { no_error = λ e w. no_error_by m error e; no_question = λ q f. no_question_by m question q }
 
-plain_later : (hs : List Happening) (m : BackMessage) → error_of m ≡ None → (IsFresh hs → ⊥) → HasNoName hs m
+plain_later : (hs : List Happening) (m : BackMessage) → error_of m ≡ None → (AwaitsAuthentication hs → ⊥) → IsOnlyUnexpected hs m
 plain_later hs m error later = record { no_error = λ e w. no_error_by m error e; no_question = λ q f. later f }
 
 -- a client that has a password answers the first question
@@ -50,18 +49,18 @@ none_given_md5 : (password : Option (List ℕ)) (salt : List ℕ) → hear_with 
 none_given_md5 None salt rejected = refl
 none_given_md5 (Some p) salt rejected = absurd cc
 
-fresh_for : (password : Option (List ℕ)) (hs : List Happening) (m : BackMessage) → IsFresh hs → hear_with password (Starting Fresh) m ≡ Rejected → IsFaultFor password hs m (fresh_fault m)
+fresh_for : (password : Option (List ℕ)) (hs : List Happening) (m : BackMessage) → AwaitsAuthentication hs → hear_with password (Starting Fresh) m ≡ Rejected → IsFaultFor password hs m (fresh_fault m)
 fresh_for password hs (back.ErrorResponse fields) f rejected = (f.0, refl)
 fresh_for password hs (back.AuthOther code bytes) f rejected = (f, bytes, refl)
 fresh_for password hs back.AuthCleartext f rejected = (f, refl, none_given password rejected)
 fresh_for password hs (back.AuthMd5 salt) f rejected = (f, refl, none_given_md5 password salt rejected)
 fresh_for password hs m f rejected = (plain_fresh hs m refl refl, refl)
 
-later_for : (password : Option (List ℕ)) (hs : List Happening) (m : BackMessage) → IsStarting hs → (IsFresh hs → ⊥) → IsFaultFor password hs m (later_fault m)
+later_for : (password : Option (List ℕ)) (hs : List Happening) (m : BackMessage) → IsStarting hs → (AwaitsAuthentication hs → ⊥) → IsFaultFor password hs m (later_fault m)
 later_for password hs (back.ErrorResponse fields) s later = (s, refl)
 later_for password hs m s later = (plain_later hs m refl later, refl)
 
-idle_for : (password : Option (List ℕ)) (hs : List Happening) (m : BackMessage) → IsReady hs → (IsFresh hs → ⊥) → IsFaultFor password hs m (idle_fault m)
+idle_for : (password : Option (List ℕ)) (hs : List Happening) (m : BackMessage) → IsReady hs → (AwaitsAuthentication hs → ⊥) → IsFaultFor password hs m (idle_fault m)
 idle_for password hs (back.ErrorResponse fields) s later = (s, refl)
 idle_for password hs m s later = (plain_later hs m refl later, refl)
 
@@ -89,7 +88,7 @@ fault_for password hs (Starting Admitted) settled m h rejected = later_for passw
     let g : Greeted (without_asides (rest_in hs)) (Some Admitted) = subst (Greeted (without_asides (rest_in hs))) h.1.greeted (greet_sound (without_asides (rest_in hs))) in
     never_none g.0 back.AuthOk (map key_data g.2) (sym f.1 ∙ g.3))
 fault_for password hs (Idle asides) settled m h rejected = idle_for password hs m ((stand_facts hs (Idle asides) settled h).ready.0 refl) (λ f. let k : [] ≡ h.1.groups.startup ∷ h.1.groups.groups = sym f.0.1 ∙ h.1.groups.cut in cc)
-fault_for password hs (Busy request parts stage asides answer) settled m h rejected = (
+fault_for password hs (Busy segment) settled m h rejected = (
   record {
     no_error = λ x w. neither w;
     no_question = λ q f. started_not f.0;
@@ -102,4 +101,4 @@ fault_for password hs (Busy request parts stage asides answer) settled m h rejec
 
     neither : IsStarting hs ⊎ IsReady hs → ⊥
     neither (inl s) = started_not s
-    neither (inr s) = omega (arith, s, SettledAs-length h.1.earlier h.1.groups.groups settled h.1.groups.settled_as, ap length h.1.groups.cut, ap length h.1.last, length-append h.1.earlier (request ∷ []))
+    neither (inr s) = omega (arith, s, EachSettled-length h.1.earlier h.1.groups.groups settled h.1.groups.settled_as, ap length h.1.groups.cut, ap length h.1.last, length-append h.1.earlier (segment.request ∷ []))

@@ -18,18 +18,17 @@ use Rattle.pg_client.specs.declared.fault.FeedFault.{FeedFault}
 use Rattle.pg_client.specs.declared.fault.FeedFault.TheVariants as feeding
 use Rattle.pg_client.specs.declared.phase.Cause.{Cause}
 use Rattle.pg_client.specs.declared.phase.Cause.TheVariants as cause
-use Rattle.pg_client.specs.declared.place.Stand.{Stand}
-use Rattle.pg_client.specs.declared.place.Stand.TheVariants.{Idle}
+use Rattle.pg_client.specs.declared.stand.Stand.{Stand}
+use Rattle.pg_client.specs.declared.stand.Stand.TheVariants.{Idle}
 use Rattle.pg_client.specs.declared.settings.Settings.{Settings}
 use Rattle.pg_client.specs.declared.settled.Settled.{Settled}
 use Rattle.pg_client.specs.Session.{Happening, Came, IsTerminated, AreAllowed, IsAfterItsCall, can_answer, Expected}
-use Rattle.pg_client.specs.Client.{ClientView, or_else, last_from, value_of, value_said, key_said, Shows, unsettled_of, has_failed}
+use Rattle.pg_client.specs.Client.{ClientView, option_or, last_from, value_of, value_said, key_said, Shows, unsettled_of, has_failed}
 use Rattle.pg_client.specs.Sent.{answer_to, sent_in, IsSpelledAt}
 use Rattle.pg_client.specs.Closed.{IsFaultFor, IsRefusedAt, cause_of, IsKept, Ends}
 use Rattle.pg_client.specs.History.{Calls, merged, with_ends, happenings, IsHistoryOf, History, with_heard, with_fed}
-use Rattle.pg_client.specs.Feed.{Answers, Hears, FeedsOpen, FeedsWith, Feeds}
-use Rattle.pg_client.specs.Machine.{Effect, Stays, Settles, Rejected, hear_with}
-use Rattle.pg_client.specs.Judged.{Stands}
+use Rattle.pg_client.specs.Feed.{FeedAnswers, Hears, FeedsOpen, FeedsByCause, Feeds}
+use Rattle.pg_client.specs.Stand.{Effect, Leads, Settles, Rejected, hear_with, Stands}
 use Rattle.pg_client.specs.Private.Feeding.{Knows, HearsNothing, MovesBy, HearsOne, HearsNext, HearsAll, IsHearing, leaving}
 use Rattle.pg_client.proofs.Agreeing.{answer_is_said}
 use Rattle.pg_client.proofs.Faults.{fault_for}
@@ -40,9 +39,9 @@ use Rattle.pg_client.proofs.Merging.{MadeBefore, merged-came, with_ends-more}
 
 -- ---- one more message
 
-last_from-more : {A : Type 0} (says : BackMessage → Option A) (o : Option A) (ms : List BackMessage) (m : BackMessage) → last_from says o (ms ++ m ∷ []) ≡ or_else (says m) (last_from says o ms)
+last_from-more : {A : Type 0} (says : BackMessage → Option A) (o : Option A) (ms : List BackMessage) (m : BackMessage) → last_from says o (ms ++ m ∷ []) ≡ option_or (says m) (last_from says o ms)
 last_from-more says o [] m = refl
-last_from-more says o (x ∷ xs) m = last_from-more says (or_else (says x) o) xs m
+last_from-more says o (x ∷ xs) m = last_from-more says (option_or (says x) o) xs m
 
 made_before_all : (cs : Calls) (before end : ℕ) → before < end → AllByRecursion (λ c. c.1 ≤ before) cs → MadeBefore end cs
 made_before_all [] before end lt h = tt
@@ -87,9 +86,9 @@ module _ (before : ℕ) (past : History) (client : ClientView) (r : IsHearing be
           expected = subst (λ (x : Settings). Expected x.password (merged past.calls (with_ends 0 (past.heard ++ m ∷ [])))) (sym settings)
               (subst (Expected client.settings.password) (sym came) (expected_came client.settings.password (happenings past) m new.stand (past.given ++ new.settled) r.expected h k answerable));
           stands = subst (λ (hs : List Happening). Stands hs new.stand (past.given ++ new.settled)) (sym came) h;
-          status = knows.status ∙ ap (or_else (status_of m)) r.status ∙ sym (last_from-more status_of None past.heard m);
-          parameters = λ name. knows.parameters name ∙ ap (or_else (value_said name m)) (r.parameters name) ∙ sym (last_from-more (value_said name) None past.heard m);
-          key = knows.key ∙ ap (or_else (key_said m)) r.key ∙ sym (last_from-more key_said None past.heard m);
+          status = knows.status ∙ ap (option_or (status_of m)) r.status ∙ sym (last_from-more status_of None past.heard m);
+          parameters = λ name. knows.parameters name ∙ ap (option_or (value_said name m)) (r.parameters name) ∙ sym (last_from-more (value_said name) None past.heard m);
+          key = knows.key ∙ ap (option_or (key_said m)) r.key ∙ sym (last_from-more key_said None past.heard m);
           sent_is = ap (λ (bs : List ℕ). bs ++ flat_map (spelling frontend) (answer_to client.settings m)) r.sent_is ∙ sym (sent_more client.settings (happenings past) (Came m)) ∙ ap (sent_in client.settings) (sym came) ∙ ap (λ (x : Settings). sent_in x (merged past.calls (with_ends 0 (past.heard ++ m ∷ [])))) (sym settings);
           spelled = subst (λ (x : Settings). AllByRecursion (IsSpelledAt x) (merged past.calls (with_ends 0 (past.heard ++ m ∷ [])))) (sym settings)
               (subst (AllByRecursion (IsSpelledAt client.settings)) (sym came) (spelled_more client.settings (happenings past) (Came m) r.spelled spelled));
@@ -97,7 +96,7 @@ module _ (before : ℕ) (past : History) (client : ClientView) (r : IsHearing be
 
     by_effect : (new : ClientView) (e : Effect) → new.settings ≡ client.settings → new.kept ≡ more → new.closed ≡ None → AllByRecursion (HasSpelling frontend) (answer_to client.settings m) → Knows m client new → MovesBy e client new
         → Judges client.settings.password (happenings past) (past.given ++ client.settled) m e → IsHearing before (with_heard (m ∷ []) new.kept answer past) new
-    by_effect new (Stays s) settings kept is_open spelled knows moves h =
+    by_effect new (Leads s) settings kept is_open spelled knows moves h =
         heard_one new settings kept is_open (subst (λ (x : Stand). Stands (happenings past ++ Came m ∷ []) x (past.given ++ new.settled)) (sym moves.0) (subst (λ (ts : List Settled). Stands (happenings past ++ Came m ∷ []) s (past.given ++ ts)) (sym moves.1) h.0)) h.1 h.2 spelled knows
     by_effect new (Settles t) settings kept is_open spelled knows moves h =
         heard_one new settings kept is_open
@@ -114,7 +113,7 @@ module _ (before : ℕ) (past : History) (client : ClientView) (r : IsHearing be
       (hears client.settings.password (happenings past) client.stand (past.given ++ client.settled) h.0 (answer_is_said (happenings past) r.expected.after r.allowed) r.stands)
     where
       moved_by : (e : Effect) → MovesBy e (leaving client new.kept) new → MovesBy e client new
-      moved_by (Stays s) k = k
+      moved_by (Leads s) k = k
       moved_by (Settles t) k = k
       moved_by Rejected k = k
 
@@ -188,7 +187,7 @@ named_ends settings hs rest kept (feeding.StartupError fields) n h = (λ e. cc, 
 named_ends settings hs rest kept (feeding.ServerEnd fields) n h = (λ e. cc, (feeding.ServerEnd fields, refl, h))
 named_ends settings hs rest kept _ n h = absurd n
 
-named_answers : (settings : Settings) (hs : List Happening) (rest piece : List ℕ) (f : FeedFault) (closed : Option Cause) → IsNamed f → IsRefusedAt settings hs rest f → closed ≡ cause_of f → Answers settings hs rest piece (Err f) closed
+named_answers : (settings : Settings) (hs : List Happening) (rest piece : List ℕ) (f : FeedFault) (closed : Option Cause) → IsNamed f → IsRefusedAt settings hs rest f → closed ≡ cause_of f → FeedAnswers settings hs rest piece (Err f) closed
 named_answers settings hs rest piece (feeding.Unexpected t) closed n h e = (h, e)
 named_answers settings hs rest piece (feeding.UnsupportedAuth c) closed n h e = (h, e)
 named_answers settings hs rest piece feeding.PasswordWanted closed n h e = (h, e)
@@ -197,7 +196,7 @@ named_answers settings hs rest piece (feeding.ServerEnd fields) closed n h e = (
 named_answers settings hs rest piece _ closed n h e = absurd n
 
 abbrev Closes : History → List ℕ → FeedFault → ClientView → Type 0
-Closes past piece f new = IsHistoryOf past new × Answers new.settings (happenings past) past.rest piece (Err f) new.closed
+Closes past piece f new = IsHistoryOf past new × FeedAnswers new.settings (happenings past) past.rest piece (Err f) new.closed
 
 module _ (before : ℕ) (past : History) (client : ClientView) (r : IsHearing before past client) (piece : List ℕ) (some : 0 < length piece) where
   named_closes : (f : FeedFault) (new : ClientView) → IsNamed f → IsRefusedAt client.settings (happenings past) client.kept f → HearsNothing client new → new.closed ≡ cause_of f → Closes (record past { rest = client.kept }) piece f new
@@ -430,7 +429,7 @@ module _ (h : History) (old : ClientView) (none : old.closed ≡ None) (r : IsHi
 -- ---- feed, by the fields of a value that was opened
 
 feeds_open : (old : ClientView) (piece : List ℕ) (result : Result Unit FeedFault) (new : ClientView) (out end : List ℕ) → FeedsOpen old piece result new out end → old.closed ≡ None → Feeds old piece result new out end
-feeds_open old piece result new out end h none = subst (λ (o : Option Cause). FeedsWith o old piece result new out end) (sym none) h
+feeds_open old piece result new out end h none = subst (λ (o : Option Cause). FeedsByCause o old piece result new out end) (sym none) h
 
 -- nothing was put out
 feeds_quietly : (old : ClientView) (piece : List ℕ) (result : Result Unit FeedFault) (new : ClientView) (out : List ℕ) → ((h : History) → IsHistoryOf h old → Hears (with_fed piece h) piece [] result new) → FeedsOpen old piece result new out out
@@ -439,7 +438,7 @@ feeds_quietly old piece result new out hears = record { added = []; put = sym (a
 pub feeds_closed : (old : ClientView) (piece out : List ℕ) → is_some old.closed ≡ true → Feeds old piece (Err feeding.Closed) old out out
 feeds_closed old piece out e = by old.closed e
   where
-    by : (o : Option Cause) → is_some o ≡ true → FeedsWith o old piece (Err feeding.Closed) old out out
+    by : (o : Option Cause) → is_some o ≡ true → FeedsByCause o old piece (Err feeding.Closed) old out out
     by None k = absurd cc
     by (Some c) k = (refl, refl, refl)
 

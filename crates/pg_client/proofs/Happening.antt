@@ -4,24 +4,22 @@ use Rattle.std.specs.List.{AllByRecursion}
 use Rattle.std.proofs.lemmas.List.{append-nil, append_cancel_left}
 use Rattle.pg_wire.specs.message.BackMessage.{BackMessage}
 use Rattle.pg_wire.specs.declared.session.Aside.{Aside}
-use Rattle.pg_wire.specs.declared.session.Part.{Part}
 use Rattle.pg_wire.specs.declared.session.Request.{Request}
-use Rattle.pg_client.specs.declared.place.Open.TheVariants as begun
-use Rattle.pg_client.specs.declared.place.Stage.{Stage}
-use Rattle.pg_client.specs.declared.place.Stage.TheVariants.{Within}
-use Rattle.pg_client.specs.declared.place.CopyAnswer.{CopyAnswer}
-use Rattle.pg_client.specs.declared.place.CopyAnswer.TheVariants.{Awaited, Done, Refused}
-use Rattle.pg_client.specs.declared.place.Welcome.TheVariants.{Fresh}
-use Rattle.pg_client.specs.declared.place.Stand.{Stand}
-use Rattle.pg_client.specs.declared.place.Stand.TheVariants.{New, Starting, Idle, Busy}
+use Rattle.pg_client.specs.Private.Calling.{segment_of, answering}
+use Rattle.pg_client.specs.declared.segment.CopyAnswer.{CopyAnswer}
+use Rattle.pg_client.specs.declared.segment.CopyAnswer.TheVariants.{Awaited, Done, Refused}
+use Rattle.pg_client.specs.declared.startup.Welcome.TheVariants.{Fresh}
+use Rattle.pg_client.specs.declared.stand.Stand.{Stand}
+use Rattle.pg_client.specs.declared.stand.Stand.TheVariants.{New, Starting, Idle, Busy}
 use Rattle.pg_client.specs.declared.settled.Settled.{Settled}
 use Rattle.pg_wire.specs.Segment.{asked, Segments, segments, status_of}
-use Rattle.pg_client.specs.Place.{read_all}
-use Rattle.pg_client.specs.Session.{Call, Start, Ask, Chunk, CopyEnd, CopyFail, Terminate, Happening, Did, Came, requests_in, messages_in, whole_in, rest_in, IsStarted, FitAll, IsSession, IsAfterItsCall, can_answer, Expected}
-use Rattle.pg_client.specs.Machine.{Effect, Stays, Settles, Rejected, copy_answer_after, copy_answer_from, copy_answer, hear, hear_with}
-use Rattle.pg_client.specs.Judged.{StandsBy, Stands}
+use Rattle.pg_client.specs.Segment.{SegmentView, read_all, reading_of}
+use Rattle.pg_client.specs.Stand.{Effect, Leads, Settles, Rejected, copy_answer_after, copy_answer_from, copy_answer, hear, hear_with, StandsBy, Stands}
+use Rattle.pg_client.specs.declared.call.Call.{Call}
+use Rattle.pg_client.specs.declared.call.Call.TheVariants as call
+use Rattle.pg_client.specs.Session.{Happening, Did, Came, requests_in, messages_in, whole_in, rest_in, IsStarted, FitAll, IsSession, IsAfterItsCall, can_answer, Expected}
 use Rattle.pg_client.proofs.Outcomes.{front_splits, read_begins}
-use Rattle.pg_client.proofs.Startup.{greeted_begins}
+use Rattle.pg_client.proofs.Greeting.{greeted_begins}
 use Rattle.pg_client.proofs.Said.{AnswerIsSaid, after_its_call, may_stand}
 use Rattle.pg_client.proofs.OneMessage.{put_after, segments-more, all_fit, fit_and_begin, StandsThen, Verdict, hear_verdict}
 
@@ -53,13 +51,13 @@ messages_in-did (Came x ∷ hs) c = ap (λ (ms : List BackMessage). x ∷ ms) (m
 
 pub requests_in-more : (hs : List Happening) (h : Happening) → requests_in (hs ++ h ∷ []) ≡ requests_in hs ++ requests_in (h ∷ [])
 requests_in-more [] h = refl
-requests_in-more (Did (Ask r) ∷ hs) h = ap (λ (rs : List Request). r ∷ rs) (requests_in-more hs h)
+requests_in-more (Did (call.Request r) ∷ hs) h = ap (λ (rs : List Request). r ∷ rs) (requests_in-more hs h)
 requests_in-more (Did _ ∷ hs) h = requests_in-more hs h
 requests_in-more (Came x ∷ hs) h = requests_in-more hs h
 
 pub IsStarted-more : (hs : List Happening) (h : Happening) → IsStarted hs → IsStarted (hs ++ h ∷ [])
 IsStarted-more [] h s = absurd s
-IsStarted-more (Did Start ∷ hs) h s = tt
+IsStarted-more (Did call.Start ∷ hs) h s = tt
 IsStarted-more (_ ∷ hs) h s = IsStarted-more hs h s
 
 pub copy_answer_from-more : (answer : CopyAnswer) (hs : List Happening) (h : Happening) → copy_answer_from answer (hs ++ h ∷ []) ≡ copy_answer_after (copy_answer_from answer hs) h
@@ -72,7 +70,7 @@ stands_from : (hs : List Happening) (stand : Stand) (settled : List Settled) →
 stands_from hs New settled s h = absurd h
 stands_from hs (Starting w) settled s h = (s, h)
 stands_from hs (Idle asides) settled s h = (s, h)
-stands_from hs (Busy request parts stage asides answer) settled s h = (s, h)
+stands_from hs (Busy segment) settled s h = (s, h)
 
 segments-came : (hs : List Happening) (m : BackMessage) → segments (messages_in (hs ++ Came m ∷ [])) ≡ put_after (status_of m) m (whole_in hs) (rest_in hs)
 segments-came hs m = ap segments (messages_in-came hs m) ∙ segments-more (messages_in hs) m
@@ -87,12 +85,12 @@ stands_came hs m stand before now s h =
 module _ (password : Option (List ℕ)) where
   -- what the client makes of a message, after all that happened
   abbrev pub Hears : List Happening → List Settled → BackMessage → Effect → Type 0
-  Hears hs settled m (Stays stand) = Stands (hs ++ Came m ∷ []) stand settled × IsAfterItsCall hs m × (can_answer password m ≡ true)
+  Hears hs settled m (Leads stand) = Stands (hs ++ Came m ∷ []) stand settled × IsAfterItsCall hs m × (can_answer password m ≡ true)
   Hears hs settled m (Settles t) = Stands (hs ++ Came m ∷ []) (Idle []) (settled ++ t ∷ []) × IsAfterItsCall hs m × (can_answer password m ≡ true)
   Hears hs settled m Rejected = Expected password (hs ++ Came m ∷ []) → ⊥
 
   hears_by : (hs : List Happening) (settled : List Settled) (m : BackMessage) (effect : Effect) → AnswerIsSaid hs → IsStarted hs → can_answer password m ≡ true → Verdict (requests_in hs) (whole_in hs) (rest_in hs) (copy_answer hs) settled m (status_of m) effect → Hears hs settled m effect
-  hears_by hs settled m (Stays stand) same s e v = (stands_came hs m stand settled settled s v.0, after_its_call hs same m s v.1, e)
+  hears_by hs settled m (Leads stand) same s e v = (stands_came hs m stand settled settled s v.0, after_its_call hs same m s v.1, e)
   hears_by hs settled m (Settles t) same s e v = (stands_came hs m (Idle []) settled (settled ++ t ∷ []) s v.0, after_its_call hs same m s v.1, e)
   hears_by hs settled m Rejected same s e v = λ expected.
       v (subst (λ (x : Segments). IsSession (requests_in hs) x.whole x.rest) (segments-came hs m)
@@ -103,7 +101,7 @@ module _ (password : Option (List ℕ)) where
   hears_answerable hs New settled m same e h = λ expected. subst IsStarted h.0 ((expected.after hs m [] refl).started)
   hears_answerable hs (Starting w) settled m same e h = hears_by hs settled m (hear (Starting w) m) same h.0 e (hear_verdict (requests_in hs) (whole_in hs) (rest_in hs) (copy_answer hs) settled m (Starting w) h.1)
   hears_answerable hs (Idle asides) settled m same e h = hears_by hs settled m (hear (Idle asides) m) same h.0 e (hear_verdict (requests_in hs) (whole_in hs) (rest_in hs) (copy_answer hs) settled m (Idle asides) h.1)
-  hears_answerable hs (Busy request parts stage asides answer) settled m same e h = hears_by hs settled m (hear (Busy request parts stage asides answer) m) same h.0 e (hear_verdict (requests_in hs) (whole_in hs) (rest_in hs) (copy_answer hs) settled m (Busy request parts stage asides answer) h.1)
+  hears_answerable hs (Busy segment) settled m same e h = hears_by hs settled m (hear (Busy segment) m) same h.0 e (hear_verdict (requests_in hs) (whole_in hs) (rest_in hs) (copy_answer hs) settled m (Busy segment) h.1)
 
   -- what a client without a password is asked isn't expected
   unanswerable : (hs : List Happening) (m : BackMessage) → can_answer password m ≡ false → Expected password (hs ++ Came m ∷ []) → ⊥
@@ -124,15 +122,15 @@ session_by : (requests : List Request) (whole : List (List BackMessage)) (rest :
 session_by requests whole rest said New settled h = absurd h
 session_by requests whole rest said (Starting w) settled h = subst (λ (x : List (List BackMessage)). IsSession requests x rest) (sym h.no_segment) (greeted_begins rest w h.greeted)
 session_by requests whole rest said (Idle asides) settled h = subst (λ (x : List (List BackMessage)). IsSession requests x rest) (sym h.groups.cut) (h.groups.welcomed, all_fit requests h.groups.groups settled rest h.groups.settled_as h.only_asides)
-session_by requests whole rest said (Busy request parts stage asides answer) settled h =
+session_by requests whole rest said (Busy segment) settled h =
     subst (λ (x : List (List BackMessage)). IsSession requests x rest) (sym h.groups.cut)
-    (h.groups.welcomed, subst (λ (x : List Request). FitAll x h.groups.groups rest) (sym h.last) (fit_and_begin h.earlier h.groups.groups settled request rest h.groups.settled_as (read_begins request rest (record { parts = parts; stage = stage }) h.place)))
+    (h.groups.welcomed, subst (λ (x : List Request). FitAll x h.groups.groups rest) (sym h.last) (fit_and_begin h.earlier h.groups.groups settled segment.request rest h.groups.settled_as (read_begins segment.request rest (reading_of segment) h.reading)))
 
 pub stands_session : (hs : List Happening) (stand : Stand) (settled : List Settled) → Stands hs stand settled → IsSession (requests_in hs) (whole_in hs) (rest_in hs)
 stands_session hs New settled h = subst (λ (x : List Happening). IsSession (requests_in x) (segments (messages_in x)).whole (segments (messages_in x)).rest) (sym h.0) (greeted_begins [] Fresh refl)
 stands_session hs (Starting w) settled h = session_by _ _ _ (copy_answer hs) (Starting w) settled h.1
 stands_session hs (Idle asides) settled h = session_by _ _ _ (copy_answer hs) (Idle asides) settled h.1
-stands_session hs (Busy request parts stage asides answer) settled h = session_by _ _ _ (copy_answer hs) (Busy request parts stage asides answer) settled h.1
+stands_session hs (Busy segment) settled h = session_by _ _ _ (copy_answer hs) (Busy segment) settled h.1
 
 -- ---- what is expected goes on
 
@@ -180,8 +178,8 @@ expected_nothing password = record { session = greeted_begins [] Fresh refl; aft
 
 -- ---- the calls
 
-pub did_start : (hs : List Happening) (settled : List Settled) → Stands hs New settled → Stands (hs ++ Did Start ∷ []) (Starting Fresh) settled
-did_start hs settled h = subst (λ (x : List Happening). Stands (x ++ Did Start ∷ []) (Starting Fresh) settled) (sym h.0) (tt, record { no_request = refl; no_segment = refl; none_settled = h.1; greeted = refl })
+pub did_start : (hs : List Happening) (settled : List Settled) → Stands hs New settled → Stands (hs ++ Did call.Start ∷ []) (Starting Fresh) settled
+did_start hs settled h = subst (λ (x : List Happening). Stands (x ++ Did call.Start ∷ []) (Starting Fresh) settled) (sym h.0) (tt, record { no_request = refl; no_segment = refl; none_settled = h.1; greeted = refl })
 
 stands_did : (hs : List Happening) (c : Call) (stand : Stand) (settled : List Settled) → IsStarted hs → StandsBy (requests_in hs ++ requests_in (Did c ∷ [])) (whole_in hs) (rest_in hs) (copy_answer_after (copy_answer hs) (Did c)) stand settled → Stands (hs ++ Did c ∷ []) stand settled
 stands_did hs c stand settled s h =
@@ -190,33 +188,33 @@ stands_did hs c stand settled s h =
     (subst (λ (ms : List BackMessage). StandsBy (requests_in hs ++ requests_in (Did c ∷ [])) (segments ms).whole (segments ms).rest (copy_answer (hs ++ Did c ∷ [])) stand settled) (sym (messages_in-did hs c))
     (subst (λ (said : CopyAnswer). StandsBy (requests_in hs ++ requests_in (Did c ∷ [])) (whole_in hs) (rest_in hs) said stand settled) (sym (copy_answer_from-more Awaited hs (Did c))) h)))
 
-pub did_ask : (hs : List Happening) (request : Request) (asides : List Aside) (settled : List Settled) → Stands hs (Idle asides) settled → Stands (hs ++ Did (Ask request) ∷ []) (Busy request [] (Within begun.Nothing) asides Awaited) settled
+pub did_ask : (hs : List Happening) (request : Request) (asides : List Aside) (settled : List Settled) → Stands hs (Idle asides) settled → Stands (hs ++ Did (call.Request request) ∷ []) (Busy (segment_of request asides)) settled
 did_ask hs request asides settled h =
-    stands_did hs (Ask request) (Busy request [] (Within begun.Nothing) asides Awaited) settled h.0
-    (record { earlier = requests_in hs; last = refl; groups = h.1.groups; place = ap (read_all (asked request)) h.1.only_asides; asides_are = h.1.asides_are; answer_is = refl })
+    stands_did hs (call.Request request) (Busy (segment_of request asides)) settled h.0
+    (record { earlier = requests_in hs; last = refl; groups = h.1.groups; reading = ap (read_all (asked request)) h.1.only_asides; asides_are = h.1.asides_are; answer_is = refl })
 
-module _ (hs : List Happening) (request : Request) (parts : List Part) (stage : Stage) (asides : List Aside) (answer : CopyAnswer) (settled : List Settled) (h : Stands hs (Busy request parts stage asides answer) settled) where
+module _ (hs : List Happening) (segment : SegmentView) (settled : List Settled) (h : Stands hs (Busy segment) settled) where
   no_more : (rs : List Request) → requests_in hs ≡ rs → requests_in hs ++ [] ≡ rs
   no_more rs e = append-nil (requests_in hs) ∙ e
 
-  pub did_copy_end : Stands (hs ++ Did CopyEnd ∷ []) (Busy request parts stage asides Done) settled
-  did_copy_end = stands_did hs CopyEnd (Busy request parts stage asides Done) settled h.0 (record { earlier = h.1.earlier; last = no_more _ h.1.last; groups = h.1.groups; place = h.1.place; asides_are = h.1.asides_are; answer_is = refl })
+  pub did_copy_end : Stands (hs ++ Did call.Done ∷ []) (Busy (answering segment Done)) settled
+  did_copy_end = stands_did hs call.Done (Busy (answering segment Done)) settled h.0 (record { earlier = h.1.earlier; last = no_more _ h.1.last; groups = h.1.groups; reading = h.1.reading; asides_are = h.1.asides_are; answer_is = refl })
 
-  pub did_copy_fail : (reason : List ℕ) → Stands (hs ++ Did (CopyFail reason) ∷ []) (Busy request parts stage asides Refused) settled
-  did_copy_fail reason = stands_did hs (CopyFail reason) (Busy request parts stage asides Refused) settled h.0 (record { earlier = h.1.earlier; last = no_more _ h.1.last; groups = h.1.groups; place = h.1.place; asides_are = h.1.asides_are; answer_is = refl })
+  pub did_copy_fail : (reason : List ℕ) → Stands (hs ++ Did (call.Fail reason) ∷ []) (Busy (answering segment Refused)) settled
+  did_copy_fail reason = stands_did hs (call.Fail reason) (Busy (answering segment Refused)) settled h.0 (record { earlier = h.1.earlier; last = no_more _ h.1.last; groups = h.1.groups; reading = h.1.reading; asides_are = h.1.asides_are; answer_is = refl })
 
-  pub did_chunk : (bytes : List ℕ) → Stands (hs ++ Did (Chunk bytes) ∷ []) (Busy request parts stage asides answer) settled
-  did_chunk bytes = stands_did hs (Chunk bytes) (Busy request parts stage asides answer) settled h.0 (record { earlier = h.1.earlier; last = no_more _ h.1.last; groups = h.1.groups; place = h.1.place; asides_are = h.1.asides_are; answer_is = h.1.answer_is })
+  pub did_chunk : (bytes : List ℕ) → Stands (hs ++ Did (call.Chunk bytes) ∷ []) (Busy segment) settled
+  did_chunk bytes = stands_did hs (call.Chunk bytes) (Busy segment) settled h.0 (record { earlier = h.1.earlier; last = no_more _ h.1.last; groups = h.1.groups; reading = h.1.reading; asides_are = h.1.asides_are; answer_is = h.1.answer_is })
 
 same_by : (hs : List Happening) (stand : Stand) (settled : List Settled) → StandsBy (requests_in hs) (whole_in hs) (rest_in hs) (copy_answer hs) stand settled → StandsBy (requests_in hs ++ []) (whole_in hs) (rest_in hs) (copy_answer hs) stand settled
 same_by hs stand settled h = subst (λ (rs : List Request). StandsBy rs (whole_in hs) (rest_in hs) (copy_answer hs) stand settled) (sym (append-nil (requests_in hs))) h
 
 -- terminate changes nothing of where it stands
-pub did_terminate : (hs : List Happening) (stand : Stand) (settled : List Settled) → IsStarted hs → Stands hs stand settled → Stands (hs ++ Did Terminate ∷ []) stand settled
+pub did_terminate : (hs : List Happening) (stand : Stand) (settled : List Settled) → IsStarted hs → Stands hs stand settled → Stands (hs ++ Did call.Terminate ∷ []) stand settled
 did_terminate hs New settled s h = absurd (subst IsStarted h.0 s)
-did_terminate hs (Starting w) settled s h = stands_did hs Terminate (Starting w) settled s (same_by hs (Starting w) settled h.1)
-did_terminate hs (Idle asides) settled s h = stands_did hs Terminate (Idle asides) settled s (same_by hs (Idle asides) settled h.1)
-did_terminate hs (Busy request parts stage asides answer) settled s h = stands_did hs Terminate (Busy request parts stage asides answer) settled s (same_by hs (Busy request parts stage asides answer) settled h.1)
+did_terminate hs (Starting w) settled s h = stands_did hs call.Terminate (Starting w) settled s (same_by hs (Starting w) settled h.1)
+did_terminate hs (Idle asides) settled s h = stands_did hs call.Terminate (Idle asides) settled s (same_by hs (Idle asides) settled h.1)
+did_terminate hs (Busy segment) settled s h = stands_did hs call.Terminate (Busy segment) settled s (same_by hs (Busy segment) settled h.1)
 
 -- what the client refuses isn't expected
 pub rejected_unexpected : (password : Option (List ℕ)) (hs : List Happening) (stand : Stand) (settled : List Settled) (m : BackMessage) → AnswerIsSaid hs → Stands hs stand settled → hear_with password stand m ≡ Rejected → Expected password (hs ++ Came m ∷ []) → ⊥

@@ -1,8 +1,10 @@
 pub mod Steps
+pub mod Places
+pub mod Collecting
 pub mod Sound
 pub mod Complete
 pub mod Outcomes
-pub mod Startup
+pub mod Greeting
 pub mod Said
 pub mod OneMessage
 pub mod Happening
@@ -12,6 +14,7 @@ pub mod Encoded
 pub mod Accepting
 pub mod Lifetime
 pub mod Messages
+pub mod Reading
 pub mod Faults
 pub mod Feeding
 pub mod Facts

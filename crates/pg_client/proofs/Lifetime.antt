@@ -7,17 +7,17 @@ use Rattle.pg_wire.specs.Backend.{backend}
 use Rattle.pg_wire.specs.Stream.{IsOpen, IsFaulty}
 use Rattle.pg_client.specs.declared.phase.Cause.{Cause}
 use Rattle.pg_client.specs.declared.phase.Cause.TheVariants as cause
-use Rattle.pg_client.specs.declared.place.Stand.{Stand}
-use Rattle.pg_client.specs.declared.place.Stand.TheVariants.{New}
+use Rattle.pg_client.specs.declared.stand.Stand.{Stand}
+use Rattle.pg_client.specs.declared.stand.Stand.TheVariants.{New}
 use Rattle.pg_client.specs.declared.settings.Settings.{Settings}
 use Rattle.pg_client.specs.declared.settled.Loss.{Loss}
 use Rattle.pg_client.specs.declared.settled.Settled.{Settled}
 use Rattle.pg_client.specs.Session.{Happening, IsTerminated, AreAllowed}
-use Rattle.pg_client.specs.Client.{ClientView, unsettled_of, has_failed, IsAlike, Shows}
+use Rattle.pg_client.specs.Client.{ClientView, unsettled_of, has_failed, HasSameUnsettled, Shows}
 use Rattle.pg_client.specs.Closed.{Ends}
 use Rattle.pg_client.specs.History.{happenings, IsHistoryOf, with_given, with_handed_back, Carries, blank}
 use Rattle.pg_client.specs.Lost.{Loses, first_cause, HandsBack}
-use Rattle.pg_client.specs.Judged.{Stands}
+use Rattle.pg_client.specs.Stand.{Stands}
 use Rattle.pg_client.proofs.FactsHold.{StandFacts, stand_facts}
 use Rattle.pg_client.proofs.Happening.{expected_nothing}
 
@@ -85,7 +85,7 @@ taken v old (Some t) left same e = λ h r0.
 
 -- ---- the connection is lost
 
-alike : (was now : Stand) (closed : Option Cause) → Shows was now closed false → IsAlike was now
+alike : (was now : Stand) (closed : Option Cause) → Shows was now closed false → HasSameUnsettled was now
 alike was now None h = record { request = ap unsettled_of h; error = ap has_failed h }
 alike was now (Some c) h = h
 

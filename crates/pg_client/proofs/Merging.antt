@@ -5,7 +5,8 @@ use Rattle.std.specs.List.{flat_map, AllByRecursion}
 use Rattle.std.proofs.lemmas.List.{map-append}
 use Rattle.std.proofs.lemmas.Bool.{lt-ltb, le-ltb}
 use Rattle.pg_wire.specs.message.BackMessage.{BackMessage}
-use Rattle.pg_client.specs.Session.{Call, Happening, Did, Came}
+use Rattle.pg_client.specs.declared.call.Call.{Call}
+use Rattle.pg_client.specs.Session.{Happening, Did, Came}
 use Rattle.pg_client.specs.History.{Calls, made_before, made_since, merged, with_ends, AreOrdered}
 use Rattle.pg_wire.specs.Backend.{backend}
 use Rattle.pg_wire.specs.Direction.{spelling}

@@ -3,7 +3,7 @@ use Rattle.std.proofs.Common.{◌≡◌, ℕ, suc, ◌≤◌, List, [], ◌∷�
 use Rattle.std.specs.Prelude.{IfSome, IsSome, ◌⊎◌}
 use Rattle.std.proofs.lemmas.List.{append-nil}
 use Rattle.pg_wire.specs.message.BackMessage.{BackMessage}
-use Rattle.pg_wire.specs.message.BackMessage.TheVariants.{Ready, CommandComplete, NoticeResponse, Notification, ParameterStatus}
+use Rattle.pg_wire.specs.message.BackMessage.TheVariants.{Ready, CommandComplete}
 use Rattle.pg_wire.specs.message.BackMessage.TheVariants as back
 use Rattle.pg_wire.specs.value.CopyHead.{CopyHead}
 use Rattle.pg_wire.specs.value.Status.{Status}
@@ -15,27 +15,25 @@ use Rattle.pg_wire.specs.declared.session.Part.{Part}
 use Rattle.pg_wire.specs.declared.session.Request.{Request}
 use Rattle.pg_wire.specs.declared.session.Step.{Step}
 use Rattle.pg_wire.specs.declared.session.Step.TheVariants as step
-use Rattle.pg_client.specs.declared.place.Open.{Open}
-use Rattle.pg_client.specs.declared.place.Open.TheVariants as begun
-use Rattle.pg_client.specs.declared.place.Stage.{Stage}
-use Rattle.pg_client.specs.declared.place.Stage.TheVariants.{Within, Failed}
-use Rattle.pg_client.specs.declared.place.CopyAnswer.{CopyAnswer}
-use Rattle.pg_client.specs.declared.place.CopyAnswer.TheVariants.{Awaited, Done, Refused}
-use Rattle.pg_client.specs.declared.place.Welcome.{Welcome}
-use Rattle.pg_client.specs.declared.place.Welcome.TheVariants.{Fresh, Asked, Admitted}
-use Rattle.pg_client.specs.declared.place.Stand.{Stand}
-use Rattle.pg_client.specs.declared.place.Stand.TheVariants.{New, Starting, Idle, Busy}
+use Rattle.pg_client.specs.declared.segment.begun.Open.{Open}
+use Rattle.pg_client.specs.declared.segment.begun.Open.TheVariants as begun
+use Rattle.pg_client.specs.declared.segment.CopyAnswer.{CopyAnswer}
+use Rattle.pg_client.specs.declared.segment.CopyAnswer.TheVariants.{Awaited, Done, Refused}
+use Rattle.pg_client.specs.declared.startup.Welcome.{Welcome}
+use Rattle.pg_client.specs.declared.startup.Welcome.TheVariants.{Fresh, Asked, Admitted}
+use Rattle.pg_client.specs.declared.stand.Stand.{Stand}
+use Rattle.pg_client.specs.declared.stand.Stand.TheVariants.{New, Starting, Idle, Busy}
 use Rattle.pg_client.specs.declared.settled.Settled.{Settled}
 use Rattle.pg_wire.specs.Segment.{aside_of, asides_of, without_asides, Asked as What, Results, Steps, asked, Fits, Begins, messages_of, Segments, segments, status_of, put_before}
-use Rattle.pg_client.specs.Place.{left, Place, read, read_by, read_from, read_all, after_progress, progress, begins, begins_answer, outcome_at}
+use Rattle.pg_client.specs.Startup.{greet, greet_from, greet_all}
+use Rattle.pg_client.specs.Segment.{SegmentView, Stage, Within, Failed, left, Reading, read, read_by, read_from, read_all, after_progress, progress, begins, begins_answer, outcome_at, gate, copy_answer_after_message, reading_of, with_aside}
+use Rattle.pg_client.specs.Stand.{copy_answer_after, Effect, Leads, Settles, Rejected, starting_at, welcome_ends, hear_starting, hear_idle, ready_effect, busy_at, hear_busy, hear, EachSettled, StandsStarting, StandsIdle, StandsBusy, StandsBy}
 use Rattle.pg_client.specs.Session.{Came, IsStartup, BeginsStartup, FitAll, IsSession, IsAside}
-use Rattle.pg_client.specs.Machine.{copy_answer_after, Effect, Stays, Settles, Rejected, greet, greet_from, greet_all, starting_at, welcome_ends, hear_starting, hear_idle, gate, answer_after, settles, busy_at, hear_busy, hear}
-use Rattle.pg_client.specs.Judged.{SettledAs, StandsStarting, StandsIdle, StandsBusy, StandsBy}
 use Rattle.pg_client.proofs.Said.{MayStand}
 use Rattle.pg_client.proofs.Sound.{Reached, read_all_sound}
 use Rattle.pg_client.proofs.Complete.{at, read_from-append}
 use Rattle.pg_client.proofs.Outcomes.{kept_with, snoc_front, asides_of-append, without_asides-append, read_outcome, fits_read, read_fits, begins_read}
-use Rattle.pg_client.proofs.Startup.{greet_from-append, startup_admitted, admitted_startup, begins_greeted}
+use Rattle.pg_client.proofs.Greeting.{greet_from-append, startup_admitted, admitted_startup, begins_greeted}
 use Rattle.std.specs.List.{flat_map}
 
 -- ---- one more message at the end of the segments
@@ -85,7 +83,7 @@ not_ready m none rest body status e =
     let f : status_of (Ready status) ≡ None = subst (λ (x : BackMessage). status_of x ≡ None) s.1 none in
     absurd cc
 
-answers_alike : (answer : CopyAnswer) (m : BackMessage) → answer_after answer m ≡ copy_answer_after answer (Came m)
+answers_alike : (answer : CopyAnswer) (m : BackMessage) → copy_answer_after_message answer m ≡ copy_answer_after answer (Came m)
 answers_alike answer (back.CopyIn head) = refl
 answers_alike answer _ = refl
 
@@ -103,32 +101,32 @@ uncollected rest m e = asides_of-append rest (m ∷ []) ∙ rw e (append-nil (as
 
 -- ---- lists of groups
 
-pub SettledAs-length : (rs : List Request) (ss : List (List BackMessage)) (ts : List Settled) → SettledAs rs ss ts → length ss ≡ length rs
-SettledAs-length [] [] [] h = refl
-SettledAs-length (r ∷ rs) (s ∷ ss) (t ∷ ts) h = ap suc (SettledAs-length rs ss ts h.2)
-SettledAs-length _ _ _ h = absurd h
+pub EachSettled-length : (rs : List Request) (ss : List (List BackMessage)) (ts : List Settled) → EachSettled rs ss ts → length ss ≡ length rs
+EachSettled-length [] [] [] h = refl
+EachSettled-length (r ∷ rs) (s ∷ ss) (t ∷ ts) h = ap suc (EachSettled-length rs ss ts h.2)
+EachSettled-length _ _ _ h = absurd h
 
-SettledAs-more : (rs : List Request) (ss : List (List BackMessage)) (ts : List Settled) (r : Request) (s : List BackMessage) (t : Settled) → SettledAs rs ss ts → t.request ≡ r → Fits r s t.outcome → SettledAs (rs ++ r ∷ []) (ss ++ s ∷ []) (ts ++ t ∷ [])
-SettledAs-more [] [] [] r s t h e f = (e, f, tt)
-SettledAs-more (q ∷ rs) (u ∷ ss) (v ∷ ts) r s t h e f = (h.0, h.1, SettledAs-more rs ss ts r s t h.2 e f)
-SettledAs-more _ _ _ r s t h e f = absurd h
+EachSettled-more : (rs : List Request) (ss : List (List BackMessage)) (ts : List Settled) (r : Request) (s : List BackMessage) (t : Settled) → EachSettled rs ss ts → t.request ≡ r → Fits r s t.outcome → EachSettled (rs ++ r ∷ []) (ss ++ s ∷ []) (ts ++ t ∷ [])
+EachSettled-more [] [] [] r s t h e f = (e, f, tt)
+EachSettled-more (q ∷ rs) (u ∷ ss) (v ∷ ts) r s t h e f = (h.0, h.1, EachSettled-more rs ss ts r s t h.2 e f)
+EachSettled-more _ _ _ r s t h e f = absurd h
 
-pub all_fit : (rs : List Request) (ss : List (List BackMessage)) (ts : List Settled) (rest : List BackMessage) → SettledAs rs ss ts → without_asides rest ≡ [] → FitAll rs ss rest
+pub all_fit : (rs : List Request) (ss : List (List BackMessage)) (ts : List Settled) (rest : List BackMessage) → EachSettled rs ss ts → without_asides rest ≡ [] → FitAll rs ss rest
 all_fit [] [] [] rest h e = e
 all_fit (r ∷ rs) (s ∷ ss) (t ∷ ts) rest h e = ((t.outcome, h.1), all_fit rs ss ts rest h.2 e)
 all_fit _ _ _ rest h e = absurd h
 
-pub fit_and_begin : (rs : List Request) (ss : List (List BackMessage)) (ts : List Settled) (r : Request) (rest : List BackMessage) → SettledAs rs ss ts → Begins r rest → FitAll (rs ++ r ∷ []) ss rest
+pub fit_and_begin : (rs : List Request) (ss : List (List BackMessage)) (ts : List Settled) (r : Request) (rest : List BackMessage) → EachSettled rs ss ts → Begins r rest → FitAll (rs ++ r ∷ []) ss rest
 fit_and_begin [] [] [] r rest h b = b
 fit_and_begin (q ∷ rs) (s ∷ ss) (t ∷ ts) r rest h b = ((t.outcome, h.1), fit_and_begin rs ss ts r rest h.2 b)
 fit_and_begin _ _ _ r rest h b = absurd h
 
-last_begins : (rs : List Request) (ss : List (List BackMessage)) (ts : List Settled) (r : Request) (rest : List BackMessage) → SettledAs rs ss ts → FitAll (rs ++ r ∷ []) ss rest → Begins r rest
+last_begins : (rs : List Request) (ss : List (List BackMessage)) (ts : List Settled) (r : Request) (rest : List BackMessage) → EachSettled rs ss ts → FitAll (rs ++ r ∷ []) ss rest → Begins r rest
 last_begins [] [] [] r rest h f = f
 last_begins (q ∷ rs) (s ∷ ss) (t ∷ ts) r rest h f = last_begins rs ss ts r rest h.2 f.1
 last_begins _ _ _ r rest h f = absurd h
 
-last_fits : (rs : List Request) (ss : List (List BackMessage)) (ts : List Settled) (r : Request) (s rest : List BackMessage) → SettledAs rs ss ts → FitAll (rs ++ r ∷ []) (ss ++ s ∷ []) rest → (outcome : Outcome) × Fits r s outcome
+last_fits : (rs : List Request) (ss : List (List BackMessage)) (ts : List Settled) (r : Request) (s rest : List BackMessage) → EachSettled rs ss ts → FitAll (rs ++ r ∷ []) (ss ++ s ∷ []) rest → (outcome : Outcome) × Fits r s outcome
 last_fits [] [] [] r s rest h f = f.0
 last_fits (q ∷ rs) (u ∷ ss) (t ∷ ts) r s rest h f = last_fits rs ss ts r s rest h.2 f.1
 last_fits _ _ _ r s rest h f = absurd h
@@ -152,7 +150,7 @@ copy_in_opens a parts begun.Nothing head = go (left a parts)
     go (Steps (s ∷ ss)) = answer_not s
 copy_in_opens a parts _ head = tt
 
-copy_in_stage : (a : What) (p : Place) (head : CopyHead) → IfSome (read a p (back.CopyIn head)) (λ q. q.stage ≡ Within (begun.CopyIn head))
+copy_in_stage : (a : What) (p : Reading) (head : CopyHead) → IfSome (read a p (back.CopyIn head)) (λ q. q.stage ≡ Within (begun.CopyIn head))
 copy_in_stage a p head = go p.stage
   where
     go : (stage : Stage) → IfSome (read_by a p.parts stage None (back.CopyIn head)) (λ q. q.stage ≡ Within (begun.CopyIn head))
@@ -160,12 +158,12 @@ copy_in_stage a p head = go p.stage
     go (Failed fields) = tt
 
 -- what ends in a CopyInResponse is read to an open copy in
-pub ends_open : (a : What) (core front : List BackMessage) (head : CopyHead) (p : Place) → core ≡ front ++ back.CopyIn head ∷ [] → read_all a core ≡ Some p → p.stage ≡ Within (begun.CopyIn head)
+pub ends_open : (a : What) (core front : List BackMessage) (head : CopyHead) (p : Reading) → core ≡ front ++ back.CopyIn head ∷ [] → read_all a core ≡ Some p → p.stage ≡ Within (begun.CopyIn head)
 ends_open a core front head p e r = go (read_all a front) (sym (ap (read_all a) e ∙ read_from-append a (at [] (Within begun.Nothing)) front (back.CopyIn head ∷ [])) ∙ r)
   where
-    go : (q : Option Place) → read_from a q (back.CopyIn head ∷ []) ≡ Some p → p.stage ≡ Within (begun.CopyIn head)
+    go : (q : Option Reading) → read_from a q (back.CopyIn head ∷ []) ≡ Some p → p.stage ≡ Within (begun.CopyIn head)
     go None k = absurd cc
-    go (Some q) k = subst (λ (x : Option Place). IfSome x (λ z. z.stage ≡ Within (begun.CopyIn head))) k (copy_in_stage a q head)
+    go (Some q) k = subst (λ (x : Option Reading). IfSome x (λ z. z.stage ≡ Within (begun.CopyIn head))) k (copy_in_stage a q head)
 
 -- and an open copy in ends in one
 pub open_ends : (a : What) (core : List BackMessage) (parts : List Part) (head : CopyHead) → read_all a core ≡ at parts (Within (begun.CopyIn head)) → (front : List BackMessage) × (core ≡ front ++ back.CopyIn head ∷ [])
@@ -174,7 +172,7 @@ open_ends a core parts head r =
     (flat_map messages_of parts, s.3)
 
 -- the end of a copy in comes in its time, or it is refused
-gate_passes : (stage : Stage) (answer : CopyAnswer) (m : BackMessage) (now : Option Place) →
+gate_passes : (stage : Stage) (answer : CopyAnswer) (m : BackMessage) (now : Option Reading) →
     ((gate stage answer m now ≡ now) × ((tag : List ℕ) → m ≡ CommandComplete tag → (head : CopyHead) → stage ≡ Within (begun.CopyIn head) → answer ≡ Done))
     ⊎ ((gate stage answer m now ≡ None) × ((tag : List ℕ) × (m ≡ CommandComplete tag) × (head : CopyHead) × (stage ≡ Within (begun.CopyIn head)) × (answer ≡ Done → ⊥)))
 gate_passes (Within (begun.CopyIn head)) Done (CommandComplete tag) now = inl (refl, λ t e h k. refl)
@@ -191,7 +189,7 @@ module _ (requests : List Request) (whole : List (List BackMessage)) (rest : Lis
   StandsThen p stand ts = StandsBy requests (put_after p m whole rest).whole (put_after p m whole rest).rest (copy_answer_after said (Came m)) stand ts
 
   abbrev pub Verdict : Option Status → Effect → Type 0
-  Verdict p (Stays stand) = StandsThen p stand settled × MayStand requests whole rest said m
+  Verdict p (Leads stand) = StandsThen p stand settled × MayStand requests whole rest said m
   Verdict p (Settles t) = StandsThen p (Idle []) (settled ++ t ∷ []) × MayStand requests whole rest said m
   Verdict p Rejected = IsSession requests (put_after p m whole rest).whole (put_after p m whole rest).rest → MayStand requests whole rest said m → ⊥
 
@@ -207,7 +205,7 @@ module _ (requests : List Request) (whole : List (List BackMessage)) (rest : Lis
 
   -- ---- in the startup
 
-  starting_aside : (w : Welcome) (a : Aside) (p : Option Status) → StandsStarting requests whole rest settled w → aside_of m ≡ Some a → status_of m ≡ p → Verdict p (Stays (Starting w))
+  starting_aside : (w : Welcome) (a : Aside) (p : Option Status) → StandsStarting requests whole rest settled w → aside_of m ≡ Some a → status_of m ≡ p → Verdict p (Leads (Starting w))
   starting_aside w a (Some status) h e k = absurd (no_status a status e k)
   starting_aside w a None h e k = (record { no_request = h.no_request; no_segment = h.no_segment; none_settled = h.none_settled; greeted = ap (greet_all) (left_out rest m a e) ∙ h.greeted }, may_as_aside a e)
 
@@ -262,7 +260,7 @@ module _ (requests : List Request) (whole : List (List BackMessage)) (rest : Lis
 
   -- ---- while no request is outstanding
 
-  idle_aside : (asides : List Aside) (a : Aside) (p : Option Status) → StandsIdle requests whole rest settled asides → aside_of m ≡ Some a → status_of m ≡ p → Verdict p (Stays (Idle (asides ++ a ∷ [])))
+  idle_aside : (asides : List Aside) (a : Aside) (p : Option Status) → StandsIdle requests whole rest settled asides → aside_of m ≡ Some a → status_of m ≡ p → Verdict p (Leads (Idle (asides ++ a ∷ [])))
   idle_aside asides a (Some status) h e k = absurd (no_status a status e k)
   idle_aside asides a None h e k = (record { groups = h.groups; only_asides = left_out rest m a e ∙ h.only_asides; asides_are = collected rest m a e ∙ ap (λ (x : List Aside). x ++ a ∷ []) h.asides_are }, may_as_aside a e)
 
@@ -271,32 +269,32 @@ module _ (requests : List Request) (whole : List (List BackMessage)) (rest : Lis
     where
       go : IsAside m ⊎ (length whole ≤ length requests) → ⊥
       go (inl some) = absurd (let k : IsSome (aside_of m) = some in let f : IsSome {T = Aside} None = subst (λ (o : Option Aside). IsSome o) e k in cc)
-      go (inr le) = absurd (omega (arith, SettledAs-length requests h.groups.groups settled h.groups.settled_as, ap length h.groups.cut))
+      go (inr le) = absurd (omega (arith, EachSettled-length requests h.groups.groups settled h.groups.settled_as, ap length h.groups.cut))
 
   -- ---- while a request is outstanding
 
-  module _ (request : Request) (parts : List Part) (stage : Stage) (asides : List Aside) (answer : CopyAnswer) (h : StandsBusy requests whole rest said settled request parts stage asides answer) where
+  module _ (segment : SegmentView) (h : StandsBusy requests whole rest said settled segment) where
     busy_asked_for : length whole ≤ length requests
-    busy_asked_for = omega (arith, SettledAs-length h.earlier h.groups.groups settled h.groups.settled_as, ap length h.groups.cut, ap length h.last, length-append h.earlier (request ∷ []))
+    busy_asked_for = omega (arith, EachSettled-length h.earlier h.groups.groups settled h.groups.settled_as, ap length h.groups.cut, ap length h.last, length-append h.earlier (segment.request ∷ []))
 
-    busy_aside : (a : Aside) (p : Option Status) → aside_of m ≡ Some a → status_of m ≡ p → Verdict p (Stays (Busy request parts stage (asides ++ a ∷ []) answer))
+    busy_aside : (a : Aside) (p : Option Status) → aside_of m ≡ Some a → status_of m ≡ p → Verdict p (Leads (Busy (with_aside segment a)))
     busy_aside a (Some status) e k = absurd (no_status a status e k)
     busy_aside a None e k = (
       record {
         earlier = h.earlier;
         last = h.last;
         groups = h.groups;
-        place = ap (read_all (asked request)) (left_out rest m a e) ∙ h.place;
+        reading = ap (read_all (asked segment.request)) (left_out rest m a e) ∙ h.reading;
         asides_are = collected rest m a e ∙ ap (λ (x : List Aside). x ++ a ∷ []) h.asides_are;
         answer_is = h.answer_is ∙ sym (aside_says_nothing m a said e);
       },
       may_as_aside a e,
     )
 
-    read_is : (status : Status) → read_outcome request rest status ≡ outcome_at (asked request) (at parts stage) asides status
-    read_is status = rw (h.place, h.asides_are) refl
+    read_is : (status : Status) → read_outcome segment.request rest status ≡ outcome_at (asked segment.request) (at segment.parts segment.stage) segment.asides status
+    read_is status = rw (h.reading, h.asides_are) refl
 
-    busy_ready : (status : Status) (out : Option Outcome) → status_of m ≡ Some status → outcome_at (asked request) (at parts stage) asides status ≡ out → Verdict (Some status) (settles request out)
+    busy_ready : (status : Status) (out : Option Outcome) → status_of m ≡ Some status → outcome_at (asked segment.request) (at segment.parts segment.stage) segment.asides status ≡ out → Verdict (Some status) (ready_effect segment.request out)
     busy_ready status (Some outcome) k o = (
       record {
         groups = record {
@@ -304,9 +302,9 @@ module _ (requests : List Request) (whole : List (List BackMessage)) (rest : Lis
           groups = h.groups.groups ++ (rest ++ m ∷ []) ∷ [];
           cut = ap (λ (x : List (List BackMessage)). x ++ (rest ++ m ∷ []) ∷ []) h.groups.cut;
           welcomed = h.groups.welcomed;
-          settled_as = subst (λ (x : List Request). SettledAs x (h.groups.groups ++ (rest ++ m ∷ []) ∷ []) (settled ++ record { request = request; outcome = outcome } ∷ [])) (sym h.last)
-              (SettledAs-more h.earlier h.groups.groups settled request (rest ++ m ∷ []) (record { request = request; outcome = outcome }) h.groups.settled_as refl
-              (subst (λ (x : BackMessage). Fits request (rest ++ x ∷ []) outcome) (sym (is_ready m status k)) (read_fits request rest status outcome (read_is status ∙ o))));
+          settled_as = subst (λ (x : List Request). EachSettled x (h.groups.groups ++ (rest ++ m ∷ []) ∷ []) (settled ++ record { request = segment.request; outcome = outcome } ∷ [])) (sym h.last)
+              (EachSettled-more h.earlier h.groups.groups settled segment.request (rest ++ m ∷ []) (record { request = segment.request; outcome = outcome }) h.groups.settled_as refl
+              (subst (λ (x : BackMessage). Fits segment.request (rest ++ x ∷ []) outcome) (sym (is_ready m status k)) (read_fits segment.request rest status outcome (read_is status ∙ o))));
         };
         only_asides = refl;
         asides_are = refl;
@@ -317,62 +315,62 @@ module _ (requests : List Request) (whole : List (List BackMessage)) (rest : Lis
       },
     )
     busy_ready status None k o = λ session may.
-        let s : IsSession (h.earlier ++ request ∷ []) (h.groups.startup ∷ (h.groups.groups ++ (rest ++ m ∷ []) ∷ [])) [] =
+        let s : IsSession (h.earlier ++ segment.request ∷ []) (h.groups.startup ∷ (h.groups.groups ++ (rest ++ m ∷ []) ∷ [])) [] =
         subst (λ (x : List Request). IsSession x (h.groups.startup ∷ (h.groups.groups ++ (rest ++ m ∷ []) ∷ [])) []) h.last
         (subst (λ (x : List (List BackMessage)). IsSession requests (x ++ (rest ++ m ∷ []) ∷ []) []) h.groups.cut session) in
-        let f = last_fits h.earlier h.groups.groups settled request (rest ++ m ∷ []) [] h.groups.settled_as s.1 in
-        let g : read_outcome request rest status ≡ Some f.0 = fits_read request rest status f.0 (subst (λ (x : BackMessage). Fits request (rest ++ x ∷ []) f.0) (is_ready m status k) f.1) in
-        let n : read_outcome request rest status ≡ None = read_is status ∙ o in
+        let f = last_fits h.earlier h.groups.groups settled segment.request (rest ++ m ∷ []) [] h.groups.settled_as s.1 in
+        let g : read_outcome segment.request rest status ≡ Some f.0 = fits_read segment.request rest status f.0 (subst (λ (x : BackMessage). Fits segment.request (rest ++ x ∷ []) f.0) (is_ready m status k) f.1) in
+        let n : read_outcome segment.request rest status ≡ None = read_is status ∙ o in
         absurd cc
 
-    read_more : aside_of m ≡ None → read_all (asked request) (without_asides (rest ++ m ∷ [])) ≡ read (asked request) (record { parts = parts; stage = stage }) m
-    read_more e = ap (read_all (asked request)) (kept rest m e) ∙ read_from-append (asked request) (at [] (Within begun.Nothing)) (without_asides rest) (m ∷ []) ∙ ap (λ (x : Option Place). read_from (asked request) x (m ∷ [])) h.place
+    read_more : aside_of m ≡ None → read_all (asked segment.request) (without_asides (rest ++ m ∷ [])) ≡ read (asked segment.request) (reading_of segment) m
+    read_more e = ap (read_all (asked segment.request)) (kept rest m e) ∙ read_from-append (asked segment.request) (at [] (Within begun.Nothing)) (without_asides rest) (m ∷ []) ∙ ap (λ (x : Option Reading). read_from (asked segment.request) x (m ∷ [])) h.reading
 
     -- the end of a copy in comes in its time
     abbrev InTime : Type 0
-    InTime = (tag : List ℕ) → m ≡ CommandComplete tag → (head : CopyHead) → stage ≡ Within (begun.CopyIn head) → answer ≡ Done
+    InTime = (tag : List ℕ) → m ≡ CommandComplete tag → (head : CopyHead) → segment.stage ≡ Within (begun.CopyIn head) → segment.answer ≡ Done
 
     -- or too early
     abbrev TooEarly : Type 0
-    TooEarly = (tag : List ℕ) × (m ≡ CommandComplete tag) × (head : CopyHead) × (stage ≡ Within (begun.CopyIn head)) × (answer ≡ Done → ⊥)
+    TooEarly = (tag : List ℕ) × (m ≡ CommandComplete tag) × (head : CopyHead) × (segment.stage ≡ Within (begun.CopyIn head)) × (segment.answer ≡ Done → ⊥)
 
-    busy_passed : (now : Option Place) → aside_of m ≡ None → status_of m ≡ None → read (asked request) (record { parts = parts; stage = stage }) m ≡ now → InTime → Verdict None (busy_at request asides (answer_after answer m) now)
+    busy_passed : (now : Option Reading) → aside_of m ≡ None → status_of m ≡ None → read (asked segment.request) (reading_of segment) m ≡ now → InTime → Verdict None (busy_at segment m now)
     busy_passed (Some q) e k r in_time = (
       record {
         earlier = h.earlier;
         last = h.last;
         groups = h.groups;
-        place = read_more e ∙ r;
+        reading = read_more e ∙ r;
         asides_are = uncollected rest m e ∙ h.asides_are;
-        answer_is = answers_alike answer m ∙ ap (λ (x : CopyAnswer). copy_answer_after x (Came m)) h.answer_is;
+        answer_is = answers_alike segment.answer m ∙ ap (λ (x : CopyAnswer). copy_answer_after x (Came m)) h.answer_is;
       },
       record {
         asked_for = inr busy_asked_for;
-        copy_ended = λ tag c ends. sym h.answer_is ∙ in_time tag c ends.1 (ends_open (asked request) (without_asides rest) ends.0 ends.1 (record { parts = parts; stage = stage }) ends.2 h.place);
+        copy_ended = λ tag c ends. sym h.answer_is ∙ in_time tag c ends.1 (ends_open (asked segment.request) (without_asides rest) ends.0 ends.1 (reading_of segment) ends.2 h.reading);
       },
     )
     busy_passed None e k r in_time = λ session may.
-        let s : IsSession (h.earlier ++ request ∷ []) (h.groups.startup ∷ h.groups.groups) (rest ++ m ∷ []) =
+        let s : IsSession (h.earlier ++ segment.request ∷ []) (h.groups.startup ∷ h.groups.groups) (rest ++ m ∷ []) =
         subst (λ (x : List Request). IsSession x (h.groups.startup ∷ h.groups.groups) (rest ++ m ∷ [])) h.last
         (subst (λ (x : List (List BackMessage)). IsSession requests x (rest ++ m ∷ [])) h.groups.cut session) in
-        begins_read request (rest ++ m ∷ []) (last_begins h.earlier h.groups.groups settled request (rest ++ m ∷ []) h.groups.settled_as s.1) (not_ready m k rest) (read_more e ∙ r)
+        begins_read segment.request (rest ++ m ∷ []) (last_begins h.earlier h.groups.groups settled segment.request (rest ++ m ∷ []) h.groups.settled_as s.1) (not_ready m k rest) (read_more e ∙ r)
 
     busy_too_early : TooEarly → Verdict None Rejected
     busy_too_early early session may =
-        let ends = open_ends (asked request) (without_asides rest) parts early.2 (h.place ∙ ap (at parts) early.3) in
+        let ends = open_ends (asked segment.request) (without_asides rest) segment.parts early.2 (h.reading ∙ ap (at segment.parts) early.3) in
         early.4 (h.answer_is ∙ may.copy_ended early.0 early.1 (ends.0, early.2, ends.1))
 
-    gate_verdict : (now : Option Place) → aside_of m ≡ None → status_of m ≡ None → read (asked request) (record { parts = parts; stage = stage }) m ≡ now → Verdict None (busy_at request asides (answer_after answer m) (gate stage answer m now))
-    gate_verdict now e k r = through (gate_passes stage answer m now)
+    gate_verdict : (now : Option Reading) → aside_of m ≡ None → status_of m ≡ None → read (asked segment.request) (reading_of segment) m ≡ now → Verdict None (busy_at segment m (gate segment.stage segment.answer m now))
+    gate_verdict now e k r = through (gate_passes segment.stage segment.answer m now)
       where
-        through : ((gate stage answer m now ≡ now) × InTime) ⊎ ((gate stage answer m now ≡ None) × TooEarly) → Verdict None (busy_at request asides (answer_after answer m) (gate stage answer m now))
-        through (inl p) = subst (λ (x : Option Place). Verdict None (busy_at request asides (answer_after answer m) x)) (sym p.0) (busy_passed now e k r p.1)
-        through (inr p) = subst (λ (x : Option Place). Verdict None (busy_at request asides (answer_after answer m) x)) (sym p.0) (busy_too_early p.1)
+        through : ((gate segment.stage segment.answer m now ≡ now) × InTime) ⊎ ((gate segment.stage segment.answer m now ≡ None) × TooEarly) → Verdict None (busy_at segment m (gate segment.stage segment.answer m now))
+        through (inl p) = subst (λ (x : Option Reading). Verdict None (busy_at segment m x)) (sym p.0) (busy_passed now e k r p.1)
+        through (inr p) = subst (λ (x : Option Reading). Verdict None (busy_at segment m x)) (sym p.0) (busy_too_early p.1)
 
-    busy_verdict : (o : Option Aside) (p : Option Status) → aside_of m ≡ o → status_of m ≡ p → Verdict p (hear_busy request (record { parts = parts; stage = stage }) asides answer o p m)
+    busy_verdict : (o : Option Aside) (p : Option Status) → aside_of m ≡ o → status_of m ≡ p → Verdict p (hear_busy segment o p m)
     busy_verdict (Some a) p e k = busy_aside a p e k
-    busy_verdict None (Some status) e k = busy_ready status (outcome_at (asked request) (at parts stage) asides status) k refl
-    busy_verdict None None e k = gate_verdict (read (asked request) (record { parts = parts; stage = stage }) m) e k refl
+    busy_verdict None (Some status) e k = busy_ready status (outcome_at (asked segment.request) (at segment.parts segment.stage) segment.asides status) k refl
+    busy_verdict None None e k = gate_verdict (read (asked segment.request) (reading_of segment) m) e k refl
 
   starting_verdict : (w : Welcome) (o : Option Aside) (p : Option Status) → StandsStarting requests whole rest settled w → aside_of m ≡ o → status_of m ≡ p → Verdict p (hear_starting w o p m)
   starting_verdict w (Some a) p h e k = starting_aside w a p h e k
@@ -388,4 +386,4 @@ module _ (requests : List Request) (whole : List (List BackMessage)) (rest : Lis
   hear_verdict New h = absurd h
   hear_verdict (Starting w) h = starting_verdict w (aside_of m) (status_of m) h refl refl
   hear_verdict (Idle asides) h = idle_verdict asides (aside_of m) h refl
-  hear_verdict (Busy request parts stage asides answer) h = busy_verdict request parts stage asides answer h (aside_of m) (status_of m) refl refl
+  hear_verdict (Busy segment) h = busy_verdict segment h (aside_of m) (status_of m) refl refl

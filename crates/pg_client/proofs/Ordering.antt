@@ -8,9 +8,12 @@ use Rattle.pg_wire.specs.message.FrontMessage.TheVariants as front
 use Rattle.pg_wire.specs.declared.session.Request.{Request}
 use Rattle.pg_wire.specs.Backend.{backend}
 use Rattle.pg_wire.specs.Direction.{spelling}
-use Rattle.pg_client.specs.Session.{Call, Start, Ask, Chunk, CopyEnd, CopyFail, Terminate, Happening, Did, Came, messages_in, requests_in}
+use Rattle.pg_client.specs.declared.call.Call.{Call}
+use Rattle.pg_client.specs.declared.call.Call.TheVariants as call
+use Rattle.pg_client.specs.Session.{Happening, Did, Came, messages_in, requests_in}
 use Rattle.pg_client.specs.History.{Calls, made_before, made_since, merged, with_ends, happenings, History}
-use Rattle.pg_client.specs.Turns.{Turn, copies_of, turns_of, calls_in}
+use Rattle.pg_wire.specs.Turns.{Turn}
+use Rattle.pg_client.specs.Turns.{copies_of, turns_of, calls_in}
 use Rattle.pg_client.specs.Answering.{calls_of, turns_with, KeepsOrder}
 
 pub messages_in-append : (hs more : List Happening) → messages_in (hs ++ more) ≡ messages_in hs ++ messages_in more
@@ -73,7 +76,7 @@ without_ends at (m ∷ ms) = ap (λ (xs : List BackMessage). m ∷ xs) (without_
 
 pub requests_of_calls : (hs : List Happening) → requests_in hs ≡ map (λ t. t.request) (turns_of (calls_in hs))
 requests_of_calls [] = refl
-requests_of_calls (Did (Ask r) ∷ hs) = ap (λ (rs : List Request). r ∷ rs) (requests_of_calls hs)
+requests_of_calls (Did (call.Request r) ∷ hs) = ap (λ (rs : List Request). r ∷ rs) (requests_of_calls hs)
 requests_of_calls (Did _ ∷ hs) = requests_of_calls hs
 requests_of_calls (Came m ∷ hs) = requests_of_calls hs
 
@@ -82,54 +85,54 @@ requests_of_calls (Came m ∷ hs) = requests_of_calls hs
 -- where no request is among them, what is called goes on with the copies of the one before
 copies_more : (cs : List Call) (c : Call) → turns_of cs ≡ [] → copies_of (cs ++ c ∷ []) ≡ copies_of cs ++ copies_of (c ∷ [])
 copies_more [] c e = refl
-copies_more (Ask r ∷ cs) c e = absurd cc
-copies_more (Chunk b ∷ cs) c e = ap (λ (ms : List FrontMessage). front.CopyData b ∷ ms) (copies_more cs c e)
-copies_more (CopyEnd ∷ cs) c e = ap (λ (ms : List FrontMessage). front.CopyDone ∷ ms) (copies_more cs c e)
-copies_more (CopyFail b ∷ cs) c e = ap (λ (ms : List FrontMessage). front.CopyFail b ∷ ms) (copies_more cs c e)
-copies_more (Start ∷ cs) c e = copies_more cs c e
-copies_more (Terminate ∷ cs) c e = copies_more cs c e
+copies_more (call.Request r ∷ cs) c e = absurd cc
+copies_more (call.Chunk b ∷ cs) c e = ap (λ (ms : List FrontMessage). front.CopyData b ∷ ms) (copies_more cs c e)
+copies_more (call.Done ∷ cs) c e = ap (λ (ms : List FrontMessage). front.CopyDone ∷ ms) (copies_more cs c e)
+copies_more (call.Fail b ∷ cs) c e = ap (λ (ms : List FrontMessage). front.CopyFail b ∷ ms) (copies_more cs c e)
+copies_more (call.Start ∷ cs) c e = copies_more cs c e
+copies_more (call.Terminate ∷ cs) c e = copies_more cs c e
 
 copies_same : (cs : List Call) (c : Call) (t : Turn) (ts : List Turn) → turns_of cs ≡ t ∷ ts → copies_of (cs ++ c ∷ []) ≡ copies_of cs
 copies_same [] c t ts e = absurd cc
-copies_same (Ask r ∷ cs) c t ts e = refl
-copies_same (Chunk b ∷ cs) c t ts e = ap (λ (ms : List FrontMessage). front.CopyData b ∷ ms) (copies_same cs c t ts e)
-copies_same (CopyEnd ∷ cs) c t ts e = ap (λ (ms : List FrontMessage). front.CopyDone ∷ ms) (copies_same cs c t ts e)
-copies_same (CopyFail b ∷ cs) c t ts e = ap (λ (ms : List FrontMessage). front.CopyFail b ∷ ms) (copies_same cs c t ts e)
-copies_same (Start ∷ cs) c t ts e = copies_same cs c t ts e
-copies_same (Terminate ∷ cs) c t ts e = copies_same cs c t ts e
+copies_same (call.Request r ∷ cs) c t ts e = refl
+copies_same (call.Chunk b ∷ cs) c t ts e = ap (λ (ms : List FrontMessage). front.CopyData b ∷ ms) (copies_same cs c t ts e)
+copies_same (call.Done ∷ cs) c t ts e = ap (λ (ms : List FrontMessage). front.CopyDone ∷ ms) (copies_same cs c t ts e)
+copies_same (call.Fail b ∷ cs) c t ts e = ap (λ (ms : List FrontMessage). front.CopyFail b ∷ ms) (copies_same cs c t ts e)
+copies_same (call.Start ∷ cs) c t ts e = copies_same cs c t ts e
+copies_same (call.Terminate ∷ cs) c t ts e = copies_same cs c t ts e
 
 turn : Request → List FrontMessage → Turn
 turn r copies = record { request = r; copies = copies }
 
 first_turn : (r : Request) (copies : List FrontMessage) (c : Call) → turn r (copies ++ copies_of (c ∷ [])) ∷ turns_with [] c ≡ turns_with (turn r copies ∷ []) c
 unfolding turn
-first_turn r copies (Ask q) = ap (λ (ms : List FrontMessage). turn r ms ∷ turn q [] ∷ []) (append-nil copies)
-first_turn r copies (Chunk b) = refl
-first_turn r copies CopyEnd = refl
-first_turn r copies (CopyFail b) = refl
-first_turn r copies Start = ap (λ (ms : List FrontMessage). turn r ms ∷ []) (append-nil copies)
-first_turn r copies Terminate = ap (λ (ms : List FrontMessage). turn r ms ∷ []) (append-nil copies)
+first_turn r copies (call.Request q) = ap (λ (ms : List FrontMessage). turn r ms ∷ turn q [] ∷ []) (append-nil copies)
+first_turn r copies (call.Chunk b) = refl
+first_turn r copies call.Done = refl
+first_turn r copies (call.Fail b) = refl
+first_turn r copies call.Start = ap (λ (ms : List FrontMessage). turn r ms ∷ []) (append-nil copies)
+first_turn r copies call.Terminate = ap (λ (ms : List FrontMessage). turn r ms ∷ []) (append-nil copies)
 
 later_turn : (s t : Turn) (ts : List Turn) (c : Call) → s ∷ turns_with (t ∷ ts) c ≡ turns_with (s ∷ t ∷ ts) c
-later_turn s t ts (Ask r) = refl
-later_turn s t ts (Chunk b) = refl
-later_turn s t ts CopyEnd = refl
-later_turn s t ts (CopyFail b) = refl
-later_turn s t ts Start = refl
-later_turn s t ts Terminate = refl
+later_turn s t ts (call.Request r) = refl
+later_turn s t ts (call.Chunk b) = refl
+later_turn s t ts call.Done = refl
+later_turn s t ts (call.Fail b) = refl
+later_turn s t ts call.Start = refl
+later_turn s t ts call.Terminate = refl
 
 no_turn : (c : Call) → turns_of (c ∷ []) ≡ turns_with [] c
-no_turn (Ask r) = refl
-no_turn (Chunk b) = refl
-no_turn CopyEnd = refl
-no_turn (CopyFail b) = refl
-no_turn Start = refl
-no_turn Terminate = refl
+no_turn (call.Request r) = refl
+no_turn (call.Chunk b) = refl
+no_turn call.Done = refl
+no_turn (call.Fail b) = refl
+no_turn call.Start = refl
+no_turn call.Terminate = refl
 
 pub turns_more : (cs : List Call) (c : Call) → turns_of (cs ++ c ∷ []) ≡ turns_with (turns_of cs) c
 unfolding turn
 turns_more [] c = no_turn c
-turns_more (Ask r ∷ cs) c = by (turns_of cs) refl (turns_more cs c)
+turns_more (call.Request r ∷ cs) c = by (turns_of cs) refl (turns_more cs c)
   where
     by : (ts : List Turn) → turns_of cs ≡ ts → turns_of (cs ++ c ∷ []) ≡ turns_with (turns_of cs) c → turn r (copies_of (cs ++ c ∷ [])) ∷ turns_of (cs ++ c ∷ []) ≡ turns_with (turn r (copies_of cs) ∷ turns_of cs) c
     by [] e ih =
@@ -142,11 +145,11 @@ turns_more (Ask r ∷ cs) c = by (turns_of cs) refl (turns_more cs c)
         ∙ ap (λ (us : List Turn). turn r (copies_of cs) ∷ us) (ih ∙ ap (λ (us : List Turn). turns_with us c) e)
         ∙ later_turn (turn r (copies_of cs)) t ts c
         ∙ ap (λ (us : List Turn). turns_with (turn r (copies_of cs) ∷ us) c) (sym e)
-turns_more (Chunk b ∷ cs) c = turns_more cs c
-turns_more (CopyEnd ∷ cs) c = turns_more cs c
-turns_more (CopyFail b ∷ cs) c = turns_more cs c
-turns_more (Start ∷ cs) c = turns_more cs c
-turns_more (Terminate ∷ cs) c = turns_more cs c
+turns_more (call.Chunk b ∷ cs) c = turns_more cs c
+turns_more (call.Done ∷ cs) c = turns_more cs c
+turns_more (call.Fail b ∷ cs) c = turns_more cs c
+turns_more (call.Start ∷ cs) c = turns_more cs c
+turns_more (call.Terminate ∷ cs) c = turns_more cs c
 
 pub keeps_order : (h : History) → KeepsOrder h
 keeps_order h = record {

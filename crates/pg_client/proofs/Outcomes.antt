@@ -1,4 +1,4 @@
--- A segment is read to an outcome exactly if it fits with that outcome, and to a place exactly if it begins one that fits.
+-- A segment is read to an outcome exactly if it fits with that outcome, and to a reading exactly if it begins one that fits.
 use Rattle.std.proofs.Common.{◌≡◌, List, [], ◌∷◌, ◌++◌, map, Option, Some, None, refl, sym, ap, subst, ◌∙◌, append_assoc, inl, inr}
 use Rattle.std.specs.Prelude.{IfSome, cond, is_none}
 use Rattle.std.specs.List.{flat_map}
@@ -11,14 +11,10 @@ use Rattle.pg_wire.specs.declared.session.Aside.{Aside}
 use Rattle.pg_wire.specs.declared.session.Outcome.{Outcome}
 use Rattle.pg_wire.specs.declared.session.Part.{Part}
 use Rattle.pg_wire.specs.declared.session.Request.{Request}
-use Rattle.pg_client.specs.declared.place.Open.{Open}
-use Rattle.pg_client.specs.declared.place.Open.TheVariants as begun
-use Rattle.pg_client.specs.declared.place.Progress.{Progress}
-use Rattle.pg_client.specs.declared.place.Progress.TheVariants.{Grows, Closes, Stuck}
-use Rattle.pg_client.specs.declared.place.Stage.{Stage}
-use Rattle.pg_client.specs.declared.place.Stage.TheVariants.{Within, Failed}
+use Rattle.pg_client.specs.declared.segment.begun.Open.{Open}
+use Rattle.pg_client.specs.declared.segment.begun.Open.TheVariants as begun
 use Rattle.pg_wire.specs.Segment.{error_of, Fields, aside_of, asides_of, without_asides, Asked, Results, Steps, asked, IsDone, IsCutOff, Reads, Fits, Begins, messages_of}
-use Rattle.pg_client.specs.Place.{left, Place, read, read_by, read_from, read_all, after_progress, progress, done_ending, stage_ending, ending, outcome_with, outcome_at}
+use Rattle.pg_client.specs.Segment.{Progress, Grows, Closes, Stuck, Stage, Within, Failed, left, Reading, read, read_by, read_from, read_all, after_progress, progress, done_ending, stage_ending, ending, outcome_with, outcome_at}
 use Rattle.pg_client.proofs.Sound.{left_is, Partway, Reached, read_all_sound}
 use Rattle.pg_client.proofs.Complete.{at, read_from-append, Passes, part_passes, front_of, last_of, front_last, parts_read}
 
@@ -76,13 +72,13 @@ without_asides-append (x ∷ xs) ys = ap (kept_with (aside_of x) x) (without_asi
 
 -- ---- the parts only grow, and an error stays
 
-abbrev Grown : List Part → Option Place → Type 0
-Grown parts place = IfSome place (λ q. (extra : List Part) × (q.parts ≡ parts ++ extra))
+abbrev Grown : List Part → Option Reading → Type 0
+Grown parts reading = IfSome reading (λ q. (extra : List Part) × (q.parts ≡ parts ++ extra))
 
 grown_by_progress : (parts : List Part) (now : Progress) → Grown parts (after_progress parts now)
 grown_by_progress parts (Grows o) = ([], sym (append-nil parts))
 grown_by_progress parts (Closes p) = (p ∷ [], refl)
-grown_by_progress parts Stuck = tt
+grown_by_progress parts (Stuck t) = tt
 
 grown_by_one : (a : Asked) (parts : List Part) (stage : Stage) (e : Option Fields) (m : BackMessage) → Grown parts (read_by a parts stage e m)
 grown_by_one a parts (Within o) (Some fields) m = ([], sym (append-nil parts))
@@ -90,20 +86,20 @@ grown_by_one a parts (Within o) None m = grown_by_progress parts (progress (left
 grown_by_one a parts (Failed first) (Some fields) m = ([], sym (append-nil parts))
 grown_by_one a parts (Failed first) None m = tt
 
-grown : (a : Asked) (parts : List Part) (place : Option Place) (ms : List BackMessage) → Grown parts place → Grown parts (read_from a place ms)
-grown a parts place [] h = h
+grown : (a : Asked) (parts : List Part) (reading : Option Reading) (ms : List BackMessage) → Grown parts reading → Grown parts (read_from a reading ms)
+grown a parts reading [] h = h
 grown a parts None (m ∷ ms) h = tt
 grown a parts (Some p) (m ∷ ms) h = grown a parts (read a p m) ms (go (read a p m) (grown_by_one a p.parts p.stage (error_of m) m))
   where
-    go : (o : Option Place) → Grown p.parts o → Grown parts o
+    go : (o : Option Reading) → Grown p.parts o → Grown parts o
     go None k = tt
     go (Some q) k = (h.0 ++ k.0, k.1 ∙ ap (λ (x : List Part). x ++ k.0) h.1 ∙ append_assoc parts h.0 k.0)
 
-abbrev StaysFailed : Fields → Option Place → Type 0
-StaysFailed fields place = IfSome place (λ q. q.stage ≡ Failed fields)
+abbrev StaysFailed : Fields → Option Reading → Type 0
+StaysFailed fields reading = IfSome reading (λ q. q.stage ≡ Failed fields)
 
-failed_stays : (a : Asked) (fields : Fields) (place : Option Place) (ms : List BackMessage) → StaysFailed fields place → StaysFailed fields (read_from a place ms)
-failed_stays a fields place [] h = h
+failed_stays : (a : Asked) (fields : Fields) (reading : Option Reading) (ms : List BackMessage) → StaysFailed fields reading → StaysFailed fields (read_from a reading ms)
+failed_stays a fields reading [] h = h
 failed_stays a fields None (m ∷ ms) h = tt
 failed_stays a fields (Some p) (m ∷ ms) h = failed_stays a fields (read a p m) ms (rw h (go (error_of m)))
   where
@@ -113,8 +109,8 @@ failed_stays a fields (Some p) (m ∷ ms) h = failed_stays a fields (read a p m)
 
 -- ---- what an error cuts off
 
--- the place before the part's last message has the same parts and no error
-cut_within : (a : Asked) (parts : List Part) (o : Open) (place : Option Place) (ys : List BackMessage) → Grown parts place → read_from a place ys ≡ at parts (Within o) → (w : Open) × (place ≡ at parts (Within w))
+-- the reading before the part's last message has the same parts and no error
+cut_within : (a : Asked) (parts : List Part) (o : Open) (reading : Option Reading) (ys : List BackMessage) → Grown parts reading → read_from a reading ys ≡ at parts (Within o) → (w : Open) × (reading ≡ at parts (Within w))
 cut_within a parts o None [] g e = absurd cc
 cut_within a parts o None (y ∷ ys) g e = absurd cc
 cut_within a parts o (Some p) ys g e =
@@ -146,7 +142,7 @@ errors_read a parts fields (f ∷ fs) = errors_read a parts fields fs
 
 -- ---- reading and the grammar agree
 
-abbrev Start : Option Place
+abbrev Start : Option Reading
 Start = at [] (Within begun.Nothing)
 
 -- whole parts, and no error
@@ -159,9 +155,9 @@ failed_read a ms parts fields h =
     let cut = cut_reads a parts h.0 h.2 (left_is a parts h.0 h.1) h.3 in
     ap (read_all a) h.5
     ∙ read_from-append a Start (flat_map messages_of parts) (h.2 ++ ErrorResponse fields ∷ map ErrorResponse h.4)
-    ∙ ap (λ (q : Option Place). read_from a q (h.2 ++ ErrorResponse fields ∷ map ErrorResponse h.4)) (parts_read a [] a parts h.0 refl h.1)
+    ∙ ap (λ (q : Option Reading). read_from a q (h.2 ++ ErrorResponse fields ∷ map ErrorResponse h.4)) (parts_read a [] a parts h.0 refl h.1)
     ∙ read_from-append a (at parts (Within begun.Nothing)) h.2 (ErrorResponse fields ∷ map ErrorResponse h.4)
-    ∙ ap (λ (q : Option Place). read_from a q (ErrorResponse fields ∷ map ErrorResponse h.4)) cut.1
+    ∙ ap (λ (q : Option Reading). read_from a q (ErrorResponse fields ∷ map ErrorResponse h.4)) cut.1
     ∙ errors_read a parts fields h.4
 
 done_ends : (l : Asked) → IsDone l → done_ending l ≡ Some None
@@ -169,7 +165,7 @@ done_ends Results h = refl
 done_ends (Steps []) h = refl
 done_ends (Steps (s ∷ ss)) h = absurd h
 
--- what the segment's end makes of the place
+-- what the segment's end makes of the reading
 pub outcome_complete : (a : Asked) (ms : List BackMessage) (parts : List Part) (error : Option Fields) (asides : List Aside) (status : Status) → Reads a ms parts error → outcome_at a (read_all a ms) asides status ≡ Some (record { parts = parts; error = error; status = status; asides = asides })
 outcome_complete a ms parts None asides status h =
     rw (whole_read a ms parts h, left_is a parts h.0 h.1, done_ends h.0 h.2) refl
@@ -191,13 +187,13 @@ reads_at a ms parts (Within _) error h e = absurd cc
 pub outcome_sound : (a : Asked) (ms : List BackMessage) (asides : List Aside) (status : Status) (outcome : Outcome) → outcome_at a (read_all a ms) asides status ≡ Some outcome → Reads a ms outcome.parts outcome.error × (outcome.asides ≡ asides) × (outcome.status ≡ status)
 outcome_sound a ms asides status outcome e = at_place (read_all a ms) (read_all_sound a ms) e
   where
-    at_ending : (p : Place) (end : Option (Option Fields)) → Partway a ms p.parts p.stage → ending a p ≡ end → outcome_with p.parts asides status end ≡ Some outcome → Reads a ms outcome.parts outcome.error × (outcome.asides ≡ asides) × (outcome.status ≡ status)
+    at_ending : (p : Reading) (end : Option (Option Fields)) → Partway a ms p.parts p.stage → ending a p ≡ end → outcome_with p.parts asides status end ≡ Some outcome → Reads a ms outcome.parts outcome.error × (outcome.asides ≡ asides) × (outcome.status ≡ status)
     at_ending p None h is k = absurd cc
     at_ending p (Some error) h is k =
         let same : record { parts = p.parts; error = error; status = status; asides = asides } ≡ outcome = cc in
         subst (λ (o : Outcome). Reads a ms o.parts o.error × (o.asides ≡ asides) × (o.status ≡ status)) same (reads_at a ms p.parts p.stage error h is, refl, refl)
 
-    at_place : (place : Option Place) → Reached a ms place → outcome_at a place asides status ≡ Some outcome → Reads a ms outcome.parts outcome.error × (outcome.asides ≡ asides) × (outcome.status ≡ status)
+    at_place : (reading : Option Reading) → Reached a ms reading → outcome_at a reading asides status ≡ Some outcome → Reads a ms outcome.parts outcome.error × (outcome.asides ≡ asides) × (outcome.status ≡ status)
     at_place None h k = absurd cc
     at_place (Some p) h k = at_ending p (ending a p) h refl k
 
@@ -220,15 +216,15 @@ read_fits request body status outcome e =
 
 -- ---- segments that aren't whole
 
--- messages that are read to a place begin a segment that fits: an error and ReadyForQuery may follow
-pub read_begins : (request : Request) (ms : List BackMessage) (p : Place) → read_all (asked request) (without_asides ms) ≡ Some p → Begins request ms
+-- messages that can be read begin a segment that fits: an error and ReadyForQuery may follow
+pub read_begins : (request : Request) (ms : List BackMessage) (p : Reading) → read_all (asked request) (without_asides ms) ≡ Some p → Begins request ms
 read_begins request ms p e =
     let body = ms ++ ErrorResponse [] ∷ [] in
     let core : without_asides body ≡ without_asides ms ++ ErrorResponse [] ∷ [] = without_asides-append ms (ErrorResponse [] ∷ []) in
     let then : read_all (asked request) (without_asides body) ≡ read_from (asked request) (Some p) (ErrorResponse [] ∷ []) =
-    ap (read_all (asked request)) core ∙ read_from-append (asked request) Start (without_asides ms) (ErrorResponse [] ∷ []) ∙ ap (λ (q : Option Place). read_from (asked request) q (ErrorResponse [] ∷ [])) e in
+    ap (read_all (asked request)) core ∙ read_from-append (asked request) Start (without_asides ms) (ErrorResponse [] ∷ []) ∙ ap (λ (q : Option Reading). read_from (asked request) q (ErrorResponse [] ∷ [])) e in
     let out = fails p.parts p.stage in
-    let read : read_outcome request body Idle ≡ Some (failed_outcome out.0 (asides_of body)) = ap (λ (q : Option Place). outcome_at (asked request) q (asides_of body) Idle) (then ∙ out.1) in
+    let read : read_outcome request body Idle ≡ Some (failed_outcome out.0 (asides_of body)) = ap (λ (q : Option Reading). outcome_at (asked request) q (asides_of body) Idle) (then ∙ out.1) in
     (ErrorResponse [] ∷ Ready Idle ∷ [], failed_outcome out.0 (asides_of body), subst (λ (x : List BackMessage). Fits request x (failed_outcome out.0 (asides_of body))) (append_assoc ms (ErrorResponse [] ∷ []) (Ready Idle ∷ [])) (read_fits request body Idle (failed_outcome out.0 (asides_of body)) read))
   where
     failed_outcome : Fields → List Aside → Outcome
@@ -238,7 +234,7 @@ read_begins request ms p e =
     fails parts (Within o) = ([], refl)
     fails parts (Failed fields) = (fields, refl)
 
--- and messages that begin one are read to a place
+-- and messages that begin one can be read
 pub begins_read : (request : Request) (ms : List BackMessage) → Begins request ms → ((body : List BackMessage) (status : Status) → ms ≡ body ++ Ready status ∷ [] → ⊥) → read_all (asked request) (without_asides ms) ≡ None → ⊥
 begins_read request ms b no_end none = go b.0 b.2
   where
@@ -253,6 +249,6 @@ begins_read request ms b no_end none = go b.0 b.2
         let whole : read_outcome request fits.body b.1.status ≡ Some b.1 = fits_read request fits.body b.1.status b.1 (subst (λ (x : List BackMessage). Fits request x b.1) fits.closed fits) in
         let core : without_asides fits.body ≡ without_asides ms ++ without_asides s.0 = ap without_asides s.1 ∙ without_asides-append ms s.0 in
         let reads : read_all (asked request) (without_asides fits.body) ≡ read_from (asked request) None (without_asides s.0) =
-        ap (read_all (asked request)) core ∙ read_from-append (asked request) Start (without_asides ms) (without_asides s.0) ∙ ap (λ (q : Option Place). read_from (asked request) q (without_asides s.0)) none in
-        let nothing : read_outcome request fits.body b.1.status ≡ None = ap (λ (q : Option Place). outcome_at (asked request) q (asides_of fits.body) b.1.status) (reads ∙ stays (without_asides s.0)) in
+        ap (read_all (asked request)) core ∙ read_from-append (asked request) Start (without_asides ms) (without_asides s.0) ∙ ap (λ (q : Option Reading). read_from (asked request) q (without_asides s.0)) none in
+        let nothing : read_outcome request fits.body b.1.status ≡ None = ap (λ (q : Option Reading). outcome_at (asked request) q (asides_of fits.body) b.1.status) (reads ∙ stays (without_asides s.0)) in
         absurd cc

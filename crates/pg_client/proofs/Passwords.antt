@@ -8,69 +8,47 @@ use Rattle.pg_wire.specs.message.BackMessage.{BackMessage}
 use Rattle.pg_wire.specs.message.BackMessage.TheVariants.{AuthCleartext, AuthMd5}
 use Rattle.pg_wire.specs.message.FrontMessage.{FrontMessage}
 use Rattle.pg_wire.specs.value.Status.{Status}
-use Rattle.pg_wire.specs.value.Target.TheVariants.{Statement, Portal}
 use Rattle.pg_wire.specs.declared.session.Aside.{Aside}
 use Rattle.pg_wire.specs.declared.session.Part.{Part}
 use Rattle.pg_wire.specs.declared.session.Request.{Request}
-use Rattle.pg_wire.specs.declared.session.Step.TheVariants as step
+use Rattle.pg_wire.specs.Backend.{tag}
 use Rattle.pg_wire.specs.Direction.{spelling}
 use Rattle.pg_wire.specs.Frontend.{frontend}
-use Rattle.pg_wire.specs.Segment.{aside_of, without_asides, Asked as What, Results, Steps, asked, Segments, segments, status_of, error_of, put_before}
+use Rattle.pg_wire.specs.Segment.{aside_of, without_asides, Asked as What, asked, Segments, segments, status_of, error_of, put_before}
 use Rattle.pg_client.specs.declared.phase.Cause.{Cause}
 use Rattle.pg_client.specs.declared.phase.Cause.TheVariants as cause
-use Rattle.pg_client.specs.declared.place.Open.{Open}
-use Rattle.pg_client.specs.declared.place.Open.TheVariants as begun
-use Rattle.pg_client.specs.declared.place.Progress.TheVariants.{Stuck}
-use Rattle.pg_client.specs.declared.place.Stage.{Stage}
-use Rattle.pg_client.specs.declared.place.Stage.TheVariants.{Within, Failed}
-use Rattle.pg_client.specs.declared.place.Welcome.{Welcome}
-use Rattle.pg_client.specs.declared.place.Welcome.TheVariants.{Fresh, Asked, Admitted}
+use Rattle.pg_client.specs.declared.segment.begun.Open.{Open}
+use Rattle.pg_client.specs.declared.segment.begun.Open.TheVariants as begun
+use Rattle.pg_client.specs.declared.startup.Welcome.{Welcome}
+use Rattle.pg_client.specs.declared.startup.Welcome.TheVariants.{Fresh, Asked, Admitted}
 use Rattle.pg_client.specs.declared.settings.Settings.{Settings}
-use Rattle.pg_client.specs.Place.{Place, left, progress, begins, after_progress, read_by, read_from, read_all}
-use Rattle.pg_client.specs.Session.{Call, Start, Ask, Terminate, Happening, Did, Came, messages_in, requests_in, whole_in, rest_in, AsksPassword, BeginsStartup, FitAll, IsSession, IsStarted, IsTerminated, AreAllowed, Expected}
+use Rattle.pg_client.specs.Startup.{greet, greet_from, greet_all}
+use Rattle.pg_client.specs.Segment.{Stuck, Stage, Within, Failed, Reading, left, progress, after_progress, read_by, read_from, read_all}
+use Rattle.pg_client.specs.declared.call.Call.{Call}
+use Rattle.pg_client.specs.declared.call.Call.TheVariants as call
+use Rattle.pg_client.specs.Session.{Happening, Did, Came, messages_in, requests_in, whole_in, rest_in, AsksPassword, BeginsStartup, FitAll, IsSession, IsStarted, IsTerminated, AreAllowed, Expected}
 use Rattle.pg_client.specs.Client.{ClientView}
 use Rattle.pg_client.specs.Sent.{password_messages, md5_messages, answer_to, sent_by, sent_in}
 use Rattle.pg_client.specs.Closed.{Ends}
 use Rattle.pg_client.specs.History.{happenings, IsHistoryOf, History}
-use Rattle.pg_client.specs.Turns.{Turn, turn_messages, turns_of, calls_in, passwords, first_answer, greeting, farewell, InTurns}
-use Rattle.pg_client.specs.Machine.{greet, greet_from, greet_all}
+use Rattle.pg_wire.specs.Turns.{Turn, turn_messages}
+use Rattle.pg_client.specs.Turns.{turns_of, calls_in, passwords, first_answer, greeting, farewell, InTurns}
 use Rattle.pg_client.proofs.Beginnings.{AllAfter, after_begins, segments_came, requests_came, allowed_begins, along, are_answered, expected_begins}
 use Rattle.pg_client.proofs.Complete.{at, read_from-append}
 use Rattle.pg_client.proofs.Copying.{heard_after_start}
 use Rattle.pg_client.proofs.OneMessage.{put_after, not_ready}
 use Rattle.pg_client.proofs.Outcomes.{kept_with, front_splits, without_asides-append, begins_read}
 use Rattle.pg_client.proofs.Accepting.{sent_more}
-use Rattle.pg_client.proofs.Startup.{Greeted, greet_sound, greet_from-append, begins_greeted}
+use Rattle.pg_client.proofs.Reading.{welcome_stuck}
+use Rattle.pg_client.proofs.Greeting.{Greeted, greet_sound, greet_from-append, begins_greeted}
 use Rattle.pg_client.proofs.Ordering.{messages_in-append, calls_in-append}
-use Rattle.pg_client.proofs.TurnLaws.{IsOrderly, orderly_from, behind_first, sent_first, first_greets, turns_behind, requests_of}
+use Rattle.pg_client.proofs.TurnLaws.{IsOrderly, orderly_from, after_first, sent_first, first_greets, turns_after, requests_of}
 
 -- ---- a question goes on with no request's segment
 
-begins_no_cleartext : (l : What) → begins l AuthCleartext ≡ Stuck
-begins_no_cleartext Results = refl
-begins_no_cleartext (Steps []) = refl
-begins_no_cleartext (Steps (step.Describe Statement name ∷ ss)) = refl
-begins_no_cleartext (Steps (step.Describe Portal name ∷ ss)) = refl
-begins_no_cleartext (Steps (s ∷ ss)) = refl
-
-begins_no_md5 : (salt : List ℕ) (l : What) → begins l (AuthMd5 salt) ≡ Stuck
-begins_no_md5 salt Results = refl
-begins_no_md5 salt (Steps []) = refl
-begins_no_md5 salt (Steps (step.Describe Statement name ∷ ss)) = refl
-begins_no_md5 salt (Steps (step.Describe Portal name ∷ ss)) = refl
-begins_no_md5 salt (Steps (s ∷ ss)) = refl
-
-cleartext_stuck : (l : What) (o : Open) → progress l o AuthCleartext ≡ Stuck
-cleartext_stuck l begun.Nothing = begins_no_cleartext l
-cleartext_stuck l _ = refl
-
-md5_stuck : (salt : List ℕ) (l : What) (o : Open) → progress l o (AuthMd5 salt) ≡ Stuck
-md5_stuck salt l begun.Nothing = begins_no_md5 salt l
-md5_stuck salt l _ = refl
-
-question_stuck : (m : BackMessage) (l : What) (o : Open) → AsksPassword m → progress l o m ≡ Stuck
-question_stuck AuthCleartext l o q = cleartext_stuck l o
-question_stuck (AuthMd5 salt) l o q = md5_stuck salt l o
+question_stuck : (m : BackMessage) (l : What) (o : Open) → AsksPassword m → progress l o m ≡ Stuck (tag m)
+question_stuck AuthCleartext l o q = welcome_stuck AuthCleartext l o refl
+question_stuck (AuthMd5 salt) l o q = welcome_stuck (AuthMd5 salt) l o refl
 question_stuck _ l o q = absurd cc
 
 no_error : (m : BackMessage) → AsksPassword m → error_of m ≡ None
@@ -93,7 +71,7 @@ module _ (m : BackMessage) (q : AsksPassword m) where
   unread a parts (Within o) = ap (after_progress parts) (question_stuck m (left a parts) o q)
   unread a parts (Failed fields) = refl
 
-  none_read : (a : What) (place : Option Place) → read_from a place (m ∷ []) ≡ None
+  none_read : (a : What) (reading : Option Reading) → read_from a reading (m ∷ []) ≡ None
   none_read a None = refl
   none_read a (Some p) = ap (λ e. read_by a p.parts p.stage e m) (no_error m q) ∙ unread a p.parts p.stage
 
@@ -248,21 +226,21 @@ module _ (settings : Settings) (hs : List Happening) (expected : Expected settin
 -- a call of terminate is among them
 abbrev HasEnd : List Call → Type 0
 HasEnd [] = ⊥
-HasEnd (Terminate ∷ cs) = Unit {0}
+HasEnd (call.Terminate ∷ cs) = Unit {0}
 HasEnd (_ ∷ cs) = HasEnd cs
 
 end_terminates : (hs : List Happening) → HasEnd (calls_in hs) → IsTerminated hs
 end_terminates [] t = t
-end_terminates (Did Terminate ∷ hs) t = tt
+end_terminates (Did call.Terminate ∷ hs) t = tt
 end_terminates (Did _ ∷ hs) t = end_terminates hs t
 end_terminates (Came m ∷ hs) t = end_terminates hs t
 
-no_call : (cs : List Call) → IsOrderly cs → turns_of cs ≡ [] → (HasEnd cs → ⊥) → behind_first cs ≡ []
+no_call : (cs : List Call) → IsOrderly cs → turns_of cs ≡ [] → (HasEnd cs → ⊥) → after_first cs ≡ []
 no_call [] o none on = refl
-no_call (Start ∷ []) o none on = refl
-no_call (Start ∷ Terminate ∷ cs) o none on = absurd (on tt)
-no_call (Start ∷ Ask r ∷ cs) o none on = absurd cc
-no_call (Start ∷ _ ∷ cs) o none on = absurd o
+no_call (call.Start ∷ []) o none on = refl
+no_call (call.Start ∷ call.Terminate ∷ cs) o none on = absurd (on tt)
+no_call (call.Start ∷ call.Request r ∷ cs) o none on = absurd cc
+no_call (call.Start ∷ _ ∷ cs) o none on = absurd o
 no_call (_ ∷ cs) o none on = absurd o
 
 no_turns : (cs : List Call) → map (λ t. t.request) (turns_of cs) ≡ [] → turns_of cs ≡ []
@@ -282,7 +260,7 @@ module _ (settings : Settings) where
 
   -- what went out is what the first call sends, then the password, then what the other calls send
   abbrev Cut : List Call → List BackMessage → List ℕ → Type 0
-  Cut cs heard sent = sent ≡ sent_first settings cs ++ (Spelled (passwords settings heard) ++ flat_map (sent_by settings) (behind_first cs))
+  Cut cs heard sent = sent ≡ sent_first settings cs ++ (Spelled (passwords settings heard) ++ flat_map (sent_by settings) (after_first cs))
 
   one_call : (cs : List Call) (c : Call) (heard : List BackMessage) (sent : List ℕ) → (cs ≡ [] → heard ≡ []) → Cut cs heard sent → Cut (cs ++ c ∷ []) heard (sent ++ sent_by settings c)
   one_call [] c heard sent first cut =
@@ -296,17 +274,17 @@ module _ (settings : Settings) where
       ∙ ap (λ (bs : List ℕ). Spelled (passwords settings heard) ++ bs)
       (sym (flat_map-append (sent_by settings) ds (c ∷ []) ∙ ap (λ (bs : List ℕ). flat_map (sent_by settings) ds ++ bs) (append-nil (sent_by settings c)))))
 
-  one_message : (cs : List Call) (heard : List BackMessage) (m : BackMessage) (sent : List ℕ) → (answer_to settings m ≡ []) ⊎ (behind_first cs ≡ []) → Cut cs heard sent → Cut cs (heard ++ m ∷ []) (sent ++ Spelled (answer_to settings m))
+  one_message : (cs : List Call) (heard : List BackMessage) (m : BackMessage) (sent : List ℕ) → (answer_to settings m ≡ []) ⊎ (after_first cs ≡ []) → Cut cs heard sent → Cut cs (heard ++ m ∷ []) (sent ++ Spelled (answer_to settings m))
   one_message cs heard m sent early cut =
       let answers : passwords settings (heard ++ m ∷ []) ≡ passwords settings heard ++ answer_to settings m =
       flat_map-append (answer_to settings) heard (m ∷ []) ∙ ap (λ (ms : List FrontMessage). passwords settings heard ++ ms) (append-nil (answer_to settings m)) in
       ap (λ (bs : List ℕ). bs ++ Spelled (answer_to settings m)) cut
-      ∙ append_assoc (sent_first settings cs) (Spelled (passwords settings heard) ++ flat_map (sent_by settings) (behind_first cs)) (Spelled (answer_to settings m))
+      ∙ append_assoc (sent_first settings cs) (Spelled (passwords settings heard) ++ flat_map (sent_by settings) (after_first cs)) (Spelled (answer_to settings m))
       ∙ ap (λ (bs : List ℕ). sent_first settings cs ++ bs)
-      (swap (Spelled (passwords settings heard)) (Spelled (answer_to settings m)) (flat_map (sent_by settings) (behind_first cs)) (either early)
-      ∙ ap (λ (bs : List ℕ). bs ++ flat_map (sent_by settings) (behind_first cs)) (sym (ap Spelled answers ∙ flat_map-append (spelling frontend) (passwords settings heard) (answer_to settings m))))
+      (swap (Spelled (passwords settings heard)) (Spelled (answer_to settings m)) (flat_map (sent_by settings) (after_first cs)) (either early)
+      ∙ ap (λ (bs : List ℕ). bs ++ flat_map (sent_by settings) (after_first cs)) (sym (ap Spelled answers ∙ flat_map-append (spelling frontend) (passwords settings heard) (answer_to settings m))))
     where
-      either : (answer_to settings m ≡ []) ⊎ (behind_first cs ≡ []) → (Spelled (answer_to settings m) ≡ []) ⊎ (flat_map (sent_by settings) (behind_first cs) ≡ [])
+      either : (answer_to settings m ≡ []) ⊎ (after_first cs ≡ []) → (Spelled (answer_to settings m) ≡ []) ⊎ (flat_map (sent_by settings) (after_first cs) ≡ [])
       either (inl none) = inl (ap Spelled none)
       either (inr none) = inr (ap (flat_map (sent_by settings)) none)
 
@@ -324,14 +302,14 @@ module _ (settings : Settings) (hs : List Happening) (allowed : AreAllowed hs) (
   allowed_then : (before later : List Happening) → hs ≡ before ++ later → AreAllowed before
   allowed_then before later e = allowed_begins before later (subst AreAllowed e allowed)
 
-  asked_first : (before : List Happening) (m : BackMessage) (later : List Happening) → hs ≡ before ++ Came m ∷ later → AsksPassword m → behind_first (calls_in before) ≡ []
+  asked_first : (before : List Happening) (m : BackMessage) (later : List Happening) → hs ≡ before ++ Came m ∷ later → AsksPassword m → after_first (calls_in before) ≡ []
   asked_first before m later e q =
       let all = allowed_then before (Came m ∷ later) e in
       let first = comes_first m q settings.password before (expected_then settings hs expected before m later e) in
       let none : requests_in before ≡ [] = no_more (requests_in before) (omega (arith, are_answered before all, ap length first.0)) in
       no_call (calls_in before) (orderly_from [] before all (λ s. s) refl) (no_turns (calls_in before) (requests_of before ∙ none)) (λ t. open_then before m later e (end_terminates before t))
 
-  in_its_place : (before : List Happening) (m : BackMessage) (later : List Happening) → hs ≡ before ++ Came m ∷ later → (answer_to settings m ≡ []) ⊎ AsksPassword m → (answer_to settings m ≡ []) ⊎ (behind_first (calls_in before) ≡ [])
+  in_its_place : (before : List Happening) (m : BackMessage) (later : List Happening) → hs ≡ before ++ Came m ∷ later → (answer_to settings m ≡ []) ⊎ AsksPassword m → (answer_to settings m ≡ []) ⊎ (after_first (calls_in before) ≡ [])
   in_its_place before m later e (inl none) = inl none
   in_its_place before m later e (inr q) = inr (asked_first before m later e q)
 
@@ -368,8 +346,8 @@ module _ (settings : Settings) (hs : List Happening) (allowed : AreAllowed hs) (
       let orderly : IsOrderly cs = orderly_from [] hs allowed (λ s. s) refl in
       record {
         sent_is = e ∙ all_cut
-            ∙ ap (λ (bs : List ℕ). bs ++ (flat_map (spelling frontend) heard ++ flat_map (sent_by settings) (behind_first cs))) (first_greets settings cs orderly)
-            ∙ ap (λ (bs : List ℕ). greeting settings cs ++ (flat_map (spelling frontend) heard ++ bs)) (turns_behind settings cs orderly)
+            ∙ ap (λ (bs : List ℕ). bs ++ (flat_map (spelling frontend) heard ++ flat_map (sent_by settings) (after_first cs))) (first_greets settings cs orderly)
+            ∙ ap (λ (bs : List ℕ). greeting settings cs ++ (flat_map (spelling frontend) heard ++ bs)) (turns_after settings cs orderly)
             ∙ ap (λ (bs : List ℕ). greeting settings cs ++ bs) (sym (flat_map-append (spelling frontend) heard turns));
         one_password = one_password settings hs expected;
         first_answered = answers_first settings hs expected;
@@ -380,11 +358,11 @@ module _ (settings : Settings) (hs : List Happening) (allowed : AreAllowed hs) (
 
 terminated_begins : (hs more : List Happening) → IsTerminated hs → IsTerminated (hs ++ more)
 terminated_begins [] more t = absurd t
-terminated_begins (Did Terminate ∷ hs) more t = tt
+terminated_begins (Did call.Terminate ∷ hs) more t = tt
 terminated_begins (Did _ ∷ hs) more t = terminated_begins hs more t
 terminated_begins (Came m ∷ hs) more t = terminated_begins hs more t
 
-ends_so : (settings : Settings) (hs : List Happening) (rest kept : List ℕ) (closed : Option Cause) → closed ≡ Some cause.Terminated → Ends settings hs rest kept closed → (before : List Happening) × (hs ≡ before ++ Did Terminate ∷ [])
+ends_so : (settings : Settings) (hs : List Happening) (rest kept : List ℕ) (closed : Option Cause) → closed ≡ Some cause.Terminated → Ends settings hs rest kept closed → (before : List Happening) × (hs ≡ before ++ Did call.Terminate ∷ [])
 ends_so settings hs rest kept closed is ends = (subst (Ends settings hs rest kept) is ends).1
 
 pub history_in_turns : (h : History) (client : ClientView) → IsHistoryOf h client → InTurns client.settings (happenings h) h.sent
@@ -393,5 +371,5 @@ history_in_turns h client r = in_turns client.settings (happenings h) r.allowed 
     open_then : (before : List Happening) (m : BackMessage) (later : List Happening) → happenings h ≡ before ++ Came m ∷ later → IsTerminated before → ⊥
     open_then before m later e t =
         let end = ends_so client.settings (happenings h) h.rest client.kept client.closed (r.terminated.0 (subst IsTerminated (sym e) (terminated_begins before (Came m ∷ later) t))) r.ends in
-        let s = front_splits end.0 (Did Terminate) before (Came m) later (sym end.1 ∙ e) in
-        (r.allowed end.0 Terminate [] end.1).not_terminated (subst IsTerminated (sym s.1) (terminated_begins before s.0 t))
+        let s = front_splits end.0 (Did call.Terminate) before (Came m) later (sym end.1 ∙ e) in
+        (r.allowed end.0 call.Terminate [] end.1).not_terminated (subst IsTerminated (sym s.1) (terminated_begins before s.0 t))

@@ -27,24 +27,25 @@ use Rattle.pg_client.specs.declared.fault.CallFault.TheVariants as fault
 use Rattle.pg_client.specs.declared.phase.Cause.TheVariants as cause
 use Rattle.pg_client.specs.declared.phase.Phase.TheVariants as phase
 use Rattle.pg_wire.specs.value.Status.{Status}
-use Rattle.pg_client.specs.Session.{Call, Start, Ask, CopyEnd, CopyFail, Terminate, Happening, Did, Came, IsReady, IsCopyingIn, IsNoCopyIn, IsSaid, IsAfterItsCall, Chunk, AsksPassword, Expected, IsStartup, key_data, groups_in}
+use Rattle.pg_client.specs.declared.call.Call.{Call}
+use Rattle.pg_client.specs.declared.call.Call.TheVariants as call
+use Rattle.pg_client.specs.Session.{Happening, Did, Came, IsReady, IsCopyingIn, IsNoCopyIn, IsCalledForLastCopy, IsAfterItsCall, AsksPassword, Expected, IsStartup, key_data, groups_in}
 use Rattle.pg_client.specs.Client.{last_said, value_said, key_said, stand_phase, ClientView}
 use Rattle.pg_client.specs.Sent.{sent_by, answer_to, call_fault, sent_in}
-use Rattle.pg_client.specs.Closed.{AsksOther, cause_of, IsFaultFor, IsFresh}
+use Rattle.pg_client.specs.Closed.{AsksOther, cause_of, IsFaultFor, AwaitsAuthentication}
 use Rattle.pg_client.specs.History.{merged, Calls, with_ends}
 use Rattle.pg_client.specs.Calls.{Cancels, RefusesCopy, RefusesUnless}
 use Rattle.pg_client.specs.Lost.{Loses}
-use Rattle.pg_client.specs.Facts.{SettledInOrder}
-use Rattle.pg_client.specs.declared.place.CopyAnswer.TheVariants.{Awaited, Done}
-use Rattle.pg_client.specs.declared.place.Open.TheVariants as begun
-use Rattle.pg_client.specs.declared.place.Stage.TheVariants.{Within}
-use Rattle.pg_client.specs.declared.place.Stand.TheVariants.{Starting, Idle, Busy}
-use Rattle.pg_client.specs.declared.place.Welcome.TheVariants.{Fresh, Asked, Admitted}
+use Rattle.pg_client.specs.Facts.{FirstSettled}
+use Rattle.pg_client.specs.declared.segment.CopyAnswer.TheVariants.{Awaited, Done}
+use Rattle.pg_client.specs.declared.segment.begun.Open.TheVariants as begun
+use Rattle.pg_client.specs.Segment.{Within}
+use Rattle.pg_client.specs.declared.stand.Stand.TheVariants.{Starting, Idle, Busy}
+use Rattle.pg_client.specs.declared.startup.Welcome.TheVariants.{Fresh, Asked, Admitted}
 use Rattle.pg_client.specs.declared.settings.Settings.{Settings}
-use Rattle.pg_client.specs.Machine.{Stays, Rejected, hear, hear_with}
-use Rattle.pg_client.specs.Private.Calling.{with_request}
+use Rattle.pg_client.specs.Stand.{Leads, Rejected, hear, hear_with, Stands}
+use Rattle.pg_client.specs.Private.Calling.{with_request, segment_of}
 use Rattle.pg_client.specs.Private.Hearing.{fault_at}
-use Rattle.pg_client.specs.Judged.{Stands}
 use Rattle.pg_client.proofs.Agreeing.{no_copy_in}
 use Rattle.pg_client.proofs.Happening.{hears, did_start, expected_came, expected_did, expected_nothing}
 use Rattle.pg_client.proofs.Outcomes.{read_outcome}
@@ -61,11 +62,11 @@ select = Query (83 ∷ 69 ∷ 76 ∷ 69 ∷ 67 ∷ 84 ∷ 32 ∷ 49 ∷ [])
 
 -- ready, and a query was made
 busy : List Happening
-busy = Did Start ∷ Came AuthOk ∷ Came (Ready status.Idle) ∷ Did (Ask select) ∷ []
+busy = Did call.Start ∷ Came AuthOk ∷ Came (Ready status.Idle) ∷ Did (call.Request select) ∷ []
 
 -- ready
 ready : List Happening
-ready = Did Start ∷ Came AuthOk ∷ Came (Ready status.Idle) ∷ []
+ready = Did call.Start ∷ Came AuthOk ∷ Came (Ready status.Idle) ∷ []
 
 -- ready, a query, OK and its ReadyForQuery: settled with Command OK
 command_fits : Fits select (CommandComplete ok ∷ Ready status.Idle ∷ []) (record { parts = part.Command ok ∷ []; error = None; status = status.Idle; asides = [] })
@@ -76,18 +77,18 @@ command_read : read_outcome (Query []) (CommandComplete ok ∷ []) status.Idle �
 command_read = refl
 
 -- nothing is settled before the ReadyForQuery, and the query with its outcome then
-none_settled : SettledInOrder (select ∷ []) (groups_in (busy ++ Came (CommandComplete ok) ∷ [])) []
+none_settled : FirstSettled (select ∷ []) (groups_in (busy ++ Came (CommandComplete ok) ∷ [])) []
 unfolding busy
 none_settled = tt
 
-one_settled : SettledInOrder (select ∷ []) (groups_in (busy ++ Came (CommandComplete ok) ∷ Came (Ready status.Idle) ∷ []))
+one_settled : FirstSettled (select ∷ []) (groups_in (busy ++ Came (CommandComplete ok) ∷ Came (Ready status.Idle) ∷ []))
     (record { request = select; outcome = record { parts = part.Command ok ∷ []; error = None; status = status.Idle; asides = [] } } ∷ [])
 unfolding busy
 one_settled = (refl, command_fits, tt)
 
 -- the places of these calls and messages in the bytes, and their order
 session_calls : Calls
-session_calls = (Start, 0) ∷ (Ask select, 15) ∷ []
+session_calls = (call.Start, 0) ∷ (call.Request select, 15) ∷ []
 
 session_heard : List BackMessage
 session_heard = AuthOk ∷ Ready status.Idle ∷ CommandComplete ok ∷ Ready status.Idle ∷ []
@@ -134,7 +135,7 @@ ok_not_expected : Expected None (ready ++ Came (CommandComplete ok) ∷ []) → 
 unfolding ready
 ok_not_expected e = let k : CommandComplete ok ∷ [] ≡ [] = e.session.1 in cc
 
-not_fresh : IsFresh ready → ⊥
+not_fresh : AwaitsAuthentication ready → ⊥
 unfolding ready
 not_fresh f = let k : (AuthOk ∷ Ready status.Idle ∷ []) ∷ [] ≡ [] = f.0.1 in cc
 
@@ -158,10 +159,10 @@ ready_error : fault_at (Idle []) (ErrorResponse []) ≡ feeding.ServerEnd []
 ready_error = refl
 
 -- ready: a notice is the first aside of the next outcome
-ready_notes : hear (Idle []) (NoticeResponse []) ≡ Stays (Idle (aside.Notice [] ∷ []))
+ready_notes : hear (Idle []) (NoticeResponse []) ≡ Leads (Idle (aside.Notice [] ∷ []))
 ready_notes = refl
 
-notice_goes_on : with_request (Idle (aside.Notice [] ∷ [])) select ≡ Busy select [] (Within begun.Nothing) (aside.Notice [] ∷ []) Awaited
+notice_goes_on : with_request (Idle (aside.Notice [] ∷ [])) select ≡ Busy (record { request = select; parts = []; stage = Within begun.Nothing; asides = aside.Notice [] ∷ []; answer = Awaited })
 notice_goes_on = refl
 
 notice_read : read_outcome (Query []) (NoticeResponse [] ∷ CommandComplete ok ∷ []) status.Idle ≡ Some (record { parts = part.Command ok ∷ []; error = None; status = status.Idle; asides = aside.Notice [] ∷ [] })
@@ -169,9 +170,9 @@ notice_read = refl
 
 -- the startup: an error, another way to authenticate, a password, and ReadyForQuery too early
 abbrev started : List Happening
-started = Did Start ∷ []
+started = Did call.Start ∷ []
 
-fresh : IsFresh started
+fresh : AwaitsAuthentication started
 fresh = ((tt, refl), refl)
 
 error_refuses : IsFaultFor None started (ErrorResponse []) (feeding.StartupError [])
@@ -213,7 +214,7 @@ startup_early = refl
 startup_unexpected : fault_at (Starting Fresh) (Ready status.Idle) ≡ feeding.Unexpected 90
 startup_unexpected = refl
 
-startup_whole : hear (Starting Admitted) (Ready status.Idle) ≡ Stays (Idle [])
+startup_whole : hear (Starting Admitted) (Ready status.Idle) ≡ Leads (Idle [])
 startup_whole = refl
 
 -- ---- passwords
@@ -233,7 +234,7 @@ asked_expected : Expected (Some (97 ∷ [])) (started ++ Came AuthCleartext ∷ 
 asked_expected =
     let start : Stands started (Starting Fresh) [] = did_start [] [] (refl, refl) in
     let heard = hears (Some (97 ∷ [])) started (Starting Fresh) [] AuthCleartext (λ ends. absurd (no_copy_in [] refl ends)) start in
-    expected_came (Some (97 ∷ [])) started AuthCleartext (Starting Asked) [] (expected_did (Some (97 ∷ [])) [] Start (Starting Fresh) [] (expected_nothing (Some (97 ∷ []))) start) heard.0 heard.1 heard.2
+    expected_came (Some (97 ∷ [])) started AuthCleartext (Starting Asked) [] (expected_did (Some (97 ∷ [])) [] call.Start (Starting Fresh) [] (expected_nothing (Some (97 ∷ []))) start) heard.0 heard.1 heard.2
 
 none_not_expected : Expected None (started ++ Came AuthCleartext ∷ []) → ⊥
 none_not_expected e = let k : false ≡ true = e.answerable.0 in cc
@@ -242,7 +243,7 @@ second_not_expected : Expected (Some (97 ∷ [])) (started ++ Came AuthCleartext
 second_not_expected e = let k : AuthCleartext ∷ [] ≡ [] = (comes_first (AuthMd5 []) refl (Some (97 ∷ [])) (started ++ Came AuthCleartext ∷ []) e).1 in cc
 
 -- the second question is F2 Unexpected, and so is another way of authentication after the first
-asked_once : hear_with (Some (97 ∷ [])) (Starting Fresh) (AuthMd5 []) ≡ Stays (Starting Asked)
+asked_once : hear_with (Some (97 ∷ [])) (Starting Fresh) (AuthMd5 []) ≡ Leads (Starting Asked)
 asked_once = refl
 
 asked_twice : hear_with (Some (97 ∷ [])) (Starting Asked) AuthCleartext ≡ Rejected
@@ -257,11 +258,11 @@ other_unexpected = refl
 not_asked : hear_with None (Starting Fresh) AuthCleartext ≡ Rejected
 not_asked = refl
 
-admitted_then : hear_with (Some (97 ∷ [])) (Starting Asked) AuthOk ≡ Stays (Starting Admitted)
+admitted_then : hear_with (Some (97 ∷ [])) (Starting Asked) AuthOk ≡ Leads (Starting Admitted)
 admitted_then = refl
 
 -- what is answered, after the startup packet
-cleartext_sent : sent_in given (Did Start ∷ Came AuthCleartext ∷ []) ≡ sent_by given Start ++ 112 ∷ 0 ∷ 0 ∷ 0 ∷ 7 ∷ 97 ∷ 98 ∷ 0 ∷ []
+cleartext_sent : sent_in given (Did call.Start ∷ Came AuthCleartext ∷ []) ≡ sent_by given call.Start ++ 112 ∷ 0 ∷ 0 ∷ 0 ∷ 7 ∷ 97 ∷ 98 ∷ 0 ∷ []
 unfolding given
 cleartext_sent = refl
 
@@ -279,24 +280,24 @@ unfolding settings
 not_answered = refl
 
 -- a password with a zero byte is refused by start, after the faults of the packet
-zero_refused : call_fault (record given { password = Some (97 ∷ 0 ∷ []) }) Start ≡ Some encoding.HasZero
+zero_refused : call_fault (record given { password = Some (97 ∷ 0 ∷ []) }) call.Start ≡ Some encoding.HasZero
 unfolding given
 zero_refused = refl
 
-name_before : call_fault (record given { pairs = ([], []) ∷ []; password = Some (0 ∷ []) }) Start ≡ Some encoding.EmptyName
+name_before : call_fault (record given { pairs = ([], []) ∷ []; password = Some (0 ∷ []) }) call.Start ≡ Some encoding.EmptyName
 unfolding given
 name_before = refl
 
 -- what calls send
-start_sends : sent_by settings Start ≡ 0 ∷ 0 ∷ 0 ∷ 16 ∷ 0 ∷ 3 ∷ 0 ∷ 0 ∷ 117 ∷ 115 ∷ 101 ∷ 114 ∷ 0 ∷ 117 ∷ 0 ∷ 0 ∷ []
+start_sends : sent_by settings call.Start ≡ 0 ∷ 0 ∷ 0 ∷ 16 ∷ 0 ∷ 3 ∷ 0 ∷ 0 ∷ 117 ∷ 115 ∷ 101 ∷ 114 ∷ 0 ∷ 117 ∷ 0 ∷ 0 ∷ []
 unfolding settings
 start_sends = refl
 
-query_sends : sent_by settings (Ask select) ≡ 81 ∷ 0 ∷ 0 ∷ 0 ∷ 13 ∷ 83 ∷ 69 ∷ 76 ∷ 69 ∷ 67 ∷ 84 ∷ 32 ∷ 49 ∷ 0 ∷ []
+query_sends : sent_by settings (call.Request select) ≡ 81 ∷ 0 ∷ 0 ∷ 0 ∷ 13 ∷ 83 ∷ 69 ∷ 76 ∷ 69 ∷ 67 ∷ 84 ∷ 32 ∷ 49 ∷ 0 ∷ []
 unfolding select
 query_sends = refl
 
-terminate_sends : sent_by settings Terminate ≡ 88 ∷ 0 ∷ 0 ∷ 0 ∷ 4 ∷ []
+terminate_sends : sent_by settings call.Terminate ≡ 88 ∷ 0 ∷ 0 ∷ 0 ∷ 4 ∷ []
 terminate_sends = refl
 
 -- what the startup says of a parameter and the key, and the cancel packet
@@ -328,17 +329,17 @@ cancel_sends = refl
 
 -- a second request is made in phase Busy
 busy_client : ClientView
-busy_client = record { settings = settings; kept = []; stand = Busy select [] (Within begun.Nothing) [] Awaited; settled = []; status = Some status.Idle; parameters = []; key = None; closed = None }
+busy_client = record { settings = settings; kept = []; stand = Busy (segment_of select []); settled = []; status = Some status.Idle; parameters = []; key = None; closed = None }
 
-second_refused : RefusesUnless phase.Ready busy_client (Ask select) (fault.NotReady phase.Busy)
+second_refused : RefusesUnless phase.Ready busy_client (call.Request select) (fault.NotReady phase.Busy)
 unfolding busy_client
 second_refused = (refl, λ e. cc)
 
-chunk_refused : RefusesCopy busy_client (Chunk []) (fault.NotCopying phase.Busy)
+chunk_refused : RefusesCopy busy_client (call.Chunk []) (fault.NotCopying phase.Busy)
 unfolding busy_client
 chunk_refused = (refl, λ e. cc)
 
-second_request : stand_phase (Busy select [] (Within begun.Nothing) [] Awaited) ≡ phase.Busy
+second_request : stand_phase (Busy (segment_of select [])) ≡ phase.Busy
 second_request = refl
 
 not_ready : IsReady busy → ⊥
@@ -346,11 +347,11 @@ unfolding busy
 not_ready e = cc
 
 -- the end of a copy in before its copy_done is unexpected; after it, it goes on
-copy_too_early : hear (Busy (Query []) [] (Within (begun.CopyIn (record { binary = false; formats = [] }))) [] Awaited) (CommandComplete ok) ≡ Rejected
+copy_too_early : hear (Busy (record (segment_of (Query []) []) { stage = Within (begun.CopyIn (record { binary = false; formats = [] })) })) (CommandComplete ok) ≡ Rejected
 copy_too_early = refl
 
-copy_in_time : hear (Busy (Query []) [] (Within (begun.CopyIn (record { binary = false; formats = [] }))) [] Done) (CommandComplete ok)
-    ≡ Stays (Busy (Query []) (part.CopyIn (record { binary = false; formats = [] }) ok ∷ []) (Within begun.Nothing) [] Done)
+copy_in_time : hear (Busy (record (segment_of (Query []) []) { stage = Within (begun.CopyIn (record { binary = false; formats = [] })); answer = Done })) (CommandComplete ok)
+    ≡ Leads (Busy (record (segment_of (Query []) []) { parts = part.CopyIn (record { binary = false; formats = [] }) ok ∷ []; answer = Done }))
 copy_in_time = refl
 
 -- a query was answered with a CopyInResponse, and nothing was called for it
@@ -358,9 +359,9 @@ head : CopyHead
 head = record { binary = false; formats = [] }
 
 copying : List Happening
-copying = Did Start ∷ Came AuthOk ∷ Came (Ready status.Idle) ∷ Did (Ask select) ∷ Came (back.CopyIn head) ∷ []
+copying = Did call.Start ∷ Came AuthOk ∷ Came (Ready status.Idle) ∷ Did (call.Request select) ∷ Came (back.CopyIn head) ∷ []
 
-not_said : (c : Call) (hs : List Happening) → AllByRecursion (λ h. h ≡ Did c → ⊥) hs → IsSaid c hs → ⊥
+not_said : (c : Call) (hs : List Happening) → AllByRecursion (λ h. h ≡ Did c → ⊥) hs → IsCalledForLastCopy c hs → ⊥
 not_said c hs others s = go hs others s.before s.called
   where
     go : (xs : List Happening) → AllByRecursion (λ h. h ≡ Did c → ⊥) xs → (before : List Happening) → xs ≡ before ++ Did c ∷ s.since → ⊥
@@ -371,35 +372,35 @@ not_said c hs others s = go hs others s.before s.called
 
 is_copying : IsCopyingIn copying
 unfolding copying head
-is_copying = (([], head, refl), not_said CopyEnd copying ((λ e. cc), ((λ e. cc), ((λ e. cc), ((λ e. cc), ((λ e. cc), tt))))), λ reason. not_said (CopyFail reason) copying ((λ e. cc), ((λ e. cc), ((λ e. cc), ((λ e. cc), ((λ e. cc), tt))))))
+is_copying = (([], head, refl), not_said call.Done copying ((λ e. cc), ((λ e. cc), ((λ e. cc), ((λ e. cc), ((λ e. cc), tt))))), λ reason. not_said (call.Fail reason) copying ((λ e. cc), ((λ e. cc), ((λ e. cc), ((λ e. cc), ((λ e. cc), tt))))))
 
 -- its end is too early then; after copy_done it is in time, and the client isn't copying in
 ends_too_early : IsAfterItsCall copying (CommandComplete ok) → ⊥
 ends_too_early a = is_copying.1 (a.copy_ended ok refl is_copying.0)
 
-done_said : IsSaid CopyEnd (copying ++ Did CopyEnd ∷ Came (NoticeResponse []) ∷ [])
+done_said : IsCalledForLastCopy call.Done (copying ++ Did call.Done ∷ Came (NoticeResponse []) ∷ [])
 done_said = record { before = copying; since = Came (NoticeResponse []) ∷ []; called = refl; for_the_last = (tt, tt) }
 
-ends_in_time : IsAfterItsCall (copying ++ Did CopyEnd ∷ []) (CommandComplete ok)
+ends_in_time : IsAfterItsCall (copying ++ Did call.Done ∷ []) (CommandComplete ok)
 unfolding copying
 ends_in_time = record { started = tt; asked_for = inr (omega arith); copy_ended = λ tag e ends. record { before = copying; since = []; called = refl; for_the_last = tt } }
 
-not_copying_then : IsCopyingIn (copying ++ Did CopyEnd ∷ Came (NoticeResponse []) ∷ []) → ⊥
+not_copying_then : IsCopyingIn (copying ++ Did call.Done ∷ Came (NoticeResponse []) ∷ []) → ⊥
 not_copying_then k = k.1 done_said
 
 -- after another CopyInResponse it isn't said
-said_of_another : (before since : List Happening) → Did CopyEnd ∷ Came (back.CopyIn head) ∷ [] ≡ before ++ Did CopyEnd ∷ since → AllByRecursion IsNoCopyIn since → ⊥
+said_of_another : (before since : List Happening) → Did call.Done ∷ Came (back.CopyIn head) ∷ [] ≡ before ++ Did call.Done ∷ since → AllByRecursion IsNoCopyIn since → ⊥
 said_of_another [] since e all = let k : since ≡ Came (back.CopyIn head) ∷ [] = cc in (subst (AllByRecursion IsNoCopyIn) k all).0
 said_of_another (b ∷ []) since e all = cc
 said_of_another (b ∷ c ∷ []) since e all = cc
 said_of_another (b ∷ c ∷ d ∷ bs) since e all = cc
 
 -- a group has no copy in
-group_refuses : hear (Busy (Group (step.Parse [] [] [] ∷ [])) [] (Within begun.Nothing) [] Awaited) (back.CopyIn (record { binary = false; formats = [] })) ≡ Rejected
+group_refuses : hear (Busy (segment_of (Group (step.Parse [] [] [] ∷ [])) [])) (back.CopyIn (record { binary = false; formats = [] })) ≡ Rejected
 group_refuses = refl
 
 -- a call stands before the message that was not whole when it was made
-in_order : merged ((Start, 0) ∷ (CopyEnd, 12) ∷ []) ((AuthOk, 9) ∷ (Ready status.Idle, 15) ∷ []) ≡ Did Start ∷ Came AuthOk ∷ Did CopyEnd ∷ Came (Ready status.Idle) ∷ []
+in_order : merged ((call.Start, 0) ∷ (call.Done, 12) ∷ []) ((AuthOk, 9) ∷ (Ready status.Idle, 15) ∷ []) ≡ Did call.Start ∷ Came AuthOk ∷ Did call.Done ∷ Came (Ready status.Idle) ∷ []
 in_order = refl
 
 cut_after_ready : segments (AuthOk ∷ Ready status.Idle ∷ EmptyQuery ∷ []) ≡ record { whole = (AuthOk ∷ Ready status.Idle ∷ []) ∷ []; rest = EmptyQuery ∷ [] }

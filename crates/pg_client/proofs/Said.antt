@@ -4,10 +4,11 @@ use Rattle.std.specs.Prelude.{◌⊎◌}
 use Rattle.pg_wire.specs.message.BackMessage.{BackMessage}
 use Rattle.pg_wire.specs.message.BackMessage.TheVariants.{CommandComplete}
 use Rattle.pg_wire.specs.declared.session.Request.{Request}
-use Rattle.pg_client.specs.declared.place.CopyAnswer.{CopyAnswer}
-use Rattle.pg_client.specs.declared.place.CopyAnswer.TheVariants.{Awaited, Done, Refused}
-use Rattle.pg_client.specs.Session.{CopyEnd, CopyFail, Happening, requests_in, whole_in, rest_in, EndInCopyIn, IsAside, IsStarted, IsSaid, IsAfterItsCall, IsCopyingIn}
-use Rattle.pg_client.specs.Machine.{copy_answer}
+use Rattle.pg_client.specs.declared.segment.CopyAnswer.{CopyAnswer}
+use Rattle.pg_client.specs.declared.segment.CopyAnswer.TheVariants.{Awaited, Done, Refused}
+use Rattle.pg_client.specs.declared.call.Call.TheVariants as call
+use Rattle.pg_client.specs.Session.{Happening, requests_in, whole_in, rest_in, EndInCopyIn, IsAside, IsStarted, IsCalledForLastCopy, IsAfterItsCall, IsCopyingIn}
+use Rattle.pg_client.specs.Stand.{copy_answer}
 
 -- The message comes after the call that it needs, with these requests and segments before it, and this kept of the last copy in.
 pub record MayStand (requests : List Request) (whole : List (List BackMessage)) (rest : List BackMessage) (said : CopyAnswer) (m : BackMessage) : Type 0 where
@@ -20,30 +21,30 @@ IsCopyAwaited hs = EndInCopyIn (rest_in hs) × (copy_answer hs ≡ Awaited)
 
 -- what was called, by what is kept
 abbrev pub Says : CopyAnswer → List Happening → Type 0
-Says Awaited hs = (IsSaid CopyEnd hs → ⊥) × ((reason : List ℕ) → IsSaid (CopyFail reason) hs → ⊥)
-Says Done hs = IsSaid CopyEnd hs
-Says Refused hs = (IsSaid CopyEnd hs → ⊥) × (reason : List ℕ) × IsSaid (CopyFail reason) hs
+Says Awaited hs = (IsCalledForLastCopy call.Done hs → ⊥) × ((reason : List ℕ) → IsCalledForLastCopy (call.Fail reason) hs → ⊥)
+Says Done hs = IsCalledForLastCopy call.Done hs
+Says Refused hs = (IsCalledForLastCopy call.Done hs → ⊥) × (reason : List ℕ) × IsCalledForLastCopy (call.Fail reason) hs
 
 -- While a copy in is open, what is kept is what was called.
 abbrev pub AnswerIsSaid : List Happening → Type 0
 AnswerIsSaid hs = EndInCopyIn (rest_in hs) → Says (copy_answer hs) hs
 
-done_said : (hs : List Happening) (answer : CopyAnswer) → Says answer hs → answer ≡ Done → IsSaid CopyEnd hs
+done_said : (hs : List Happening) (answer : CopyAnswer) → Says answer hs → answer ≡ Done → IsCalledForLastCopy call.Done hs
 done_said hs Done s e = s
 done_said hs Awaited s e = absurd cc
 done_said hs Refused s e = absurd cc
 
-said_done : (hs : List Happening) (answer : CopyAnswer) → Says answer hs → IsSaid CopyEnd hs → answer ≡ Done
+said_done : (hs : List Happening) (answer : CopyAnswer) → Says answer hs → IsCalledForLastCopy call.Done hs → answer ≡ Done
 said_done hs Done s k = refl
 said_done hs Awaited s k = absurd (s.0 k)
 said_done hs Refused s k = absurd (s.0 k)
 
-unsaid : (hs : List Happening) (answer : CopyAnswer) → Says answer hs → answer ≡ Awaited → (IsSaid CopyEnd hs → ⊥) × ((reason : List ℕ) → IsSaid (CopyFail reason) hs → ⊥)
+unsaid : (hs : List Happening) (answer : CopyAnswer) → Says answer hs → answer ≡ Awaited → (IsCalledForLastCopy call.Done hs → ⊥) × ((reason : List ℕ) → IsCalledForLastCopy (call.Fail reason) hs → ⊥)
 unsaid hs Awaited s e = s
 unsaid hs Done s e = absurd cc
 unsaid hs Refused s e = absurd cc
 
-awaited : (hs : List Happening) (answer : CopyAnswer) → Says answer hs → (IsSaid CopyEnd hs → ⊥) → ((reason : List ℕ) → IsSaid (CopyFail reason) hs → ⊥) → answer ≡ Awaited
+awaited : (hs : List Happening) (answer : CopyAnswer) → Says answer hs → (IsCalledForLastCopy call.Done hs → ⊥) → ((reason : List ℕ) → IsCalledForLastCopy (call.Fail reason) hs → ⊥) → answer ≡ Awaited
 awaited hs Awaited s done failed = refl
 awaited hs Done s done failed = absurd (done s)
 awaited hs Refused s done failed = absurd (failed s.1 s.2)

@@ -13,11 +13,12 @@ use Rattle.pg_client.specs.declared.fault.FeedFault.{FeedFault}
 use Rattle.pg_client.specs.declared.phase.Cause.{Cause}
 use Rattle.pg_client.specs.declared.phase.Phase.TheVariants as phase
 use Rattle.pg_client.specs.declared.settled.Settled.{Settled}
-use Rattle.pg_client.specs.Session.{Call, Happening, requests_in, groups_in}
+use Rattle.pg_client.specs.declared.call.Call.{Call}
+use Rattle.pg_client.specs.Session.{Happening, requests_in, groups_in}
 use Rattle.pg_client.specs.Client.{ClientView, phase_of}
 use Rattle.pg_client.specs.History.{History, happenings, IsHistoryOf, with_fed, with_heard}
-use Rattle.pg_client.specs.Feed.{FeedsWith, Feeds}
-use Rattle.pg_client.specs.Facts.{SettledInOrder}
+use Rattle.pg_client.specs.Feed.{FeedsByCause, Feeds}
+use Rattle.pg_client.specs.Facts.{FirstSettled}
 use Rattle.pg_client.specs.Turns.{turns_of}
 use Rattle.pg_client.specs.Answering.{turns_in, SettlesLast, AllSettled}
 use Rattle.pg_client.proofs.Facts.{history_facts}
@@ -29,7 +30,7 @@ abbrev group : Request → Outcome → Settled
 group request outcome = record { request = request; outcome = outcome }
 
 -- groups in order are a beginning of those with more segments, as each segment has one outcome
-begins_settled : OneOutcome → (rs : List Request) (ss us : List (List BackMessage)) (ts vs : List Settled) → SettledInOrder rs ss ts → SettledInOrder rs (ss ++ us) vs → (more : List Settled) × (vs ≡ ts ++ more)
+begins_settled : OneOutcome → (rs : List Request) (ss us : List (List BackMessage)) (ts vs : List Settled) → FirstSettled rs ss ts → FirstSettled rs (ss ++ us) vs → (more : List Settled) × (vs ≡ ts ++ more)
 begins_settled one rs [] us [] vs h k = (vs, refl)
 begins_settled one (r ∷ rs) (s ∷ ss) us (t ∷ ts) (v ∷ vs) h k =
     let same : group v.request v.outcome ≡ group t.request t.outcome = ap (λ (q : Request). group q v.outcome) (k.0 ∙ sym h.0) ∙ ap (group t.request) (one r s v.outcome t.outcome k.1 h.1) in
@@ -91,8 +92,8 @@ settles_fed one h old new piece more rest added r heard =
     let groups : groups_in now ≡ groups_in was ++ g.0 =
     ap (λ (ms : List BackMessage). drop 1 (segments ms).whole) tells.messages ∙ ap (drop 1) w.1 ∙ g.1 ∙ ap (λ (ms : List BackMessage). drop 1 (segments ms).whole ++ g.0) (sym told.messages) in
     let p = begins_settled one (requests_in was) (groups_in was) g.0 (h.given ++ old.settled) (h.given ++ new.settled) (history_facts h old r).in_order
-    (subst (λ (rs : List Request). SettledInOrder rs (groups_in was ++ g.0) (h.given ++ new.settled)) same
-    (subst (λ (ss : List (List BackMessage)). SettledInOrder (requests_in now) ss (h.given ++ new.settled)) groups (history_facts past new heard).in_order)) in
+    (subst (λ (rs : List Request). FirstSettled rs (groups_in was ++ g.0) (h.given ++ new.settled)) same
+    (subst (λ (ss : List (List BackMessage)). FirstSettled (requests_in now) ss (h.given ++ new.settled)) groups (history_facts past new heard).in_order)) in
     let turns : length (turns_in now) ≡ length (turns_in was) = ap (λ (cs : List Call). length (turns_of cs)) (tells.calls ∙ sym told.calls) in
     let few : length (turns_in was) ≤ suc (length (groups_in was)) = (before.in_turn was [] (sym (append-nil was))).one_at_most in
     let many : length (groups_in now) ≤ length (turns_in now) = (after.in_turn now [] (sym (append-nil now))).none_ahead in
@@ -101,7 +102,7 @@ settles_fed one h old new piece more rest added r heard =
     let longer : length (h.given ++ new.settled) ≡ length (h.given ++ old.settled) + length p.0 = ap length p.1 ∙ length-append (h.given ++ old.settled) p.0 in
     record {
       fresh = p.0;
-      behind = append_cancel_left h.given new.settled (old.settled ++ p.0) (p.1 ∙ append_assoc h.given old.settled p.0);
+      appended = append_cancel_left h.given new.settled (old.settled ++ p.0) (p.1 ∙ append_assoc h.given old.settled p.0);
       one_at_most = omega arith;
       last = λ t e.
           let one : length p.0 ≡ 1 = ap length e in
@@ -114,11 +115,11 @@ pub settles_last : OneOutcome → (h : History) (old new : ClientView) (piece : 
     → IsHistoryOf h old → Feeds old piece result new before after → SettlesLast (requests_in (happenings h)) h.given old.settled new.settled
 settles_last one h old new piece result before after r feeds = by old.closed feeds
   where
-    by : (o : Option Cause) → FeedsWith o old piece result new before after → SettlesLast (requests_in (happenings h)) h.given old.settled new.settled
+    by : (o : Option Cause) → FeedsByCause o old piece result new before after → SettlesLast (requests_in (happenings h)) h.given old.settled new.settled
     by None f = (let k = f.hears h r in settles_fed one h old new piece k.more k.rest f.added r k.history)
     by (Some c) f = record {
       fresh = [];
-      behind = ap (λ (x : ClientView). x.settled) f.1 ∙ sym (append-nil old.settled);
+      appended = ap (λ (x : ClientView). x.settled) f.1 ∙ sym (append-nil old.settled);
       one_at_most = omega arith;
       last = λ t e. absurd (let k : [] ≡ t ∷ [] = e in cc);
     }

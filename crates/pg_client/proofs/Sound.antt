@@ -1,10 +1,10 @@
--- Each place that is reached was reached by whole parts and the first messages of the next, or by an error after these.
+-- Each reading that is reached was reached by whole parts and the first messages of the next, or by an error after these.
 use Rattle.std.proofs.Common.{◌≡◌, ℕ, List, [], ◌∷◌, ◌++◌, map, Option, Some, None, true, refl, sym, ap, subst, ◌∙◌, append_assoc, inl, inr}
 use Rattle.std.specs.Prelude.{IfSome, ℤ}
 use Rattle.std.specs.List.{flat_map}
 use Rattle.std.proofs.lemmas.List.{append-nil, map-append}
 use Rattle.pg_wire.specs.message.BackMessage.{BackMessage}
-use Rattle.pg_wire.specs.message.BackMessage.TheVariants.{Ready, RowDescription, DataRow, CommandComplete, EmptyQuery, ParseComplete, BindComplete, CloseComplete, NoData, PortalSuspended, ParameterDescription, ErrorResponse, CopyData, CopyDone}
+use Rattle.pg_wire.specs.message.BackMessage.TheVariants.{RowDescription, DataRow, CommandComplete, EmptyQuery, ParseComplete, BindComplete, CloseComplete, NoData, PortalSuspended, ParameterDescription, ErrorResponse, CopyData, CopyDone}
 use Rattle.pg_wire.specs.message.BackMessage.TheVariants as back
 use Rattle.pg_wire.specs.value.Column.{Column}
 use Rattle.pg_wire.specs.value.CopyHead.{CopyHead}
@@ -14,14 +14,10 @@ use Rattle.pg_wire.specs.declared.session.Part.{Part}
 use Rattle.pg_wire.specs.declared.session.Part.TheVariants as part
 use Rattle.pg_wire.specs.declared.session.Step.{Step}
 use Rattle.pg_wire.specs.declared.session.Step.TheVariants as step
-use Rattle.pg_client.specs.declared.place.Open.{Open}
-use Rattle.pg_client.specs.declared.place.Open.TheVariants as begun
-use Rattle.pg_client.specs.declared.place.Progress.{Progress}
-use Rattle.pg_client.specs.declared.place.Progress.TheVariants.{Grows, Closes, Stuck}
-use Rattle.pg_client.specs.declared.place.Stage.{Stage}
-use Rattle.pg_client.specs.declared.place.Stage.TheVariants.{Within, Failed}
+use Rattle.pg_client.specs.declared.segment.begun.Open.{Open}
+use Rattle.pg_client.specs.declared.segment.begun.Open.TheVariants as begun
 use Rattle.pg_wire.specs.Segment.{error_of, Fields, Asked, Results, Steps, Answers, IsCutOff, is_answer, Reads, messages_of}
-use Rattle.pg_client.specs.Place.{begins_result, only_parsed, only_bound, only_shut, describes, begins_parameters, executes, begins_answer, begins, goes_on_rows, goes_on_copy_out, ends_copy_out, ends_copy_in, progress, left, Place, after_progress, read_by, read, read_from, read_all}
+use Rattle.pg_client.specs.Segment.{Progress, Grows, Closes, Stuck, Stage, Within, Failed, begins_result, only_parsed, only_bound, only_shut, describes, begins_parameters, executes, begins_answer, begins, goes_on_rows, goes_on_copy_out, ends_copy_out, ends_copy_in, progress, left, Reading, after_progress, read_by, read, read_from, read_all}
 
 -- the messages of a part that isn't whole
 abbrev pub begun_messages : Open → List BackMessage
@@ -47,7 +43,7 @@ Opens a (begun.Executed rows) = (portal : List ℕ) × (max_rows : ℤ) × (ss :
 abbrev pub Says : Asked → List BackMessage → Progress → Type 0
 Says a ms (Grows o) = Opens a o × (ms ≡ begun_messages o)
 Says a ms (Closes p) = (rest : Asked) × Answers a (p ∷ []) rest × (ms ≡ messages_of p)
-Says a ms Stuck = Unit {0}
+Says a ms (Stuck t) = Unit {0}
 
 begins_result_says : (m : BackMessage) → Says Results (m ∷ []) (begins_result m)
 begins_result_says (RowDescription columns) = (refl, refl)
@@ -176,7 +172,7 @@ error_is _ = tt
 by_progress : (a : Asked) (ms : List BackMessage) (parts : List Part) (rest : Asked) (o : Open) (m : BackMessage) (now : Progress) → Answers a parts rest → ms ≡ flat_map messages_of parts ++ begun_messages o → Says rest (begun_messages o ++ m ∷ []) now → IfSome (after_progress parts now) (λ q. Partway a (ms ++ m ∷ []) q.parts q.stage)
 by_progress a ms parts rest o m (Grows o2) h e s = (rest, h, s.0, ap (λ (x : List BackMessage). x ++ m ∷ []) e ∙ append_assoc (flat_map messages_of parts) (begun_messages o) (m ∷ []) ∙ ap (λ (x : List BackMessage). flat_map messages_of parts ++ x) s.1)
 by_progress a ms parts rest o m (Closes p) h e s = (s.0, Answers-more a parts rest p s.0 h s.1, tt, ap (λ (x : List BackMessage). x ++ m ∷ []) e ∙ append_assoc (flat_map messages_of parts) (begun_messages o) (m ∷ []) ∙ ap (λ (x : List BackMessage). flat_map messages_of parts ++ x) s.2 ∙ sym (flat_map-more parts p) ∙ sym (append-nil (flat_map messages_of (parts ++ p ∷ []))))
-by_progress a ms parts rest o m Stuck h e s = tt
+by_progress a ms parts rest o m (Stuck t) h e s = tt
 
 by_error : (a : Asked) (ms : List BackMessage) (parts : List Part) (stage : Stage) (m : BackMessage) (e : Option Fields) → ErrorIs m e → Partway a ms parts stage → IfSome (read_by a parts stage e m) (λ q. Partway a (ms ++ m ∷ []) q.parts q.stage)
 by_error a ms parts (Within o) m (Some fields) is h =
@@ -187,23 +183,23 @@ by_error a ms parts (Failed first) m (Some fields) is h =
     (h.0, h.1, h.2, h.3, h.4 ++ fields ∷ [], rw (h.5, is, map-append ErrorResponse h.4 (fields ∷ [])) (append_assoc (flat_map messages_of parts) (h.2 ++ ErrorResponse first ∷ map ErrorResponse h.4) (ErrorResponse fields ∷ []) ∙ ap (λ (x : List BackMessage). flat_map messages_of parts ++ x) (append_assoc h.2 (ErrorResponse first ∷ map ErrorResponse h.4) (ErrorResponse fields ∷ []))))
 by_error a ms parts (Failed first) m None is h = tt
 
-read_sound : (a : Asked) (before : List BackMessage) (p : Place) (m : BackMessage) → Partway a before p.parts p.stage → IfSome (read a p m) (λ q. Partway a (before ++ m ∷ []) q.parts q.stage)
+read_sound : (a : Asked) (before : List BackMessage) (p : Reading) (m : BackMessage) → Partway a before p.parts p.stage → IfSome (read a p m) (λ q. Partway a (before ++ m ∷ []) q.parts q.stage)
 read_sound a before p m h = by_error a before p.parts p.stage m (error_of m) (error_is m) h
 
--- the place after more messages
-abbrev pub Reached : Asked → List BackMessage → Option Place → Type 0
+-- the reading with more messages
+abbrev pub Reached : Asked → List BackMessage → Option Reading → Type 0
 Reached a ms None = Unit {0}
 Reached a ms (Some q) = Partway a ms q.parts q.stage
 
-pub read_from_sound : (a : Asked) (before : List BackMessage) (place : Option Place) (ms : List BackMessage) → Reached a before place → Reached a (before ++ ms) (read_from a place ms)
-read_from_sound a before place [] h = rw append-nil h
+pub read_from_sound : (a : Asked) (before : List BackMessage) (reading : Option Reading) (ms : List BackMessage) → Reached a before reading → Reached a (before ++ ms) (read_from a reading ms)
+read_from_sound a before reading [] h = rw append-nil h
 read_from_sound a before None (m ∷ ms) h = tt
 read_from_sound a before (Some p) (m ∷ ms) h = subst (λ (x : List BackMessage). Reached a x (read_from a (read a p m) ms)) (append_assoc before (m ∷ []) ms) (read_from_sound a (before ++ m ∷ []) (read a p m) ms (go (read a p m) (read_sound a before p m h)))
   where
-    go : (o : Option Place) → IfSome o (λ q. Partway a (before ++ m ∷ []) q.parts q.stage) → Reached a (before ++ m ∷ []) o
+    go : (o : Option Reading) → IfSome o (λ q. Partway a (before ++ m ∷ []) q.parts q.stage) → Reached a (before ++ m ∷ []) o
     go None k = tt
     go (Some q) k = k
 
--- whatever place the messages have come to, they are as it says
+-- whatever the messages were read to, they are as it says
 pub read_all_sound : (a : Asked) (ms : List BackMessage) → Reached a ms (read_all a ms)
 read_all_sound a ms = read_from_sound a [] (Some (record { parts = []; stage = Within begun.Nothing })) ms (a, refl, tt, refl)

@@ -7,9 +7,12 @@ use Rattle.pg_wire.specs.First.{IsPacket}
 use Rattle.pg_wire.specs.Frontend.{frontend}
 use Rattle.pg_wire.specs.Segment.{request_messages}
 use Rattle.pg_client.specs.declared.settings.Settings.{Settings}
-use Rattle.pg_client.specs.Session.{Call, Start, Ask, Chunk, CopyEnd, CopyFail, Terminate, Happening, Did, Came, messages_in, AreAllowed}
+use Rattle.pg_client.specs.declared.call.Call.{Call}
+use Rattle.pg_client.specs.declared.call.Call.TheVariants as call
+use Rattle.pg_client.specs.Session.{Happening, Did, Came, messages_in, AreAllowed}
 use Rattle.pg_client.specs.Sent.{startup_pairs, answer_to, call_messages, IsSpelled, IsSpelledAt}
-use Rattle.pg_client.specs.Turns.{turn_messages, turns_of, calls_in, passwords, farewell}
+use Rattle.pg_wire.specs.Turns.{turn_messages}
+use Rattle.pg_client.specs.Turns.{turns_of, calls_in, passwords, farewell}
 use Rattle.pg_client.specs.Spelled.{SendsSpelled}
 use Rattle.pg_client.proofs.TurnLaws.{IsOrderly, orderly_from, started_sent}
 
@@ -24,21 +27,21 @@ calls_spelled settings (Came m ∷ hs) h = calls_spelled settings hs h.1
 
 messages_spelled : (settings : Settings) (cs : List Call) → AllByRecursion (IsSpelled settings) cs → AllByRecursion (HasSpelling frontend) (flat_map call_messages cs)
 messages_spelled settings [] h = tt
-messages_spelled settings (Start ∷ cs) h = messages_spelled settings cs h.1
-messages_spelled settings (Ask r ∷ cs) h = all_of_both (HasSpelling frontend) (request_messages r) (flat_map call_messages cs) h.0 (messages_spelled settings cs h.1)
-messages_spelled settings (Chunk b ∷ cs) h = (h.0.0, messages_spelled settings cs h.1)
-messages_spelled settings (CopyEnd ∷ cs) h = (h.0.0, messages_spelled settings cs h.1)
-messages_spelled settings (CopyFail b ∷ cs) h = (h.0.0, messages_spelled settings cs h.1)
-messages_spelled settings (Terminate ∷ cs) h = (h.0.0, messages_spelled settings cs h.1)
+messages_spelled settings (call.Start ∷ cs) h = messages_spelled settings cs h.1
+messages_spelled settings (call.Request r ∷ cs) h = all_of_both (HasSpelling frontend) (request_messages r) (flat_map call_messages cs) h.0 (messages_spelled settings cs h.1)
+messages_spelled settings (call.Chunk b ∷ cs) h = (h.0.0, messages_spelled settings cs h.1)
+messages_spelled settings (call.Done ∷ cs) h = (h.0.0, messages_spelled settings cs h.1)
+messages_spelled settings (call.Fail b ∷ cs) h = (h.0.0, messages_spelled settings cs h.1)
+messages_spelled settings (call.Terminate ∷ cs) h = (h.0.0, messages_spelled settings cs h.1)
 
 orderly_messages : (cs : List Call) → IsOrderly cs → flat_map call_messages cs ≡ flat_map turn_messages (turns_of cs) ++ farewell cs
 orderly_messages [] h = refl
-orderly_messages (Start ∷ cs) h = started_sent cs h
+orderly_messages (call.Start ∷ cs) h = started_sent cs h
 orderly_messages (_ ∷ cs) h = absurd h
 
 orderly_packet : (settings : Settings) (cs : List Call) → IsOrderly cs → AllByRecursion (IsSpelled settings) cs → (d : Call) (ds : List Call) → cs ≡ d ∷ ds → IsPacket (Startup (startup_pairs settings))
 orderly_packet settings [] h s d ds e = absurd cc
-orderly_packet settings (Start ∷ cs) h s d ds e = s.0.0
+orderly_packet settings (call.Start ∷ cs) h s d ds e = s.0.0
 orderly_packet settings (_ ∷ cs) h s d ds e = absurd h
 
 passwords_spelled : (settings : Settings) (hs : List Happening) → AllByRecursion (IsSpelledAt settings) hs → AllByRecursion (HasSpelling frontend) (passwords settings (messages_in hs))

@@ -9,12 +9,15 @@ use Rattle.pg_client.specs.declared.phase.Cause.{Cause}
 use Rattle.pg_client.specs.declared.phase.Cause.TheVariants as cause
 use Rattle.pg_client.specs.declared.phase.Phase.TheVariants as phase
 use Rattle.pg_client.specs.declared.settled.Settled.{Settled}
-use Rattle.pg_client.specs.Session.{Call, Start, Ask, Chunk, CopyEnd, CopyFail, Terminate, Happening, Did, requests_in, whole_in, rest_in, IsReady, IsCopyingIn, IsAsked, HasPlace, AreAllowed, groups_in}
+use Rattle.pg_client.specs.declared.call.Call.{Call}
+use Rattle.pg_client.specs.declared.call.Call.TheVariants as call
+use Rattle.pg_client.specs.Session.{Happening, Did, requests_in, whole_in, rest_in, IsReady, IsCopyingIn, HasRequest, MayBeCalled, AreAllowed, groups_in}
 use Rattle.pg_client.specs.Client.{ClientView}
 use Rattle.pg_client.specs.History.{happenings, IsHistoryOf, History}
-use Rattle.pg_client.specs.Facts.{SettledInOrder, IsPhase}
-use Rattle.pg_client.specs.Turns.{Turn, copies_of, turns_of, calls_in}
-use Rattle.pg_client.specs.Answering.{turns_in, IsCopyMessage, IsCopyCall, IsInTurn, TakesTurns}
+use Rattle.pg_client.specs.Facts.{FirstSettled, IsPhase}
+use Rattle.pg_wire.specs.Turns.{Turn, AreCopies}
+use Rattle.pg_client.specs.Turns.{copies_of, turns_of, calls_in}
+use Rattle.pg_client.specs.Answering.{turns_in, IsCopyCall, IsInTurn, TakesTurns}
 use Rattle.pg_client.proofs.Beginnings.{AreAsked, AllAfter, after_begins, allowed_begins, are_asked, are_answered}
 use Rattle.pg_client.proofs.Agreeing.{no_copy_in}
 use Rattle.pg_client.proofs.Copying.{copying_since, copy_under_way}
@@ -55,7 +58,7 @@ pub not_empty : (rs : List Request) → (rs ≡ [] → ⊥) → 1 ≤ length rs
 not_empty [] some = absurd (some refl)
 not_empty (r ∷ rs) some = omega arith
 
-copy_counted : (hs : List Happening) → AllAfter hs → AreAllowed hs → IsAsked hs → IsCopyingIn hs → length (turns_in hs) ≡ suc (length (groups_in hs))
+copy_counted : (hs : List Happening) → AllAfter hs → AreAllowed hs → HasRequest hs → IsCopyingIn hs → length (turns_in hs) ≡ suc (length (groups_in hs))
 copy_counted hs after allowed asked copying = by_groups (groups_length (whole_in hs)) (are_asked hs after) (are_answered hs allowed) (not_empty (requests_in hs) asked)
   where
     by_groups : (length (whole_in hs) ≡ suc (length (groups_in hs))) ⊎ ((length (whole_in hs) ≡ 0) × (length (groups_in hs) ≡ 0)) → AreAsked hs → length (requests_in hs) ≤ length (whole_in hs) → 1 ≤ length (requests_in hs) → length (turns_in hs) ≡ suc (length (groups_in hs))
@@ -63,32 +66,32 @@ copy_counted hs after allowed asked copying = by_groups (groups_length (whole_in
     by_groups (inl e) (inl few) some one = omega (arith, e, few, some, turns_length hs)
     by_groups (inr e) (inl few) some one = absurd (omega (arith, e.0, some, one))
 
-copies_only : (cs : List Call) → AllByRecursion IsCopyMessage (copies_of cs)
+copies_only : (cs : List Call) → AreCopies (copies_of cs)
 copies_only [] = tt
-copies_only (Ask r ∷ cs) = tt
-copies_only (Chunk b ∷ cs) = (tt, copies_only cs)
-copies_only (CopyEnd ∷ cs) = (tt, copies_only cs)
-copies_only (CopyFail b ∷ cs) = (tt, copies_only cs)
-copies_only (Start ∷ cs) = copies_only cs
-copies_only (Terminate ∷ cs) = copies_only cs
+copies_only (call.Request r ∷ cs) = tt
+copies_only (call.Chunk b ∷ cs) = (refl, copies_only cs)
+copies_only (call.Done ∷ cs) = (refl, copies_only cs)
+copies_only (call.Fail b ∷ cs) = (refl, copies_only cs)
+copies_only (call.Start ∷ cs) = copies_only cs
+copies_only (call.Terminate ∷ cs) = copies_only cs
 
-all_copies : (cs : List Call) → AllByRecursion (λ t. AllByRecursion IsCopyMessage t.copies) (turns_of cs)
+all_copies : (cs : List Call) → AllByRecursion (λ t. AreCopies t.copies) (turns_of cs)
 all_copies [] = tt
-all_copies (Ask r ∷ cs) = (copies_only cs, all_copies cs)
-all_copies (Chunk b ∷ cs) = all_copies cs
-all_copies (CopyEnd ∷ cs) = all_copies cs
-all_copies (CopyFail b ∷ cs) = all_copies cs
-all_copies (Start ∷ cs) = all_copies cs
-all_copies (Terminate ∷ cs) = all_copies cs
+all_copies (call.Request r ∷ cs) = (copies_only cs, all_copies cs)
+all_copies (call.Chunk b ∷ cs) = all_copies cs
+all_copies (call.Done ∷ cs) = all_copies cs
+all_copies (call.Fail b ∷ cs) = all_copies cs
+all_copies (call.Start ∷ cs) = all_copies cs
+all_copies (call.Terminate ∷ cs) = all_copies cs
 
 -- ---- the settled groups
 
-settled_length : (rs : List Request) (ss : List (List BackMessage)) (ts : List Settled) → SettledInOrder rs ss ts → length ts ≡ length ss
+settled_length : (rs : List Request) (ss : List (List BackMessage)) (ts : List Settled) → FirstSettled rs ss ts → length ts ≡ length ss
 settled_length rs [] [] h = refl
 settled_length (r ∷ rs) (s ∷ ss) (t ∷ ts) h = ap suc (settled_length rs ss ts h.2)
 settled_length _ _ _ h = absurd h
 
-first_settled : (rs : List Request) (ss : List (List BackMessage)) (ts : List Settled) → SettledInOrder rs ss ts → map (λ t. t.request) ts ≡ take (length ts) rs
+first_settled : (rs : List Request) (ss : List (List BackMessage)) (ts : List Settled) → FirstSettled rs ss ts → map (λ t. t.request) ts ≡ take (length ts) rs
 first_settled rs [] [] h = refl
 first_settled (r ∷ rs) (s ∷ ss) (t ∷ ts) h = ap (λ (x : Request). x ∷ map (λ t. t.request) ts) h.0 ∙ ap (λ (xs : List Request). r ∷ xs) (first_settled rs ss ts h.2)
 first_settled _ _ _ h = absurd h
@@ -109,13 +112,13 @@ not_closed closed none some = cc
 copied_in_turn : (hs before : List Happening) (c : Call) (later : List Happening) → AllAfter hs → AreAllowed hs → IsCopyCall c → hs ≡ before ++ Did c ∷ later → length (turns_in before) ≡ suc (length (groups_in before))
 copied_in_turn hs before c later after allowed copy e = by c copy (allowed before c later e).in_place
   where
-    here : IsAsked before → IsCopyingIn before → length (turns_in before) ≡ suc (length (groups_in before))
+    here : HasRequest before → IsCopyingIn before → length (turns_in before) ≡ suc (length (groups_in before))
     here asked copying = copy_counted before (after_begins before (Did c ∷ later) (subst AllAfter e after)) (allowed_begins before (Did c ∷ later) (subst AreAllowed e allowed)) asked copying
 
-    by : (d : Call) → IsCopyCall d → HasPlace before d → length (turns_in before) ≡ suc (length (groups_in before))
-    by (Chunk b) i p = here p.0 p.1
-    by CopyEnd i p = here p.0 p.1
-    by (CopyFail b) i p = here p.0 p.1
+    by : (d : Call) → IsCopyCall d → MayBeCalled before d → length (turns_in before) ≡ suc (length (groups_in before))
+    by (call.Chunk b) i p = here p.0 p.1
+    by call.Done i p = here p.0 p.1
+    by (call.Fail b) i p = here p.0 p.1
     by _ i p = absurd i
 
 pub takes_turns : (h : History) (client : ClientView) → IsHistoryOf h client → TakesTurns (happenings h) (h.given ++ client.settled) client
@@ -125,7 +128,7 @@ takes_turns h client r =
     let after : AllAfter hs = r.expected.after in
     record {
       in_turn = λ before later e. counted before (after_begins before later (subst AllAfter e after)) (allowed_begins before later (subst AreAllowed e r.allowed));
-      asked = λ before q later e. ready_counted before (r.allowed before (Ask q) later e).in_place.1;
+      asked = λ before q later e. ready_counted before (r.allowed before (call.Request q) later e).in_place.1;
       copied = λ before c later copy e. copied_in_turn hs before c later after r.allowed copy e;
       copies = all_copies (calls_in hs);
       settled_all = settled_length (requests_in hs) (groups_in hs) (h.given ++ client.settled) facts.in_order;

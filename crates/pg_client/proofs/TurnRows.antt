@@ -8,10 +8,12 @@ use Rattle.pg_wire.specs.value.Status.TheVariants as status
 use Rattle.pg_wire.specs.declared.session.Request.{Request}
 use Rattle.pg_wire.specs.declared.session.Request.TheVariants.{Query}
 use Rattle.pg_client.specs.declared.settled.Settled.{Settled}
-use Rattle.pg_client.specs.Session.{Start, Ask, Chunk, CopyEnd, Terminate, Happening, Did, Came, rest_in, groups_in}
+use Rattle.pg_client.specs.declared.call.Call.TheVariants as call
+use Rattle.pg_client.specs.Session.{Happening, Did, Came, rest_in, groups_in}
 use Rattle.pg_client.specs.History.{Calls, with_ends, merged, blank, with_call, with_fed, with_heard}
-use Rattle.pg_client.specs.Turns.{turns_of, messages_behind}
-use Rattle.pg_client.specs.Answering.{calls_of, turns_in, turns_with, last_copies, copies_ended, copies_begun, IsCopyingSince, SettlesLast}
+use Rattle.pg_client.specs.Turns.{turns_of, messages_after}
+use Rattle.pg_wire.specs.Turns.{copies_begun}
+use Rattle.pg_client.specs.Answering.{calls_of, turns_in, turns_with, last_copies, copies_ended, IsCopyingSince, SettlesLast}
 
 abbrev copy : Request
 copy = Query (67 ∷ [])
@@ -24,7 +26,7 @@ abbrev begins : BackMessage
 begins = back.CopyIn (record { binary = false; formats = [] })
 
 abbrev calls : Calls
-calls = (Start, 0) ∷ (Ask copy, 15) ∷ (Chunk (97 ∷ []), 23) ∷ (CopyEnd, 23) ∷ (Ask select, 37) ∷ (Terminate, 37) ∷ []
+calls = (call.Start, 0) ∷ (call.Request copy, 15) ∷ (call.Chunk (97 ∷ []), 23) ∷ (call.Done, 23) ∷ (call.Request select, 37) ∷ (call.Terminate, 37) ∷ []
 
 abbrev heard : List BackMessage
 heard = AuthOk ∷ Ready status.Idle ∷ begins ∷ CommandComplete (79 ∷ 75 ∷ []) ∷ Ready status.Idle ∷ []
@@ -34,7 +36,7 @@ ends_are : with_ends 0 heard ≡ (AuthOk, 9) ∷ (Ready status.Idle, 15) ∷ (be
 ends_are = refl
 
 -- calls stand after the messages that were whole when they were made
-happened : merged calls (with_ends 0 heard) ≡ Did Start ∷ Came AuthOk ∷ Came (Ready status.Idle) ∷ Did (Ask copy) ∷ Came begins ∷ Did (Chunk (97 ∷ [])) ∷ Did CopyEnd ∷ Came (CommandComplete (79 ∷ 75 ∷ [])) ∷ Came (Ready status.Idle) ∷ Did (Ask select) ∷ Did Terminate ∷ []
+happened : merged calls (with_ends 0 heard) ≡ Did call.Start ∷ Came AuthOk ∷ Came (Ready status.Idle) ∷ Did (call.Request copy) ∷ Came begins ∷ Did (call.Chunk (97 ∷ [])) ∷ Did call.Done ∷ Came (CommandComplete (79 ∷ 75 ∷ [])) ∷ Came (Ready status.Idle) ∷ Did (call.Request select) ∷ Did call.Terminate ∷ []
 happened = refl
 
 -- the chunk and its end belong to the copy
@@ -42,16 +44,16 @@ turns_are : turns_of (calls_of calls) ≡ record { request = copy; copies = fron
 turns_are = refl
 
 -- a password that was asked for goes before them, and the end of the session after
-all_messages : messages_behind (record { user = 117 ∷ []; database = None; pairs = []; password = Some (112 ∷ []); limit = 64 }) (AuthCleartext ∷ heard) (calls_of calls)
+all_messages : messages_after (record { user = 117 ∷ []; database = None; pairs = []; password = Some (112 ∷ []); limit = 64 }) (AuthCleartext ∷ heard) (calls_of calls)
     ≡ front.Password (112 ∷ []) ∷ front.Query (67 ∷ []) ∷ front.CopyData (97 ∷ []) ∷ front.CopyDone ∷ front.Query (83 ∷ []) ∷ front.Terminate ∷ []
 all_messages = refl
 
-chunk_added : turns_with (turns_of (Start ∷ Ask copy ∷ [])) (Chunk (97 ∷ [])) ≡ record { request = copy; copies = front.CopyData (97 ∷ []) ∷ [] } ∷ []
+chunk_added : turns_with (turns_of (call.Start ∷ call.Request copy ∷ [])) (call.Chunk (97 ∷ [])) ≡ record { request = copy; copies = front.CopyData (97 ∷ []) ∷ [] } ∷ []
 chunk_added = refl
 
 -- while the copy in is under way: one turn, no answer, and a chunk and a notice since the CopyInResponse
 abbrev under_way : List Happening
-under_way = Did Start ∷ Came AuthOk ∷ Came (Ready status.Idle) ∷ Did (Ask copy) ∷ Came begins ∷ Did (Chunk (97 ∷ [])) ∷ Came (NoticeResponse []) ∷ []
+under_way = Did call.Start ∷ Came AuthOk ∷ Came (Ready status.Idle) ∷ Did (call.Request copy) ∷ Came begins ∷ Did (call.Chunk (97 ∷ [])) ∷ Came (NoticeResponse []) ∷ []
 
 one_turn : length (turns_in under_way) ≡ 1
 one_turn = refl
@@ -67,9 +69,9 @@ none_ended = refl
 
 chunks_since : IsCopyingSince under_way
 chunks_since = record {
-  before = Did Start ∷ Came AuthOk ∷ Came (Ready status.Idle) ∷ Did (Ask copy) ∷ [];
+  before = Did call.Start ∷ Came AuthOk ∷ Came (Ready status.Idle) ∷ Did (call.Request copy) ∷ [];
   head = record { binary = false; formats = [] };
-  later = Did (Chunk (97 ∷ [])) ∷ Came (NoticeResponse []) ∷ [];
+  later = Did (call.Chunk (97 ∷ [])) ∷ Came (NoticeResponse []) ∷ [];
   since = refl;
   chunks = (tt, (refl, tt));
 }
@@ -79,7 +81,7 @@ both_answered : length (groups_in (merged calls (with_ends 0 heard))) ≡ 1
 both_answered = refl
 
 -- a call is appended with its place
-call_appended : (with_call (record { user = 117 ∷ []; database = None; pairs = []; password = None; limit = 64 }) CopyEnd (record blank { fed = 82 ∷ 0 ∷ [] })).calls ≡ (CopyEnd, 2) ∷ []
+call_appended : (with_call (record { user = 117 ∷ []; database = None; pairs = []; password = None; limit = 64 }) call.Done (record blank { fed = 82 ∷ 0 ∷ [] })).calls ≡ (call.Done, 2) ∷ []
 call_appended = refl
 
 -- a piece stands after the rest, of which messages are heard
@@ -93,11 +95,11 @@ group r = record { request = r; outcome = record { parts = []; error = None; sta
 last_settles : SettlesLast (copy ∷ select ∷ []) (group copy ∷ []) [] (group select ∷ [])
 last_settles = record {
   fresh = group select ∷ [];
-  behind = refl;
+  appended = refl;
   one_at_most = omega arith;
   last = λ t e. ap (λ (ts : List Settled). copy ∷ map (λ (s : Settled). s.request) ts) e;
 }
 
 -- and no other one
 other_settles : SettlesLast (copy ∷ select ∷ []) [] [] (group copy ∷ []) → ⊥
-other_settles h = let e : copy ∷ select ∷ [] ≡ copy ∷ [] = h.last (group copy) (sym h.behind) in cc
+other_settles h = let e : copy ∷ select ∷ [] ≡ copy ∷ [] = h.last (group copy) (sym h.appended) in cc

@@ -1,4 +1,4 @@
--- Why a client is closed.
+-- Why a client is closed: what closes it, and which fault feed answers then.
 use Rattle.std.specs.Prelude.{◌≡◌, ℕ, ℤ, List, [], ◌∷◌, ◌++◌, Option, Some, None, ◌⊎◌}
 use Rattle.pg_wire.specs.declared.fault.WireFault.{WireFault}
 use Rattle.pg_wire.specs.message.BackMessage.{BackMessage}
@@ -12,35 +12,46 @@ use Rattle.pg_client.specs.declared.phase.Cause.{Cause}
 use Rattle.pg_client.specs.declared.phase.Cause.TheVariants as cause
 use Rattle.pg_client.specs.declared.fault.FeedFault.{FeedFault}
 use Rattle.pg_client.specs.declared.fault.FeedFault.TheVariants as feeding
-use Rattle.pg_client.specs.Session.{Terminate, Happening, Did, Came, rest_in, AsksPassword, Expected, IsStarting, IsReady}
+use Rattle.pg_client.specs.declared.call.Call.TheVariants as call
+use Rattle.pg_client.specs.Session.{Happening, Did, Came, rest_in, AsksPassword, Expected, IsStarting, IsReady}
 
--- The startup's segment has no message yet but asides.
-abbrev pub IsFresh : List Happening → Type 0
-IsFresh hs = IsStarting hs × (without_asides (rest_in hs) ≡ [])
+-- The startup has begun, and nothing but asides has come ("Start-up").
+abbrev pub AwaitsAuthentication : List Happening → Type 0
+AwaitsAuthentication hs = IsStarting hs × (without_asides (rest_in hs) ≡ [])
 
--- Another way of authentication is asked for.
+-- The message asks for an authentication that the client doesn't have: it is neither
+-- AuthenticationOk nor one of the two questions for a password ("Start-up").
 abbrev pub AsksOther : BackMessage → Type 0
 AsksOther m = (code : ℤ) × (bytes : List ℕ) × (m ≡ AuthOther code bytes)
 
--- The message is an error.
+-- The message is an ErrorResponse.
 abbrev pub IsError : BackMessage → Type 0
 IsError m = (fields : Fields) × (m ≡ ErrorResponse fields)
 
--- No other fault is named for the message after these.
-pub record HasNoName (hs : List Happening) (m : BackMessage) : Type 0 where
+-- The message, which may not come after these events, has none of the faults below that have a name
+-- of their own, and so is Unexpected. It is no ErrorResponse that comes in the startup or while no
+-- request is outstanding. At the beginning of the startup it asks neither for a password nor for
+-- another authentication.
+pub record IsOnlyUnexpected (hs : List Happening) (m : BackMessage) : Type 0 where
   pub no_error : IsError m → (IsStarting hs ⊎ IsReady hs) → ⊥
-  pub no_question : (AsksPassword m ⊎ AsksOther m) → IsFresh hs → ⊥
+  pub no_question : (AsksPassword m ⊎ AsksOther m) → AwaitsAuthentication hs → ⊥
 
--- The fault that a message is which isn't expected after these, by a client that has this password or none.
+-- The fault that feed answers to this message, which may not come after these events. The client
+-- has this password or none. StartupError: an ErrorResponse in the startup. ServerEnd: one while no
+-- request is outstanding. PasswordWanted: a question for a password that the client hasn't.
+-- UnsupportedAuth: another authentication is asked for. Unexpected: any other message, by its tag.
 abbrev pub IsFaultFor : Option (List ℕ) → List Happening → BackMessage → FeedFault → Type 0
 IsFaultFor password hs m (feeding.StartupError fields) = IsStarting hs × (m ≡ ErrorResponse fields)
 IsFaultFor password hs m (feeding.ServerEnd fields) = IsReady hs × (m ≡ ErrorResponse fields)
-IsFaultFor password hs m feeding.PasswordWanted = IsFresh hs × AsksPassword m × (password ≡ None)
-IsFaultFor password hs m (feeding.UnsupportedAuth code) = IsFresh hs × (bytes : List ℕ) × (m ≡ AuthOther code bytes)
-IsFaultFor password hs m (feeding.Unexpected t) = HasNoName hs m × (t ≡ tag m)
+IsFaultFor password hs m feeding.PasswordWanted = AwaitsAuthentication hs × AsksPassword m
+    × (password ≡ None)
+IsFaultFor password hs m (feeding.UnsupportedAuth code) = AwaitsAuthentication hs × (bytes : List ℕ)
+    × (m ≡ AuthOther code bytes)
+IsFaultFor password hs m (feeding.Unexpected t) = IsOnlyUnexpected hs m × (t ≡ tag m)
 IsFaultFor password hs m _ = ⊥
 
--- the cause that a fault is of a close; a client that was closed before keeps its cause
+-- The cause with which this fault closes a client. None: the client was closed before, and keeps
+-- its cause.
 abbrev pub cause_of : FeedFault → Option Cause
 cause_of (feeding.Wire f) = Some cause.Wire
 cause_of (feeding.Unexpected t) = Some cause.Unexpected
@@ -51,25 +62,38 @@ cause_of (feeding.ServerEnd fields) = Some cause.ServerEnd
 cause_of feeding.Memory = Some cause.Memory
 cause_of feeding.Closed = None
 
--- The bytes begin with a message that isn't expected after these, which is this fault.
-pub record IsRefusedAt (settings : Settings) (hs : List Happening) (bytes : List ℕ) (f : FeedFault) : Type 0 where
+-- The bytes begin with a message that may not come after these events, and this is its fault.
+pub record IsRefusedAt (settings : Settings) (hs : List Happening) (bytes : List ℕ)
+    (f : FeedFault) : Type 0 where
   pub message : BackMessage
+  -- the bytes after that message
   pub more : List ℕ
   pub begins : bytes ≡ spelling backend message ++ more
+  -- it isn't longer than the limit allows
   pub within : IsWithin backend settings.limit message
   pub unexpected : Expected settings.password (hs ++ Came message ∷ []) → ⊥
   pub fault : IsFaultFor settings.password hs message f
 
--- What is left of the bytes is kept, and is open: more is to come.
+-- The client keeps the bytes that are left after the last whole message, and they may still become
+-- a message no longer than the limit.
 pub record IsKept (limit : ℕ) (rest kept : List ℕ) : Type 0 where
   pub kept_is : kept ≡ rest
+  -- no message is whole, and no fault is there yet
   pub is_open : IsOpen backend limit rest
 
--- Why no more was heard than these. The rest is what follows in the bytes.
+-- Why a client has handled no message after these events. The arguments are its settings, the
+-- events, the bytes that are left, those that it keeps, and why it is closed, or None. Open, Lost
+-- and Terminated: no message is whole; with Terminated, terminate was the last event. Wire: the
+-- bytes left are no message and can't become one. Memory: memory was refused, at whatever point.
+-- Any other cause: the bytes left begin with a message that may not come, with a fault of that
+-- cause.
 abbrev pub Ends : Settings → List Happening → List ℕ → List ℕ → Option Cause → Type 0
 Ends settings hs rest kept None = IsKept settings.limit rest kept
 Ends settings hs rest kept (Some cause.Lost) = IsKept settings.limit rest kept
-Ends settings hs rest kept (Some cause.Terminated) = IsKept settings.limit rest kept × ((before : List Happening) × (hs ≡ before ++ Did Terminate ∷ []))
-Ends settings hs rest kept (Some cause.Wire) = (f : WireFault) × IsFaulty backend settings.limit rest f
+Ends settings hs rest kept (Some cause.Terminated) = IsKept settings.limit rest kept
+    × ((before : List Happening) × (hs ≡ before ++ Did call.Terminate ∷ []))
+Ends settings hs rest kept (Some cause.Wire) = (f : WireFault)
+    × IsFaulty backend settings.limit rest f
 Ends settings hs rest kept (Some cause.Memory) = Unit {0}
-Ends settings hs rest kept (Some c) = (f : FeedFault) × (cause_of f ≡ Some c) × IsRefusedAt settings hs rest f
+Ends settings hs rest kept (Some c) = (f : FeedFault) × (cause_of f ≡ Some c)
+    × IsRefusedAt settings hs rest f

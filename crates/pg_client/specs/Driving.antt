@@ -10,23 +10,26 @@ use Rattle.pg_client.specs.Closed.{cause_of}
 use Rattle.pg_client.specs.History.{Calls, History, IsHistoryOf}
 use Rattle.pg_client.specs.Turns.{turns_of}
 
--- the requests that these calls made, in order
+-- The requests that these calls made, in order.
 abbrev pub requests_by : Calls → List Request
 requests_by calls = map (λ t. t.request) (turns_of (calls_of calls))
 
--- How feed leaves a client that was open: after Ok it is open still, and after a fault closed with the cause of that name. That it was
--- closed before isn't answered.
+-- How a client is left by a feed with this answer, if it was open before: open after Ok, and else
+-- closed with the cause of the fault. The fault Closed doesn't come there.
 abbrev pub IsLeftBy : Result Unit FeedFault → Option Cause → Type 0
 IsLeftBy (Ok x) closed = closed ≡ None
 IsLeftBy (Err feeding.Closed) closed = ⊥
 IsLeftBy (Err f) closed = closed ≡ cause_of f
 
--- After a feed the client has a history that goes on from this one: with no call more and no group taken more. A client that was open
--- has been fed the piece, all of it.
-pub record IsFedOn (past : History) (piece : List ℕ) (result : Result Unit FeedFault) (old new : ClientView) : Type 0 where
+-- What a history becomes by a feed: the client after it has a history with the same calls and the
+-- same groups taken. If the client was open, the whole piece was fed.
+pub record IsFedOn (past : History) (piece : List ℕ) (result : Result Unit FeedFault)
+    (old new : ClientView) : Type 0 where
+  -- the history of the client after the feed
   pub history : History
   pub is_its_own : IsHistoryOf history new
   pub calls : history.calls ≡ past.calls
   pub given : history.given ≡ past.given
+  -- a client that was closed before is fed nothing
   pub fed : old.closed ≡ None → history.fed ≡ past.fed ++ piece
   pub left : old.closed ≡ None → IsLeftBy result new.closed

@@ -1,18 +1,19 @@
--- The codes of what a client answers to a call or to bytes that it refuses, under which docs/PROTOCOL.md tells when each comes.
+-- The codes of the faults that a client answers to calls and to bytes. docs/PROTOCOL.md says when
+-- each one comes.
 use Rattle.std.specs.Prelude.{List, ℕ, codes}
 use Rattle.pg_client.specs.declared.fault.CallFault.{CallFault}
 use Rattle.pg_client.specs.declared.fault.CallFault.TheVariants as call
 use Rattle.pg_client.specs.declared.fault.FeedFault.{FeedFault}
 use Rattle.pg_client.specs.declared.fault.FeedFault.TheVariants as feed
 
--- the code of the fault for which a call is refused
+-- The code of the fault with which a call is refused.
 abbrev pub call_code : CallFault → List ℕ
 call_code (call.NotReady at) = codes "C1"
 call_code (call.NotCopying at) = codes "C2"
 call_code (call.Encode fault) = codes "C3"
 call_code call.NoKey = codes "C4"
 
--- the code of the fault for which bytes are refused
+-- The code of the fault with which feed refuses bytes.
 abbrev pub feed_code : FeedFault → List ℕ
 feed_code (feed.Wire fault) = codes "F1"
 feed_code (feed.Unexpected tag) = codes "F2"

@@ -1,4 +1,4 @@
--- What a client does with a piece of bytes that it is fed.
+-- What a client does with a piece of the server's bytes.
 use Rattle.std.specs.Prelude.{◌≡◌, ℕ, ◌<◌, List, ◌++◌, length, Option, Some, None, Result, Ok, Err}
 use Rattle.pg_wire.specs.message.BackMessage.{BackMessage}
 use Rattle.pg_wire.specs.Backend.{backend}
@@ -13,33 +13,54 @@ use Rattle.pg_client.specs.Client.{ClientView}
 use Rattle.pg_client.specs.Closed.{cause_of, IsRefusedAt}
 use Rattle.pg_client.specs.History.{with_fed, IsHistoryOf, with_heard, happenings, History}
 
--- What feed answers, with the happenings and the rest that it leaves.
-abbrev pub Answers : Settings → List Happening → List ℕ → List ℕ → Result Unit FeedFault → Option Cause → Type 0
-Answers settings hs rest piece (Ok x) closed = closed ≡ None
-Answers settings hs rest piece (Err (feeding.Wire f)) closed = IsFaulty backend settings.limit rest f × (closed ≡ Some cause.Wire)
-Answers settings hs rest piece (Err feeding.Memory) closed = (0 < length piece) × (closed ≡ Some cause.Memory)
-Answers settings hs rest piece (Err feeding.Closed) closed = ⊥
-Answers settings hs rest piece (Err f) closed = IsRefusedAt settings hs rest f × (closed ≡ cause_of f)
+-- What feed answers to a client that was open. The arguments are the settings, the events after the
+-- feed, the bytes left, the piece, the answer, and why the client is closed then. Ok: it stays
+-- open. Wire: the bytes left are no message and can't become one. Memory: memory was refused; a
+-- piece without bytes takes none. Any other fault but Closed, which doesn't come: the bytes left
+-- begin with a message that may not come.
+abbrev pub FeedAnswers : Settings → List Happening → List ℕ → List ℕ → Result Unit FeedFault
+    → Option Cause → Type 0
+FeedAnswers settings hs rest piece (Ok x) closed = closed ≡ None
+FeedAnswers settings hs rest piece (Err (feeding.Wire f)) closed =
+    IsFaulty backend settings.limit rest f × (closed ≡ Some cause.Wire)
+FeedAnswers settings hs rest piece (Err feeding.Memory) closed = (0 < length piece)
+    × (closed ≡ Some cause.Memory)
+FeedAnswers settings hs rest piece (Err feeding.Closed) closed = ⊥
+FeedAnswers settings hs rest piece (Err f) closed = IsRefusedAt settings hs rest f
+    × (closed ≡ cause_of f)
 
--- By this history the client was fed a piece, of which nothing was heard yet: it has heard so many messages more, with this rest,
--- and has put out what was added.
-pub record Hears (h : History) (piece added : List ℕ) (result : Result Unit FeedFault) (new : ClientView) : Type 0 where
+-- A client with this history, to which the piece belongs already, handles some more messages, puts
+-- the added bytes out, and answers as above.
+pub record Hears (h : History) (piece added : List ℕ) (result : Result Unit FeedFault)
+    (new : ClientView) : Type 0 where
+  -- the messages that it handles now
   pub more : List BackMessage
+  -- the bytes left after these
   pub rest : List ℕ
   pub history : IsHistoryOf (with_heard more rest added h) new
-  pub answers : Answers new.settings (happenings (with_heard more rest added h)) rest piece result new.closed
+  pub answers : FeedAnswers new.settings (happenings (with_heard more rest added h)) rest piece
+      result new.closed
 
--- An open client was fed a piece, all of it, and has put out what was added: in each history, the answers to what it heard.
-pub record FeedsOpen (old : ClientView) (piece : List ℕ) (result : Result Unit FeedFault) (new : ClientView) (before after : List ℕ) : Type 0 where
+-- What feed does to a client that is open: it takes in the whole piece, and appends to the output
+-- what it has to send for the messages that it handles. The last two arguments are the output
+-- before and after.
+pub record FeedsOpen (old : ClientView) (piece : List ℕ) (result : Result Unit FeedFault)
+    (new : ClientView) (before after : List ℕ) : Type 0 where
   pub added : List ℕ
   pub put : after ≡ before ++ added
+  -- the same bytes are added whatever history the client has
   pub hears : (h : History) → IsHistoryOf h old → Hears (with_fed piece h) piece added result new
 
--- What feed does to a client that was closed before, and to an open one.
-abbrev pub FeedsWith : Option Cause → ClientView → List ℕ → Result Unit FeedFault → ClientView → List ℕ → List ℕ → Type 0
-FeedsWith (Some c) old piece result new before after = (result ≡ Err feeding.Closed) × (new ≡ old) × (after ≡ before)
-FeedsWith None old piece result new before after = FeedsOpen old piece result new before after
+-- What feed does to a client that is closed for this reason, or open (None). A closed one answers
+-- Closed, and nothing changes.
+abbrev pub FeedsByCause : Option Cause → ClientView → List ℕ → Result Unit FeedFault → ClientView
+    → List ℕ → List ℕ → Type 0
+FeedsByCause (Some c) old piece result new before after = (result ≡ Err feeding.Closed)
+    × (new ≡ old) × (after ≡ before)
+FeedsByCause None old piece result new before after = FeedsOpen old piece result new before after
 
--- What feed does.
-abbrev pub Feeds : ClientView → List ℕ → Result Unit FeedFault → ClientView → List ℕ → List ℕ → Type 0
-Feeds old piece result new before after = FeedsWith old.closed old piece result new before after
+-- What feed does. The arguments are the client before, the piece, the answer, the client after, and
+-- the output before and after.
+abbrev pub Feeds : ClientView → List ℕ → Result Unit FeedFault → ClientView → List ℕ → List ℕ
+    → Type 0
+Feeds old piece result new before after = FeedsByCause old.closed old piece result new before after

@@ -1,5 +1,5 @@
--- What a reader must believe: what a client did and what came, what may come, what a client went through, what each call does, and
--- what holds of the client then.
+-- What a reader must believe: a client's calls and the messages that came, which of these may come,
+-- what a client went through, what each call does, and what holds of the client then.
 pub mod Session
 pub mod Client
 pub mod Sent
@@ -14,10 +14,11 @@ pub mod Turns
 pub mod Spelled
 pub mod Answering
 pub mod Driving
--- How the client's place goes on from message to message. A history has these words; the law facts_of_a_run says what they mean in
--- those above.
+-- How the client goes on from message to message. A history is told in these words; the law
+-- facts_of_a_run says what they mean in those above.
+pub mod Startup
+pub mod Segment
 pub mod Place
-pub mod Machine
-pub mod Judged
+pub mod Stand
 -- Words of private functions, which no public contract cites.
 pub mod Private

@@ -1,161 +1,205 @@
--- Where the messages of an unfinished segment have come to, one message after another.
-use Rattle.std.specs.Prelude.{ℕ, List, [], ◌∷◌, ◌++◌, length, drop, Option, Some, None}
+-- The place in a segment, which alone decides what may come: it goes on from message to message
+-- without what was collected.
+use Rattle.std.specs.Prelude.{◌≡◌, ℕ, ◌+◌, [], ◌∷◌, length, drop, min, nat_lt, nat_le, cond, Bool, true, false, Option, Some, None}
+use Rattle.std.specs.Option.{option_map}
 use Rattle.pg_wire.specs.message.BackMessage.{BackMessage}
 use Rattle.pg_wire.specs.message.BackMessage.TheVariants.{RowDescription, DataRow, CommandComplete, EmptyQuery, ParseComplete, BindComplete, CloseComplete, NoData, PortalSuspended, ParameterDescription, CopyData, CopyDone}
 use Rattle.pg_wire.specs.message.BackMessage.TheVariants as back
-use Rattle.pg_wire.specs.value.Column.{Column}
-use Rattle.pg_wire.specs.value.CopyHead.{CopyHead}
 use Rattle.pg_wire.specs.value.Target.TheVariants.{Statement, Portal}
-use Rattle.pg_wire.specs.declared.session.ExecEnd.TheVariants as ends
-use Rattle.pg_wire.specs.declared.session.Part.{Part}
-use Rattle.pg_wire.specs.declared.session.Part.TheVariants as part
 use Rattle.pg_wire.specs.declared.session.Step.{Step}
 use Rattle.pg_wire.specs.declared.session.Step.TheVariants as step
-use Rattle.pg_client.specs.declared.place.Open.{Open}
-use Rattle.pg_client.specs.declared.place.Open.TheVariants as begun
-use Rattle.pg_client.specs.declared.place.Progress.{Progress}
-use Rattle.pg_client.specs.declared.place.Progress.TheVariants.{Grows, Closes, Stuck}
-use Rattle.pg_client.specs.declared.place.Stage.{Stage}
-use Rattle.pg_client.specs.declared.place.Stage.TheVariants.{Within, Failed}
-use Rattle.pg_wire.specs.value.Status.{Status}
-use Rattle.pg_wire.specs.declared.session.Aside.{Aside}
-use Rattle.pg_wire.specs.declared.session.Outcome.{Outcome}
-use Rattle.pg_wire.specs.Segment.{Fields, error_of, Asked, Results, Steps}
+use Rattle.pg_wire.specs.Segment.{Fields, error_of, Asked, Results, Steps, asked}
+use Rattle.pg_client.specs.declared.segment.CopyAnswer.{CopyAnswer}
+use Rattle.pg_client.specs.declared.segment.CopyAnswer.TheVariants.{Awaited, Done}
+use Rattle.pg_client.specs.declared.segment.begun.Open.{Open}
+use Rattle.pg_client.specs.declared.segment.begun.Open.TheVariants as begun
+use Rattle.pg_client.specs.declared.segment.pending.Pending.{Pending}
+use Rattle.pg_client.specs.declared.segment.pending.Pending.TheVariants as pending
+use Rattle.pg_client.specs.declared.segment.place.Place.{Place}
+use Rattle.pg_client.specs.Segment.{Stage, Within, Failed, SegmentView, next_reading, moved_to}
+
+-- ---- what is open after a message, if it may come
 
 -- the first message of a result
-abbrev pub begins_result : BackMessage → Progress
-begins_result (RowDescription columns) = Grows (begun.Rows columns [])
-begins_result (CommandComplete tag) = Closes (part.Command tag)
-begins_result EmptyQuery = Closes part.Empty
-begins_result (back.CopyOut head) = Grows (begun.CopyOut head [])
-begins_result (back.CopyIn head) = Grows (begun.CopyIn head)
-begins_result _ = Stuck
+abbrev pub opens_result : BackMessage → Option Pending
+opens_result (RowDescription columns) = Some pending.Rows
+opens_result (CommandComplete tag) = Some pending.Nothing
+opens_result EmptyQuery = Some pending.Nothing
+opens_result (back.CopyOut head) = Some pending.CopyOut
+opens_result (back.CopyIn head) = Some pending.CopyIn
+opens_result _ = None
 
-abbrev pub only_parsed : BackMessage → Progress
-only_parsed ParseComplete = Closes part.Parsed
-only_parsed _ = Stuck
+-- the answer to a Parse is one message
+abbrev pub ends_parse : BackMessage → Option Pending
+ends_parse ParseComplete = Some pending.Nothing
+ends_parse _ = None
 
-abbrev pub only_bound : BackMessage → Progress
-only_bound BindComplete = Closes part.Bound
-only_bound _ = Stuck
+-- and so is that to a Bind
+abbrev pub ends_bind : BackMessage → Option Pending
+ends_bind BindComplete = Some pending.Nothing
+ends_bind _ = None
 
-abbrev pub only_shut : BackMessage → Progress
-only_shut CloseComplete = Closes part.Shut
-only_shut _ = Stuck
+-- and that to a Close
+abbrev pub ends_close : BackMessage → Option Pending
+ends_close CloseComplete = Some pending.Nothing
+ends_close _ = None
+
+-- the parameters of a described statement, before its columns
+abbrev pub opens_parameters : BackMessage → Option Pending
+opens_parameters (ParameterDescription types) = Some pending.Described
+opens_parameters _ = None
 
 -- the columns of a described statement or portal
-abbrev pub describes : Option (List ℕ) → BackMessage → Progress
-describes parameters (RowDescription columns) = Closes (part.Described parameters (Some columns))
-describes parameters NoData = Closes (part.Described parameters None)
-describes parameters _ = Stuck
-
-abbrev pub begins_parameters : BackMessage → Progress
-begins_parameters (ParameterDescription types) = Grows (begun.Described types)
-begins_parameters _ = Stuck
+abbrev pub ends_description : BackMessage → Option Pending
+ends_description (RowDescription columns) = Some pending.Nothing
+ends_description NoData = Some pending.Nothing
+ends_description _ = None
 
 -- a row of an executed portal, or its end
-abbrev pub executes : List (List (Option (List ℕ))) → BackMessage → Progress
-executes rows (DataRow values) = Grows (begun.Executed (rows ++ values ∷ []))
-executes rows (CommandComplete tag) = Closes (part.Executed rows (ends.Complete tag))
-executes rows EmptyQuery = Closes (part.Executed rows ends.Empty)
-executes rows PortalSuspended = Closes (part.Executed rows ends.Suspended)
-executes rows _ = Stuck
+abbrev pub runs : BackMessage → Option Pending
+runs (DataRow values) = Some pending.Executed
+runs (CommandComplete tag) = Some pending.Nothing
+runs EmptyQuery = Some pending.Nothing
+runs PortalSuspended = Some pending.Nothing
+runs _ = None
 
 -- the first message of the answer to a step
-abbrev pub begins_answer : Step → BackMessage → Progress
-begins_answer (step.Parse name text types) m = only_parsed m
-begins_answer (step.Bind portal statement formats values result_formats) m = only_bound m
-begins_answer (step.Describe Statement name) m = begins_parameters m
-begins_answer (step.Describe Portal name) m = describes None m
-begins_answer (step.Execute portal max_rows) m = executes [] m
-begins_answer (step.Close target name) m = only_shut m
+abbrev pub opens_answer : Step → BackMessage → Option Pending
+opens_answer (step.Parse name text types) m = ends_parse m
+opens_answer (step.Bind portal statement formats values result_formats) m = ends_bind m
+opens_answer (step.Describe Statement name) m = opens_parameters m
+opens_answer (step.Describe Portal name) m = ends_description m
+opens_answer (step.Execute portal max_rows) m = runs m
+opens_answer (step.Close target name) m = ends_close m
 
-abbrev pub begins : Asked → BackMessage → Progress
-begins Results m = begins_result m
-begins (Steps []) m = Stuck
-begins (Steps (s ∷ ss)) m = begins_answer s m
+-- the first message of the next result, or of the answer to the next step
+abbrev pub opens : Asked → BackMessage → Option Pending
+opens Results m = opens_result m
+opens (Steps []) m = None
+opens (Steps (s ∷ ss)) m = opens_answer s m
 
 -- a row of a result, or its end
-abbrev pub goes_on_rows : List Column → List (List (Option (List ℕ))) → BackMessage → Progress
-goes_on_rows columns rows (DataRow values) = Grows (begun.Rows columns (rows ++ values ∷ []))
-goes_on_rows columns rows (CommandComplete tag) = Closes (part.Rows columns rows tag)
-goes_on_rows columns rows _ = Stuck
+abbrev pub follows_rows : BackMessage → Option Pending
+follows_rows (DataRow values) = Some pending.Rows
+follows_rows (CommandComplete tag) = Some pending.Nothing
+follows_rows _ = None
 
-abbrev pub goes_on_copy_out : CopyHead → List (List ℕ) → BackMessage → Progress
-goes_on_copy_out head chunks (CopyData bytes) = Grows (begun.CopyOut head (chunks ++ bytes ∷ []))
-goes_on_copy_out head chunks CopyDone = Grows (begun.CopyOutEnded head chunks)
-goes_on_copy_out head chunks _ = Stuck
+-- a chunk that the server copies out, or the end of the data
+abbrev pub follows_copy_out : BackMessage → Option Pending
+follows_copy_out (CopyData bytes) = Some pending.CopyOut
+follows_copy_out CopyDone = Some pending.CopyOutEnded
+follows_copy_out _ = None
 
-abbrev pub ends_copy_out : CopyHead → List (List ℕ) → BackMessage → Progress
-ends_copy_out head chunks (CommandComplete tag) = Closes (part.CopyOut head chunks tag)
-ends_copy_out head chunks _ = Stuck
+-- the end of a command
+abbrev pub completes : BackMessage → Option Pending
+completes (CommandComplete tag) = Some pending.Nothing
+completes _ = None
 
-abbrev pub ends_copy_in : CopyHead → BackMessage → Progress
-ends_copy_in head (CommandComplete tag) = Closes (part.CopyIn head tag)
-ends_copy_in head _ = Stuck
+-- the end of a copy in, which comes after its copy_done
+abbrev pub follows_copy_in : CopyAnswer → BackMessage → Option Pending
+follows_copy_in Done m = completes m
+follows_copy_in _ m = None
 
-abbrev pub progress : Asked → Open → BackMessage → Progress
-progress left begun.Nothing m = begins left m
-progress left (begun.Rows columns rows) m = goes_on_rows columns rows m
-progress left (begun.CopyOut head chunks) m = goes_on_copy_out head chunks m
-progress left (begun.CopyOutEnded head chunks) m = ends_copy_out head chunks m
-progress left (begun.CopyIn head) m = ends_copy_in head m
-progress left (begun.Described types) m = describes (Some types) m
-progress left (begun.Executed rows) m = executes rows m
+-- one more message of what is open, with what is left to be answered
+abbrev pub follows : Asked → Pending → CopyAnswer → BackMessage → Option Pending
+follows still pending.Nothing answer m = opens still m
+follows still pending.Rows answer m = follows_rows m
+follows still pending.CopyOut answer m = follows_copy_out m
+follows still pending.CopyOutEnded answer m = completes m
+follows still pending.CopyIn answer m = follows_copy_in answer m
+follows still pending.Described answer m = ends_description m
+follows still pending.Executed answer m = runs m
 
--- what is left to be answered after these parts
-abbrev pub left : Asked → List Part → Asked
-left Results parts = Results
-left (Steps steps) parts = Steps (drop (length parts) steps)
+-- ---- places
 
--- the whole parts and the stage that the messages so far have come to
-pub record Place : Type 0 where
-  pub parts : List Part
-  pub stage : Stage
+-- the place before the first message
+abbrev pub start : Place
+start = record { answers = 0; pending = pending.Nothing; failed = false; answer = Awaited }
 
-abbrev pub after_progress : List Part → Progress → Option Place
-after_progress parts (Grows o) = Some (record { parts = parts; stage = Within o })
-after_progress parts (Closes p) = Some (record { parts = parts ++ p ∷ []; stage = Within begun.Nothing })
-after_progress parts Stuck = None
+-- what is left to be answered after so many steps
+abbrev pub still_asked : Asked → ℕ → Asked
+still_asked Results n = Results
+still_asked (Steps steps) n = Steps (drop n steps)
 
-abbrev pub read_by : Asked → List Part → Stage → Option Fields → BackMessage → Option Place
-read_by a parts (Within o) (Some fields) m = Some (record { parts = parts; stage = Failed fields })
-read_by a parts (Within o) None m = after_progress parts (progress (left a parts) o m)
-read_by a parts (Failed first) (Some fields) m = Some (record { parts = parts; stage = Failed first })
-read_by a parts (Failed first) None m = None
+-- how many steps are answered once one more is; the results of a query aren't counted
+abbrev pub one_more : Asked → ℕ → ℕ
+one_more Results n = n
+one_more (Steps steps) n = cond (nat_lt n (length steps)) (n + 1) n
 
--- one more message, which is no aside
-abbrev pub read : Asked → Place → BackMessage → Option Place
-read a p m = read_by a p.parts p.stage (error_of m) m
+-- the place where this is open now: where nothing is, one more is answered, and a copy in begins
+-- anew
+abbrev pub led_to : Asked → Place → Pending → Place
+led_to a p pending.Nothing = record p { answers = one_more a p.answers; pending = pending.Nothing }
+led_to a p pending.CopyIn = record p { pending = pending.CopyIn; answer = Awaited }
+led_to a p o = record p { pending = o }
 
-abbrev pub read_from : Asked → Option Place → List BackMessage → Option Place
-read_from a place [] = place
-read_from a None (m ∷ ms) = None
-read_from a (Some p) (m ∷ ms) = read_from a (read a p m) ms
+-- the place that an error leads to
+abbrev pub failed_at : Place → Place
+failed_at p = record p { pending = pending.Nothing; failed = true }
 
--- the place after all of these, if they can stand there
-abbrev pub read_all : Asked → List BackMessage → Option Place
-read_all a ms = read_from a (Some (record { parts = []; stage = Within begun.Nothing })) ms
+-- the place after this was called for the open copy in
+abbrev pub told : Place → CopyAnswer → Place
+told p said = record p { answer = said }
 
--- ReadyForQuery may come where nothing more has to be answered, or after an error
-abbrev pub done_ending : Asked → Option (Option Fields)
-done_ending Results = Some None
-done_ending (Steps []) = Some None
-done_ending (Steps (s ∷ ss)) = None
+-- what is open at the place once the message has come
+abbrev pub follows_at : Asked → Place → BackMessage → Option Pending
+follows_at a p m = follows (still_asked a p.answers) p.pending p.answer m
 
-abbrev pub stage_ending : Asked → Stage → Option (Option Fields)
-stage_ending l (Failed fields) = Some (Some fields)
-stage_ending l (Within begun.Nothing) = done_ending l
-stage_ending l (Within _) = None
+-- where a message leads, by whether it is an error: after one, only further errors may come
+abbrev pub goes_by : Asked → Place → Option Fields → BackMessage → Option Place
+goes_by a p (Some fields) m = Some (failed_at p)
+goes_by a p None m = cond p.failed None (option_map (led_to a p) (follows_at a p m))
 
--- the error of a segment that ends at this place, if it may end there
-abbrev pub ending : Asked → Place → Option (Option Fields)
-ending a p = stage_ending (left a p.parts) p.stage
+-- where a message leads which is neither an aside nor its ReadyForQuery, if it may stand there
+abbrev pub goes : Asked → Place → BackMessage → Option Place
+goes a p m = goes_by a p (error_of m) m
 
-abbrev pub outcome_with : List Part → List Aside → Status → Option (Option Fields) → Option Outcome
-outcome_with parts asides status None = None
-outcome_with parts asides status (Some error) = Some (record { parts = parts; error = error; status = status; asides = asides })
+-- whether all that was asked is answered
+abbrev pub all_answered : Asked → ℕ → Bool
+all_answered Results n = true
+all_answered (Steps steps) n = nat_le (length steps) n
 
-abbrev pub outcome_at : Asked → Option Place → List Aside → Status → Option Outcome
-outcome_at a None asides status = None
-outcome_at a (Some p) asides status = outcome_with p.parts asides status (ending a p)
+-- ReadyForQuery may come where nothing is open and nothing more has to be answered
+abbrev pub may_end_with : Asked → Pending → ℕ → Bool
+may_end_with a pending.Nothing n = all_answered a n
+may_end_with a _ n = false
+
+-- whether ReadyForQuery may come at the place: so, or after an error
+abbrev pub may_end_at_place : Asked → Place → Bool
+may_end_at_place a p = cond p.failed true (may_end_with a p.pending p.answers)
+
+-- ---- the place of a segment
+
+-- what is open, without what came of it
+abbrev pub pending_of : Open → Pending
+pending_of begun.Nothing = pending.Nothing
+pending_of (begun.Rows columns rows) = pending.Rows
+pending_of (begun.CopyOut head chunks) = pending.CopyOut
+pending_of (begun.CopyOutEnded head chunks) = pending.CopyOutEnded
+pending_of (begun.CopyIn head) = pending.CopyIn
+pending_of (begun.Described types) = pending.Described
+pending_of (begun.Executed rows) = pending.Executed
+
+-- how many steps are answered by so many parts; the results of a query aren't counted
+abbrev pub answered : Asked → ℕ → ℕ
+answered Results n = 0
+answered (Steps steps) n = min n (length steps)
+
+-- the place of a segment in this stage, with so many steps answered
+abbrev pub place_at : Stage → ℕ → CopyAnswer → Place
+place_at (Within o) n answer =
+    record { answers = n; pending = pending_of o; failed = false; answer = answer }
+place_at (Failed fields) n answer =
+    record { answers = n; pending = pending.Nothing; failed = true; answer = answer }
+
+-- the place of a segment
+abbrev pub place_in : SegmentView → Place
+place_in segment =
+    place_at segment.stage (answered (asked segment.request) (length segment.parts)) segment.answer
+
+-- A message leads the place of the segment to the place of where it leads the segment, and it may
+-- stand at the one exactly where it may in the other.
+abbrev pub GoesAlong : SegmentView → BackMessage → Type 0
+GoesAlong segment m =
+    goes (asked segment.request) (place_in segment) m
+    ≡ option_map (λ r. place_in (moved_to segment m r)) (next_reading segment m)

@@ -1,4 +1,5 @@
--- What a client did and what came, in order, and what may come (Frontend/Backend Protocol, "Message Flow").
+-- A session as its client sees it: the calls and the messages that came, in order, which messages
+-- may come, and which calls are allowed (Frontend/Backend Protocol, "Message Flow").
 use Rattle.std.specs.Prelude.{◌≡◌, ℕ, ℤ, suc, ◌≤◌, Bool, true, false, List, [], ◌∷◌, ◌++◌, length, map, drop, filter_map, Option, Some, None, IsSome, ◌⊎◌}
 use Rattle.std.specs.List.{AllByRecursion}
 use Rattle.pg_wire.specs.message.BackMessage.{BackMessage}
@@ -9,69 +10,81 @@ use Rattle.pg_wire.specs.value.Status.{Status}
 use Rattle.pg_wire.specs.declared.session.Outcome.{Outcome}
 use Rattle.pg_wire.specs.declared.session.Request.{Request}
 use Rattle.pg_wire.specs.Segment.{aside_of, without_asides, Fits, Begins, segments}
+use Rattle.pg_client.specs.declared.call.Call.{Call}
+use Rattle.pg_client.specs.declared.call.Call.TheVariants as call
 
 -- ---- calls and messages
 
--- a call of the client that was accepted
-pub data Call : Type 0 where
-  Start : Call
-  Ask : Request → Call
-  Chunk : List ℕ → Call
-  CopyEnd : Call
-  CopyFail : List ℕ → Call
-  Terminate : Call
-
--- such a call, or a message that came
+-- One event of a session, as its client sees it: a call that was accepted (Did), or a message that
+-- came from the server (Came). A list of events is a session so far, in order.
 pub data Happening : Type 0 where
   Did : Call → Happening
   Came : BackMessage → Happening
 
+-- The message of an event; None where the event is a call.
 abbrev pub message_of : Happening → Option BackMessage
 message_of (Came m) = Some m
 message_of (Did c) = None
 
+-- The messages that came from the server, in order.
 abbrev pub messages_in : List Happening → List BackMessage
 messages_in hs = filter_map message_of hs
 
-abbrev pub request_of : Happening → Option Request
-request_of (Did (Ask r)) = Some r
-request_of _ = None
+-- The request that a call makes; None for a call that makes none.
+abbrev pub request_made : Call → Option Request
+request_made (call.Request r) = Some r
+request_made _ = None
 
+-- The request that was made by an event; None for a message, and for a call that makes none.
+abbrev pub request_of : Happening → Option Request
+request_of (Did c) = request_made c
+request_of (Came m) = None
+
+-- The requests that the client made, in order.
 abbrev pub requests_in : List Happening → List Request
 requests_in hs = filter_map request_of hs
 
--- the messages cut after each ReadyForQuery: the startup's segment, and one for each request that was answered
+-- The whole segments: the server's messages, cut after each ReadyForQuery. The first segment is the
+-- startup's, and then there is one for each request that was answered, in order.
 abbrev pub whole_in : List Happening → List (List BackMessage)
 whole_in hs = (segments (messages_in hs)).whole
 
--- the whole segments of the requests: all but the startup's
+-- The whole segments of requests, in order: all whole segments but the startup's. There are as many
+-- as requests that were answered.
 abbrev pub groups_in : List Happening → List (List BackMessage)
 groups_in hs = drop 1 (whole_in hs)
 
--- the messages of the segment that isn't whole
+-- The messages since the last ReadyForQuery, or all if none came: the segment that isn't whole.
 abbrev pub rest_in : List Happening → List BackMessage
 rest_in hs = (segments (messages_in hs)).rest
 
 -- ---- the startup ("Start-up")
 
--- whether the message is a question for a password (AuthenticationCleartextPassword, AuthenticationMD5Password)
+-- Whether the message asks for a password: AuthenticationCleartextPassword or
+-- AuthenticationMD5Password ("Start-up").
 abbrev pub is_question : BackMessage → Bool
 is_question AuthCleartext = true
 is_question (AuthMd5 salt) = true
 is_question _ = false
 
+-- The message asks for a password, as it is or as an MD5 text ("Start-up").
 abbrev pub AsksPassword : BackMessage → Type 0
 AsksPassword m = is_question m ≡ true
 
+-- There is no message, or a single one, which asks for a password.
 abbrev pub AtMostOneQuestion : List BackMessage → Type 0
 AtMostOneQuestion [] = Unit {0}
 AtMostOneQuestion (m ∷ []) = AsksPassword m
 AtMostOneQuestion (m ∷ n ∷ ms) = ⊥
 
+-- The BackendKeyData with this key: the process id and the secret key with which a request can be
+-- cancelled ("Canceling Requests in Progress").
 abbrev pub key_data : ℤ × ℤ → BackMessage
 key_data key = KeyData key.0 key.1
 
--- Asides left out: perhaps a question for a password, AuthenticationOk, then keys.
+-- These messages are the whole segment of a startup ("Start-up"). Asides left out, it is perhaps a
+-- question for a password, then AuthenticationOk, then any number of BackendKeyData, and a
+-- ReadyForQuery at the end. No ErrorResponse is in it: an error ends the session there.
 pub record IsStartup (segment : List BackMessage) : Type 0 where
   pub body : List BackMessage
   pub status : Status
@@ -81,106 +94,135 @@ pub record IsStartup (segment : List BackMessage) : Type 0 where
   pub keys : List (ℤ × ℤ)
   pub reads : without_asides body ≡ questions ++ AuthOk ∷ map key_data keys
 
+-- These messages begin the segment of a startup: with some more they are a whole one.
 abbrev pub BeginsStartup : List BackMessage → Type 0
 BeginsStartup messages = (more : List BackMessage) × IsStartup (messages ++ more)
 
 -- ---- what may come
 
--- Each whole segment fits its request, and the rest begins one that fits the next request. With no further request, the rest
--- is asides.
+-- A server may send this for these requests ("Message Flow"). The arguments are the requests, the
+-- whole segments, and the messages since the last of these. Each segment fits its request, with
+-- some outcome, and there is no segment without a request. The messages since then begin an answer
+-- to the next request. Where there is no next request, they are asides alone ("Asynchronous
+-- Operations").
 abbrev pub FitAll : List Request → List (List BackMessage) → List BackMessage → Type 0
 FitAll [] [] rest = without_asides rest ≡ []
 FitAll (r ∷ rs) [] rest = Begins r rest
 FitAll [] (s ∷ ss) rest = ⊥
 FitAll (r ∷ rs) (s ∷ ss) rest = ((outcome : Outcome) × Fits r s outcome) × FitAll rs ss rest
 
--- A startup, and then the segments of the requests.
+-- A server may send this in a session with these requests: a startup, and then an answer to each
+-- request. The arguments are the requests, the whole segments, and the messages of the segment that
+-- isn't whole. Until a segment is whole, these messages begin a startup ("Message Flow").
 abbrev pub IsSession : List Request → List (List BackMessage) → List BackMessage → Type 0
 IsSession requests [] rest = BeginsStartup rest
 IsSession requests (s ∷ ss) rest = IsStartup s × FitAll requests ss rest
 
+-- The event is anything but a CopyInResponse that came.
 abbrev pub IsNoCopyIn : Happening → Type 0
 IsNoCopyIn (Came (back.CopyIn head)) = ⊥
 IsNoCopyIn _ = Unit {0}
 
--- This was called for the last copy in: no CopyInResponse came since ("COPY Operations").
-pub record IsSaid (c : Call) (hs : List Happening) : Type 0 where
+-- This call was made for the last copy from the client: no CopyInResponse came after the call
+-- ("COPY Operations").
+pub record IsCalledForLastCopy (c : Call) (hs : List Happening) : Type 0 where
   pub before : List Happening
   pub since : List Happening
   pub called : hs ≡ before ++ Did c ∷ since
   pub for_the_last : AllByRecursion IsNoCopyIn since
 
--- The messages, asides left out, end in a CopyInResponse.
+-- The last message that is no aside is a CopyInResponse: the server waits for the data of a copy
+-- ("COPY Operations").
 abbrev pub EndInCopyIn : List BackMessage → Type 0
-EndInCopyIn messages = (before : List BackMessage) × (head : CopyHead) × (without_asides messages ≡ before ++ back.CopyIn head ∷ [])
+EndInCopyIn messages = (before : List BackMessage) × (head : CopyHead)
+    × (without_asides messages ≡ before ++ back.CopyIn head ∷ [])
 
+-- The message is one that a server may send at any time: a NoticeResponse, a ParameterStatus or a
+-- NotificationResponse ("Asynchronous Operations").
 abbrev pub IsAside : BackMessage → Type 0
 IsAside m = IsSome (aside_of m)
 
--- The call of start is among them.
+-- The client was started: the call of start is among these events.
 abbrev pub IsStarted : List Happening → Type 0
 IsStarted [] = ⊥
-IsStarted (Did Start ∷ hs) = Unit {0}
+IsStarted (Did call.Start ∷ hs) = Unit {0}
 IsStarted (_ ∷ hs) = IsStarted hs
 
--- The message comes after the call that it needs.
+-- The client has made the call that this message needs. The events are all those before the
+-- message.
 pub record IsAfterItsCall (before : List Happening) (m : BackMessage) : Type 0 where
-  -- any message comes after start
+  -- any message needs start
   pub started : IsStarted before
-  -- one of a request's segment that is no aside comes after that request
+  -- an aside needs no more; any other is of the startup's segment, or of that of a request which
+  -- was made
   pub asked_for : IsAside m ⊎ (length (whole_in before) ≤ length (requests_in before))
-  -- the end of a copy in comes after its copy_done
-  pub copy_ended : (tag : List ℕ) → m ≡ CommandComplete tag → EndInCopyIn (rest_in before) → IsSaid CopyEnd before
+  -- a CommandComplete that ends a copy from the client needs copy_done for that copy
+  pub copy_ended : (tag : List ℕ) → m ≡ CommandComplete tag → EndInCopyIn (rest_in before)
+      → IsCalledForLastCopy call.Done before
 
--- whether the client has what the message asks for: a question for a password needs one
+-- Whether a client can answer the message. The first argument is its password, or None. A question
+-- for a password needs one, and any other message needs nothing.
 abbrev pub can_answer : Option (List ℕ) → BackMessage → Bool
 can_answer None AuthCleartext = false
 can_answer None (AuthMd5 salt) = false
 can_answer _ _ = true
 
--- These messages may come so, with these calls, to a client that has this password or none.
+-- The server's messages may come in this order among the calls of a client that has this password
+-- or none.
 pub record Expected (password : Option (List ℕ)) (hs : List Happening) : Type 0 where
+  -- the segments are a startup, and answers to the requests
   pub session : IsSession (requests_in hs) (whole_in hs) (rest_in hs)
-  pub after : (before : List Happening) (m : BackMessage) (later : List Happening) → hs ≡ before ++ Came m ∷ later → IsAfterItsCall before m
+  -- each message comes after the call that it needs
+  pub after : (before : List Happening) (m : BackMessage) (later : List Happening)
+      → hs ≡ before ++ Came m ∷ later → IsAfterItsCall before m
+  -- no password is asked for where the client has none
   pub answerable : AllByRecursion (λ m. can_answer password m ≡ true) (messages_in hs)
 
 -- ---- where a session stands, and which calls are allowed there
 
--- The call of terminate is among them.
+-- The client has ended the session: the call of terminate is among these events ("Termination").
 abbrev pub IsTerminated : List Happening → Type 0
 IsTerminated [] = ⊥
-IsTerminated (Did Terminate ∷ hs) = Unit {0}
+IsTerminated (Did call.Terminate ∷ hs) = Unit {0}
 IsTerminated (_ ∷ hs) = IsTerminated hs
 
--- It was started, and the startup's segment isn't whole.
+-- The client was started, and no ReadyForQuery has come ("Start-up").
 abbrev pub IsStarting : List Happening → Type 0
 IsStarting hs = IsStarted hs × (whole_in hs ≡ [])
 
--- The startup's segment is whole, and so are those of all requests.
+-- The ReadyForQuery of the startup has come, and one for each request: none is outstanding.
 abbrev pub IsReady : List Happening → Type 0
 IsReady hs = length (whole_in hs) ≡ suc (length (requests_in hs))
 
--- The segment that isn't whole ends in a CopyInResponse, for which neither copy_done nor copy_fail was called.
+-- The server waits for the data of a copy, and the client hasn't ended the data: the last message
+-- that is no aside is a CopyInResponse, and neither copy_done nor copy_fail was called since it
+-- came ("COPY Operations").
 abbrev pub IsCopyingIn : List Happening → Type 0
-IsCopyingIn hs = EndInCopyIn (rest_in hs) × (IsSaid CopyEnd hs → ⊥) × ((reason : List ℕ) → IsSaid (CopyFail reason) hs → ⊥)
+IsCopyingIn hs = EndInCopyIn (rest_in hs) × (IsCalledForLastCopy call.Done hs → ⊥)
+    × ((reason : List ℕ) → IsCalledForLastCopy (call.Fail reason) hs → ⊥)
 
--- A request was made.
-abbrev pub IsAsked : List Happening → Type 0
-IsAsked hs = requests_in hs ≡ [] → ⊥
+-- At least one request was made.
+abbrev pub HasRequest : List Happening → Type 0
+HasRequest hs = requests_in hs ≡ [] → ⊥
 
-abbrev pub HasPlace : List Happening → Call → Type 0
-HasPlace before Start = IsStarted before → ⊥
-HasPlace before (Ask r) = IsStarted before × IsReady before
-HasPlace before (Chunk bytes) = IsAsked before × IsCopyingIn before
-HasPlace before CopyEnd = IsAsked before × IsCopyingIn before
-HasPlace before (CopyFail reason) = IsAsked before × IsCopyingIn before
-HasPlace before Terminate = IsStarted before
+-- The session is where this call may be made. start: where it wasn't called before. request: where
+-- no request is outstanding. copy_chunk, copy_done and copy_fail: while the server waits for the
+-- data of a copy that a request began ("COPY Operations"). terminate: at any time after start.
+abbrev pub MayBeCalled : List Happening → Call → Type 0
+MayBeCalled before call.Start = IsStarted before → ⊥
+MayBeCalled before (call.Request r) = IsStarted before × IsReady before
+MayBeCalled before (call.Chunk bytes) = HasRequest before × IsCopyingIn before
+MayBeCalled before call.Done = HasRequest before × IsCopyingIn before
+MayBeCalled before (call.Fail reason) = HasRequest before × IsCopyingIn before
+MayBeCalled before call.Terminate = IsStarted before
 
--- A call is allowed after these.
+-- After these events the call is allowed: the session is where it may be made, and the client
+-- hasn't ended the session.
 pub record IsAllowed (before : List Happening) (c : Call) : Type 0 where
-  pub in_place : HasPlace before c
+  pub in_place : MayBeCalled before c
   pub not_terminated : IsTerminated before → ⊥
 
--- Each call was allowed when it was made.
+-- Each call among these events was allowed when it was made.
 abbrev pub AreAllowed : List Happening → Type 0
-AreAllowed hs = (before : List Happening) (c : Call) (later : List Happening) → hs ≡ before ++ Did c ∷ later → IsAllowed before c
+AreAllowed hs = (before : List Happening) (c : Call) (later : List Happening)
+    → hs ≡ before ++ Did c ∷ later → IsAllowed before c

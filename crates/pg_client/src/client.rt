@@ -4,21 +4,22 @@ mod feed;
 
 ghost use Rattle.std.specs.Prelude.{◌≡◌, ◌≤◌, ◌∷◌, [], false, IfErr, IfNone, IfSome, None, OnErr, OnOk, option_copied, Some};
 ghost use Rattle.pg_wire.specs.Direction.{IsLimit};
-ghost use Rattle.pg_client.specs.Session.{Ask, Chunk, CopyEnd, CopyFail, Start, Terminate};
-ghost use Rattle.pg_client.specs.Client.{busy_phase_of, has_failed, IsOpenPhase, phase_of, stage_failed, unsettled_of, value_of};
+ghost use Rattle.pg_client.specs.declared.call.Call.TheVariants as call;
+ghost use Rattle.pg_client.specs.Client.{IsOpenPhase, phase_of, value_of};
 ghost use Rattle.pg_client.specs.History.{blank, Carries, IsHistoryOf, with_given, with_handed_back};
 ghost use Rattle.pg_client.specs.Calls.{Accepts, Cancels, RefusesCopy, RefusesEnd, RefusesUnless};
 ghost use Rattle.pg_client.specs.Lost.{first_cause, HandsBack};
-ghost use Rattle.pg_client.specs.Private.Calling.{with_answer, with_request};
 
 use crate::fault::CallFault;
 use crate::parameters::Parameters;
 use crate::phase::{Cause, Phase};
-use crate::place::{CopyAnswer, Open, Stage, Stand, Welcome};
+use crate::segment::CopyAnswer;
 use crate::sending::{put_request, put_start};
 use crate::settings::Settings;
 use crate::settled::{Loss, Settled};
-use pg_wire::{BackDecoder, Request, Seq, Status, frontend};
+use crate::stand::Stand;
+use crate::startup::Welcome;
+use pg_wire::{BackDecoder, Request, Status, frontend};
 use std::alloc::Global;
 use std::collections::VecDeque;
 use std::marker::Model;
@@ -47,7 +48,8 @@ impl Model for Client {
 
     ghost view = { λ c. record { settings = c.settings; kept = c.decoder.kept; stand = c.stand; settled = c.settled.items; status = c.status; parameters = c.parameters; key = c.key; closed = c.closed } };
 
-    ghost invariant = { λ c. (c.decoder.limit ≡ c.settings.limit) × (c.closed ≡ None → c.decoder.fault ≡ None) };
+    ghost invariant = { λ c. (c.decoder.limit ≡ c.settings.limit)
+        × (c.closed ≡ None → c.decoder.fault ≡ None) };
 }
 
 impl Client {
@@ -79,15 +81,10 @@ impl Client {
         if let Some(cause) = self.closed {
             return Phase::Closed(cause);
         }
-        match &self.stand {
-            Stand::New => Phase::New,
-            Stand::Starting(_) => Phase::Starting,
-            Stand::Idle(_) => Phase::Ready,
-            Stand::Busy { stage, answer, .. } => busy_phase(stage, *answer),
-        }
+        self.stand.phase()
     }
 
-    /// The transaction status that the last ReadyForQuery said; None before the first one.
+    /// The transaction status that the last ReadyForQuery gave; None before the first one.
     pub fn status(&self) -> Option<Status>
         ensures { result ≡ self.now.status }
     {
@@ -111,9 +108,11 @@ impl Client {
     /// password, which the server may ask for, or Memory where neither has one of these. After a refusal the client and `out` are
     /// as they were.
     pub fn start(&mut self, out: &mut Vec<u8>) -> Result<(), CallFault>
-        ensures ok { OnOk result ((phase_of self.old ≡ Phase.New) × (phase_of self.new ≡ Phase.Starting)) }
-        ensures history { OnOk result (Accepts Start self.old self.new out.old.items out.new.items) }
-        ensures refused { IfErr result (RefusesUnless Phase.New self.old Start) }
+        ensures ok { OnOk result ((phase_of self.old ≡ Phase.New)
+            × (phase_of self.new ≡ Phase.Starting)) }
+        ensures history { OnOk result
+            (Accepts call.Start self.old self.new out.old.items out.new.items) }
+        ensures refused { IfErr result (RefusesUnless Phase.New self.old call.Start) }
         ensures err { OnErr result ((self.new ≡ self.old) × (out.new.items ≡ out.old.items)) }
     {
         let phase = self.phase();
@@ -135,9 +134,12 @@ impl Client {
         request: Request,
         out: &mut Vec<u8>,
     ) -> Result<(), (Request, CallFault)>
-        ensures ok { OnOk result ((phase_of self.old ≡ Phase.Ready) × (phase_of self.new ≡ Phase.Busy)) }
-        ensures history { OnOk result (Accepts (Ask request) self.old self.new out.old.items out.new.items) }
-        ensures refused { IfErr result (λ f. (f.0 ≡ request) × RefusesUnless Phase.Ready self.old (Ask request) f.1) }
+        ensures ok { OnOk result ((phase_of self.old ≡ Phase.Ready)
+            × (phase_of self.new ≡ Phase.Busy)) }
+        ensures history { OnOk result
+            (Accepts (call.Request request) self.old self.new out.old.items out.new.items) }
+        ensures refused { IfErr result (λ f. (f.0 ≡ request)
+            × RefusesUnless Phase.Ready self.old (call.Request request) f.1) }
         ensures err { OnErr result ((self.new ≡ self.old) × (out.new.items ≡ out.old.items)) }
     {
         let phase = self.phase();
@@ -147,7 +149,7 @@ impl Client {
         if let Err(fault) = put_request(&request, out) {
             return Err((request, CallFault::Encode(fault)));
         }
-        begin(self.alloc, &mut self.stand, request);
+        self.stand.ask(self.alloc, request);
         Ok(())
     }
 
@@ -156,9 +158,11 @@ impl Client {
     ///
     /// C2 NotCopying: another phase. C3 Encode: TooLong or Memory. After a refusal the client and `out` are as they were.
     pub fn copy_chunk(&mut self, bytes: &[u8], out: &mut Vec<u8>) -> Result<(), CallFault>
-        ensures ok { OnOk result ((phase_of self.old ≡ Phase.CopyingIn) × (phase_of self.new ≡ Phase.CopyingIn)) }
-        ensures history { OnOk result (Accepts (Chunk bytes.now) self.old self.new out.old.items out.new.items) }
-        ensures refused { IfErr result (RefusesCopy self.old (Chunk bytes.now)) }
+        ensures ok { OnOk result ((phase_of self.old ≡ Phase.CopyingIn)
+            × (phase_of self.new ≡ Phase.CopyingIn)) }
+        ensures history { OnOk result
+            (Accepts (call.Chunk bytes.now) self.old self.new out.old.items out.new.items) }
+        ensures refused { IfErr result (RefusesCopy self.old (call.Chunk bytes.now)) }
         ensures err { OnErr result ((self.new ≡ self.old) × (out.new.items ≡ out.old.items)) }
     {
         let phase = self.phase();
@@ -172,9 +176,11 @@ impl Client {
     ///
     /// C2 NotCopying: another phase. C3 Encode: Memory alone. After a refusal the client and `out` are as they were.
     pub fn copy_done(&mut self, out: &mut Vec<u8>) -> Result<(), CallFault>
-        ensures ok { OnOk result ((phase_of self.old ≡ Phase.CopyingIn) × (phase_of self.new ≡ Phase.Busy)) }
-        ensures history { OnOk result (Accepts CopyEnd self.old self.new out.old.items out.new.items) }
-        ensures refused { IfErr result (RefusesCopy self.old CopyEnd) }
+        ensures ok { OnOk result ((phase_of self.old ≡ Phase.CopyingIn)
+            × (phase_of self.new ≡ Phase.Busy)) }
+        ensures history { OnOk result
+            (Accepts call.Done self.old self.new out.old.items out.new.items) }
+        ensures refused { IfErr result (RefusesCopy self.old call.Done) }
         ensures err { OnErr result ((self.new ≡ self.old) × (out.new.items ≡ out.old.items)) }
     {
         let phase = self.phase();
@@ -182,7 +188,7 @@ impl Client {
             return Err(CallFault::NotCopying(phase));
         }
         frontend::copy_done(out)?;
-        answer_copy(&mut self.stand, CopyAnswer::Done);
+        self.stand.answer_copy(CopyAnswer::Done);
         Ok(())
     }
 
@@ -191,9 +197,11 @@ impl Client {
     ///
     /// C2 NotCopying: another phase. C3 Encode: HasZero, TooLong or Memory. After a refusal the client and `out` are as they were.
     pub fn copy_fail(&mut self, reason: &[u8], out: &mut Vec<u8>) -> Result<(), CallFault>
-        ensures ok { OnOk result ((phase_of self.old ≡ Phase.CopyingIn) × (phase_of self.new ≡ Phase.Busy)) }
-        ensures history { OnOk result (Accepts (CopyFail reason.now) self.old self.new out.old.items out.new.items) }
-        ensures refused { IfErr result (RefusesCopy self.old (CopyFail reason.now)) }
+        ensures ok { OnOk result ((phase_of self.old ≡ Phase.CopyingIn)
+            × (phase_of self.new ≡ Phase.Busy)) }
+        ensures history { OnOk result
+            (Accepts (call.Fail reason.now) self.old self.new out.old.items out.new.items) }
+        ensures refused { IfErr result (RefusesCopy self.old (call.Fail reason.now)) }
         ensures err { OnErr result ((self.new ≡ self.old) × (out.new.items ≡ out.old.items)) }
     {
         let phase = self.phase();
@@ -201,7 +209,7 @@ impl Client {
             return Err(CallFault::NotCopying(phase));
         }
         frontend::copy_fail(reason, out)?;
-        answer_copy(&mut self.stand, CopyAnswer::Refused);
+        self.stand.answer_copy(CopyAnswer::Refused);
         Ok(())
     }
 
@@ -210,8 +218,10 @@ impl Client {
     ///
     /// C1 NotReady: phase New or Closed. C3 Encode: Memory alone. After a refusal the client and `out` are as they were.
     pub fn terminate(&mut self, out: &mut Vec<u8>) -> Result<(), CallFault>
-        ensures ok { OnOk result (IsOpenPhase (phase_of self.old) × (phase_of self.new ≡ Phase.Closed Cause.Terminated)) }
-        ensures history { OnOk result (Accepts Terminate self.old self.new out.old.items out.new.items) }
+        ensures ok { OnOk result (IsOpenPhase (phase_of self.old)
+            × (phase_of self.new ≡ Phase.Closed Cause.Terminated)) }
+        ensures history { OnOk result
+            (Accepts call.Terminate self.old self.new out.old.items out.new.items) }
         ensures refused { IfErr result (RefusesEnd self.old) }
         ensures err { OnErr result ((self.new ≡ self.old) × (out.new.items ≡ out.old.items)) }
     {
@@ -240,7 +250,8 @@ impl Client {
     /// Takes the oldest settled group that wasn't taken: a request with the outcome that its ReadyForQuery closed. None where all
     /// were taken. It takes no memory.
     pub fn take_settled(&mut self) -> Option<Settled>
-        ensures some { IfSome result (λ t. (self.old.settled ≡ t ∷ self.new.settled) × (self.new ≡ record self.old { settled = self.new.settled })) }
+        ensures some { IfSome result (λ t. (self.old.settled ≡ t ∷ self.new.settled)
+            × (self.new ≡ record self.old { settled = self.new.settled })) }
         ensures history { IfSome result (λ t. Carries self.old self.new (with_given t)) }
         ensures none { IfNone result ((self.old.settled ≡ []) × (self.new ≡ self.old)) }
     {
@@ -258,75 +269,6 @@ impl Client {
         ensures history { Carries self.old self.new with_handed_back }
     {
         self.closed = Some(self.closed.unwrap_or(Cause::Lost));
-        loss_of(mem::replace(&mut self.stand, Stand::New))
-    }
-}
-
-// Notes what was called for the open copy in.
-fn answer_copy(stand: &mut Stand, said: CopyAnswer)
-    ensures { stand.new ≡ with_answer stand.old said }
-{
-    if let Stand::Busy { answer, .. } = stand {
-        *answer = said;
-    }
-}
-
-// Begins a request's segment with the asides that came before.
-fn begin(alloc: Global, stand: &mut Stand, request: Request)
-    ensures { stand.new ≡ with_request stand.old request }
-{
-    let old = mem::replace(stand, Stand::New);
-    *stand = asked_after(alloc, old, request);
-}
-
-fn asked_after(alloc: Global, stand: Stand, request: Request) -> Stand
-    ensures { result ≡ with_request stand request }
-{
-    match stand {
-        Stand::Idle(asides) => Stand::Busy {
-            request,
-            parts: Seq::new(Vec::new(alloc)),
-            stage: Stage::Within(Open::Nothing),
-            asides,
-            answer: CopyAnswer::Awaited,
-        },
-        other => other,
-    }
-}
-
-fn loss_of(stand: Stand) -> Loss
-    ensures request { result.unsettled ≡ unsettled_of stand }
-    ensures error { result.seen_error ≡ has_failed stand }
-{
-    match stand {
-        Stand::Busy { request, stage, .. } => Loss {
-            unsettled: Some(request),
-            seen_error: is_failed(&stage),
-        },
-        _ => Loss {
-            unsettled: None,
-            seen_error: false,
-        },
-    }
-}
-
-fn is_failed(stage: &Stage) -> bool
-    ensures { result ≡ stage_failed stage.now }
-{
-    match stage {
-        Stage::Within(_) => false,
-        Stage::Failed(_) => true,
-    }
-}
-
-fn busy_phase(stage: &Stage, answer: CopyAnswer) -> Phase
-    ensures { result ≡ busy_phase_of stage.now answer }
-{
-    match stage {
-        Stage::Within(Open::CopyIn(_)) => match answer {
-            CopyAnswer::Awaited => Phase::CopyingIn,
-            _ => Phase::Busy,
-        },
-        _ => Phase::Busy,
+        mem::replace(&mut self.stand, Stand::New).into_loss()
     }
 }

@@ -5,7 +5,9 @@ ghost use Rattle.pg_wire.specs.message.BackMessage.{BackMessage};
 ghost use Rattle.pg_wire.specs.declared.session.Request.{Request};
 ghost use Rattle.pg_client.specs.declared.fault.FeedFault.{FeedFault};
 ghost use Rattle.pg_client.specs.declared.phase.Phase.TheVariants as phase;
-ghost use Rattle.pg_client.specs.Session.{Ask, Call, Happening, Came, Expected, requests_in};
+ghost use Rattle.pg_client.specs.declared.call.Call.{Call};
+ghost use Rattle.pg_client.specs.declared.call.Call.TheVariants as call;
+ghost use Rattle.pg_client.specs.Session.{Happening, Came, Expected, requests_in};
 ghost use Rattle.pg_client.specs.Client.{ClientView, phase_of};
 ghost use Rattle.pg_client.specs.History.{Calls, happenings, History, IsHistoryOf};
 ghost use Rattle.pg_client.specs.Feed.{Feeds};
@@ -18,47 +20,60 @@ ghost use Rattle.pg_client.specs.Driving.{IsFedOn, requests_by};
 
 /// What the history of a client means, in the words of the protocol: what it settled, and what its phase says.
 pub fn facts_of_a_run()
-    ensures { (h : History) (client : ClientView) → IsHistoryOf h client → Facts (happenings h) (h.given ++ client.settled) client }
+    ensures { (h : History) (client : ClientView) → IsHistoryOf h client
+        → Facts (happenings h) (h.given ++ client.settled) client }
 {}
 
 /// What a client knows of a loss at each time: the request after those of the settled groups, and whether an error came for it.
 pub fn loss_of_a_run()
-    ensures { (h : History) (client : ClientView) → IsHistoryOf h client → Loses h.handed_back (happenings h) (known_loss client) }
+    ensures { (h : History) (client : ClientView) → IsHistoryOf h client
+        → Loses h.handed_back (happenings h) (known_loss client) }
 {}
 
 /// What went out is the startup packet, the password if it was asked for, then each request with what was called for its copies, and
 /// the end of the session.
 pub fn turns_of_a_run()
-    ensures { (h : History) (client : ClientView) → IsHistoryOf h client → InTurns client.settings (happenings h) h.sent }
+    ensures { (h : History) (client : ClientView) → IsHistoryOf h client
+        → InTurns client.settings (happenings h) h.sent }
 {}
 
 /// What happened is the calls and what was heard, each in their order. A call more is a new turn, or is the last one's.
 pub fn story_of_a_run()
     ensures order { (h : History) → KeepsOrder h }
-    ensures one_more { (cs : Calls) (c : Call) (place : ℕ) → turns_of (calls_of (cs ++ (c, place) ∷ [])) ≡ turns_with (turns_of (calls_of cs)) c }
+    ensures one_more { (cs : Calls) (c : Call) (place : ℕ)
+        → turns_of (calls_of (cs ++ (c, place) ∷ [])) ≡ turns_with (turns_of (calls_of cs)) c }
 {}
 
 /// What is expected was so at each time before, so that with a message that isn't expected nothing after it is.
 pub fn expected_begins()
-    ensures begins { (password : Option (List ℕ)) (hs more : List Happening) → Expected password (hs ++ more) → Expected password hs }
-    ensures longest { (password : Option (List ℕ)) (hs : List Happening) (m : BackMessage) (later : List Happening) → (Expected password (hs ++ Came m ∷ []) → ⊥) → Expected password (hs ++ Came m ∷ later) → ⊥ }
+    ensures begins { (password : Option (List ℕ)) (hs more : List Happening)
+        → Expected password (hs ++ more) → Expected password hs }
+    ensures longest { (password : Option (List ℕ)) (hs : List Happening) (m : BackMessage)
+        (later : List Happening) → (Expected password (hs ++ Came m ∷ []) → ⊥)
+        → Expected password (hs ++ Came m ∷ later) → ⊥ }
 {}
 
 /// A request is made once all before it have been answered, and what is called for a copy belongs to the last one.
 pub fn answers_of_a_run()
-    ensures { (h : History) (client : ClientView) → IsHistoryOf h client → TakesTurns (happenings h) (h.given ++ client.settled) client }
+    ensures { (h : History) (client : ClientView) → IsHistoryOf h client
+        → TakesTurns (happenings h) (h.given ++ client.settled) client }
 {}
 
 /// What went out has a spelling: the startup packet and each message.
 pub fn spelled_in_a_run()
-    ensures { (h : History) (client : ClientView) → IsHistoryOf h client → SendsSpelled client.settings (happenings h) }
+    ensures { (h : History) (client : ClientView) → IsHistoryOf h client
+        → SendsSpelled client.settings (happenings h) }
 {}
 
 /// What settles as bytes come is the request that was asked last, and nothing else. In phase Ready all requests are settled.
 pub fn settles_the_last()
-    ensures fed { (h : History) (old new : ClientView) (piece : List ℕ) (result : Result Unit FeedFault) (before after : List ℕ)
-        → IsHistoryOf h old → Feeds old piece result new before after → SettlesLast (requests_in (happenings h)) h.given old.settled new.settled }
-    ensures ready { (h : History) (client : ClientView) → IsHistoryOf h client → phase_of client ≡ phase.Ready → AllSettled (requests_in (happenings h)) (h.given ++ client.settled) }
+    ensures fed { (h : History) (old new : ClientView) (piece : List ℕ)
+        (result : Result Unit FeedFault) (before after : List ℕ)
+        → IsHistoryOf h old → Feeds old piece result new before after
+        → SettlesLast (requests_in (happenings h)) h.given old.settled new.settled }
+    ensures ready { (h : History) (client : ClientView) → IsHistoryOf h client
+        → phase_of client ≡ phase.Ready
+        → AllSettled (requests_in (happenings h)) (h.given ++ client.settled) }
 {
     pg_wire::laws::one_outcome();
 }
@@ -67,12 +82,14 @@ pub fn settles_the_last()
 /// all is Ready. A request more is the last of them.
 pub fn requests_of_the_calls()
     ensures ready { (h : History) (client : ClientView) → IsHistoryOf h client
-        → phase_of client ≡ phase.Ready → AllSettled (requests_by h.calls) (h.given ++ client.settled) }
+        → phase_of client ≡ phase.Ready
+        → AllSettled (requests_by h.calls) (h.given ++ client.settled) }
     ensures back { (h : History) (client : ClientView) → IsHistoryOf h client
         → client.closed ≡ None → requests_by h.calls ≢ []
-        → AllSettled (requests_by h.calls) (h.given ++ client.settled) → phase_of client ≡ phase.Ready }
+        → AllSettled (requests_by h.calls) (h.given ++ client.settled)
+        → phase_of client ≡ phase.Ready }
     ensures asked { (calls : Calls) (r : Request) (place : ℕ)
-        → requests_by (calls ++ (Ask r, place) ∷ []) ≡ requests_by calls ++ r ∷ [] }
+        → requests_by (calls ++ (call.Request r, place) ∷ []) ≡ requests_by calls ++ r ∷ [] }
 {}
 
 /// A feed carries a history on, of a client that was open or closed.

@@ -6,20 +6,21 @@
 //! call carries them on, and the functions of [`laws`] say what they mean.
 #![tactic(auto)]
 
+mod call;
 mod client;
 mod fault;
-mod hearing;
 mod kind;
 pub mod laws;
-mod news;
 mod parameters;
 mod phase;
-mod place;
 mod segment;
 mod sending;
 mod settings;
 mod settled;
+mod stand;
+mod startup;
 
+pub use call::Call;
 pub use client::Client;
 pub use fault::{CallFault, FeedFault};
 pub use phase::{Cause, Phase};

@@ -41,7 +41,9 @@ impl Parameters {
 
     /// Gives a parameter this value. Where memory is refused, all are as they were.
     pub fn set(&mut self, name: Vec<u8>, value: Seq<u8>) -> Result<(), AllocError>
-        ensures ok { OnOk result ((n : List ℕ) → value_of n self.new ≡ cond (bytes_eq name.items n) (Some value) (value_of n self.old)) }
+        ensures ok { OnOk result ((n : List ℕ)
+            → value_of n self.new
+            ≡ cond (bytes_eq name.items n) (Some value) (value_of n self.old)) }
         ensures err { OnErr result (self.new ≡ self.old) }
     {
         self.values.insert(name, value)?;

@@ -14,7 +14,8 @@ use crate::settings::Settings;
 use pg_wire::{EncodeFault, LONGEST, Request, Seq, Step, frontend, md5_answer};
 
 fn put_startup(settings: &Settings, out: &mut Vec<u8>) -> Result<(), EncodeFault>
-    ensures { EncodesPacket (Startup (startup_pairs settings.now)) out.old.items result out.new.items }
+    ensures { EncodesPacket (Startup (startup_pairs settings.now)) out.old.items result
+        out.new.items }
 {
     let database = match &settings.database {
         Some(name) => Some(name.as_slice()),
@@ -73,7 +74,8 @@ pub fn put_password(
     salt: Option<[u8; 4]>,
     out: &mut Vec<u8>,
 ) -> Result<(), EncodeFault>
-    ensures { Encodes frontend (Password (password_text user.now password.now salt)) out.old.items result out.new.items }
+    ensures { Encodes frontend (Password (password_text user.now password.now salt))
+        out.old.items result out.new.items }
 {
     match salt {
         None => frontend::password_message(password.as_slice(), out),

@@ -11,7 +11,7 @@ use Rattle.pg_copy.specs.declared.fault.BinaryFault.TheVariants.{Signature, Flag
 use Rattle.pg_copy.specs.Row.{Row}
 use Rattle.pg_copy.specs.Reading.{RowsRead, RowsEnding, Open, Done, Ended, Bad, after_rows}
 use Rattle.pg_copy.proofs.TextEscapes.{same-bytes, other-bytes}
-use Rattle.pg_copy.specs.Binary.{IsBytes, signature, head, value, binary_row, trailer, IsHead, FitsValue, FitsBinary, IsFaultyRest, field_count, field_length, after_trailer, IsOpenRest, IsRest, IsFaultyHead, signature_differs, flag_set, extension_negative, IsOpenHead, open_head, IsHeadRest, IsBinaryFile, whole, headless}
+use Rattle.pg_copy.specs.Binary.{IsBytes, signature, head, value, binary_row, trailer, IsHead, FitsValue, FitsBinary, IsFaultyRow, field_count, field_length, after_trailer, IsOpenRow, IsRest, IsFaultyHead, signature_differs, flag_set, extension_negative, IsOpenHead, open_head, IsHeadRest, IsBinaryFile, whole, headless}
 use Rattle.pg_copy.specs.BinaryPart.{NoPart, Incomplete, Faulty, ◌>>=◌, number_at, bytes_at, signature_at, flags_at, extension_at, fixed_at, head_at, value_at, values_at, row_at, part_reading, rows_reading, body_reading, head_reading, binary_reading, trailer_reading}
 use Rattle.pg_copy.proofs.TextReads.{after-none}
 use Rattle.pg_copy.proofs.BinaryReads.{body-step}
@@ -126,7 +126,7 @@ values-view limit (suc n) bytes fits = go (value_at limit bytes) (value-view lim
 data RowIs (columns limit : ℕ) (bytes : List ℕ) : Result (Option Row × List ℕ) NoPart → Type 0 where
   row_there : (row : Row) (rest : List ℕ) → FitsBinary columns limit row → bytes ≡ binary_row row ++ rest → IsBytes rest → RowIs columns limit bytes (Ok (Some row, rest))
   trailer_there : (rest : List ℕ) → bytes ≡ trailer ++ rest → RowIs columns limit bytes (Ok (None, rest))
-  row_faulty : (f : BinaryFault) → IsFaultyRest columns limit bytes f → RowIs columns limit bytes (Err (Faulty f))
+  row_faulty : (f : BinaryFault) → IsFaultyRow columns limit bytes f → RowIs columns limit bytes (Err (Faulty f))
   row_short : RowIs columns limit bytes (Err Incomplete)
 
 row-view : (columns limit : ℕ) (bytes : List ℕ) → IsBytes bytes → RowIs columns limit bytes (row_at columns limit bytes)
@@ -137,7 +137,7 @@ row-view columns limit bytes fits = go (number_at w16 bytes) (number-view w16 (2
     next rest e _ (values_there vs after len each parts are) =
         row_there vs after (record { width = len; each = each }) (e ∙ ap (λ (k : ℕ). to_be_bytes w16 k ++ rest) (sym len) ∙ ap (λ (x : List ℕ). to_be_bytes w16 (length vs) ++ x) parts ∙ sym (append_assoc (to_be_bytes w16 (length vs)) (flat_map value vs) after)) are
     next rest e _ (values_long vs k more each len lt other over parts) =
-        row_faulty (FieldLength (cast_signed w32 k)) (subst (λ (x : List ℕ). IsFaultyRest columns limit x (FieldLength (cast_signed w32 k))) (sym (e ∙ ap (λ (x : List ℕ). to_be_bytes w16 columns ++ x) parts)) (field_length vs k more each len lt other over))
+        row_faulty (FieldLength (cast_signed w32 k)) (subst (λ (x : List ℕ). IsFaultyRow columns limit x (FieldLength (cast_signed w32 k))) (sym (e ∙ ap (λ (x : List ℕ). to_be_bytes w16 columns ++ x) parts)) (field_length vs k more each len lt other over))
     next rest e _ values_short = row_short
 
     go : (r : Result (ℕ × List ℕ) NoPart) → NumberIs w16 (2 ^ 16) bytes r
@@ -146,7 +146,7 @@ row-view columns limit bytes fits = go (number_at w16 bytes) (number-view w16 (2
       | inl last ↦ subst (RowIs columns limit bytes) (sym (cond-true _ _ _ (eq-eqb n 65535 last))) (trailer_there rest (e ∙ ap (λ (k : ℕ). to_be_bytes w16 k ++ rest) last))
       | inr other ↦ subst (RowIs columns limit bytes) (sym (cond-false _ _ _ (ne_eqb n 65535 other))) (elim (cases_eq n columns) [
         | inl same ↦ subst (RowIs columns limit bytes) (sym (cond-true _ _ _ (eq-eqb n columns same))) (next rest (e ∙ ap (λ (k : ℕ). to_be_bytes w16 k ++ rest) same) (values_at limit columns rest) (values-view limit columns rest are))
-        | inr differs ↦ subst (RowIs columns limit bytes) (sym (cond-false _ _ _ (ne_eqb n columns differs))) (row_faulty (FieldCount (cast_signed w16 n)) (subst (λ (x : List ℕ). IsFaultyRest columns limit x (FieldCount (cast_signed w16 n))) (sym e) (field_count n rest lt other differs)))
+        | inr differs ↦ subst (RowIs columns limit bytes) (sym (cond-false _ _ _ (ne_eqb n columns differs))) (row_faulty (FieldCount (cast_signed w16 n)) (subst (λ (x : List ℕ). IsFaultyRow columns limit x (FieldCount (cast_signed w16 n))) (sym e) (field_count n rest lt other differs)))
       ])
     ]
     go _ number_short = row_short
@@ -191,7 +191,7 @@ after-stop columns limit b more =
     let e : number_at w16 (trailer ++ b ∷ more) ≡ Ok (65535, b ∷ more) = number-again w16 (2 ^ 16) 65535 (b ∷ more) wide16 (omega arith) in
     rw e refl
 
-fault-again : (columns limit : ℕ) (rest : List ℕ) (f : BinaryFault) → columns ≤ 32767 → limit ≤ 2147483647 → IsFaultyRest columns limit rest f → body_reading columns limit rest ≡ faulty [] f
+fault-again : (columns limit : ℕ) (rest : List ℕ) (f : BinaryFault) → columns ≤ 32767 → limit ≤ 2147483647 → IsFaultyRow columns limit rest f → body_reading columns limit rest ≡ faulty [] f
 fault-again columns limit _ _ few le (field_count n more lt other differs) = body-at columns limit (to_be_bytes w16 n ++ more) _ (count-stop columns limit n more lt other differs)
 fault-again columns limit _ _ few le (field_length vs n more each len lt other over) = body-at columns limit _ _ (length-stop columns limit vs n more few le each len lt other over)
 fault-again columns limit _ _ few le (after_trailer b more) = body-at columns limit (trailer ++ b ∷ more) _ (after-stop columns limit b more)
@@ -204,7 +204,7 @@ trailer-stop columns limit more =
 
 -- ---- a rest that is open
 
-open-rest-is : (columns limit : ℕ) (rest : List ℕ) → columns ≤ 32767 → limit ≤ 2147483647 → row_at columns limit rest ≡ Err Incomplete → IsOpenRest columns limit rest
+open-rest-is : (columns limit : ℕ) (rest : List ℕ) → columns ≤ 32767 → limit ≤ 2147483647 → row_at columns limit rest ≡ Err Incomplete → IsOpenRow columns limit rest
 open-rest-is columns limit rest few le short = record {
   no_row = λ row more fits e. clash (sym short ∙ ap (row_at columns limit) e ∙ row-again columns limit row more few le fits);
   no_trailer = λ more e. clash (sym short ∙ ap (row_at columns limit) e ∙ trailer-stop columns limit more);
@@ -217,12 +217,12 @@ open-rest-is columns limit rest few le short = record {
     differ : {f : BinaryFault} → ◌≡◌ {A = Result (Option Row × List ℕ) NoPart} (Err Incomplete) (Err (Faulty f)) → ⊥
     differ {f} e = cc
 
-    fault : (rest : List ℕ) (f : BinaryFault) → IsFaultyRest columns limit rest f → row_at columns limit rest ≡ Err Incomplete → ⊥
+    fault : (rest : List ℕ) (f : BinaryFault) → IsFaultyRow columns limit rest f → row_at columns limit rest ≡ Err Incomplete → ⊥
     fault _ _ (field_count n more lt other differs) short = differ (sym short ∙ count-stop columns limit n more lt other differs)
     fault _ _ (field_length vs n more each len lt other over) short = differ (sym short ∙ length-stop columns limit vs n more few le each len lt other over)
     fault _ _ (after_trailer b more) short = clash (sym short ∙ after-stop columns limit b more)
 
-open-rest-short : (columns limit : ℕ) (rest : List ℕ) → IsBytes rest → IsOpenRest columns limit rest → row_at columns limit rest ≡ Err Incomplete
+open-rest-short : (columns limit : ℕ) (rest : List ℕ) → IsBytes rest → IsOpenRow columns limit rest → row_at columns limit rest ≡ Err Incomplete
 open-rest-short columns limit rest fits h = go (row_at columns limit rest) (row-view columns limit rest fits)
   where
     go : (r : Result (Option Row × List ℕ) NoPart) → RowIs columns limit rest r → r ≡ Err Incomplete
@@ -256,9 +256,9 @@ unfolding rows_reading
 body-view zero columns limit bytes few le lt fits = absurd (omega arith)
 body-view (suc n) columns limit bytes few le lt fits = go (row_at columns limit bytes) refl (row-view columns limit bytes fits) (λ rest short are. body-view n columns limit rest few le short are)
   where
-    behind : (rest : List ℕ) → bytes ≡ trailer ++ rest → BodyIs columns limit bytes (trailer_reading rest)
-    behind [] e = record { rest = bytes; each = tt; is = refl; ends = e }
-    behind (b ∷ bs) e = record { rest = bytes; each = tt; is = refl; ends = subst (λ (x : List ℕ). IsFaultyRest columns limit x AfterTrailer) (sym e) (after_trailer b bs) }
+    what_follows : (rest : List ℕ) → bytes ≡ trailer ++ rest → BodyIs columns limit bytes (trailer_reading rest)
+    what_follows [] e = record { rest = bytes; each = tt; is = refl; ends = e }
+    what_follows (b ∷ bs) e = record { rest = bytes; each = tt; is = refl; ends = subst (λ (x : List ℕ). IsFaultyRow columns limit x AfterTrailer) (sym e) (after_trailer b bs) }
 
     go : (r : Result (Option Row × List ℕ) NoPart) → row_at columns limit bytes ≡ r → RowIs columns limit bytes r → ((rest : List ℕ) → length rest < n → IsBytes rest → BodyIs columns limit rest (rows_reading n columns limit rest))
         → BodyIs columns limit bytes (part_reading bytes r (λ rest. rows_reading n columns limit rest))
@@ -266,7 +266,7 @@ body-view (suc n) columns limit bytes few le lt fits = go (row_at columns limit 
         let short : length rest < n = omega (arith, longer row rest bytes e) in
         let b = more rest short are in
         record { rest = b.rest; each = (f, b.each); is = e ∙ ap (λ (x : List ℕ). binary_row row ++ x) b.is ∙ sym (append_assoc (binary_row row) (flat_map binary_row (rows_reading n columns limit rest).rows) b.rest); ends = b.ends }
-    go _ found (trailer_there rest e) more = behind rest e
+    go _ found (trailer_there rest e) more = what_follows rest e
     go _ found (row_faulty f e) more = record { rest = bytes; each = tt; is = refl; ends = e }
     go _ found row_short more = record { rest = bytes; each = tt; is = refl; ends = (refl, open-rest-is columns limit bytes few le found) }
 
@@ -281,21 +281,21 @@ extension-view : (bytes rest : List ℕ) (flags : ℕ) → flags < 65536 → byt
 unfolding extension_at
 extension-view bytes rest flags low parts fits = go (number_at w32 rest) (number-view w32 (2 ^ 32) rest backed32 fits)
   where
-    full : (k : ℕ) (behind : List ℕ) → k < 2147483648 → rest ≡ to_be_bytes w32 k ++ behind → (r : Result (List ℕ × List ℕ) NoPart) → BytesIs k behind r → HeadIs bytes r
-    full k behind short e _ (bytes_there first after len split are) =
-        let sized : rest ≡ to_be_bytes w32 (length first) ++ (first ++ after) = e ∙ ap (λ (n : ℕ). to_be_bytes w32 n ++ behind) (sym len) ∙ ap (λ (x : List ℕ). to_be_bytes w32 (length first) ++ x) split in
+    full : (k : ℕ) (what_follows : List ℕ) → k < 2147483648 → rest ≡ to_be_bytes w32 k ++ what_follows → (r : Result (List ℕ × List ℕ) NoPart) → BytesIs k what_follows r → HeadIs bytes r
+    full k what_follows short e _ (bytes_there first after len split are) =
+        let sized : rest ≡ to_be_bytes w32 (length first) ++ (first ++ after) = e ∙ ap (λ (n : ℕ). to_be_bytes w32 n ++ what_follows) (sym len) ∙ ap (λ (x : List ℕ). to_be_bytes w32 (length first) ++ x) split in
         let all : bytes ≡ signature ++ (to_be_bytes w32 flags ++ (to_be_bytes w32 (length first) ++ (first ++ after))) = parts ∙ ap (λ (x : List ℕ). signature ++ (to_be_bytes w32 flags ++ x)) sized in
         let grouped : head flags first ++ after ≡ signature ++ (to_be_bytes w32 flags ++ (to_be_bytes w32 (length first) ++ (first ++ after))) =
         append_assoc (signature ++ to_be_bytes w32 flags ++ to_be_bytes w32 (length first)) first after ∙ append_assoc (signature ++ to_be_bytes w32 flags) (to_be_bytes w32 (length first)) (first ++ after) ∙ append_assoc signature (to_be_bytes w32 flags) (to_be_bytes w32 (length first) ++ (first ++ after)) in
         head_there (head flags first) first after (flags, first, low, omega arith, refl) (all ∙ sym grouped) are
-    full k behind short e _ bytes_short = head_short
+    full k what_follows short e _ bytes_short = head_short
 
-    sign : (k : ℕ) (behind : List ℕ) → k < 2 ^ 32 → rest ≡ to_be_bytes w32 k ++ behind → IsBytes behind → (t : Bool) → ltb k 2147483648 ≡ t → HeadIs bytes (cond {A = Result (ℕ × List ℕ) NoPart} t (Ok (k, behind)) (Err (Faulty (Extension (cast_signed w32 k)))) >>= λ n. bytes_at n.0 n.1)
-    sign k behind lt e are true h = full k behind (ltb-true k 2147483648 h) e (bytes_at k behind) (bytes-view k behind are)
-    sign k behind lt e are false h = head_faulty (Extension (cast_signed w32 k)) (subst (λ (x : List ℕ). IsFaultyHead x (Extension (cast_signed w32 k))) (sym (parts ∙ ap (λ (x : List ℕ). signature ++ (to_be_bytes w32 flags ++ x)) e)) (extension_negative flags k behind low (omega (arith, ltb-false k 2147483648 h)) lt))
+    sign : (k : ℕ) (what_follows : List ℕ) → k < 2 ^ 32 → rest ≡ to_be_bytes w32 k ++ what_follows → IsBytes what_follows → (t : Bool) → ltb k 2147483648 ≡ t → HeadIs bytes (cond {A = Result (ℕ × List ℕ) NoPart} t (Ok (k, what_follows)) (Err (Faulty (Extension (cast_signed w32 k)))) >>= λ n. bytes_at n.0 n.1)
+    sign k what_follows lt e are true h = full k what_follows (ltb-true k 2147483648 h) e (bytes_at k what_follows) (bytes-view k what_follows are)
+    sign k what_follows lt e are false h = head_faulty (Extension (cast_signed w32 k)) (subst (λ (x : List ℕ). IsFaultyHead x (Extension (cast_signed w32 k))) (sym (parts ∙ ap (λ (x : List ℕ). signature ++ (to_be_bytes w32 flags ++ x)) e)) (extension_negative flags k what_follows low (omega (arith, ltb-false k 2147483648 h)) lt))
 
     go : (r : Result (ℕ × List ℕ) NoPart) → NumberIs w32 (2 ^ 32) rest r → HeadIs bytes ((r >>= λ n. cond (ltb n.0 2147483648) (Ok n) (Err (Faulty (Extension (cast_signed w32 n.0))))) >>= λ n. bytes_at n.0 n.1)
-    go _ (number_there k behind lt e are) = sign k behind lt e are (ltb k 2147483648) refl
+    go _ (number_there k what_follows lt e are) = sign k what_follows lt e are (ltb k 2147483648) refl
     go _ number_short = head_short
 
 flags-view : (bytes rest : List ℕ) → bytes ≡ signature ++ rest → IsBytes rest → HeadIs bytes ((flags_at rest >>= λ f. extension_at f.1) >>= λ n. bytes_at n.0 n.1)

@@ -15,7 +15,7 @@ use Rattle.pg_copy.specs.Reading.{RowsRead, RowsEnding, Open, Done, Bad, after_r
 use Rattle.pg_copy.specs.Binary.{open_head}
 use Rattle.pg_copy.specs.BinaryPart.{NoPart, Incomplete, Faulty, ◌>>=◌, bytes_at, fixed_at, head_at, row_at, part_reading, row_reading, body_reading, head_reading, binary_reading, trailer_reading, last_ending, binary_at_end, binary_file_reading}
 use Rattle.pg_copy.specs.BinaryReader.{BinaryState, binary_stage_reading, binary_left, HasReadBinary, WaitsWith, binary_ending}
-use Rattle.pg_copy.specs.Private.BinaryPart.{closed_at, row_or_trailer, body_at, part_at, extension_left, in_extension, behind_head, waiting_at, TakesPart}
+use Rattle.pg_copy.specs.Private.BinaryPart.{closed_at, row_or_trailer, body_at, part_at, extension_left, in_extension, after_head, waiting_at, TakesPart}
 use Rattle.pg_copy.proofs.TextReads.{after-after, after-none}
 use Rattle.pg_copy.proofs.BinaryReads.{Grows, row_grows, head_grows, bytes_grow, body-step, part-rows}
 use Rattle.pg_copy.proofs.BinaryHeads.{head-open, open-few, open-many, skip-reads}
@@ -45,14 +45,14 @@ finished (Err (no_row.NoPart (stops.Faulty fault))) mid = record mid { ended = t
 -- ---- the next part
 
 -- the bytes after a head that is whole, or an extension
-abbrev pub bytes_behind : Result (List ℕ × List ℕ) NoPart → List ℕ → List ℕ
-bytes_behind (Ok h) kept = h.1
-bytes_behind (Err stop) kept = kept
+abbrev pub bytes_after : Result (List ℕ × List ℕ) NoPart → List ℕ → List ℕ
+bytes_after (Ok h) kept = h.1
+bytes_after (Err stop) kept = kept
 
 -- the bytes of the part that isn't whole
 abbrev pub open_bytes : BinaryStage → List ℕ → List ℕ
-open_bytes Head bytes = bytes_behind (head_at bytes) (open_head bytes)
-open_bytes (Extension n) bytes = bytes_behind (bytes_at n bytes) []
+open_bytes Head bytes = bytes_after (head_at bytes) (open_head bytes)
+open_bytes (Extension n) bytes = bytes_after (bytes_at n bytes) []
 open_bytes Rows bytes = bytes
 open_bytes Closed bytes = bytes
 open_bytes (Failed fault) bytes = bytes
@@ -98,10 +98,10 @@ body-reads columns limit bytes = go (row_at columns limit bytes) refl
 
 -- a head, or an extension, and what stands after it
 front-reads : (front : List ℕ → Result (List ℕ × List ℕ) NoPart) (stays : List ℕ → List ℕ) (columns limit : ℕ) (bytes : List ℕ) → ((more : List ℕ) → Grows (front bytes) (front (bytes ++ more)) more)
-    → PartReads columns limit (bytes_behind (front bytes) (stays bytes)) (front bytes >>= λ h. body_at columns limit h.1) (λ more. head_reading (stays (bytes ++ more)) (front (bytes ++ more)) (body_reading columns limit))
+    → PartReads columns limit (bytes_after (front bytes) (stays bytes)) (front bytes >>= λ h. body_at columns limit h.1) (λ more. head_reading (stays (bytes ++ more)) (front (bytes ++ more)) (body_reading columns limit))
 front-reads front stays columns limit bytes grows = go (front bytes) refl
   where
-    go : (r : Result (List ℕ × List ℕ) NoPart) → front bytes ≡ r → PartReads columns limit (bytes_behind r (stays bytes)) (r >>= λ h. body_at columns limit h.1) (λ more. head_reading (stays (bytes ++ more)) (front (bytes ++ more)) (body_reading columns limit))
+    go : (r : Result (List ℕ × List ℕ) NoPart) → front bytes ≡ r → PartReads columns limit (bytes_after r (stays bytes)) (r >>= λ h. body_at columns limit h.1) (λ more. head_reading (stays (bytes ++ more)) (front (bytes ++ more)) (body_reading columns limit))
     go (Ok x) e =
         reads-same columns limit x.1 (body_at columns limit x.1) (λ more. head_reading (stays (bytes ++ more)) (front (bytes ++ more)) (body_reading columns limit)) (λ more. body_reading columns limit (x.1 ++ more))
         (λ more.
@@ -132,7 +132,7 @@ answer_rows (Ok o) = option_rows o
 answer_rows (Err e) = []
 
 -- a call that gives these rows of what was left
-pub record Goes (old new : BinaryState) (rows : List Row) : Type 0 where
+pub record ReadsRows (old new : BinaryState) (rows : List Row) : Type 0 where
   pub columns : new.columns ≡ old.columns
   pub limit : new.limit ≡ old.limit
   pub ended : new.ended ≡ old.ended
@@ -141,25 +141,25 @@ pub record Goes (old new : BinaryState) (rows : List Row) : Type 0 where
 pub whole-same : (old new : BinaryState) (bytes : List ℕ) → new.columns ≡ old.columns → new.limit ≡ old.limit → binary_reading new.columns new.limit bytes ≡ binary_reading old.columns old.limit bytes
 whole-same old new bytes e f = ap (λ (c : ℕ). binary_reading c new.limit bytes) e ∙ ap (λ (l : ℕ). binary_reading old.columns l bytes) f
 
-pub HasReadBinary-goes : (old new : BinaryState) (rows : List Row) (pushed : List ℕ) (given : List Row) → Goes old new rows → HasReadBinary old pushed given → HasReadBinary new pushed (given ++ rows)
+pub HasReadBinary-goes : (old new : BinaryState) (rows : List Row) (pushed : List ℕ) (given : List Row) → ReadsRows old new rows → HasReadBinary old pushed given → HasReadBinary new pushed (given ++ rows)
 HasReadBinary-goes old new rows pushed given g h =
     record {
       so_far = λ e more. whole-same old new (pushed ++ more) g.columns g.limit ∙ h.so_far (sym g.ended ∙ e) more ∙ ap (after_rows given) (g.left more) ∙ after-after given rows (binary_left new more);
       in_all = ap binary_at_end (whole-same old new pushed g.columns g.limit) ∙ h.in_all ∙ ap (λ (r : RowsRead BinaryFault). after_rows given (binary_at_end r)) (g.left []) ∙ after-after given rows (binary_at_end (binary_left new []));
     }
 
-pub Goes-same : (old : BinaryState) → Goes old old []
+pub Goes-same : (old : BinaryState) → ReadsRows old old []
 Goes-same old = record { columns = refl; limit = refl; ended = refl; left = λ more. refl }
 
 -- a head that lacks bytes of its extension alone goes off
 enters : (columns limit : ℕ) (kept : List ℕ) (ended : Bool) → head_at kept ≡ Err Incomplete →
     let old : BinaryState = record { columns = columns; limit = limit; kept = kept; stage = Head; ended = ended } in
-    Goes old (in_extension (extension_left (fixed_at kept)) old) []
+    ReadsRows old (in_extension (extension_left (fixed_at kept)) old) []
 enters columns limit kept ended short = go (fixed_at kept) refl
   where
     go : (r : Result (ℕ × List ℕ) NoPart) → fixed_at kept ≡ r →
         let old : BinaryState = record { columns = columns; limit = limit; kept = kept; stage = Head; ended = ended } in
-        Goes old (in_extension (extension_left r) old) []
+        ReadsRows old (in_extension (extension_left r) old) []
     go (Ok n) e =
         let are = head-open kept (Ok n) short e in
         record { columns = refl; limit = refl; ended = refl; left = λ more. skip-reads columns limit kept more n e are.0 are.1 }
@@ -175,13 +175,13 @@ faulty-head columns limit kept fault e h = clash (sym (ap (λ r. r >>= λ x. bod
 -- a reader that waits has what it had, but for the head
 waits : (columns limit : ℕ) (kept : List ℕ) (stage : BinaryStage) (ended : Bool) → part_at stage columns limit kept ≡ Err Incomplete →
     let old : BinaryState = record { columns = columns; limit = limit; kept = kept; stage = stage; ended = ended } in
-    Goes old (waiting_at stage old) []
+    ReadsRows old (waiting_at stage old) []
 unfolding binary_reading
 waits columns limit kept Head ended short = go (head_at kept) refl
   where
     go : (r : Result (List ℕ × List ℕ) NoPart) → head_at kept ≡ r →
         let old : BinaryState = record { columns = columns; limit = limit; kept = kept; stage = Head; ended = ended } in
-        Goes old (behind_head r (in_extension (extension_left (fixed_at kept)) old) old) []
+        ReadsRows old (after_head r (in_extension (extension_left (fixed_at kept)) old) old) []
     go (Ok h) e = record {
       columns = refl;
       limit = refl;
@@ -196,7 +196,7 @@ waits columns limit kept (Extension n) ended short = go (bytes_at n kept) refl
   where
     go : (r : Result (List ℕ × List ℕ) NoPart) → bytes_at n kept ≡ r →
         let old : BinaryState = record { columns = columns; limit = limit; kept = kept; stage = Extension n; ended = ended } in
-        Goes old (behind_head r old old) []
+        ReadsRows old (after_head r old old) []
     go (Ok h) e = record {
       columns = refl;
       limit = refl;
@@ -217,7 +217,7 @@ Due old p = PartReads old.columns old.limit (open_bytes old.stage old.kept) p (�
 due : (old : BinaryState) (p : Result ((Option Row × BinaryStage) × List ℕ) NoPart) → part_at old.stage old.columns old.limit old.kept ≡ p → Due old p
 due old p e = subst (λ q. Due old q) e (part-reads old.stage old.columns old.limit old.kept)
 
-pub Goes-part : (answer : Answer) (old new : BinaryState) → TakesPart answer old new → Goes old new (answer_rows answer)
+pub Goes-part : (answer : Answer) (old new : BinaryState) → TakesPart answer old new → ReadsRows old new (answer_rows answer)
 Goes-part (Ok o) old new h =
     let r = due old (Ok ((o, new.stage), new.kept)) h.0 in
     rw h.1 (record { columns = refl; limit = refl; ended = refl; left = λ more. r.1 more })
@@ -271,7 +271,7 @@ open-ending columns limit kept Head ended e = go (head_at kept) refl
   where
     go : (r : Result (List ℕ × List ℕ) NoPart) → head_at kept ≡ r →
         let old : BinaryState = record { columns = columns; limit = limit; kept = kept; stage = Head; ended = ended } in
-        EndsOpen (behind_head r (in_extension (extension_left (fixed_at kept)) old) old) (bytes_behind r (open_head kept))
+        EndsOpen (after_head r (in_extension (extension_left (fixed_at kept)) old) old) (bytes_after r (open_head kept))
     go (Ok h) f = (refl, tt)
     go (Err Incomplete) f = enters-open columns limit kept ended f
     go (Err (Faulty fault)) f = absurd (faulty-head columns limit kept fault f e)
@@ -279,7 +279,7 @@ open-ending columns limit kept (Extension n) ended e = go (bytes_at n kept)
   where
     go : (r : Result (List ℕ × List ℕ) NoPart) →
         let old : BinaryState = record { columns = columns; limit = limit; kept = kept; stage = Extension n; ended = ended } in
-        EndsOpen (behind_head r old old) (bytes_behind r [])
+        EndsOpen (after_head r old old) (bytes_after r [])
     go (Ok h) = (refl, tt)
     go (Err stop) = (refl, tt)
 open-ending columns limit kept Rows ended e = (refl, tt)
@@ -327,7 +327,7 @@ waits-with columns limit kept Head ended skips e = go (head_at kept) refl
   where
     go : (r : Result (List ℕ × List ℕ) NoPart) → head_at kept ≡ r →
         let old : BinaryState = record { columns = columns; limit = limit; kept = kept; stage = Head; ended = ended } in
-        let new : BinaryState = behind_head r (in_extension (extension_left (fixed_at kept)) old) old in
+        let new : BinaryState = after_head r (in_extension (extension_left (fixed_at kept)) old) old in
         WaitsWith new.stage new.kept
     go (Ok h) f = tt
     go (Err Incomplete) f = enters-with columns limit kept ended f
@@ -336,7 +336,7 @@ waits-with columns limit kept (Extension n) ended skips e = go (bytes_at n kept)
   where
     go : (r : Result (List ℕ × List ℕ) NoPart) →
         let old : BinaryState = record { columns = columns; limit = limit; kept = kept; stage = Extension n; ended = ended } in
-        let new : BinaryState = behind_head r old old in
+        let new : BinaryState = after_head r old old in
         WaitsWith new.stage new.kept
     go (Ok h) = tt
     go (Err stop) = skips n refl
@@ -362,7 +362,7 @@ unfolding part_at
 stays-within old n e skips =
     let none : bytes_at n old.kept ≡ Err Incomplete = ap (bytes_at n) skips.1 ∙ cond-true _ _ _ (lt-ltb 0 n skips.0) in (
       ap (λ (t : BinaryStage). part_at t old.columns old.limit old.kept) e ∙ ap (λ r. r >>= λ h. body_at old.columns old.limit h.1) none,
-      ap (λ r. behind_head r old old) (sym none) ∙ ap (λ (t : BinaryStage). waiting_at t old) (sym e),
+      ap (λ r. after_head r old old) (sym none) ∙ ap (λ (t : BinaryStage). waiting_at t old) (sym e),
     )
 
 given-next : (answer : Answer) → given_by (next_answer answer) ≡ answer_rows answer

@@ -9,7 +9,7 @@ use Rattle.pg_copy.specs.declared.binary_reader.BinaryStage.TheVariants.{Extensi
 use Rattle.pg_copy.specs.Row.{Row}
 use Rattle.pg_copy.specs.Reading.{after_rows}
 use Rattle.pg_copy.specs.BinaryPart.{binary_reading, binary_at_end}
-use Rattle.pg_copy.specs.BinaryReader.{BinaryState, binary_stage_reading, binary_left, HasReadBinary, kept_of, stage_behind, pushed_after, PushesBinary}
+use Rattle.pg_copy.specs.BinaryReader.{BinaryState, binary_stage_reading, binary_left, HasReadBinary, kept_of, stage_after, pushed_after, PushesBinary}
 use Rattle.pg_copy.proofs.BinaryHeads.{skip-some, skip-all}
 use Rattle.pg_copy.proofs.BinaryHistory.{whole-same}
 
@@ -26,7 +26,7 @@ HasReadBinary-pushed old new piece pushed given going e f l h =
 
 -- how a push leaves a reader at this stage
 abbrev pushed_at : BinaryStage → BinaryState → List ℕ → BinaryState
-pushed_at stage old piece = record old { kept = old.kept ++ kept_of stage piece; stage = stage_behind stage piece }
+pushed_at stage old piece = record old { kept = old.kept ++ kept_of stage piece; stage = stage_after stage piece }
 
 at_stage : (stage : BinaryStage) (old : BinaryState) (piece : List ℕ) → old.stage ≡ stage → pushed_at stage old piece ≡ pushed_after old piece
 at_stage stage old piece e = ap (λ (t : BinaryStage). pushed_at t old piece) (sym e)
@@ -55,10 +55,10 @@ HasReadBinary-within old new piece pushed given n going e empty is h = elim (cas
       HasReadBinary-pushed old fewer piece pushed given going refl refl (λ more. left_is (piece ++ more) ∙ skip-some old.columns old.limit n piece more lt ∙ ap (λ (x : List ℕ). binary_stage_reading (Extension (n - length piece)) old.columns old.limit (x ++ more)) (sym empty)) h in
       subst (λ (s : BinaryState). HasReadBinary s (pushed ++ piece) given) here some
   | inr le ↦
-      let behind : BinaryState = record old { kept = old.kept ++ drop n piece; stage = Rows } in
-      let here : behind ≡ new = pushed-past old piece n e le ∙ sym is in
-      let all : HasReadBinary behind (pushed ++ piece) given =
-      HasReadBinary-pushed old behind piece pushed given going refl refl (λ more. left_is (piece ++ more) ∙ skip-all old.columns old.limit n piece more le ∙ ap (λ (x : List ℕ). binary_stage_reading Rows old.columns old.limit ((x ++ drop n piece) ++ more)) (sym empty)) h in
+      let after : BinaryState = record old { kept = old.kept ++ drop n piece; stage = Rows } in
+      let here : after ≡ new = pushed-past old piece n e le ∙ sym is in
+      let all : HasReadBinary after (pushed ++ piece) given =
+      HasReadBinary-pushed old after piece pushed given going refl refl (λ more. left_is (piece ++ more) ∙ skip-all old.columns old.limit n piece more le ∙ ap (λ (x : List ℕ). binary_stage_reading Rows old.columns old.limit ((x ++ drop n piece) ++ more)) (sym empty)) h in
       subst (λ (s : BinaryState). HasReadBinary s (pushed ++ piece) given) here all
 ]
   where

@@ -101,50 +101,50 @@ row_grows columns limit bytes more =
 -- ---- what is read takes bytes off the front
 
 -- at least so many bytes were taken
-abbrev pub Takes : {A : Type 0} → ℕ → Result (A × List ℕ) NoPart → List ℕ → Type 0
-Takes least (Ok x) bytes = (n : ℕ) × (least ≤ n) × (n ≤ length bytes) × (x.1 ≡ drop n bytes)
-Takes least (Err stop) bytes = Unit {0}
+abbrev pub TakesAtLeast : {A : Type 0} → ℕ → Result (A × List ℕ) NoPart → List ℕ → Type 0
+TakesAtLeast least (Ok x) bytes = (n : ℕ) × (least ≤ n) × (n ≤ length bytes) × (x.1 ≡ drop n bytes)
+TakesAtLeast least (Err stop) bytes = Unit {0}
 
-takes_then : {A : Type 0} (least : ℕ) (r : Result (A × List ℕ) NoPart) (mid bytes : List ℕ) (n : ℕ) → least ≤ n → n ≤ length bytes → mid ≡ drop n bytes → Takes 0 r mid → Takes least r bytes
+takes_then : {A : Type 0} (least : ℕ) (r : Result (A × List ℕ) NoPart) (mid bytes : List ℕ) (n : ℕ) → least ≤ n → n ≤ length bytes → mid ≡ drop n bytes → TakesAtLeast 0 r mid → TakesAtLeast least r bytes
 takes_then least (Ok x) mid bytes n le within e h =
     let len : length mid ≡ length bytes - n = ap length e ∙ length-drop n bytes in
     (n + h.0, omega (arith, h.1), omega (arith, h.2, len), h.3 ∙ ap (drop h.0) e ∙ drop-drop h.0 n bytes)
 takes_then least (Err stop) mid bytes n le within e h = tt
 
-pub takes_bind : {A B : Type 0} (least : ℕ) (r : Result (A × List ℕ) NoPart) (bytes : List ℕ) (f : A × List ℕ → Result (B × List ℕ) NoPart) → Takes least r bytes → ((x : A × List ℕ) → Takes 0 (f x) x.1) → Takes least (r >>= f) bytes
+pub takes_bind : {A B : Type 0} (least : ℕ) (r : Result (A × List ℕ) NoPart) (bytes : List ℕ) (f : A × List ℕ → Result (B × List ℕ) NoPart) → TakesAtLeast least r bytes → ((x : A × List ℕ) → TakesAtLeast 0 (f x) x.1) → TakesAtLeast least (r >>= f) bytes
 takes_bind least (Ok x) bytes f h k = takes_then least (f x) x.1 bytes h.0 h.1 h.2 h.3 (k x)
 takes_bind least (Err stop) bytes f h k = tt
 
-takes_cond : {A : Type 0} (least : ℕ) (t : Bool) (x y : Result (A × List ℕ) NoPart) (bytes : List ℕ) → Takes least x bytes → Takes least y bytes → Takes least (cond t x y) bytes
+takes_cond : {A : Type 0} (least : ℕ) (t : Bool) (x y : Result (A × List ℕ) NoPart) (bytes : List ℕ) → TakesAtLeast least x bytes → TakesAtLeast least y bytes → TakesAtLeast least (cond t x y) bytes
 takes_cond least true x y bytes h k = h
 takes_cond least false x y bytes h k = k
 
-takes_none : {A : Type 0} (a : A) (bytes : List ℕ) → Takes 0 (Ok (a, bytes)) bytes
+takes_none : {A : Type 0} (a : A) (bytes : List ℕ) → TakesAtLeast 0 (Ok (a, bytes)) bytes
 takes_none a bytes = (0, omega arith, omega arith, refl)
 
-bytes_take : (n : ℕ) (bytes : List ℕ) → Takes 0 (bytes_at n bytes) bytes
+bytes_take : (n : ℕ) (bytes : List ℕ) → TakesAtLeast 0 (bytes_at n bytes) bytes
 bytes_take n bytes = elim (cases_lt (length bytes) n) [
   | inl lt ↦ rw (lt-ltb (length bytes) n lt) tt
   | inr le ↦ rw (le-ltb (length bytes) n le) (n, omega arith, le, refl)
 ]
 
-bytes_take_all : (n : ℕ) (bytes : List ℕ) → Takes n (bytes_at n bytes) bytes
+bytes_take_all : (n : ℕ) (bytes : List ℕ) → TakesAtLeast n (bytes_at n bytes) bytes
 bytes_take_all n bytes = elim (cases_lt (length bytes) n) [
   | inl lt ↦ rw (lt-ltb (length bytes) n lt) tt
   | inr le ↦ rw (le-ltb (length bytes) n le) (n, omega arith, le, refl)
 ]
 
-number_takes : (w : Width) (bytes : List ℕ) → Takes (byte_len w) (number_at w bytes) bytes
+number_takes : (w : Width) (bytes : List ℕ) → TakesAtLeast (byte_len w) (number_at w bytes) bytes
 number_takes w bytes = elim (cases_lt (length bytes) (byte_len w)) [
   | inl lt ↦ rw (lt-ltb (length bytes) (byte_len w) lt) tt
   | inr le ↦ rw (le-ltb (length bytes) (byte_len w) le) (byte_len w, omega arith, le, refl)
 ]
 
-less : {A : Type 0} (m n : ℕ) (r : Result (A × List ℕ) NoPart) (bytes : List ℕ) → m ≤ n → Takes n r bytes → Takes m r bytes
+less : {A : Type 0} (m n : ℕ) (r : Result (A × List ℕ) NoPart) (bytes : List ℕ) → m ≤ n → TakesAtLeast n r bytes → TakesAtLeast m r bytes
 less m n (Ok x) bytes le h = (h.0, omega (arith, h.1), h.2, h.3)
 less m n (Err stop) bytes le h = tt
 
-pub value_takes : (limit : ℕ) (bytes : List ℕ) → Takes 0 (value_at limit bytes) bytes
+pub value_takes : (limit : ℕ) (bytes : List ℕ) → TakesAtLeast 0 (value_at limit bytes) bytes
 unfolding value_at
 value_takes limit bytes =
     takes_bind 0 (number_at w32 bytes) bytes _ (less 0 4 (number_at w32 bytes) bytes (omega arith) (number_takes w32 bytes)) (λ n.
@@ -152,14 +152,14 @@ value_takes limit bytes =
     takes_cond 0 (eqb n.0 4294967295) (Ok (None, n.1)) (cond (leb n.0 limit) (bytes_at n.0 n.1 >>= some) (Err (Faulty (FieldLength (cast_signed w32 n.0))))) n.1 (takes_none {A = Option (List ℕ)} None n.1)
     (takes_cond 0 (leb n.0 limit) (bytes_at n.0 n.1 >>= some) (Err (Faulty (FieldLength (cast_signed w32 n.0)))) n.1 (takes_bind 0 (bytes_at n.0 n.1) n.1 some (bytes_take n.0 n.1) (λ v. takes_none {A = Option (List ℕ)} (Some v.0) v.1)) tt))
 
-pub values_take : (limit n : ℕ) (bytes : List ℕ) → Takes 0 (values_at limit n bytes) bytes
+pub values_take : (limit n : ℕ) (bytes : List ℕ) → TakesAtLeast 0 (values_at limit n bytes) bytes
 unfolding values_at
 values_take limit zero bytes = takes_none {A = Row} [] bytes
 values_take limit (suc n) bytes =
     takes_bind 0 (value_at limit bytes) bytes _ (value_takes limit bytes) (λ v.
     takes_bind 0 (values_at limit n v.1) v.1 _ (values_take limit n v.1) (λ vs. takes_none {A = Row} (v.0 ∷ vs.0) vs.1))
 
-pub row_takes : (columns limit : ℕ) (bytes : List ℕ) → Takes 2 (row_at columns limit bytes) bytes
+pub row_takes : (columns limit : ℕ) (bytes : List ℕ) → TakesAtLeast 2 (row_at columns limit bytes) bytes
 unfolding row_at
 row_takes columns limit bytes =
     takes_bind 2 (number_at w16 bytes) bytes _ (number_takes w16 bytes) (λ n.
@@ -169,9 +169,9 @@ row_takes columns limit bytes =
 
 -- ---- rows one after the other
 
-pub shorter : {A : Type 0} (r : Result (A × List ℕ) NoPart) (bytes : List ℕ) (x : A × List ℕ) → Takes 2 r bytes → r ≡ Ok x → length x.1 < length bytes
+pub shorter : {A : Type 0} (r : Result (A × List ℕ) NoPart) (bytes : List ℕ) (x : A × List ℕ) → TakesAtLeast 2 r bytes → r ≡ Ok x → length x.1 < length bytes
 shorter r bytes x h e =
-    let k = subst (λ t. Takes 2 t bytes) e h in
+    let k = subst (λ t. TakesAtLeast 2 t bytes) e h in
     omega (arith, k.1, k.2, ap length k.3, length-drop k.0 bytes)
 
 part-same : (bytes : List ℕ) (r : Result (Option Row × List ℕ) NoPart) (f g : List ℕ → RowsRead BinaryFault) → ((x : Option (Row) × List ℕ) → r ≡ Ok x → f x.1 ≡ g x.1) → part_reading bytes r f ≡ part_reading bytes r g
@@ -277,14 +277,14 @@ part_nm (Failed fault) columns limit bytes h = λ e. h (ap Failed e)
 
 -- how many bytes a part takes
 
-fixed_takes : (bytes : List ℕ) → Takes 11 (fixed_at bytes) bytes
+fixed_takes : (bytes : List ℕ) → TakesAtLeast 11 (fixed_at bytes) bytes
 unfolding fixed_at signature_at flags_at extension_at
 fixed_takes bytes =
     takes_bind 11 (signature_at bytes) bytes _ (takes_bind 11 (bytes_at 11 bytes) bytes _ (bytes_take_all 11 bytes) (λ s. takes_cond 0 (bytes_eq s.0 signature) (Ok s) (Err (Faulty Signature)) s.1 (takes_none s.0 s.1) tt)) (λ s.
     takes_bind 0 (flags_at s.1) s.1 _ (takes_bind 0 (number_at w32 s.1) s.1 _ (less 0 4 (number_at w32 s.1) s.1 (omega arith) (number_takes w32 s.1)) (λ n. takes_cond 0 (ltb n.0 65536) (Ok n) (Err (Faulty (Flags n.0))) n.1 (takes_none n.0 n.1) tt)) (λ f.
     takes_bind 0 (number_at w32 f.1) f.1 _ (less 0 4 (number_at w32 f.1) f.1 (omega arith) (number_takes w32 f.1)) (λ n. takes_cond 0 (ltb n.0 2147483648) (Ok n) (Err (Faulty (Extension (cast_signed w32 n.0)))) n.1 (takes_none n.0 n.1) tt)))
 
-pub head_takes : (bytes : List ℕ) → Takes 11 (head_at bytes) bytes
+pub head_takes : (bytes : List ℕ) → TakesAtLeast 11 (head_at bytes) bytes
 unfolding head_at
 head_takes bytes = takes_bind 11 (fixed_at bytes) bytes _ (fixed_takes bytes) (λ n. bytes_take n.0 n.1)
 

@@ -75,10 +75,10 @@ unfolding head_at fixed_at signature_at flags_at extension_at
 head-again h rest is =
     let flags = is.0 in
     let extension = is.1 in
-    let behind : List ℕ = to_be_bytes w32 flags ++ (to_be_bytes w32 (length extension) ++ (extension ++ rest)) in
-    let parted : h ++ rest ≡ signature ++ behind = ap (λ (x : List ℕ). x ++ rest) is.4 ∙ append_assoc (signature ++ to_be_bytes w32 flags ++ to_be_bytes w32 (length extension)) extension rest ∙ append_assoc (signature ++ to_be_bytes w32 flags) (to_be_bytes w32 (length extension)) (extension ++ rest) ∙ append_assoc signature (to_be_bytes w32 flags) (to_be_bytes w32 (length extension) ++ (extension ++ rest)) in
-    let s : bytes_at 11 (signature ++ behind) ≡ Ok (signature, behind) = bytes-again signature behind 11 refl in
-    let f : number_at w32 behind ≡ Ok (flags, to_be_bytes w32 (length extension) ++ (extension ++ rest)) = number-again w32 (2 ^ 32) flags (to_be_bytes w32 (length extension) ++ (extension ++ rest)) wide32 (omega (arith, is.2)) in
+    let after : List ℕ = to_be_bytes w32 flags ++ (to_be_bytes w32 (length extension) ++ (extension ++ rest)) in
+    let parted : h ++ rest ≡ signature ++ after = ap (λ (x : List ℕ). x ++ rest) is.4 ∙ append_assoc (signature ++ to_be_bytes w32 flags ++ to_be_bytes w32 (length extension)) extension rest ∙ append_assoc (signature ++ to_be_bytes w32 flags) (to_be_bytes w32 (length extension)) (extension ++ rest) ∙ append_assoc signature (to_be_bytes w32 flags) (to_be_bytes w32 (length extension) ++ (extension ++ rest)) in
+    let s : bytes_at 11 (signature ++ after) ≡ Ok (signature, after) = bytes-again signature after 11 refl in
+    let f : number_at w32 after ≡ Ok (flags, to_be_bytes w32 (length extension) ++ (extension ++ rest)) = number-again w32 (2 ^ 32) flags (to_be_bytes w32 (length extension) ++ (extension ++ rest)) wide32 (omega (arith, is.2)) in
     let low : ltb flags 65536 ≡ true = lt-ltb flags 65536 is.2 in
     let n : number_at w32 (to_be_bytes w32 (length extension) ++ (extension ++ rest)) ≡ Ok (length extension, extension ++ rest) = number-again w32 (2 ^ 32) (length extension) (extension ++ rest) wide32 (omega (arith, is.3)) in
     let short : ltb (length extension) 2147483648 ≡ true = lt-ltb (length extension) 2147483648 (omega (arith, is.3)) in
@@ -95,16 +95,16 @@ body-rows columns limit [] rest few le fits = refl
 body-rows columns limit (row ∷ rows) rest few le fits =
     ap (body_reading columns limit) (append_assoc (binary_row row) (flat_map binary_row rows) rest) ∙ body-row columns limit row (flat_map binary_row rows ++ rest) few le fits.0 ∙ ap (after_rows (row ∷ [])) (body-rows columns limit rows rest few le fits.1)
 
-pub behind-head : (columns limit : ℕ) (h rest : List ℕ) → IsHead h → binary_reading columns limit (h ++ rest) ≡ body_reading columns limit rest
+pub after-head : (columns limit : ℕ) (h rest : List ℕ) → IsHead h → binary_reading columns limit (h ++ rest) ≡ body_reading columns limit rest
 unfolding binary_reading
-behind-head columns limit h rest is =
+after-head columns limit h rest is =
     let e = head-again h rest is in
     ap (λ r. head_reading (open_head (h ++ rest)) r (body_reading columns limit)) e.1
 
 pub rows-trip : (columns limit : ℕ) (h : List ℕ) (rows : List Row) (rest : List ℕ) → columns ≤ 32767 → limit ≤ 2147483647 → IsHead h → AllByRecursion (FitsBinary columns limit) rows
     → binary_reading columns limit (h ++ flat_map binary_row rows ++ rest) ≡ after_rows rows (body_reading columns limit rest)
 rows-trip columns limit h rows rest few le is fits =
-    ap (binary_reading columns limit) (append_assoc h (flat_map binary_row rows) rest) ∙ behind-head columns limit h (flat_map binary_row rows ++ rest) is ∙ body-rows columns limit rows rest few le fits
+    ap (binary_reading columns limit) (append_assoc h (flat_map binary_row rows) rest) ∙ after-head columns limit h (flat_map binary_row rows ++ rest) is ∙ body-rows columns limit rows rest few le fits
 
 row-trailer : (columns limit : ℕ) → row_at columns limit trailer ≡ Ok (None, [])
 unfolding row_at

@@ -12,9 +12,9 @@ use Rattle.pg_copy.specs.declared.binary_reader.BinaryStage.{BinaryStage}
 use Rattle.pg_copy.specs.declared.binary_reader.BinaryStage.TheVariants.{Head, Extension, Rows, Closed, Failed}
 use Rattle.pg_copy.specs.Row.{Row}
 use Rattle.pg_copy.specs.BinaryPart.{NoPart, Incomplete, Faulty, ◌>>=◌, number_at, head_at, value_at, values_at, row_at}
-use Rattle.pg_copy.specs.Private.BinaryPart.{rest_of, IsWalkBegun, IsRowWalked, row_or_trailer, closed_at, body_at, part_at, IsBehindHead, StartsRow, IsLooked, stage_of, is_head, IsBinaryReader}
+use Rattle.pg_copy.specs.Private.BinaryPart.{rest_of, IsWalkBegun, IsRowWalked, row_or_trailer, closed_at, body_at, part_at, IsAfterHead, StartsRow, IsLooked, stage_of, is_head, IsBinaryReader}
 use Rattle.pg_copy.specs.BinaryReader.{IsReading}
-use Rattle.pg_copy.proofs.BinaryReads.{Grows, number_grows, values_grow, head_grows, Takes, value_takes, head_takes}
+use Rattle.pg_copy.proofs.BinaryReads.{Grows, number_grows, values_grow, head_grows, TakesAtLeast, value_takes, head_takes}
 
 -- ---- the bytes after what was read
 
@@ -66,8 +66,8 @@ number-there bytes le = cond-false _ _ _ (le-ltb (length bytes) 2 le)
 number-short : (bytes : List ℕ) → length bytes < 2 → number_at w16 bytes ≡ Err Incomplete
 number-short bytes lt = cond-true _ _ _ (lt-ltb (length bytes) 2 lt)
 
-number-behind : (bytes : List ℕ) (count : ℕ) (rest : List ℕ) → number_at w16 bytes ≡ Ok (count, rest) → (2 ≤ length bytes) × (rest ≡ drop 2 bytes)
-number-behind bytes count rest e = elim (cases_lt (length bytes) 2) [
+number-after : (bytes : List ℕ) (count : ℕ) (rest : List ℕ) → number_at w16 bytes ≡ Ok (count, rest) → (2 ≤ length bytes) × (rest ≡ drop 2 bytes)
+number-after bytes count rest e = elim (cases_lt (length bytes) 2) [
   | inl lt ↦ absurd (clash (sym (number-short bytes lt) ∙ e))
   | inr le ↦ (le, sym (rest-same (from_be_bytes w16 (take 2 bytes), drop 2 bytes) count rest (sym (number-there bytes le) ∙ e)))
 ]
@@ -78,7 +78,7 @@ number-behind bytes count rest e = elim (cases_lt (length bytes) 2) [
 pub begun-start : (columns limit : ℕ) (bytes : List ℕ) (count : ℕ) (rest : List ℕ) → number_at w16 bytes ≡ Ok (count, rest) → count ≡ columns → IsWalkBegun columns limit bytes (record { at = 2; left = columns })
 unfolding values_at
 begun-start columns limit bytes count rest e same =
-    let b = number-behind bytes count rest e in
+    let b = number-after bytes count rest e in
     let none : columns - columns ≡ 0 = omega arith in
     record {
       count = e ∙ ap (λ (n : ℕ). Ok (n, rest)) same ∙ ap (λ (x : List ℕ). Ok (columns, x)) b.1;
@@ -93,7 +93,7 @@ row-incomplete columns limit bytes s e = rw e refl
 
 pub row-trailer : (columns limit : ℕ) (bytes : List ℕ) (count : ℕ) (rest : List ℕ) → number_at w16 bytes ≡ Ok (count, rest) → count ≡ 65535 → row_at columns limit bytes ≡ Ok (None, drop 2 bytes)
 unfolding row_at
-row-trailer columns limit bytes count rest e is = rw (e, eq-eqb count 65535 is) (ap (λ (x : List ℕ). Ok (None, x)) (number-behind bytes count rest e).1)
+row-trailer columns limit bytes count rest e is = rw (e, eq-eqb count 65535 is) (ap (λ (x : List ℕ). Ok (None, x)) (number-after bytes count rest e).1)
 
 pub row-other : (columns limit : ℕ) (bytes : List ℕ) (count : ℕ) (rest : List ℕ) → number_at w16 bytes ≡ Ok (count, rest) → (count ≡ 65535 → ⊥) → (count ≡ columns → ⊥) → row_at columns limit bytes ≡ Err (Faulty (FieldCount (cast_signed w16 count)))
 unfolding row_at
@@ -102,7 +102,7 @@ row-other columns limit bytes count rest e not_trailer other = rw (e, ne_eqb cou
 pub begun-more : (columns limit : ℕ) (bytes : List ℕ) (at l : ℕ) (v : Option (List ℕ)) (after : List ℕ) → 0 < l → IsWalkBegun columns limit bytes (record { at = at; left = l }) → value_at limit (drop at bytes) ≡ Ok (v, after)
     → IsWalkBegun columns limit bytes (record { at = length bytes - length after; left = l - 1 }) × (at ≤ length bytes - length after) × (length after ≤ length bytes) × (after ≡ drop (length bytes - length after) bytes)
 begun-more columns limit bytes at l v after some h e =
-    let t = subst (λ x. Takes 0 x (drop at bytes)) e (value_takes limit (drop at bytes)) in
+    let t = subst (λ x. TakesAtLeast 0 x (drop at bytes)) e (value_takes limit (drop at bytes)) in
     let long = length-drop at bytes in
     let len : length after ≡ length (drop at bytes) - t.0 = ap length t.3 ∙ length-drop t.0 (drop at bytes) in
     let place : length bytes - length after ≡ at + t.0 = omega (arith, h.in_range, t.2) in
@@ -146,36 +146,36 @@ grown-rest {A} (Err s) longer rest more g e = absurd cc
 pub walked-append : (columns limit : ℕ) (bytes more : List ℕ) (w : Walk) → IsRowWalked columns limit bytes w → IsRowWalked columns limit (bytes ++ more) w
 walked-append columns limit bytes more w walked lt =
     let h = walked lt in
-    let two = (number-behind bytes columns (drop 2 bytes) h.count).0 in
-    let behind = drop-more 2 bytes more two in
+    let two = (number-after bytes columns (drop 2 bytes) h.count).0 in
+    let after = drop-more 2 bytes more two in
     let count : number_at w16 (bytes ++ more) ≡ Ok (columns, drop 2 bytes ++ more) = subst (λ x. Grows x (number_at w16 (bytes ++ more)) more) h.count (number_grows w16 bytes more) in
     record {
-      count = count ∙ ap (λ (x : List ℕ). Ok (columns, x)) (sym behind);
+      count = count ∙ ap (λ (x : List ℕ). Ok (columns, x)) (sym after);
       in_range = omega (arith, h.in_range, length-append bytes more);
       few = h.few;
-      values = ap (λ (x : List ℕ). rest_of (values_at limit (columns - w.left) x)) behind
+      values = ap (λ (x : List ℕ). rest_of (values_at limit (columns - w.left) x)) after
           ∙ grown-rest (values_at limit (columns - w.left) (drop 2 bytes)) (values_at limit (columns - w.left) (drop 2 bytes ++ more)) (drop w.at bytes) more (values_grow limit (columns - w.left) (drop 2 bytes) more) h.values
           ∙ ap (λ (x : List ℕ). Ok x) (sym (drop-more w.at bytes more h.in_range));
     }
 
-behind-append : (in_head : Bool) (bytes rest more : List ℕ) → IsBehindHead in_head bytes rest → IsBehindHead in_head (bytes ++ more) (rest ++ more)
-behind-append true bytes rest more h = grown-rest (head_at bytes) (head_at (bytes ++ more)) rest more (head_grows bytes more) h
-behind-append false bytes rest more h = ap (λ (x : List ℕ). x ++ more) h
+after-append : (in_head : Bool) (bytes rest more : List ℕ) → IsAfterHead in_head bytes rest → IsAfterHead in_head (bytes ++ more) (rest ++ more)
+after-append true bytes rest more h = grown-rest (head_at bytes) (head_at (bytes ++ more)) rest more (head_grows bytes more) h
+after-append false bytes rest more h = ap (λ (x : List ℕ). x ++ more) h
 
 pub looked-append : (in_head : Bool) (columns limit : ℕ) (bytes more : List ℕ) (l : Look) → IsLooked in_head columns limit bytes l → IsLooked in_head columns limit (bytes ++ more) l
 looked-append in_head columns limit bytes more l h =
-    let behind = drop-more l.start bytes more h.in_range in
+    let after = drop-more l.start bytes more h.in_range in
     record {
       in_range = omega (arith, h.in_range, length-append bytes more);
-      head = λ e. subst (λ (x : List ℕ). IsBehindHead in_head (bytes ++ more) x) (sym behind) (behind-append in_head bytes (drop l.start bytes) more (h.head e));
+      head = λ e. subst (λ (x : List ℕ). IsAfterHead in_head (bytes ++ more) x) (sym after) (after-append in_head bytes (drop l.start bytes) more (h.head e));
       fresh = h.fresh;
       none = h.none;
-      walk = subst (λ (x : List ℕ). IsRowWalked columns limit x l.walk) (sym behind) (walked-append columns limit (drop l.start bytes) more l.walk h.walk);
+      walk = subst (λ (x : List ℕ). IsRowWalked columns limit x l.walk) (sym after) (walked-append columns limit (drop l.start bytes) more l.walk h.walk);
     }
 
 -- ---- the part, by what stands after the head
 
-pub part-of : (in_head : Bool) (columns limit : ℕ) (bytes rest : List ℕ) → IsBehindHead in_head bytes rest → part_at (stage_of in_head) columns limit bytes ≡ body_at columns limit rest
+pub part-of : (in_head : Bool) (columns limit : ℕ) (bytes rest : List ℕ) → IsAfterHead in_head bytes rest → part_at (stage_of in_head) columns limit bytes ≡ body_at columns limit rest
 unfolding part_at
 part-of true columns limit bytes rest h =
     let x = rest-is (head_at bytes) rest h in
@@ -193,7 +193,7 @@ head-stuck columns limit bytes s e = ap (λ r. r >>= λ y. body_at columns limit
 -- where the head ends
 pub head-end : (bytes h rest : List ℕ) → head_at bytes ≡ Ok (h, rest) → (length rest ≤ length bytes) × (0 < length bytes - length rest) × (rest ≡ drop (length bytes - length rest) bytes)
 head-end bytes h rest e =
-    let t = subst (λ x. Takes 11 x bytes) e (head_takes bytes) in
+    let t = subst (λ x. TakesAtLeast 11 x bytes) e (head_takes bytes) in
     let len : length rest ≡ length bytes - t.0 = ap length t.3 ∙ length-drop t.0 bytes in
     let place : length bytes - length rest ≡ t.0 = omega (arith, t.2) in
     (omega arith, omega (arith, t.1), t.3 ∙ ap (λ (n : ℕ). drop n bytes) (sym place))
@@ -218,13 +218,13 @@ reader-append columns limit kept more l stage h keeps = record {
 
 -- ---- looks
 
-pub part-stuck : (in_head : Bool) (columns limit : ℕ) (bytes rest : List ℕ) (s : NoPart) → IsBehindHead in_head bytes rest → row_at columns limit rest ≡ Err s → part_at (stage_of in_head) columns limit bytes ≡ Err s
-part-stuck in_head columns limit bytes rest s behind e = part-of in_head columns limit bytes rest behind ∙ body-of columns limit rest (Err s) e
+pub part-stuck : (in_head : Bool) (columns limit : ℕ) (bytes rest : List ℕ) (s : NoPart) → IsAfterHead in_head bytes rest → row_at columns limit rest ≡ Err s → part_at (stage_of in_head) columns limit bytes ≡ Err s
+part-stuck in_head columns limit bytes rest s after e = part-of in_head columns limit bytes rest after ∙ body-of columns limit rest (Err s) e
 
-pub part-closed : (in_head : Bool) (columns limit : ℕ) (bytes rest : List ℕ) → IsBehindHead in_head bytes rest → row_at columns limit rest ≡ Ok (None, drop 2 rest) → length rest ≡ 2 → part_at (stage_of in_head) columns limit bytes ≡ Ok ((None, Closed), [])
-part-closed in_head columns limit bytes rest behind e two =
+pub part-closed : (in_head : Bool) (columns limit : ℕ) (bytes rest : List ℕ) → IsAfterHead in_head bytes rest → row_at columns limit rest ≡ Ok (None, drop 2 rest) → length rest ≡ 2 → part_at (stage_of in_head) columns limit bytes ≡ Ok ((None, Closed), [])
+part-closed in_head columns limit bytes rest after e two =
     let none : drop 2 rest ≡ [] = drop_all 2 rest (omega arith) in
-    part-of in_head columns limit bytes rest behind ∙ body-of columns limit rest (Ok (None, drop 2 rest)) e ∙ ap closed_at none
+    part-of in_head columns limit bytes rest after ∙ body-of columns limit rest (Ok (None, drop 2 rest)) e ∙ ap closed_at none
 
 row-two : (columns limit : ℕ) (rest : List ℕ) (o : Option Row) (after : List ℕ) → row_at columns limit rest ≡ Ok (o, after) → 2 ≤ length rest
 row-two columns limit rest o after f = elim (cases_lt (length rest) 2) [
@@ -235,11 +235,11 @@ row-two columns limit rest o after f = elim (cases_lt (length rest) 2) [
     clash : ◌≡◌ {A = Result (Option Row × List ℕ) NoPart} (Err Incomplete) (Ok (o, after)) → ⊥
     clash e = cc
 
-pub part-after : (in_head : Bool) (columns limit : ℕ) (bytes rest : List ℕ) → IsBehindHead in_head bytes rest → row_at columns limit rest ≡ Ok (None, drop 2 rest) → (length rest ≡ 2 → ⊥) → part_at (stage_of in_head) columns limit bytes ≡ Err (Faulty AfterTrailer)
-part-after in_head columns limit bytes rest behind e more =
+pub part-after : (in_head : Bool) (columns limit : ℕ) (bytes rest : List ℕ) → IsAfterHead in_head bytes rest → row_at columns limit rest ≡ Ok (None, drop 2 rest) → (length rest ≡ 2 → ⊥) → part_at (stage_of in_head) columns limit bytes ≡ Err (Faulty AfterTrailer)
+part-after in_head columns limit bytes rest after e more =
     let two = row-two columns limit rest None (drop 2 rest) e in
     let long : 0 < length (drop 2 rest) = omega (arith, length-drop 2 rest, two, more_than (length rest) two more) in
-    part-of in_head columns limit bytes rest behind ∙ body-of columns limit rest (Ok (None, drop 2 rest)) e ∙ something (drop 2 rest) long
+    part-of in_head columns limit bytes rest after ∙ body-of columns limit rest (Ok (None, drop 2 rest)) e ∙ something (drop 2 rest) long
   where
     something : (x : List ℕ) → 0 < length x → closed_at x ≡ Err (Faulty AfterTrailer)
     something [] lt = absurd (omega arith)
@@ -249,18 +249,18 @@ part-after in_head columns limit bytes rest behind e more =
     more_than n le ne = omega arith
 
 -- a row that was found
-pub part-row : (in_head : Bool) (columns limit : ℕ) (bytes : List ℕ) (l : Look) → columns ≤ 32767 → IsLooked in_head columns limit bytes l → IsBehindHead in_head bytes (drop l.start bytes) → 0 < l.walk.at → l.walk.left ≡ 0
+pub part-row : (in_head : Bool) (columns limit : ℕ) (bytes : List ℕ) (l : Look) → columns ≤ 32767 → IsLooked in_head columns limit bytes l → IsAfterHead in_head bytes (drop l.start bytes) → 0 < l.walk.at → l.walk.left ≡ 0
     → (row : Row) × (values_at limit columns (drop (l.start + 2) bytes) ≡ Ok (row, drop (l.start + l.walk.at) bytes)) × (part_at (stage_of in_head) columns limit bytes ≡ Ok ((Some row, Rows), drop (l.start + l.walk.at) bytes)) × (l.start + 2 ≤ length bytes) × (l.start + l.walk.at ≤ length bytes)
-part-row in_head columns limit bytes l few h behind some none =
+part-row in_head columns limit bytes l few h after some none =
     let rest = drop l.start bytes in
     let b = h.walk some in
     let r = row-whole columns limit rest l.walk few none b in
     let place : drop l.walk.at rest ≡ drop (l.start + l.walk.at) bytes = drop-drop l.walk.at l.start bytes in
     let values : drop 2 rest ≡ drop (l.start + 2) bytes = drop-drop 2 l.start bytes in
-    let two = (number-behind rest columns (drop 2 rest) b.count).0 in (
+    let two = (number-after rest columns (drop 2 rest) b.count).0 in (
       r.0,
       ap (values_at limit columns) (sym values) ∙ r.1 ∙ ap (λ (x : List ℕ). Ok (r.0, x)) place,
-      part-of in_head columns limit bytes rest behind ∙ body-of columns limit rest (Ok (Some r.0, drop l.walk.at rest)) r.2 ∙ ap (λ (x : List ℕ). Ok ((Some r.0, Rows), x)) place,
+      part-of in_head columns limit bytes rest after ∙ body-of columns limit rest (Ok (Some r.0, drop l.walk.at rest)) r.2 ∙ ap (λ (x : List ℕ). Ok ((Some r.0, Rows), x)) place,
       omega (arith, two, length-drop l.start bytes, h.in_range),
       omega (arith, b.in_range, length-drop l.start bytes, h.in_range),
     )
@@ -269,11 +269,11 @@ pub part-head : (in_head : Bool) (columns limit : ℕ) (bytes : List ℕ) (s : N
 part-head true columns limit bytes s e h = head-stuck columns limit bytes s h
 part-head false columns limit bytes s e h = absurd (false≢true e)
 
-pub start-behind : (in_head : Bool) (bytes : List ℕ) (start : ℕ) (h rest : List ℕ) → in_head ≡ true → start ≤ 0 → head_at bytes ≡ Ok (h, rest) → StartsRow in_head bytes start (Ok (length bytes - length rest))
-start-behind true bytes start h rest e le read =
+pub start-after : (in_head : Bool) (bytes : List ℕ) (start : ℕ) (h rest : List ℕ) → in_head ≡ true → start ≤ 0 → head_at bytes ≡ Ok (h, rest) → StartsRow in_head bytes start (Ok (length bytes - length rest))
+start-after true bytes start h rest e le read =
     let n = head-end bytes h rest read in
     (omega arith, ap rest_of read ∙ ap (λ (x : List ℕ). Ok x) n.2, inr (refl, omega arith, n.1))
-start-behind false bytes start h rest e le read = absurd (false≢true e)
+start-after false bytes start h rest e le read = absurd (false≢true e)
 
 -- ---- a reader
 
@@ -283,12 +283,12 @@ not-failed stage fault h e = subst IsReading e h
 
 -- where the row begins after the head, the head was read
 pub started : (in_head : Bool) (bytes : List ℕ) (start n : ℕ) → StartsRow in_head bytes start (Ok n) → in_head ≡ true → n ≡ 0 → ⊥
-started in_head bytes start n (le, behind, inl (inl f, same)) e z = false≢true (sym f ∙ e)
-started in_head bytes start n (le, behind, inl (inr lt, same)) e z = absurd (omega (arith, lt, same, z))
-started in_head bytes start n (le, behind, inr s) e z = absurd (omega (arith, s.2, z))
+started in_head bytes start n (le, after, inl (inl f, same)) e z = false≢true (sym f ∙ e)
+started in_head bytes start n (le, after, inl (inr lt, same)) e z = absurd (omega (arith, lt, same, z))
+started in_head bytes start n (le, after, inr s) e z = absurd (omega (arith, s.2, z))
 
 -- the row that was copied is the row that was found
-pub found-row : (in_head : Bool) (columns limit : ℕ) (bytes : List ℕ) (l : Look) (items : Row) (values : List ℕ) → columns ≤ 32767 → IsLooked in_head columns limit bytes l → (0 < l.walk.at) × (l.walk.left ≡ 0) × IsBehindHead in_head bytes (drop l.start bytes)
+pub found-row : (in_head : Bool) (columns limit : ℕ) (bytes : List ℕ) (l : Look) (items : Row) (values : List ℕ) → columns ≤ 32767 → IsLooked in_head columns limit bytes l → (0 < l.walk.at) × (l.walk.left ≡ 0) × IsAfterHead in_head bytes (drop l.start bytes)
     → values ≡ drop (l.start + 2) bytes → IfOk (values_at limit columns values) (λ x. items ≡ x.0) → part_at (stage_of in_head) columns limit bytes ≡ Ok ((Some items, Rows), drop (l.start + l.walk.at) bytes)
 found-row in_head columns limit bytes l items values few h found e made =
     let r = part-row in_head columns limit bytes l few h found.2 found.0 found.1 in

@@ -155,9 +155,9 @@ there : (b : ℕ) (bs : List ℕ) (n : ℕ) → b ≡ 92 → length bs ≤ n →
 there b [] n e le closed h = absurd cc
 there b (c ∷ cs) n e le closed h =
     let s = escape-split c cs in
-    let behind : cs ≡ s.more ++ s.rest = tail-is c s.first cs (s.more ++ s.rest) s.is in
-    let whole : ends_escaped false s.rest ≡ false = sym (raw-closed s.more s.rest s.raw) ∙ ap (ends_escaped false) (sym behind) ∙ closed in
-    let short : length s.rest ≤ n = omega (arith, ap length behind, length-append s.more s.rest) in
+    let after : cs ≡ s.more ++ s.rest = tail-is c s.first cs (s.more ++ s.rest) s.is in
+    let whole : ends_escaped false s.rest ≡ false = sym (raw-closed s.more s.rest s.raw) ∙ ap (ends_escaped false) (sym after) ∙ closed in
+    let short : length s.rest ≤ n = omega (arith, ap length after, length-append s.more s.rest) in
     let spelled : List ℕ = 92 ∷ ((s.first ∷ s.more) ++ s.rest) in
     let text : IsText spelled (s.byte ∷ text_after 0 s.rest) = escaped (s.first ∷ s.more) s.rest s.byte (text_after 0 s.rest) s.escape (h s.rest short whole) in
     let same : b ∷ c ∷ cs ≡ spelled = ap (λ (x : ℕ). x ∷ c ∷ cs) e ∙ ap (λ (x : List ℕ). 92 ∷ x) s.is in

@@ -6,7 +6,7 @@ use Rattle.std.proofs.lemmas.List.{append-nil, take_more, drop_more, take-append
 use Rattle.std.proofs.lemmas.Bool.{cases_eq, eq-eqb, ne_eqb, lt-ltb}
 use Rattle.pg_copy.specs.declared.scan.Scan.{Scan}
 use Rattle.pg_copy.specs.Text.{delimiter, newline, carriage_return, backslash, parts_from, parts, has_unit, ends_escaped}
-use Rattle.pg_copy.specs.Private.Units.{units_from, units, IsPlain, behind, IsScanned, IsUnitAt}
+use Rattle.pg_copy.specs.Private.Units.{units_from, units, IsPlain, after, IsScanned, IsUnitAt}
 
 -- no unit of the bytes is the mark alone, where the first byte is escaped or not
 abbrev pub IsUncut : Bool → ℕ → List ℕ → Type 0
@@ -157,8 +157,8 @@ scanned-run bytes s at (suc n) le plain e h =
     subst (λ (i : ℕ). IsScanned bytes (record s { at = i })) same (scanned-plain bytes s (at + n) (omega arith) (plain (at + n) (omega arith) (omega arith)) e (scanned-run bytes s at n (omega arith) (λ i a b. plain i a (omega (arith, b))) e h))
 
 -- one byte more, which ends no line
-pub scanned-behind : (bytes : List ℕ) (s : Scan) (b : ℕ) → s.at < length bytes → get_or bytes s.at 0 ≡ b → (s.escaped ≡ false → eqb b newline ≡ false) → IsScanned bytes s → IsScanned bytes (behind s b)
-scanned-behind bytes s b lt is other h = go s.escaped refl
+pub scanned-after : (bytes : List ℕ) (s : Scan) (b : ℕ) → s.at < length bytes → get_or bytes s.at 0 ≡ b → (s.escaped ≡ false → eqb b newline ≡ false) → IsScanned bytes s → IsScanned bytes (after s b)
+scanned-after bytes s b lt is other h = go s.escaped refl
   where
     go : (t : Bool) → s.escaped ≡ t → IsScanned bytes (cond t (record { at = s.at + 1; escaped = false; delimiters = s.delimiters; returned = s.returned }) (record { at = s.at + 1; escaped = eqb b backslash; delimiters = s.delimiters + cond (eqb b delimiter) 1 0; returned = s.returned || eqb b carriage_return }))
     go true e = scanned-more bytes s (record { at = s.at; escaped = false; delimiters = s.delimiters; returned = s.returned }) s.at b lt is h (rw e refl) (rw e refl) (rw e (omega arith)) (λ n k. rw e (same_after n s.returned k))

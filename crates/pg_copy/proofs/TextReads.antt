@@ -54,19 +54,19 @@ at_end-after : (columns : Option ℕ) (rows : List Row) (r : RowsRead TextFault)
 at_end-after columns rows r = sym (after-after rows r.rows (last_reading columns r.ending))
 
 -- a call that gives these rows of what was left
-pub record Goes (old new : TextState) (rows : List Row) : Type 0 where
+pub record ReadsRows (old new : TextState) (rows : List Row) : Type 0 where
   pub columns : new.columns ≡ old.columns
   pub ended : new.ended ≡ old.ended
   pub left : (more : List ℕ) → text_left old more ≡ after_rows rows (text_left new more)
 
-pub HasReadText-goes : (old new : TextState) (rows : List Row) (pushed : List ℕ) (given : List Row) → Goes old new rows → HasReadText old pushed given → HasReadText new pushed (given ++ rows)
+pub HasReadText-goes : (old new : TextState) (rows : List Row) (pushed : List ℕ) (given : List Row) → ReadsRows old new rows → HasReadText old pushed given → HasReadText new pushed (given ++ rows)
 HasReadText-goes old new rows pushed given g h =
     record {
       so_far = λ e more. ap (λ (c : Option ℕ). text_reading c (pushed ++ more)) g.columns ∙ h.so_far (sym g.ended ∙ e) more ∙ ap (after_rows given) (g.left more) ∙ after-after given rows (text_left new more);
       in_all = ap (λ (c : Option ℕ). text_file_reading c pushed) g.columns ∙ h.in_all ∙ ap (λ (r : RowsRead TextFault). after_rows given (text_at_end old.columns r)) (g.left []) ∙ ap (after_rows given) (at_end-after old.columns rows (text_left new [])) ∙ after-after given rows (text_at_end old.columns (text_left new [])) ∙ ap (λ (c : Option ℕ). after_rows (given ++ rows) (text_at_end c (text_left new []))) (sym g.columns);
     }
 
-pub Goes-same : (old : TextState) → Goes old old []
+pub Goes-same : (old : TextState) → ReadsRows old old []
 Goes-same old = record { columns = refl; ended = refl; left = λ more. refl }
 
 pub HasReadText-same : (s : TextState) (pushed : List ℕ) (given : List Row) → HasReadText s pushed given → HasReadText s pushed (given ++ [])
@@ -94,7 +94,7 @@ before : (old : TextState) (len : ℕ) (more : List ℕ) → old.stage ≡ Lines
 before old len more lines at = left-lines old more lines ∙ reading-line old.columns old.kept more len at
 
 -- the readers before and after a line's answer
-pub Goes-line : (old new : TextState) (len : ℕ) (answer : Answer) → old.stage ≡ Lines → IsUnitAt newline old.kept len → TakesLine len (len + 1) old answer new → Goes old new (given_by answer)
+pub Goes-line : (old new : TextState) (len : ℕ) (answer : Answer) → old.stage ≡ Lines → IsUnitAt newline old.kept len → TakesLine len (len + 1) old answer new → ReadsRows old new (given_by answer)
 Goes-line old new len (Ok (Some row)) lines at t =
     rw t.1 (record { columns = refl; ended = refl; left = λ more. before old len more lines at ∙ t.0 (text_reading old.columns (drop (len + 1) old.kept ++ more)) ∙ ap (after_rows (row ∷ [])) (sym (left-lines (record old { kept = drop (len + 1) old.kept }) more lines)) })
 Goes-line old new len (Ok None) lines at t =

@@ -80,8 +80,8 @@ parts-closed mark _ _ ne e (lone p h) =
 parts-closed mark _ _ ne e (more p bytes ps h k) =
     let u = units-uncut mark p ne h in
     let plain : eqb mark 92 ≡ false = ne_eqb mark 92 ne in
-    let behind : ends_escaped false bytes ≡ false = ap (λ (x : Bool). ends_escaped x bytes) (sym plain) ∙ ap (λ (x : Bool). ends_escaped x (mark ∷ bytes)) (sym u.1) ∙ sym (ends_escaped-append false p (mark ∷ bytes)) ∙ e in
-    (u.1, parts-closed mark bytes ps ne behind k)
+    let after : ends_escaped false bytes ≡ false = ap (λ (x : Bool). ends_escaped x bytes) (sym plain) ∙ ap (λ (x : Bool). ends_escaped x (mark ∷ bytes)) (sym u.1) ∙ sym (ends_escaped-append false p (mark ∷ bytes)) ∙ e in
+    (u.1, parts-closed mark bytes ps ne after k)
 
 fields-there : (ps : List (List ℕ)) → AreClosed ps → AreFields ps (map field_value ps)
 fields-there [] h = tt

@@ -58,33 +58,33 @@ pub record FitsBinary (columns limit : ℕ) (row : Row) : Type 0 where
 
 -- In the place of a row these bytes are faulty, for this reason. A length or number is read as
 -- unsigned, so one below -1 is above each limit.
-pub data IsFaultyRest (columns limit : ℕ) : List ℕ → BinaryFault → Type 0 where
+pub data IsFaultyRow (columns limit : ℕ) : List ℕ → BinaryFault → Type 0 where
   field_count : (n : ℕ) (more : List ℕ) → n < 2 ^ 16 → (n ≡ 65535 → ⊥) → (n ≡ columns → ⊥)
-      → IsFaultyRest columns limit (to_be_bytes w16 n ++ more) (FieldCount (cast_signed w16 n))
+      → IsFaultyRow columns limit (to_be_bytes w16 n ++ more) (FieldCount (cast_signed w16 n))
   field_length : (values : Row) (n : ℕ) (more : List ℕ) → AllByRecursion (FitsValue limit) values
       → length values < columns
       → n < 2 ^ 32 → (n ≡ 4294967295 → ⊥) → limit < n
-      → IsFaultyRest columns limit (to_be_bytes w16 columns
+      → IsFaultyRow columns limit (to_be_bytes w16 columns
       ++ (flat_map value values ++ (to_be_bytes w32 n ++ more)))
       (FieldLength (cast_signed w32 n))
   after_trailer : (b : ℕ) (more : List ℕ)
-      → IsFaultyRest columns limit (trailer ++ b ∷ more) AfterTrailer
+      → IsFaultyRow columns limit (trailer ++ b ∷ more) AfterTrailer
 
 -- In the place of a row these bytes begin with no row and no trailer, and aren't faulty: more bytes
 -- are to come.
-pub record IsOpenRest (columns limit : ℕ) (rest : List ℕ) : Type 0 where
+pub record IsOpenRow (columns limit : ℕ) (rest : List ℕ) : Type 0 where
   pub no_row : (row : Row) (more : List ℕ) → FitsBinary columns limit row
       → rest ≡ binary_row row ++ more → ⊥
   pub no_trailer : (more : List ℕ) → rest ≡ trailer ++ more → ⊥
-  pub no_fault : (f : BinaryFault) → IsFaultyRest columns limit rest f → ⊥
+  pub no_fault : (f : BinaryFault) → IsFaultyRow columns limit rest f → ⊥
 
 -- What stands after the rows is these bytes, which mean this ending: an open rest, the trailer, or
 -- a fault.
 abbrev pub IsRest : ℕ → ℕ → List ℕ → RowsEnding BinaryFault → Type 0
-IsRest columns limit rest (Open kept) = (kept ≡ rest) × IsOpenRest columns limit rest
+IsRest columns limit rest (Open kept) = (kept ≡ rest) × IsOpenRow columns limit rest
 IsRest columns limit rest Done = rest ≡ trailer
 IsRest columns limit rest Ended = ⊥
-IsRest columns limit rest (Bad f) = IsFaultyRest columns limit rest f
+IsRest columns limit rest (Bad f) = IsFaultyRow columns limit rest f
 
 -- ---- what stands in the place of a head that isn't whole
 

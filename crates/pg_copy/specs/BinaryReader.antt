@@ -71,19 +71,19 @@ kept_of stages.Closed piece = []
 kept_of (stages.Failed fault) piece = []
 
 -- the stage after a piece: an extension may end in it, and a byte after the trailer is a fault
-abbrev pub stage_behind : BinaryStage → List ℕ → BinaryStage
-stage_behind stages.Head piece = stages.Head
-stage_behind (stages.Extension n) piece = if nat_lt (length piece) n
+abbrev pub stage_after : BinaryStage → List ℕ → BinaryStage
+stage_after stages.Head piece = stages.Head
+stage_after (stages.Extension n) piece = if nat_lt (length piece) n
     then stages.Extension (n - length piece) else stages.Rows
-stage_behind stages.Rows piece = stages.Rows
-stage_behind stages.Closed [] = stages.Closed
-stage_behind stages.Closed (b ∷ bs) = stages.Failed AfterTrailer
-stage_behind (stages.Failed fault) piece = stages.Failed fault
+stage_after stages.Rows piece = stages.Rows
+stage_after stages.Closed [] = stages.Closed
+stage_after stages.Closed (b ∷ bs) = stages.Failed AfterTrailer
+stage_after (stages.Failed fault) piece = stages.Failed fault
 
 -- the reader after a push that took this piece
 abbrev pub pushed_after : BinaryState → List ℕ → BinaryState
 pushed_after s piece =
-    record s { kept = s.kept ++ kept_of s.stage piece; stage = stage_behind s.stage piece }
+    record s { kept = s.kept ++ kept_of s.stage piece; stage = stage_after s.stage piece }
 
 -- The reader is in the head or among the rows, and has found neither trailer nor fault.
 abbrev pub IsReading : BinaryStage → Type 0

@@ -8,7 +8,7 @@ ghost use Rattle.std.specs.Option.{option_copied};
 ghost use Rattle.pg_copy.specs.declared.binary_part.NoRow.TheVariants.{Memory};
 ghost use Rattle.pg_copy.specs.BinaryPart.{Incomplete, number_at, bytes_at, signature_at, flags_at, extension_at, fixed_at, head_at, value_at, values_at};
 ghost use Rattle.pg_copy.specs.Row.{Row};
-ghost use Rattle.pg_copy.specs.Private.BinaryPart.{ReadsPart, IsRowWalked, FindsRow, IsBehindHead, StartsRow, IsLooked, FindsPart, extension_left};
+ghost use Rattle.pg_copy.specs.Private.BinaryPart.{ReadsPart, IsRowWalked, FindsRow, IsAfterHead, StartsRow, IsLooked, FindsPart, extension_left};
 
 use crate::fault::BinaryFault;
 use crate::format::{LONGEST_VALUE, NULL, SIGNATURE, TRAILER};
@@ -259,7 +259,7 @@ impl Look {
 /// Where the row begins in the bytes: after the head, where it is still to be read.
 fn row_start(in_head: bool, bytes: &[u8], start: usize) -> Result<usize, NoPart>
     requires found { (in_head ≡ false) ⊎ (0 < start)
-        → IsBehindHead in_head bytes.now (drop start bytes.now) }
+        → IsAfterHead in_head bytes.now (drop start bytes.now) }
     requires in_range { start ≤ length bytes.now }
     ensures { StartsRow in_head bytes.now start result }
 {

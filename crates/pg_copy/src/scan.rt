@@ -2,7 +2,7 @@
 
 ghost use Rattle.std.specs.Prelude.{◌≡◌, ◌+◌, ◌<◌, ◌≤◌, ◌^◌, length, true, false};
 ghost use Rattle.pg_copy.specs.Text.{newline};
-ghost use Rattle.pg_copy.specs.Private.Units.{IsScanned, IsUnitAt, behind};
+ghost use Rattle.pg_copy.specs.Private.Units.{IsScanned, IsUnitAt, after};
 
 use crate::format::DELIMITER;
 use crate::plain::{is_plain, plain_end};
@@ -33,10 +33,10 @@ impl Scan {
     }
 
     /// The walk after one byte more, which doesn't end the line.
-    fn behind(self, byte: u8) -> Self
+    fn after(self, byte: u8) -> Self
         requires few { self.delimiters ≤ self.at }
         requires room { self.at + 1 < 2 ^ 64 }
-        ensures { result ≡ behind self byte }
+        ensures { result ≡ after self byte }
     {
         if self.escaped {
             return Scan {
@@ -66,14 +66,14 @@ impl Scan {
         while scan.at < bytes.len() {
             let byte = bytes[scan.at];
             if scan.escaped {
-                scan = scan.behind(byte);
+                scan = scan.after(byte);
             } else if is_plain(byte) {
                 scan.at = plain_end(bytes, scan.at + 1);
             } else if byte == b'\n' {
                 *self = scan;
                 return true;
             } else {
-                scan = scan.behind(byte);
+                scan = scan.after(byte);
             }
         }
         *self = scan;

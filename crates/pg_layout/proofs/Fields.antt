@@ -11,187 +11,101 @@ use Rattle.pg_layout.specs.declared.value.Status.TheVariants.{Idle, InBlock, Fai
 use Rattle.pg_layout.specs.declared.value.Column.{Column}
 use Rattle.pg_layout.specs.declared.value.ErrorField.{ErrorField}
 use Rattle.pg_layout.specs.declared.value.CopyHead.{CopyHead}
-use Rattle.pg_layout.specs.Field.{int16, string, counted, exceeds_count, contains_zero, value}
-use Rattle.pg_layout.specs.Value.{column, ColumnIsOfType, error_field, error_fields, field_has_zero, copy_head, format_byte, status_byte}
-use Rattle.pg_layout.specs.Private.Reader.{◌>>=◌, pair_at, number_at, signed_at, nonzero_at, string_at, value_of_length, value_at, null_length, counted_at, ColumnParts, column_of_parts, column_at, behind_zero, up_to_zero_at, terminated_at, error_field_at, choice_at, status_of_byte, binary_of_byte, copy_head_at, name_at, parameter_at}
-use Rattle.pg_layout.proofs.Layouts.{IsBytes, bind_some, some_is, Layout, Spelled, Takes, Reads, rest_bytes, pair_of, pair_reads, mapped_reads, counted_of, counted_reads, plain, is_plain, number_of, number_reads, signed_of, signed_reads, wide16, wide32, signed16, signed32, byte_of, text_of, text_reads, not_zero, guard_some}
+use Rattle.pg_layout.specs.Field.{Body, ◌⨾◌, int16, int32, oid, byte1, value_bytes, value, string, nonzero, contains_zero, exceeds_count, listed, counted, terminated}
+use Rattle.pg_layout.specs.Value.{column, error_field, copy_head, format_byte, status_byte}
+use Rattle.pg_layout.specs.Private.Reader.{◌>>=◌, pair_at, number_at, signed_at, nonzero_at, string_at, value_of_length, value_at, null_length, counted_at, ColumnParts, column_of_parts, column_at, after_zero, up_to_zero_at, terminated_at, error_field_at, choice_at, status_of_byte, binary_of_byte, copy_head_at, name_at, parameter_at}
+use Rattle.pg_layout.proofs.Layouts.{IsBytes, bind_some, some_is, Spelled, BeginsWith, Reads, rest_bytes, pair_of, pair_reads, mapped_reads, Uncounted, counted_reads, is_plain, oid_reads, int16_reads, int32_reads, text_reads, not_zero, guard_some}
 
--- ---- the fields in their plainest form
+-- ---- a byte that isn't zero
 
-pub oid_reads : Reads (number_of w32 (2 ^ 32)) (number_at w32)
-oid_reads = number_reads w32 (2 ^ 32) wide32
-
-pub int16_reads : Reads (signed_of w16) (signed_at w16)
-int16_reads = signed_reads w16 (2 ^ 16) wide16 signed16
-
-pub int32_reads : Reads (signed_of w32) (signed_at w32)
-int32_reads = signed_reads w32 (2 ^ 32) wide32 signed32
-
-pub nonzero_reads : Reads (byte_of (λ b. eqb b 0)) nonzero_at
+pub nonzero_reads : Reads nonzero nonzero_at
 nonzero_reads = record { sound = sound; again = again }
   where
-    sound : (bytes : List ℕ) (b : ℕ) (rest : List ℕ) → IsBytes bytes → nonzero_at bytes ≡ Some (b, rest) → Takes (byte_of (λ b. eqb b 0)) bytes b rest
+    sound : (bytes : List ℕ) (b : ℕ) (rest : List ℕ) → IsBytes bytes → nonzero_at bytes ≡ Some (b, rest) → BeginsWith nonzero bytes b rest
     sound [] b rest fits e = absurd cc
     sound (zero ∷ bytes) b rest fits e = absurd cc
     sound (suc x ∷ bytes) b rest fits e =
         let made : ℕ × List ℕ = (suc x, bytes) in
-        subst (λ (q : ℕ × List ℕ). Takes (byte_of (λ b. eqb b 0)) (suc x ∷ bytes) q.0 q.1) (some_is made (b, rest) e) (record { parts = refl; spelled = record { no_zero = not_zero x; countable = refl; of_type = tt } })
+        subst (λ (q : ℕ × List ℕ). BeginsWith nonzero (suc x ∷ bytes) q.0 q.1) (some_is made (b, rest) e) (record { parts = refl; spelled = record { no_zero = not_zero x; countable = refl; of_type = tt } })
 
-    again : (b : ℕ) (rest : List ℕ) → Spelled (byte_of (λ b. eqb b 0)) b → 1 < 2 ^ 31 → nonzero_at (b ∷ rest) ≡ Some (b, rest)
+    again : (b : ℕ) (rest : List ℕ) → Spelled (nonzero b) → 1 < 2 ^ 31 → nonzero_at (b ∷ rest) ≡ Some (b, rest)
     again zero rest s short = absurd (both s.no_zero)
       where
         both : true ≡ false → ⊥
         both e = cc
     again (suc b) rest s short = refl
 
--- ---- the same bytes, with the conditions said in other words
-
-pub record SameConditions {A : Type 0} (la lb : Layout A) : Type 0 where
-  pub spell : (a : A) → lb.spell a ≡ la.spell a
-  pub there : (a : A) → Spelled la a → Spelled lb a
-  pub again : (a : A) → Spelled lb a → Spelled la a
-
-pub restated : {A : Type 0} (la lb : Layout A) (read : List ℕ → Option (A × List ℕ)) → SameConditions la lb → Reads la read → Reads lb read
-restated {A} la lb read same f = record { sound = sound; again = again }
-  where
-    sound : (bytes : List ℕ) (a : A) (rest : List ℕ) → IsBytes bytes → read bytes ≡ Some (a, rest) → Takes lb bytes a rest
-    sound bytes a rest fits e =
-        let t = f.sound bytes a rest fits e in
-        record { parts = t.parts ∙ ap (λ (u : List ℕ). u ++ rest) (sym (same.spell a)); spelled = same.there a t.spelled }
-
-    again : (a : A) (rest : List ℕ) → Spelled lb a → length (lb.spell a) < 2 ^ 31 → read (lb.spell a ++ rest) ≡ Some (a, rest)
-    again a rest s short =
-        let e = same.spell a in
-        ap (λ (t : List ℕ). read (t ++ rest)) e ∙ f.again a rest (same.again a s) (subst (λ (t : List ℕ). length t < 2 ^ 31) e short)
-
-pub none_any : {A : Type 0} (xs : List A) → list_any (λ _. false) xs ≡ false
-none_any [] = refl
-none_any (x ∷ xs) = none_any xs
-
-pub all_units : {A : Type 0} (xs : List A) → AllByRecursion (λ _. Unit {0}) xs
-all_units [] = tt
-all_units (x ∷ xs) = (tt, all_units xs)
-
--- a counted list of fields without text
-abbrev pub plain_list : {A : Type 0} → (A → List ℕ) → (List A → Type 0) → Layout (List A)
-plain_list spell OfType = record { spell = counted spell; has_zero = λ _. false; has_too_many = exceeds_count; OfType = OfType }
-
-pub plain_list_reads : {A : Type 0} (spell : A → List ℕ) (OfType : A → Type 0) (read : List ℕ → Option (A × List ℕ)) → Reads (plain spell OfType) read → Reads (plain_list spell (AllByRecursion OfType)) (counted_at read)
-plain_list_reads {A} spell OfType read f = restated (counted_of (plain spell OfType)) (plain_list spell (AllByRecursion OfType)) (counted_at read) (record {
-  spell = λ _. refl;
-  there = λ xs s. record { no_zero = refl; countable = (or_parts (exceeds_count xs) (list_any (λ _. false) xs) s.countable).0; of_type = s.of_type };
-  again = λ xs s. record { no_zero = none_any xs; countable = or_from _ _ s.countable (none_any xs); of_type = s.of_type };
-}) (counted_reads (plain spell OfType) read f)
-
 -- ---- values
-
-abbrev pub value_of : Layout (Option (List ℕ))
-value_of = plain value (λ _. Unit {0})
 
 pub chosen : {A : Type 0} (b : Bool) (x y z : A) → cond b x y ≡ z → ((b ≡ true) × (x ≡ z)) ⊎ ((b ≡ false) × (y ≡ z))
 chosen true x y z e = inl (refl, e)
 chosen false x y z e = inr (refl, e)
 
-taken : (n : ℕ) (bytes : List ℕ) (v : Option (List ℕ)) (rest : List ℕ) → value_of_length n bytes ≡ Some (v, rest) → to_be_bytes w32 n ++ bytes ≡ value v ++ rest
+taken : (n : ℕ) (bytes : List ℕ) (v : Option (List ℕ)) (rest : List ℕ) → value_of_length n bytes ≡ Some (v, rest) → to_be_bytes w32 n ++ bytes ≡ (value v).bytes ++ rest
 taken n bytes v rest e =
     let null : Option (Option (List ℕ) × List ℕ) = Some (None, bytes) in
     let full : Option (List ℕ) × List ℕ = (Some (take n bytes), drop n bytes) in
     elim (chosen (eqb n null_length) null (cond (ltb 2147483647 n) None (cond (ltb (length bytes) n) None (Some full))) (Some (v, rest)) e) [
-      | inl p ↦ subst (λ (q : Option (List ℕ) × List ℕ). to_be_bytes w32 n ++ bytes ≡ value q.0 ++ q.1) (some_is (None, bytes) (v, rest) p.1) (ap (λ (k : ℕ). to_be_bytes w32 k ++ bytes) (eqb-true _ _ p.0))
+      | inl p ↦ subst (λ (q : Option (List ℕ) × List ℕ). to_be_bytes w32 n ++ bytes ≡ (value q.0).bytes ++ q.1) (some_is (None, bytes) (v, rest) p.1) (ap (λ (k : ℕ). to_be_bytes w32 k ++ bytes) (eqb-true _ _ p.0))
       | inr p ↦
           let g = guard (ltb 2147483647 n) (cond (ltb (length bytes) n) None (Some full)) (v, rest) p.1 in
           let h = guard (ltb (length bytes) n) (Some full) (v, rest) g.1 in
           let long : n ≤ length bytes = ltb-false _ _ h.0 in
           let len : length (take n bytes) ≡ n = omega (arith, length-take n bytes) in
           let parts : to_be_bytes w32 n ++ bytes ≡ (to_be_bytes w32 (length (take n bytes)) ++ take n bytes) ++ drop n bytes = ap (λ (t : List ℕ). to_be_bytes w32 n ++ t) (sym (take-append-drop n bytes)) ∙ sym (append_assoc (to_be_bytes w32 n) (take n bytes) (drop n bytes)) ∙ ap (λ (k : ℕ). (to_be_bytes w32 k ++ take n bytes) ++ drop n bytes) (sym len) in
-          subst (λ (q : Option (List ℕ) × List ℕ). to_be_bytes w32 n ++ bytes ≡ value q.0 ++ q.1) (some_is full (v, rest) h.1) parts
+          subst (λ (q : Option (List ℕ) × List ℕ). to_be_bytes w32 n ++ bytes ≡ (value q.0).bytes ++ q.1) (some_is full (v, rest) h.1) parts
     ]
   where
     guard : {A : Type 0} (b : Bool) (o : Option A) (y : A) → cond b None o ≡ Some y → (b ≡ false) × (o ≡ Some y)
     guard true o y e = absurd cc
     guard false o y e = (refl, e)
 
-pub value_reads : Reads value_of value_at
+pub value_reads : Reads value value_at
 unfolding value_at
 value_reads = record { sound = sound; again = again }
   where
-    sound : (bytes : List ℕ) (v : Option (List ℕ)) (rest : List ℕ) → IsBytes bytes → value_at bytes ≡ Some (v, rest) → Takes value_of bytes v rest
+    sound : (bytes : List ℕ) (v : Option (List ℕ)) (rest : List ℕ) → IsBytes bytes → value_at bytes ≡ Some (v, rest) → BeginsWith value bytes v rest
     sound bytes v rest fits e =
         let x = bind_some (number_at w32 bytes) (λ (n : ℕ × List ℕ). value_of_length n.0 n.1) (v, rest) e in
         let t = oid_reads.sound bytes x.0.0 x.0.1 fits x.1 in
-        record { parts = t.parts ∙ taken x.0.0 x.0.1 v rest x.2; spelled = is_plain value (λ _. Unit {0}) v tt }
+        record { parts = t.parts ∙ taken x.0.0 x.0.1 v rest x.2; spelled = is_plain (value_bytes v) (Unit {0}) tt }
 
-    again : (v : Option (List ℕ)) (rest : List ℕ) → Spelled value_of v → length (value v) < 2 ^ 31 → value_at (value v ++ rest) ≡ Some (v, rest)
+    again : (v : Option (List ℕ)) (rest : List ℕ) → Spelled (value v) → length (value v).bytes < 2 ^ 31 → value_at ((value v).bytes ++ rest) ≡ Some (v, rest)
     again None rest s short =
-        let e : number_at w32 (to_be_bytes w32 null_length ++ rest) ≡ Some (null_length, rest) = oid_reads.again null_length rest (is_plain (to_be_bytes w32) (λ n. n < 2 ^ 32) null_length (lit< tt)) (lit< tt) in
+        let e : number_at w32 (to_be_bytes w32 null_length ++ rest) ≡ Some (null_length, rest) = oid_reads.again null_length rest (is_plain (to_be_bytes w32 null_length) (null_length < 2 ^ 32) (lit< tt)) (lit< tt) in
         ap (λ (o : Option (ℕ × List ℕ)). o >>= λ n. value_of_length n.0 n.1) e
     again (Some bytes) rest s short =
         let len = length-append (to_be_bytes w32 (length bytes)) bytes in
         let few : length bytes < 2 ^ 31 = omega arith in
-        let e = oid_reads.again (length bytes) (bytes ++ rest) (is_plain (to_be_bytes w32) (λ n. n < 2 ^ 32) (length bytes) (omega arith)) (lit< tt) in
+        let e = oid_reads.again (length bytes) (bytes ++ rest) (is_plain (to_be_bytes w32 (length bytes)) (length bytes < 2 ^ 32) (omega arith)) (lit< tt) in
         let not_null : eqb (length bytes) null_length ≡ false = ne_eqb _ _ (λ same. omega arith) in
         let not_long : ltb 2147483647 (length bytes) ≡ false = le-ltb _ _ (omega arith) in
         let enough : ltb (length (bytes ++ rest)) (length bytes) ≡ false = le-ltb _ _ (omega (arith, length-append bytes rest)) in
         ap value_at (append_assoc (to_be_bytes w32 (length bytes)) bytes rest) ∙ rw (e, not_null, not_long, enough, take_at bytes rest (length bytes) refl, drop_at bytes rest (length bytes) refl) refl
 
-pub values_reads : Reads (plain_list value (λ _. Unit {0})) (counted_at value_at)
-values_reads = restated (plain_list value (AllByRecursion (λ _. Unit {0}))) (plain_list value (λ _. Unit {0})) (counted_at value_at) (record {
-  spell = λ _. refl;
-  there = λ xs s. record { no_zero = refl; countable = s.countable; of_type = tt };
-  again = λ xs s. record { no_zero = refl; countable = s.countable; of_type = all_units xs };
-}) (plain_list_reads value (λ _. Unit {0}) value_at value_reads)
-
 -- ---- columns
-
-abbrev pub parts_layout : Layout ColumnParts
-parts_layout = pair_of (pair_of (pair_of (pair_of (pair_of (pair_of text_of (number_of w32 (2 ^ 32))) (signed_of w16)) (number_of w32 (2 ^ 32))) (signed_of w16)) (signed_of w32)) (signed_of w16)
-
-abbrev pub column_of : Layout Column
-column_of = record { spell = column; has_zero = λ c. contains_zero c.name; has_too_many = λ _. false; OfType = ColumnIsOfType }
 
 abbrev column_parts : Column → ColumnParts
 column_parts c = ((((((c.name, c.table_oid), c.attribute), c.type_oid), c.size), c.modifier), c.format)
 
-only_text : (b : Bool) → ((((((b || false) || false) || false) || false) || false) || false) ≡ b
-only_text true = refl
-only_text false = refl
-
-pub column_reads : Reads column_of column_at
+pub column_reads : Reads column column_at
 unfolding column_at
-column_reads = mapped_reads parts_layout column_of
+column_reads = mapped_reads (λ (p : ColumnParts). column (column_of_parts p)) column
     (pair_at (pair_at (pair_at (pair_at (pair_at (pair_at string_at (number_at w32)) (signed_at w16)) (number_at w32)) (signed_at w16)) (signed_at w32)) (signed_at w16))
-    column_of_parts column_parts (record {
-      back = λ _. refl;
-      spell = λ _. refl;
-      there = λ c s. record { no_zero = sym (only_text (contains_zero c.0.0.0.0.0.0)) ∙ s.no_zero; countable = refl; of_type = (s.of_type.0.0.0.0.0.1, s.of_type.0.0.0.0.1, s.of_type.0.0.0.1, s.of_type.0.0.1, s.of_type.0.1, s.of_type.1) };
-      again = λ c s. record { no_zero = only_text (contains_zero c.name) ∙ s.no_zero; countable = refl; of_type = ((((((tt, s.of_type.0), s.of_type.1), s.of_type.2), s.of_type.3), s.of_type.4), s.of_type.5) };
-    })
+    column_of_parts column_parts (record { back = λ _. refl; spell = λ _. refl; there = λ c s. s; again = λ c s. s })
     (pair_reads _ _ _ _ (pair_reads _ _ _ _ (pair_reads _ _ _ _ (pair_reads _ _ _ _ (pair_reads _ _ _ _ (pair_reads _ _ _ _ text_reads oid_reads) int16_reads) oid_reads) int16_reads) int32_reads) int16_reads)
-
-abbrev pub columns_of : Layout (List Column)
-columns_of = record { spell = counted column; has_zero = λ cs. list_any (λ c. contains_zero c.name) cs; has_too_many = exceeds_count; OfType = AllByRecursion ColumnIsOfType }
-
-pub columns_reads : Reads columns_of (counted_at column_at)
-columns_reads = restated (counted_of column_of) columns_of (counted_at column_at) (record {
-  spell = λ _. refl;
-  there = λ xs s. record { no_zero = s.no_zero; countable = (or_parts (exceeds_count xs) (list_any (λ _. false) xs) s.countable).0; of_type = s.of_type };
-  again = λ xs s. record { no_zero = s.no_zero; countable = or_from _ _ s.countable (none_any xs); of_type = s.of_type };
-}) (counted_reads column_of column_at column_reads)
 
 -- ---- a byte that stands for one of a few values
 
-abbrev pub choice_of : {A : Type 0} → (A → ℕ) → Layout A
-choice_of code = plain (λ a. code a ∷ []) (λ _. Unit {0})
-
-pub choice_reads : {A : Type 0} (code : A → ℕ) (choose : ℕ → Option A) → ((b : ℕ) (a : A) → choose b ≡ Some a → code a ≡ b) → ((a : A) → choose (code a) ≡ Some a) → Reads (choice_of code) (choice_at choose)
+pub choice_reads : {A : Type 0} (code : A → ℕ) (choose : ℕ → Option A) → ((b : ℕ) (a : A) → choose b ≡ Some a → code a ≡ b) → ((a : A) → choose (code a) ≡ Some a) → Reads (λ a. byte1 (code a)) (choice_at choose)
 choice_reads {A} code choose back there = record { sound = sound; again = λ a rest s short. rw (there a) refl }
   where
-    sound : (bytes : List ℕ) (a : A) (rest : List ℕ) → IsBytes bytes → choice_at choose bytes ≡ Some (a, rest) → Takes (choice_of code) bytes a rest
+    sound : (bytes : List ℕ) (a : A) (rest : List ℕ) → IsBytes bytes → choice_at choose bytes ≡ Some (a, rest) → BeginsWith (λ a. byte1 (code a)) bytes a rest
     sound [] a rest fits e = absurd cc
     sound (x ∷ bytes) a rest fits e =
         let y = bind_some (choose x) (λ (a : A). Some (a, bytes)) (a, rest) e in
         let made : A × List ℕ = (y.0, bytes) in
-        subst (λ (q : A × List ℕ). Takes (choice_of code) (x ∷ bytes) q.0 q.1) (some_is made (a, rest) y.2) (record { parts = ap (λ (b : ℕ). b ∷ bytes) (sym (back x y.0 y.1)); spelled = is_plain (λ (a : A). code a ∷ []) (λ _. Unit {0}) y.0 tt })
+        subst (λ (q : A × List ℕ). BeginsWith (λ a. byte1 (code a)) (x ∷ bytes) q.0 q.1) (some_is made (a, rest) y.2) (record { parts = ap (λ (b : ℕ). b ∷ bytes) (sym (back x y.0 y.1)); spelled = is_plain (code y.0 ∷ []) (Unit {0}) tt })
 
 -- one case of a chain of tests
 pub try_next : {A : Type 0} (b n : ℕ) (a other : Option A) (x : A) (P : Type 0) → cond (eqb b n) a other ≡ Some x → (b ≡ n → a ≡ Some x → P) → (other ≡ Some x → P) → P
@@ -209,7 +123,7 @@ status_there Idle = refl
 status_there InBlock = refl
 status_there Failed = refl
 
-pub status_reads : Reads (choice_of status_byte) (choice_at status_of_byte)
+pub status_reads : Reads (λ a. byte1 (status_byte a)) (choice_at status_of_byte)
 status_reads = choice_reads status_byte status_of_byte status_back status_there
 
 binary_back : (b : ℕ) (s : Bool) → binary_of_byte b ≡ Some s → format_byte s ≡ b
@@ -222,41 +136,28 @@ binary_there : (s : Bool) → binary_of_byte (format_byte s) ≡ Some s
 binary_there true = refl
 binary_there false = refl
 
-pub binary_reads : Reads (choice_of format_byte) (choice_at binary_of_byte)
+pub binary_reads : Reads (λ a. byte1 (format_byte a)) (choice_at binary_of_byte)
 binary_reads = choice_reads format_byte binary_of_byte binary_back binary_there
 
 -- ---- the head of a copy
 
-abbrev pub copy_head_of : Layout CopyHead
-copy_head_of = record { spell = copy_head; has_zero = λ _. false; has_too_many = λ h. exceeds_count h.formats; OfType = λ h. AllByRecursion (FitsSigned w16) h.formats }
-
-pub copy_head_reads : Reads copy_head_of copy_head_at
+pub copy_head_reads : Reads copy_head copy_head_at
 unfolding copy_head_at
-copy_head_reads = mapped_reads (pair_of (choice_of format_byte) (plain_list int16 (AllByRecursion (FitsSigned w16)))) copy_head_of
+copy_head_reads = mapped_reads (pair_of (λ (b : Bool). byte1 (format_byte b)) (counted int16)) copy_head
     (pair_at (choice_at binary_of_byte) (counted_at (signed_at w16)))
-    (λ h. record { binary = h.0; formats = h.1 }) (λ h. (h.binary, h.formats)) (record {
-      back = λ _. refl;
-      spell = λ _. refl;
-      there = λ h s. record { no_zero = refl; countable = s.countable; of_type = s.of_type.1 };
-      again = λ h s. record { no_zero = refl; countable = s.countable; of_type = (tt, s.of_type) };
-    })
-    (pair_reads _ _ _ _ binary_reads (plain_list_reads int16 (FitsSigned w16) (signed_at w16) int16_reads))
+    (λ h. record { binary = h.0; formats = h.1 }) (λ h. (h.binary, h.formats))
+    (record { back = λ _. refl; spell = λ _. refl; there = λ h s. s; again = λ h s. s })
+    (pair_reads _ _ _ _ binary_reads (counted_reads _ _ (λ _. refl) int16_reads))
 
 -- ---- error fields
 
-abbrev pub error_field_of : Layout ErrorField
-error_field_of = record { spell = error_field; has_zero = field_has_zero; has_too_many = λ _. false; OfType = λ _. Unit {0} }
-
-abbrev pub terminated_of : {A : Type 0} → Layout A → Layout (List A)
-terminated_of l = record { spell = λ xs. flat_map l.spell xs ++ 0 ∷ []; has_zero = λ xs. list_any l.has_zero xs; has_too_many = λ _. false; OfType = λ xs. AllByRecursion l.OfType xs }
-
 -- No spelling begins with a zero byte, and there is no count.
-pub record Starts {A : Type 0} (l : Layout A) : Type 0 where
-  pub first : (a : A) (rest : List ℕ) → Spelled l a → behind_zero (l.spell a ++ rest) ≡ None
-  pub long : (a : A) → Spelled l a → 1 ≤ length (l.spell a)
-  pub uncounted : (a : A) → l.has_too_many a ≡ false
+pub record Starts {A : Type 0} (l : A → Body) : Type 0 where
+  pub first : (a : A) (rest : List ℕ) → Spelled (l a) → after_zero ((l a).bytes ++ rest) ≡ None
+  pub long : (a : A) → Spelled (l a) → 1 ≤ length (l a).bytes
+  pub uncounted : Uncounted l
 
-pub terminated_reads : {A : Type 0} (l : Layout A) (read : List ℕ → Option (A × List ℕ)) → Starts l → Reads l read → Reads (terminated_of l) (terminated_at read)
+pub terminated_reads : {A : Type 0} (l : A → Body) (read : List ℕ → Option (A × List ℕ)) → Starts l → Reads l read → Reads (terminated l) (terminated_at read)
 unfolding terminated_at up_to_zero_at
 terminated_reads {A} l read starts f = record { sound = λ bytes xs rest fits e. sound (length bytes) bytes xs rest fits e; again = again }
   where
@@ -264,18 +165,19 @@ terminated_reads {A} l read starts f = record { sound = λ bytes xs rest fits e.
     after n bytes = read bytes >>= λ first. up_to_zero_at read n first.1 >>= λ others. Some (first.0 ∷ others.0, others.1)
 
     Sound : ℕ → Type 0
-    Sound n = (bytes : List ℕ) (xs : List A) (rest : List ℕ) → IsBytes bytes → up_to_zero_at read n bytes ≡ Some (xs, rest) → Takes (terminated_of l) bytes xs rest
+    Sound n = (bytes : List ℕ) (xs : List A) (rest : List ℕ) → IsBytes bytes → up_to_zero_at read n bytes ≡ Some (xs, rest) → BeginsWith (terminated l) bytes xs rest
 
-    more : (n : ℕ) (bytes : List ℕ) (xs : List A) (rest : List ℕ) → Sound n → IsBytes bytes → after n bytes ≡ Some (xs, rest) → Takes (terminated_of l) bytes xs rest
+    more : (n : ℕ) (bytes : List ℕ) (xs : List A) (rest : List ℕ) → Sound n → IsBytes bytes → after n bytes ≡ Some (xs, rest) → BeginsWith (terminated l) bytes xs rest
     more n bytes xs rest hyp fits e =
         let x = bind_some (read bytes) (λ (a : A × List ℕ). up_to_zero_at read n a.1 >>= λ others. Some (a.0 ∷ others.0, others.1)) (xs, rest) e in
         let y = bind_some (up_to_zero_at read n x.0.1) (λ (others : List A × List ℕ). Some (x.0.0 ∷ others.0, others.1)) (xs, rest) x.2 in
         let t = f.sound bytes x.0.0 x.0.1 fits x.1 in
         let u = hyp x.0.1 y.0.0 y.0.1 (rest_bytes l bytes x.0.0 x.0.1 fits t) y.1 in
         let made : List A × List ℕ = (x.0.0 ∷ y.0.0, y.0.1) in
-        let others = flat_map l.spell y.0.0 in
-        let parts : bytes ≡ ((l.spell x.0.0 ++ others) ++ 0 ∷ []) ++ y.0.1 = t.parts ∙ ap (λ (v : List ℕ). l.spell x.0.0 ++ v) u.parts ∙ sym (append_assoc (l.spell x.0.0) (others ++ 0 ∷ []) y.0.1) ∙ ap (λ (v : List ℕ). v ++ y.0.1) (sym (append_assoc (l.spell x.0.0) others (0 ∷ []))) in
-        subst (λ (q : List A × List ℕ). Takes (terminated_of l) bytes q.0 q.1) (some_is made (xs, rest) y.2) (record {
+        let first = (l x.0.0).bytes in
+        let others = (listed l y.0.0).bytes in
+        let parts : bytes ≡ ((first ++ others) ++ 0 ∷ []) ++ y.0.1 = t.parts ∙ ap (λ (v : List ℕ). first ++ v) u.parts ∙ sym (append_assoc first (others ++ 0 ∷ []) y.0.1) ∙ ap (λ (v : List ℕ). v ++ y.0.1) (sym (append_assoc first others (0 ∷ []))) in
+        subst (λ (q : List A × List ℕ). BeginsWith (terminated l) bytes q.0 q.1) (some_is made (xs, rest) y.2) (record {
           parts = parts;
           spelled = record { no_zero = or_from _ _ t.spelled.no_zero u.spelled.no_zero; countable = refl; of_type = (t.spelled.of_type, u.spelled.of_type) };
         })
@@ -285,98 +187,89 @@ terminated_reads {A} l read starts f = record { sound = λ bytes xs rest fits e.
     sound (suc n) [] xs rest fits e = more n [] xs rest (sound n) fits e
     sound (suc n) (zero ∷ bytes) xs rest fits e =
         let made : List A × List ℕ = ([], bytes) in
-        subst (λ (q : List A × List ℕ). Takes (terminated_of l) (0 ∷ bytes) q.0 q.1) (some_is made (xs, rest) e) (record { parts = refl; spelled = record { no_zero = refl; countable = refl; of_type = tt } })
+        subst (λ (q : List A × List ℕ). BeginsWith (terminated l) (0 ∷ bytes) q.0 q.1) (some_is made (xs, rest) e) (record { parts = refl; spelled = record { no_zero = refl; countable = refl; of_type = tt } })
     sound (suc n) (suc b ∷ bytes) xs rest fits e = more n (suc b ∷ bytes) xs rest (sound n) fits e
 
-    goes : (n : ℕ) (xs : List A) (rest : List ℕ) → length (flat_map l.spell xs) < n → Spelled (terminated_of l) xs → length (flat_map l.spell xs) < 2 ^ 31 → up_to_zero_at read n ((flat_map l.spell xs ++ 0 ∷ []) ++ rest) ≡ Some (xs, rest)
+    goes : (n : ℕ) (xs : List A) (rest : List ℕ) → length (listed l xs).bytes < n → Spelled (terminated l xs) → length (listed l xs).bytes < 2 ^ 31 → up_to_zero_at read n ((terminated l xs).bytes ++ rest) ≡ Some (xs, rest)
     goes zero xs rest enough s short = absurd (omega arith)
     goes (suc n) [] rest enough s short = refl
     goes (suc n) (x ∷ xs) rest enough s short =
-        let others = flat_map l.spell xs in
-        let len = length-append (l.spell x) others in
-        let z = or_parts (l.has_zero x) (list_any l.has_zero xs) s.no_zero in
-        let sx : Spelled l x = record { no_zero = z.0; countable = starts.uncounted x; of_type = s.of_type.0 } in
+        let one = (l x).bytes in
+        let others = (listed l xs).bytes in
+        let len = length-append one others in
+        let z = or_parts (l x).has_zero (listed l xs).has_zero s.no_zero in
+        let sx : Spelled (l x) = record { no_zero = z.0; countable = starts.uncounted x; of_type = s.of_type.0 } in
         let long = starts.long x sx in
-        let behind = (others ++ 0 ∷ []) ++ rest in
-        let regrouped : ((l.spell x ++ others) ++ 0 ∷ []) ++ rest ≡ l.spell x ++ behind = ap (λ (v : List ℕ). v ++ rest) (append_assoc (l.spell x) others (0 ∷ [])) ∙ append_assoc (l.spell x) (others ++ 0 ∷ []) rest in
-        let ea = f.again x behind sx (omega arith) in
+        let after = (others ++ 0 ∷ []) ++ rest in
+        let regrouped : ((one ++ others) ++ 0 ∷ []) ++ rest ≡ one ++ after = ap (λ (v : List ℕ). v ++ rest) (append_assoc one others (0 ∷ [])) ∙ append_assoc one (others ++ 0 ∷ []) rest in
+        let ea = f.again x after sx (omega arith) in
         let eb = goes n xs rest (omega arith) (record { no_zero = z.1; countable = refl; of_type = s.of_type.1 }) (omega arith) in
-        ap (up_to_zero_at read (suc n)) regrouped ∙ rw (starts.first x behind sx, ea, eb) refl
+        ap (up_to_zero_at read (suc n)) regrouped ∙ rw (starts.first x after sx, ea, eb) refl
 
-    again : (xs : List A) (rest : List ℕ) → Spelled (terminated_of l) xs → length (flat_map l.spell xs ++ 0 ∷ []) < 2 ^ 31 → up_to_zero_at read (length ((flat_map l.spell xs ++ 0 ∷ []) ++ rest)) ((flat_map l.spell xs ++ 0 ∷ []) ++ rest) ≡ Some (xs, rest)
+    again : (xs : List A) (rest : List ℕ) → Spelled (terminated l xs) → length (terminated l xs).bytes < 2 ^ 31 → up_to_zero_at read (length ((terminated l xs).bytes ++ rest)) ((terminated l xs).bytes ++ rest) ≡ Some (xs, rest)
     again xs rest s short =
-        let len = length-append (flat_map l.spell xs) (0 ∷ []) in
-        let all = length-append (flat_map l.spell xs ++ 0 ∷ []) rest in
-        goes (length ((flat_map l.spell xs ++ 0 ∷ []) ++ rest)) xs rest (omega arith) s (omega arith)
+        let len = length-append (listed l xs).bytes (0 ∷ []) in
+        let all = length-append (terminated l xs).bytes rest in
+        goes (length ((terminated l xs).bytes ++ rest)) xs rest (omega arith) s (omega arith)
 
-pub error_field_reads : Reads error_field_of error_field_at
+pub error_field_reads : Reads error_field error_field_at
 unfolding error_field_at
-error_field_reads = mapped_reads (pair_of (byte_of (λ b. eqb b 0)) text_of) error_field_of (pair_at nonzero_at string_at)
-    (λ f. record { code = f.0; value = f.1 }) (λ f. (f.code, f.value)) (record {
-      back = λ _. refl;
-      spell = λ _. refl;
-      there = λ f s. record { no_zero = s.no_zero; countable = refl; of_type = tt };
-      again = λ f s. record { no_zero = s.no_zero; countable = refl; of_type = (tt, tt) };
-    })
+error_field_reads = mapped_reads (pair_of nonzero string) error_field (pair_at nonzero_at string_at)
+    (λ f. record { code = f.0; value = f.1 }) (λ f. (f.code, f.value))
+    (record { back = λ _. refl; spell = λ _. refl; there = λ f s. s; again = λ f s. s })
     (pair_reads _ _ _ _ nonzero_reads text_reads)
 
-error_field_starts : Starts error_field_of
+error_field_starts : Starts error_field
 error_field_starts = record { first = λ f rest s. first f.code f.value rest (or_parts (eqb f.code 0) (contains_zero f.value) s.no_zero).0; long = λ f s. omega arith; uncounted = λ _. refl }
   where
-    first : (code : ℕ) (text rest : List ℕ) → eqb code 0 ≡ false → behind_zero (code ∷ (string text ++ rest)) ≡ None
+    first : (code : ℕ) (text rest : List ℕ) → eqb code 0 ≡ false → after_zero (code ∷ ((string text).bytes ++ rest)) ≡ None
     first zero text rest e = absurd (both e)
       where
         both : true ≡ false → ⊥
         both e = cc
     first (suc b) text rest e = refl
 
-abbrev pub error_fields_of : Layout (List ErrorField)
-error_fields_of = record { spell = error_fields; has_zero = list_any field_has_zero; has_too_many = λ _. false; OfType = λ _. Unit {0} }
-
-pub error_fields_reads : Reads error_fields_of (terminated_at error_field_at)
-error_fields_reads = restated (terminated_of error_field_of) error_fields_of (terminated_at error_field_at) (record {
-  spell = λ _. refl;
-  there = λ xs s. record { no_zero = s.no_zero; countable = refl; of_type = tt };
-  again = λ xs s. record { no_zero = s.no_zero; countable = refl; of_type = all_units xs };
-}) (terminated_reads error_field_of error_field_at error_field_starts error_field_reads)
+pub error_fields_reads : Reads (terminated error_field) (terminated_at error_field_at)
+error_fields_reads = terminated_reads error_field error_field_at error_field_starts error_field_reads
 
 -- ---- parameters of the startup packet
 
-abbrev pub name_of : Layout (List ℕ)
-name_of = record { spell = string; has_zero = contains_zero; has_too_many = λ _. false; OfType = λ text. 0 < length text }
+-- a String that isn't empty
+abbrev pub name_of : List ℕ → Body
+name_of text = record (string text) { IsOfType = 0 < length text }
 
 pub name_reads : Reads name_of name_at
 name_reads = record { sound = sound; again = again }
   where
-    sound : (bytes text rest : List ℕ) → IsBytes bytes → name_at bytes ≡ Some (text, rest) → Takes name_of bytes text rest
+    sound : (bytes text rest : List ℕ) → IsBytes bytes → name_at bytes ≡ Some (text, rest) → BeginsWith name_of bytes text rest
     sound bytes text rest fits e =
         let x = bind_some (string_at bytes) (λ (n : List ℕ × List ℕ). cond (eqb (length n.0) 0) None (Some n)) (text, rest) e in
         let t = text_reads.sound bytes x.0.0 x.0.1 fits x.1 in
         let g = guard_some (eqb (length x.0.0) 0) x.0 (text, rest) x.2 in
         let some : 0 < length x.0.0 = by_size (length x.0.0) g.0 in
-        subst (λ (q : List ℕ × List ℕ). Takes name_of bytes q.0 q.1) g.1 (record { parts = t.parts; spelled = record { no_zero = t.spelled.no_zero; countable = refl; of_type = some } })
+        subst (λ (q : List ℕ × List ℕ). BeginsWith name_of bytes q.0 q.1) g.1 (record { parts = t.parts; spelled = record { no_zero = t.spelled.no_zero; countable = refl; of_type = some } })
       where
         by_size : (n : ℕ) → eqb n 0 ≡ false → 0 < n
         by_size zero e = absurd cc
         by_size (suc n) e = omega arith
 
-    again : (text rest : List ℕ) → Spelled name_of text → length (string text) < 2 ^ 31 → name_at (string text ++ rest) ≡ Some (text, rest)
+    again : (text rest : List ℕ) → Spelled (name_of text) → length (string text).bytes < 2 ^ 31 → name_at ((string text).bytes ++ rest) ≡ Some (text, rest)
     again text rest s short =
         let e = text_reads.again text rest (record { no_zero = s.no_zero; countable = refl; of_type = tt }) short in
         let some : eqb (length text) 0 ≡ false = ne_eqb _ _ (λ same. omega (arith, s.of_type)) in
         rw (e, some) refl
 
-abbrev pub parameter_of : Layout (List ℕ × List ℕ)
-parameter_of = pair_of name_of text_of
+abbrev pub parameter_of : List ℕ × List ℕ → Body
+parameter_of = pair_of name_of string
 
 parameter_starts : Starts parameter_of
-parameter_starts = record { first = λ p rest s. first p.0 p.1 rest (or_parts (contains_zero p.0) (contains_zero p.1) s.no_zero).0 s.of_type.0; long = λ p s. omega (arith, length-append (string p.0) (string p.1), length-append p.0 (0 ∷ []), s.of_type.0); uncounted = λ _. refl }
+parameter_starts = record { first = λ p rest s. first p.0 p.1 rest (or_parts (contains_zero p.0) (contains_zero p.1) s.no_zero).0 s.of_type.0; long = λ p s. omega (arith, length-append (string p.0).bytes (string p.1).bytes, length-append p.0 (0 ∷ []), s.of_type.0); uncounted = λ _. refl }
   where
-    first : (name text rest : List ℕ) → contains_zero name ≡ false → 0 < length name → behind_zero ((string name ++ string text) ++ rest) ≡ None
+    first : (name text rest : List ℕ) → contains_zero name ≡ false → 0 < length name → after_zero (((string name).bytes ++ (string text).bytes) ++ rest) ≡ None
     first [] text rest e some = absurd (omega arith)
     first (zero ∷ name) text rest e some = absurd cc
     first (suc b ∷ name) text rest e some = refl
 
-pub parameters_reads : Reads (terminated_of parameter_of) (terminated_at parameter_at)
+pub parameters_reads : Reads (terminated parameter_of) (terminated_at parameter_at)
 unfolding parameter_at
 parameters_reads = terminated_reads parameter_of (pair_at name_at string_at) parameter_starts (pair_reads _ _ _ _ name_reads text_reads)

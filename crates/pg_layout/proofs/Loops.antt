@@ -5,7 +5,7 @@ use Rattle.std.proofs.lemmas.List.{append-nil}
 use Rattle.std.proofs.lemmas.List.Folds.{length-flat_map-take}
 use Rattle.pg_layout.specs.declared.fault.BodyFault.{BodyFault}
 use Rattle.pg_layout.specs.declared.fault.BodyFault.TheVariants as faults
-use Rattle.pg_layout.specs.Private.Reader.{◌>>=◌, Fails, times_at, behind_zero, up_to_zero_at}
+use Rattle.pg_layout.specs.Private.Reader.{◌>>=◌, Fails, times_at, after_zero, up_to_zero_at}
 
 -- what is read after these items, with them
 abbrev pub with_first : {A : Type 0} → List A → Option (List A × List ℕ) → Option (List A × List ℕ)
@@ -44,7 +44,7 @@ is_done read before count i bytes total le so_far =
     sym so_far ∙ one
 
 -- the same up to a zero byte
-pub zero_goes_on : {A : Type 0} (read : List ℕ → Option (A × List ℕ)) (before : List A) (count i : ℕ) (bytes : List ℕ) (a : A) (after : List ℕ) (total : Option (List A × List ℕ)) → i < count → behind_zero bytes ≡ None → read bytes ≡ Some (a, after)
+pub zero_goes_on : {A : Type 0} (read : List ℕ → Option (A × List ℕ)) (before : List A) (count i : ℕ) (bytes : List ℕ) (a : A) (after : List ℕ) (total : Option (List A × List ℕ)) → i < count → after_zero bytes ≡ None → read bytes ≡ Some (a, after)
     → with_first before (up_to_zero_at read (count - i) bytes) ≡ total → with_first (before ++ a ∷ []) (up_to_zero_at read (count - (i + 1)) after) ≡ total
 unfolding up_to_zero_at
 zero_goes_on read before count i bytes a after total lt n h so_far =
@@ -52,7 +52,7 @@ zero_goes_on read before count i bytes a after total lt n h so_far =
     let one : with_first before (up_to_zero_at read (count - i) bytes) ≡ with_first (before ++ a ∷ []) (up_to_zero_at read (count - (i + 1)) after) = rw (k, n, h) (regroup before a (up_to_zero_at read (count - (i + 1)) after)) in
     sym one ∙ so_far
 
-pub zero_ends : {A : Type 0} (read : List ℕ → Option (A × List ℕ)) (e : BodyFault) (before : List A) (count i : ℕ) (bytes : List ℕ) (total : Option (List A × List ℕ)) → i < count → behind_zero bytes ≡ None → Fails e (read bytes)
+pub zero_ends : {A : Type 0} (read : List ℕ → Option (A × List ℕ)) (e : BodyFault) (before : List A) (count i : ℕ) (bytes : List ℕ) (total : Option (List A × List ℕ)) → i < count → after_zero bytes ≡ None → Fails e (read bytes)
     → with_first before (up_to_zero_at read (count - i) bytes) ≡ total → Fails e total
 unfolding up_to_zero_at
 zero_ends read faults.Memory before count i bytes total lt n h so_far = tt
@@ -61,7 +61,7 @@ zero_ends read faults.Bad before count i bytes total lt n h so_far =
     let one : with_first before (up_to_zero_at read (count - i) bytes) ≡ None = rw (k, n, h) refl in
     sym so_far ∙ one
 
-pub zero_is_done : {A : Type 0} (read : List ℕ → Option (A × List ℕ)) (before : List A) (count i : ℕ) (bytes rest : List ℕ) (total : Option (List A × List ℕ)) → i < count → behind_zero bytes ≡ Some rest → with_first before (up_to_zero_at read (count - i) bytes) ≡ total → total ≡ Some (before, rest)
+pub zero_is_done : {A : Type 0} (read : List ℕ → Option (A × List ℕ)) (before : List A) (count i : ℕ) (bytes rest : List ℕ) (total : Option (List A × List ℕ)) → i < count → after_zero bytes ≡ Some rest → with_first before (up_to_zero_at read (count - i) bytes) ≡ total → total ≡ Some (before, rest)
 unfolding up_to_zero_at
 zero_is_done read before count i bytes rest total lt n so_far =
     let k : count - i ≡ suc (count - (i + 1)) = omega arith in

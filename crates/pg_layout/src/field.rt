@@ -1,10 +1,9 @@
 //! Fields that stand in lists: how each is judged, written and read.
 
-ghost use Rattle.std.specs.Prelude.{◌≡◌, ◌<◌, ◌^◌, ◌++◌, Bool, false, ℕ, List, length, Option, OnOk};
+ghost use Rattle.std.specs.Prelude.{◌≡◌, ◌<◌, ◌^◌, ◌++◌, ℕ, List, length, Option, OnOk};
 ghost use Rattle.std.specs.Int.{w16, w32};
-ghost use Rattle.std.specs.Int.RustNames.{FitsSigned};
-ghost use Rattle.pg_layout.specs.Field.{contains_zero, value, int16, oid};
-ghost use Rattle.pg_layout.specs.Value.{column, ColumnIsOfType, error_field, field_has_zero, parameter, parameter_has_zero};
+ghost use Rattle.pg_layout.specs.Field.{Body, int16, oid, value};
+ghost use Rattle.pg_layout.specs.Value.{column, error_field, parameter};
 ghost use Rattle.pg_layout.specs.Private.Writer.{LeavesRoom};
 ghost use Rattle.pg_layout.specs.Private.Reader.{Gives, number_at, signed_at, value_at, column_at, error_field_at, parameter_at};
 
@@ -18,32 +17,26 @@ use std::alloc::{AllocError, Global};
 
 /// A field of a message that may stand many times.
 pub trait Field: Drop {
-    // the bytes of a field
-    ghost spelling: { Self → List ℕ };
-
-    // its numbers are of their types
-    ghost of_type: { Self → Type 0 };
-
-    // a String of it has a zero byte
-    ghost zero: { Self → Bool };
+    // the field as it is spelled
+    ghost layout: { Self → Body };
 
     // how reading goes: the value and the bytes after it
     ghost reading: { List ℕ → Option (Self × List ℕ) };
 
     /// Whether a String of the field has a zero byte.
     fn has_zero(&self) -> bool
-        ensures { result ≡ zero self.now };
+        ensures { result ≡ (layout self.now).has_zero };
 
     /// The room that is left after the field.
     fn room_after(&self, room: u32) -> Option<u32>
-        ensures { LeavesRoom room (length (spelling self.now)) result };
+        ensures { LeavesRoom room (length (layout self.now).bytes) result };
 
     /// Appends the field.
     fn write(&self, out: &mut Appender) -> Result<(), AllocError>
-        requires { length (spelling self.now) < 2 ^ 32 }
+        requires { length (layout self.now).bytes < 2 ^ 32 }
         ensures before { out.new.before ≡ out.old.before }
-        ensures added { OnOk result (out.new.added ≡ out.old.added ++ spelling self.now) }
-        ensures of_type { OnOk result (of_type self.now) };
+        ensures added { OnOk result (out.new.added ≡ out.old.added ++ (layout self.now).bytes) }
+        ensures of_type { OnOk result (layout self.now).IsOfType };
 
     /// The field at the beginning of the bytes, and the bytes after it.
     fn read(alloc: Global, bytes: &[u8]) -> Result<(Self, &[u8]), BodyFault>
@@ -53,11 +46,7 @@ pub trait Field: Drop {
 }
 
 impl Field for i16 {
-    ghost spelling = { int16 };
-
-    ghost of_type = { FitsSigned w16 };
-
-    ghost zero = { λ _. false };
+    ghost layout = { int16 };
 
     ghost reading = { signed_at w16 };
 
@@ -79,11 +68,7 @@ impl Field for i16 {
 }
 
 impl Field for u32 {
-    ghost spelling = { oid };
-
-    ghost of_type = { λ n. n < 2 ^ 32 };
-
-    ghost zero = { λ _. false };
+    ghost layout = { oid };
 
     ghost reading = { number_at w32 };
 
@@ -105,11 +90,7 @@ impl Field for u32 {
 }
 
 impl Field for Option<Seq<u8>> {
-    ghost spelling = { value };
-
-    ghost of_type = { λ _. Unit {0} };
-
-    ghost zero = { λ _. false };
+    ghost layout = { value };
 
     ghost reading = { value_at };
 
@@ -152,11 +133,7 @@ impl Field for Option<Seq<u8>> {
 }
 
 impl Field for Column {
-    ghost spelling = { column };
-
-    ghost of_type = { ColumnIsOfType };
-
-    ghost zero = { λ c. contains_zero c.name };
+    ghost layout = { column };
 
     ghost reading = { column_at };
 
@@ -202,11 +179,7 @@ impl Field for Column {
 
 /// A parameter of a startup packet: its name, which isn't empty, and its value.
 impl Field for (Seq<u8>, Seq<u8>) {
-    ghost spelling = { parameter };
-
-    ghost of_type = { λ _. Unit {0} };
-
-    ghost zero = { parameter_has_zero };
+    ghost layout = { parameter };
 
     ghost reading = { parameter_at };
 
@@ -233,11 +206,7 @@ impl Field for (Seq<u8>, Seq<u8>) {
 }
 
 impl Field for ErrorField {
-    ghost spelling = { error_field };
-
-    ghost of_type = { λ _. Unit {0} };
-
-    ghost zero = { field_has_zero };
+    ghost layout = { error_field };
 
     ghost reading = { error_field_at };
 

@@ -16,7 +16,7 @@ pub use appender::Appender;
 pub use fault::{BodyFault, EncodeFault};
 pub use field::Field;
 pub use part::{
-    Byte, Bytes, Counted, Int32, LONGEST, LONGEST_PACKET, Pair, Part, Salt, Terminated, Text,
+    BodyPart, Byte, Bytes, Counted, Int32, LONGEST, LONGEST_PACKET, Pair, Salt, Terminated, Text,
     append, append_packet,
 };
 pub use reader::{copy_head_at, copy_of, counted, ended, i32_at, status_at, terminated, text_at};

@@ -1,11 +1,8 @@
 //! The parts of a body, lent to an encoder: how each is judged and written.
 
-ghost use Rattle.std.specs.Prelude.{◌≡◌, ◌<◌, ◌≤◌, ◌^◌, ◌+◌, ◌++◌, ◌∷◌, [], Bool, false, ◌||◌, ℕ, List, length, OnOk, IfOk, MatchResult, None, Some};
-ghost use Rattle.std.specs.List.{list_any, flat_map, AllByRecursion};
-ghost use Rattle.std.specs.Int.{w32, to_be_bytes};
-ghost use Rattle.std.specs.Int.RustNames.{FitsSigned};
-ghost use Rattle.pg_layout.specs.Field.{string, int32, contains_zero, counted, exceeds_count};
-ghost use Rattle.pg_layout.specs.Part.{tagged, fault_of, packet_fault_of, EncodesAs};
+ghost use Rattle.std.specs.Prelude.{◌≡◌, ◌<◌, ◌^◌, ◌+◌, ◌++◌, false, length, OnOk, IfOk, MatchResult, None, Some};
+ghost use Rattle.pg_layout.specs.Field.{Body, ◌⨾◌, int32, byte1, byte4, byten, string, counted, terminated};
+ghost use Rattle.pg_layout.specs.Part.{tagged, packet_of, body_fault, content_fault, Appends, AppendsPacket};
 ghost use Rattle.pg_layout.specs.Private.Writer.{LeavesRoom};
 
 use crate::appender::{Appender, begin, settle};
@@ -21,52 +18,37 @@ use std::alloc::AllocError;
 pub const LONGEST: u32 = 1_073_741_823;
 
 /// A part of a body.
-pub trait Part: Drop {
-    // the bytes of the part
-    ghost spelling: { Self → List ℕ };
-
-    // its numbers are of their types
-    ghost of_type: { Self → Type 0 };
-
-    // a String of it has a zero byte
-    ghost zero: { Self → Bool };
-
-    // a list of it has more elements than its count can say
-    ghost too_many: { Self → Bool };
+pub trait BodyPart: Drop {
+    // the part as it is spelled
+    ghost layout: { Self → Body };
 
     /// Whether a String of the part has a zero byte.
     fn has_zero(&self) -> bool
-        ensures { result ≡ zero self.now };
+        ensures { result ≡ (layout self.now).has_zero };
 
     /// Whether a list of the part has more elements than its count can say.
     fn has_too_many(&self) -> bool
-        ensures { result ≡ too_many self.now };
+        ensures { result ≡ (layout self.now).has_too_many };
 
     /// The room that is left after the part.
     fn room_after(&self, room: u32) -> Option<u32>
-        ensures { LeavesRoom room (length (spelling self.now)) result };
+        ensures { LeavesRoom room (length (layout self.now).bytes) result };
 
     /// Appends the part.
     fn write(&self, out: &mut Appender) -> Result<(), AllocError>
-        requires count { too_many self.now ≡ false }
-        requires size { length (spelling self.now) < 2 ^ 32 }
+        requires count { (layout self.now).has_too_many ≡ false }
+        requires size { length (layout self.now).bytes < 2 ^ 32 }
         ensures before { out.new.before ≡ out.old.before }
-        ensures added { OnOk result (out.new.added ≡ out.old.added ++ spelling self.now) }
-        ensures of_type { OnOk result (of_type self.now) };
+        ensures added { OnOk result (out.new.added ≡ out.old.added ++ (layout self.now).bytes) }
+        ensures of_type { OnOk result (layout self.now).IsOfType };
 }
 
 /// A String.
 #[derive(Drop)]
 pub struct Text<'a>(pub &'a [u8]);
 
-impl Part for Text<'_> {
-    ghost spelling = { λ p. string p.0.now };
-
-    ghost of_type = { λ _. Unit {0} };
-
-    ghost zero = { λ p. contains_zero p.0.now };
-
-    ghost too_many = { λ _. false };
+impl BodyPart for Text<'_> {
+    ghost layout = { λ p. string p.0.now };
 
     fn has_zero(&self) -> bool {
         text_has_zero(self.0)
@@ -89,14 +71,8 @@ impl Part for Text<'_> {
 #[derive(Drop)]
 pub struct Bytes<'a>(pub &'a [u8]);
 
-impl Part for Bytes<'_> {
-    ghost spelling = { λ p. p.0.now };
-
-    ghost of_type = { λ _. Unit {0} };
-
-    ghost zero = { λ _. false };
-
-    ghost too_many = { λ _. false };
+impl BodyPart for Bytes<'_> {
+    ghost layout = { λ p. byten p.0.now };
 
     fn has_zero(&self) -> bool {
         false
@@ -119,14 +95,8 @@ impl Part for Bytes<'_> {
 #[derive(Drop)]
 pub struct Salt(pub [u8; 4]);
 
-impl Part for Salt {
-    ghost spelling = { λ p. p.0 };
-
-    ghost of_type = { λ p. length p.0 ≡ 4 };
-
-    ghost zero = { λ _. false };
-
-    ghost too_many = { λ _. false };
+impl BodyPart for Salt {
+    ghost layout = { λ p. byte4 p.0 };
 
     fn has_zero(&self) -> bool {
         false
@@ -150,14 +120,8 @@ impl Part for Salt {
 #[derive(Drop)]
 pub struct Byte(pub u8);
 
-impl Part for Byte {
-    ghost spelling = { λ p. p.0 ∷ [] };
-
-    ghost of_type = { λ _. Unit {0} };
-
-    ghost zero = { λ _. false };
-
-    ghost too_many = { λ _. false };
+impl BodyPart for Byte {
+    ghost layout = { λ p. byte1 p.0 };
 
     fn has_zero(&self) -> bool {
         false
@@ -180,14 +144,8 @@ impl Part for Byte {
 #[derive(Drop)]
 pub struct Int32<'a>(pub &'a i32);
 
-impl Part for Int32<'_> {
-    ghost spelling = { λ p. int32 p.0.now };
-
-    ghost of_type = { λ p. FitsSigned w32 p.0.now };
-
-    ghost zero = { λ _. false };
-
-    ghost too_many = { λ _. false };
+impl BodyPart for Int32<'_> {
+    ghost layout = { λ p. int32 p.0.now };
 
     fn has_zero(&self) -> bool {
         false
@@ -210,14 +168,8 @@ impl Part for Int32<'_> {
 #[derive(Drop)]
 pub struct Counted<'a, T: Field>(pub &'a [T]);
 
-impl<T: Field> Part for Counted<'_, T> {
-    ghost spelling = { λ p. counted T.spelling p.0.now };
-
-    ghost of_type = { λ p. AllByRecursion T.of_type p.0.now };
-
-    ghost zero = { λ p. list_any T.zero p.0.now };
-
-    ghost too_many = { λ p. exceeds_count p.0.now };
+impl<T: Field> BodyPart for Counted<'_, T> {
+    ghost layout = { λ p. counted T.layout p.0.now };
 
     fn has_zero(&self) -> bool {
         any_has_zero(self.0)
@@ -241,14 +193,8 @@ impl<T: Field> Part for Counted<'_, T> {
 #[derive(Drop)]
 pub struct Terminated<'a, T: Field>(pub &'a [T]);
 
-impl<T: Field> Part for Terminated<'_, T> {
-    ghost spelling = { λ p. flat_map T.spelling p.0.now ++ 0 ∷ [] };
-
-    ghost of_type = { λ p. AllByRecursion T.of_type p.0.now };
-
-    ghost zero = { λ p. list_any T.zero p.0.now };
-
-    ghost too_many = { λ _. false };
+impl<T: Field> BodyPart for Terminated<'_, T> {
+    ghost layout = { λ p. terminated T.layout p.0.now };
 
     fn has_zero(&self) -> bool {
         any_has_zero(self.0)
@@ -270,16 +216,10 @@ impl<T: Field> Part for Terminated<'_, T> {
 
 /// One part and then the other.
 #[derive(Drop)]
-pub struct Pair<A: Part, B: Part>(pub A, pub B);
+pub struct Pair<A: BodyPart, B: BodyPart>(pub A, pub B);
 
-impl<A: Part, B: Part> Part for Pair<A, B> {
-    ghost spelling = { λ p. A.spelling p.0 ++ B.spelling p.1 };
-
-    ghost of_type = { λ p. A.of_type p.0 × B.of_type p.1 };
-
-    ghost zero = { λ p. A.zero p.0 || B.zero p.1 };
-
-    ghost too_many = { λ p. A.too_many p.0 || B.too_many p.1 };
+impl<A: BodyPart, B: BodyPart> BodyPart for Pair<A, B> {
+    ghost layout = { λ p. A.layout p.0 ⨾ B.layout p.1 };
 
     fn has_zero(&self) -> bool {
         self.0.has_zero() || self.1.has_zero()
@@ -301,13 +241,11 @@ impl<A: Part, B: Part> Part for Pair<A, B> {
 }
 
 /// The length field of a message with this body, or why it has no spelling.
-fn judge<P: Part>(body: &P) -> Result<u32, EncodeFault>
-    ensures fault { MatchResult result
-        (λ n. fault_of (P.zero body.now) (P.too_many body.now) false (length (P.spelling body.now))
-        ≡ None) (λ f. fault_of (P.zero body.now) (P.too_many body.now) false
-        (length (P.spelling body.now)) ≡ Some f) }
-    ensures count { OnOk result (P.too_many body.now ≡ false) }
-    ensures length { IfOk result (λ n. n ≡ 4 + length (P.spelling body.now)) }
+fn judge<P: BodyPart>(body: &P) -> Result<u32, EncodeFault>
+    ensures fault { MatchResult result (λ n. body_fault (P.layout body.now) ≡ None)
+        (λ f. body_fault (P.layout body.now) ≡ Some f) }
+    ensures count { OnOk result ((P.layout body.now).has_too_many ≡ false) }
+    ensures length { IfOk result (λ n. n ≡ 4 + length (P.layout body.now).bytes) }
 {
     if body.has_zero() {
         return Err(EncodeFault::HasZero);
@@ -322,18 +260,18 @@ fn judge<P: Part>(body: &P) -> Result<u32, EncodeFault>
 }
 
 /// Writes a message whose body was judged.
-fn write_message<P: Part>(
+fn write_message<P: BodyPart>(
     tag: u8,
     size: u32,
     body: &P,
     out: &mut Appender,
 ) -> Result<(), AllocError>
-    requires count { P.too_many body.now ≡ false }
-    requires size { size ≡ 4 + length (P.spelling body.now) }
+    requires count { (P.layout body.now).has_too_many ≡ false }
+    requires size { size ≡ 4 + length (P.layout body.now).bytes }
     ensures before { out.new.before ≡ out.old.before }
     ensures added { OnOk result (out.new.added
-        ≡ out.old.added ++ tagged tag (P.spelling body.now)) }
-    ensures of_type { OnOk result (P.of_type body.now) }
+        ≡ out.old.added ++ tagged tag (P.layout body.now).bytes) }
+    ensures of_type { OnOk result (P.layout body.now).IsOfType }
 {
     out.put(&[tag])?;
     out.put(&size.to_be_bytes())?;
@@ -341,10 +279,8 @@ fn write_message<P: Part>(
 }
 
 /// Appends the message of this tag and this body: the tag, the length field, the body.
-pub fn append<P: Part>(tag: u8, body: &P, buf: &mut Vec<u8>) -> Result<(), EncodeFault>
-    ensures { EncodesAs (P.of_type body.now)
-        (fault_of (P.zero body.now) (P.too_many body.now) false (length (P.spelling body.now)))
-        (tagged tag (P.spelling body.now)) buf.old.items result buf.new.items }
+pub fn append<P: BodyPart>(tag: u8, body: &P, buf: &mut Vec<u8>) -> Result<(), EncodeFault>
+    ensures { Appends tag (P.layout body.now) buf.old.items result buf.new.items }
 {
     let length = judge(body)?;
     let mut out = begin(buf);
@@ -356,12 +292,11 @@ pub fn append<P: Part>(tag: u8, body: &P, buf: &mut Vec<u8>) -> Result<(), Encod
 pub const LONGEST_PACKET: u32 = 10_000;
 
 /// The length of a first packet with this content, or why it has no spelling.
-fn judge_packet<P: Part>(has_no_name: bool, content: &P) -> Result<u32, EncodeFault>
+fn judge_packet<P: BodyPart>(has_no_name: bool, content: &P) -> Result<u32, EncodeFault>
     ensures fault { MatchResult result
-        (λ n. packet_fault_of (P.zero content.now) has_no_name (8 + length (P.spelling content.now))
-        ≡ None) (λ f. packet_fault_of (P.zero content.now) has_no_name
-        (8 + length (P.spelling content.now)) ≡ Some f) }
-    ensures length { IfOk result (λ n. n ≡ 8 + length (P.spelling content.now)) }
+        (λ n. content_fault has_no_name (P.layout content.now) ≡ None)
+        (λ f. content_fault has_no_name (P.layout content.now) ≡ Some f) }
+    ensures length { IfOk result (λ n. n ≡ 8 + length (P.layout content.now).bytes) }
 {
     if content.has_zero() {
         return Err(EncodeFault::HasZero);
@@ -376,19 +311,18 @@ fn judge_packet<P: Part>(has_no_name: bool, content: &P) -> Result<u32, EncodeFa
 }
 
 /// Writes a first packet whose content was judged.
-fn write_packet<P: Part>(
+fn write_packet<P: BodyPart>(
     code: u32,
     size: u32,
     content: &P,
     out: &mut Appender,
 ) -> Result<(), AllocError>
-    requires count { P.too_many content.now ≡ false }
-    requires size { size ≡ 8 + length (P.spelling content.now) }
+    requires count { (P.layout content.now).has_too_many ≡ false }
+    requires size { size ≡ 8 + length (P.layout content.now).bytes }
     ensures before { out.new.before ≡ out.old.before }
     ensures added { OnOk result (out.new.added
-        ≡ out.old.added ++ to_be_bytes w32 (8 + length (P.spelling content.now))
-        ++ to_be_bytes w32 code ++ P.spelling content.now) }
-    ensures of_type { OnOk result (P.of_type content.now) }
+        ≡ out.old.added ++ packet_of code (P.layout content.now).bytes) }
+    ensures of_type { OnOk result (P.layout content.now).IsOfType }
 {
     out.put(&size.to_be_bytes())?;
     out.put(&code.to_be_bytes())?;
@@ -397,17 +331,15 @@ fn write_packet<P: Part>(
 
 /// Appends the first packet of this code and this content: the length, the code, the content. A content in which a name is
 /// empty is refused.
-pub fn append_packet<P: Part>(
+pub fn append_packet<P: BodyPart>(
     code: u32,
     has_no_name: bool,
     content: &P,
     buf: &mut Vec<u8>,
 ) -> Result<(), EncodeFault>
-    requires { P.too_many content.now ≡ false }
-    ensures { EncodesAs (P.of_type content.now)
-        (packet_fault_of (P.zero content.now) has_no_name (8 + length (P.spelling content.now)))
-        (to_be_bytes w32 (8 + length (P.spelling content.now)) ++ to_be_bytes w32 code
-        ++ P.spelling content.now) buf.old.items result buf.new.items }
+    requires { (P.layout content.now).has_too_many ≡ false }
+    ensures { AppendsPacket code has_no_name (P.layout content.now) buf.old.items result
+        buf.new.items }
 {
     let size = judge_packet(has_no_name, content)?;
     let mut out = begin(buf);

@@ -2,7 +2,7 @@
 
 ghost use Rattle.std.specs.Prelude.{◌≡◌, ◌<◌, ◌==◌, if◌then◌else◌, length, position, Some, None, MatchOption, IfSome};
 ghost use Rattle.std.specs.Int.{w16, w32};
-ghost use Rattle.pg_layout.specs.Private.Reader.{Gives, name_at, number_at, signed_at, nonzero_at, string_at, counted_at, times_at, behind_zero, terminated_at, choice_at, status_of_byte, binary_of_byte, copy_head_at};
+ghost use Rattle.pg_layout.specs.Private.Reader.{Gives, name_at, number_at, signed_at, nonzero_at, string_at, counted_at, times_at, after_zero, terminated_at, choice_at, status_of_byte, binary_of_byte, copy_head_at};
 
 use crate::fault::BodyFault;
 use crate::field::Field;
@@ -123,8 +123,8 @@ pub fn counted<T: Field>(alloc: Global, bytes: &[u8]) -> Result<(Seq<T>, &[u8]),
 }
 
 /// What stands after a zero byte.
-fn behind_zero(bytes: &[u8]) -> Option<&[u8]>
-    ensures { MatchOption result (behind_zero bytes.now ≡ None) (λ rest. behind_zero bytes.now
+fn after_zero(bytes: &[u8]) -> Option<&[u8]>
+    ensures { MatchOption result (after_zero bytes.now ≡ None) (λ rest. after_zero bytes.now
         ≡ Some rest.now) }
 {
     match bytes {
@@ -141,7 +141,7 @@ pub fn terminated<T: Field>(alloc: Global, bytes: &[u8]) -> Result<(Seq<T>, &[u8
     let mut items: Vec<T> = Vec::new(alloc);
     let mut rest = bytes;
     for _ in 0..bytes.len() {
-        if let Some(after) = behind_zero(rest) {
+        if let Some(after) = after_zero(rest) {
             return Ok((Seq::new(items), after));
         }
         let (item, after) = T::read(alloc, rest)?;

@@ -1,8 +1,7 @@
 //! Judging and writing the fields of a body.
 
 ghost use Rattle.std.specs.Prelude.{◌≡◌, ◌<◌, ◌^◌, ◌++◌, length, OnOk};
-ghost use Rattle.std.specs.List.{list_any, flat_map, AllByRecursion};
-ghost use Rattle.pg_layout.specs.Field.{string, contains_zero};
+ghost use Rattle.pg_layout.specs.Field.{string, contains_zero, listed};
 ghost use Rattle.pg_layout.specs.Private.Writer.{LeavesRoom};
 
 use crate::appender::Appender;
@@ -12,14 +11,16 @@ use std::alloc::AllocError;
 /// The most elements that a 16-bit count can say.
 pub const MOST: usize = 65_535;
 
+/// Whether the text has a zero byte.
 pub fn text_has_zero(text: &[u8]) -> bool
     ensures { result ≡ contains_zero text.now }
 {
     text.contains(&0)
 }
 
+/// Whether a String of an element has a zero byte.
 pub fn any_has_zero<T: Field>(items: &[T]) -> bool
-    ensures { result ≡ list_any T.zero items.now }
+    ensures { result ≡ (listed T.layout items.now).has_zero }
 {
     for item in items {
         if item.has_zero() {
@@ -40,14 +41,16 @@ pub fn room_after_bytes(bytes: &[u8], room: u32) -> Option<u32>
     }
 }
 
+/// The room that is left after a String.
 pub fn room_after_text(text: &[u8], room: u32) -> Option<u32>
-    ensures { LeavesRoom room (length (string text.now)) result }
+    ensures { LeavesRoom room (length (string text.now).bytes) result }
 {
     room_after_bytes(text, room)?.checked_sub(1)
 }
 
+/// The room that is left after the elements.
 pub fn room_after_all<T: Field>(items: &[T], room: u32) -> Option<u32>
-    ensures { LeavesRoom room (length (flat_map T.spelling items.now)) result }
+    ensures { LeavesRoom room (length (listed T.layout items.now).bytes) result }
 {
     let mut left = room;
     for item in items {
@@ -56,19 +59,22 @@ pub fn room_after_all<T: Field>(items: &[T], room: u32) -> Option<u32>
     Some(left)
 }
 
+/// Appends a String.
 pub fn write_text(text: &[u8], out: &mut Appender) -> Result<(), AllocError>
     ensures before { out.new.before ≡ out.old.before }
-    ensures added { OnOk result (out.new.added ≡ out.old.added ++ string text.now) }
+    ensures added { OnOk result (out.new.added ≡ out.old.added ++ (string text.now).bytes) }
 {
     out.put(text)?;
     out.put(&[0])
 }
 
+/// Appends the elements.
 pub fn write_all<T: Field>(items: &[T], out: &mut Appender) -> Result<(), AllocError>
-    requires { length (flat_map T.spelling items.now) < 2 ^ 32 }
+    requires { length (listed T.layout items.now).bytes < 2 ^ 32 }
     ensures before { out.new.before ≡ out.old.before }
-    ensures added { OnOk result (out.new.added ≡ out.old.added ++ flat_map T.spelling items.now) }
-    ensures of_type { OnOk result (AllByRecursion T.of_type items.now) }
+    ensures added { OnOk result (out.new.added
+        ≡ out.old.added ++ (listed T.layout items.now).bytes) }
+    ensures of_type { OnOk result (listed T.layout items.now).IsOfType }
 {
     for item in items {
         item.write(out)?;

@@ -1,5 +1,5 @@
 pub mod Bodies
+pub mod Tables
 pub mod BackMessages
 pub mod FrontMessages
-pub mod Encoding
 pub mod Startups

@@ -1,14 +1,13 @@
 -- First packets, which have no tag (Frontend/Backend Protocol, "Message Formats": StartupMessage, CancelRequest, SSLRequest,
 -- GSSENCRequest).
 use Rattle.std.specs.Prelude.{ℕ, ◌≡◌, ◌+◌, ◌==◌, Bool, false, List, [], ◌∷◌, ◌++◌, length, codes, Option, Some, None}
-use Rattle.std.specs.List.{flat_map, list_any}
-use Rattle.std.specs.Int.{w32, to_be_bytes}
-use Rattle.std.specs.Int.RustNames.{FitsSigned}
+use Rattle.std.specs.List.{list_any}
 use Rattle.pg_layout.specs.declared.fault.EncodeFault.{EncodeFault}
 use Rattle.pg_message.specs.declared.message.First.{First}
 use Rattle.pg_message.specs.declared.message.First.TheVariants as first
-use Rattle.pg_layout.specs.Field.{int32}
-pub use Rattle.pg_layout.specs.Value.{parameter, parameter_has_zero}
+use Rattle.pg_layout.specs.Field.{Body, ◌⨾◌, int32, nothing, terminated}
+pub use Rattle.pg_layout.specs.Value.{parameter}
+use Rattle.pg_layout.specs.Part.{packet_of}
 pub use Rattle.pg_layout.specs.Part.{longest_packet, packet_fault_of}
 
 -- ---- a packet as bytes
@@ -21,11 +20,15 @@ code first.Ssl = 80877103
 code first.Gss = 80877104
 
 -- what stands after the code
+abbrev pub content_body : First → Body
+content_body (first.Startup pairs) = terminated parameter pairs
+content_body (first.Cancel process secret) = int32 process ⨾ int32 secret
+content_body first.Ssl = nothing
+content_body first.Gss = nothing
+
+-- what stands after the code, as bytes
 abbrev pub content : First → List ℕ
-content (first.Startup pairs) = flat_map parameter pairs ++ 0 ∷ []
-content (first.Cancel process secret) = int32 process ++ int32 secret
-content first.Ssl = []
-content first.Gss = []
+content p = (content_body p).bytes
 
 -- the length, which counts itself, the code and what stands after it
 abbrev pub packet_length : First → ℕ
@@ -33,7 +36,7 @@ packet_length p = 8 + length (content p)
 
 -- a packet as bytes: its length, its code, its content
 abbrev pub packet : First → List ℕ
-packet p = to_be_bytes w32 (packet_length p) ++ to_be_bytes w32 (code p) ++ content p
+packet p = packet_of (code p) (content p)
 
 -- ---- which packets have a spelling
 
@@ -43,8 +46,7 @@ has_no_name p = length p.0 == 0
 
 -- a name or a value of a parameter has a zero byte
 abbrev pub packet_has_zero : First → Bool
-packet_has_zero (first.Startup pairs) = list_any parameter_has_zero pairs
-packet_has_zero _ = false
+packet_has_zero p = (content_body p).has_zero
 
 -- the name of one of its parameters is empty
 abbrev pub packet_has_no_name : First → Bool
@@ -57,8 +59,7 @@ packet_fault p = packet_fault_of (packet_has_zero p) (packet_has_no_name p) (pac
 
 -- The numbers are of their types.
 abbrev pub PacketIsOfType : First → Type 0
-PacketIsOfType (first.Cancel process secret) = FitsSigned w32 process × FitsSigned w32 secret
-PacketIsOfType _ = Unit {0}
+PacketIsOfType p = (content_body p).IsOfType
 
 -- What has a spelling.
 pub record IsPacket (p : First) : Type 0 where

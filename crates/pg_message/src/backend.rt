@@ -8,15 +8,10 @@
 mod kind;
 mod reading;
 
-ghost use Rattle.std.specs.Prelude.{◌≡◌, ◌++◌, false, length};
-ghost use Rattle.std.specs.List.{AllByRecursion};
-ghost use Rattle.std.specs.Int.{w16, w32};
-ghost use Rattle.std.specs.Int.RustNames.{FitsSigned};
-ghost use Rattle.pg_message.specs.declared.message.BackMessage.TheVariants.{ParameterStatus, RowDescription, DataRow, CommandComplete, ParameterDescription, ErrorResponse, NoticeResponse, Notification, CopyIn, CopyOut, CopyData};
-ghost use Rattle.pg_layout.specs.Field.{int32, exceeds_count};
-ghost use Rattle.pg_message.specs.Direction.{tagged, fault_of};
+ghost use Rattle.std.specs.Prelude.{◌≡◌};
+ghost use Rattle.pg_message.specs.declared.message.BackMessage.TheVariants.{AuthOther, ParameterStatus, RowDescription, DataRow, CommandComplete, ParameterDescription, ErrorResponse, NoticeResponse, Notification, CopyIn, CopyOut, CopyData};
 ghost use Rattle.pg_message.specs.Backend.{backend, tag, status_byte, format_byte, copy_head, is_reserved};
-ghost use Rattle.pg_message.specs.Encoder.{EncodesAs, Encodes};
+ghost use Rattle.pg_message.specs.Encoder.{Appends, Encodes};
 
 use crate::direction::Message;
 use crate::message::BackMessage;
@@ -54,9 +49,7 @@ fn is_reserved(code: i32) -> bool
 
 /// An authentication request that has no message of its own.
 fn encode_other(code: i32, rest: &[u8], buf: &mut Vec<u8>) -> Result<(), EncodeFault>
-    ensures { EncodesAs (FitsSigned w32 code)
-        (fault_of false false (is_reserved code) (length (int32 code
-        ++ rest.now))) (tagged 82 (int32 code ++ rest.now)) buf.old.items result buf.new.items }
+    ensures { Encodes backend (AuthOther code rest.now) buf.old.items result buf.new.items }
 {
     if is_reserved(code) {
         return Err(EncodeFault::ReservedCode);
@@ -66,9 +59,7 @@ fn encode_other(code: i32, rest: &[u8], buf: &mut Vec<u8>) -> Result<(), EncodeF
 
 /// A CopyIn or a CopyOut, by its tag.
 fn encode_copy_head(tag: u8, head: &CopyHead, buf: &mut Vec<u8>) -> Result<(), EncodeFault>
-    ensures { EncodesAs (AllByRecursion (FitsSigned w16) head.now.formats)
-        (fault_of false (exceeds_count head.now.formats) false (length (copy_head head.now)))
-        (tagged tag (copy_head head.now)) buf.old.items result buf.new.items }
+    ensures { Appends tag (copy_head head.now) buf.old.items result buf.new.items }
 {
     let format = Byte(format_byte(head.binary));
     append(tag, &Pair(format, Counted(head.formats.as_slice())), buf)

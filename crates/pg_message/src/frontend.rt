@@ -8,20 +8,19 @@
 mod kind;
 mod reading;
 
-ghost use Rattle.std.specs.Prelude.{◌≡◌, ◌+◌, ◌++◌, false, length, option_copied};
+ghost use Rattle.std.specs.Prelude.{◌≡◌, false, option_copied};
 ghost use Rattle.pg_message.specs.declared.message.FrontMessage.TheVariants.{Query, Parse, Bind, Describe, Close, Execute, Sync, Flush, Terminate, CopyData, CopyDone, CopyFail, Password};
 ghost use Rattle.std.specs.List.{list_any};
-ghost use Rattle.std.specs.Int.{w32, to_be_bytes};
 ghost use Rattle.pg_message.specs.declared.message.First.TheVariants.{Startup, Cancel, Ssl, Gss};
 ghost use Rattle.pg_message.specs.Frontend.{frontend, target_byte};
-ghost use Rattle.pg_message.specs.First.{has_no_name, packet_fault_of, startup_parameters};
-ghost use Rattle.pg_message.specs.Encoder.{Encodes, EncodesAs, EncodesPacket};
+ghost use Rattle.pg_message.specs.First.{has_no_name, startup_parameters};
+ghost use Rattle.pg_message.specs.Encoder.{Encodes, EncodesPacket, AppendsPacket};
 
 use crate::direction::Message;
 use crate::message::{First, FrontMessage};
 use kind::FrontKind;
 use pg_layout::{
-    BodyFault, Byte, Bytes, Counted, EncodeFault, Int32, Pair, Part, Target, Terminated, Text,
+    BodyFault, BodyPart, Byte, Bytes, Counted, EncodeFault, Int32, Pair, Target, Terminated, Text,
     append, append_packet,
 };
 use pg_seq::Seq;
@@ -45,16 +44,14 @@ fn any_has_no_name(pairs: &[(Seq<u8>, Seq<u8>)]) -> bool
 }
 
 /// Appends the first packet of the protocol's version 3.0.
-fn append_startup<P: Part>(
+fn append_startup<P: BodyPart>(
     has_no_name: bool,
     content: &P,
     buf: &mut Vec<u8>,
 ) -> Result<(), EncodeFault>
-    requires { P.too_many content.now ≡ false }
-    ensures { EncodesAs (P.of_type content.now)
-        (packet_fault_of (P.zero content.now) has_no_name (8 + length (P.spelling content.now)))
-        (to_be_bytes w32 (8 + length (P.spelling content.now)) ++ to_be_bytes w32 196608
-        ++ P.spelling content.now) buf.old.items result buf.new.items }
+    requires { (P.layout content.now).has_too_many ≡ false }
+    ensures { AppendsPacket 196608 has_no_name (P.layout content.now) buf.old.items result
+        buf.new.items }
 {
     append_packet(196_608, has_no_name, content, buf)
 }

@@ -5,19 +5,19 @@ use Rattle.std.proofs.Math.Seq.{take-add}
 use Rattle.pg_client.specs.declared.fault.FeedFault.{FeedFault}
 use Rattle.pg_client.specs.Client.{ClientView}
 use Rattle.pg_client.specs.History.{happenings, History, IsHistoryOf, with_fed, with_heard}
-use Rattle.pg_client.specs.Feed.{Feeds, FeedsOpen, FeedsWith, Hears}
-use Rattle.pg_client.specs.Judged.{Stands}
+use Rattle.pg_client.specs.Feed.{Feeds, FeedsOpen, FeedsByCause, Hears}
+use Rattle.pg_client.specs.Stand.{Stands}
 use Rattle.pg_backend.specs.declared.stage.BackStage.{BackStage}
 use Rattle.pg_backend.specs.declared.stage.BackStage.TheVariants as stage
 use Rattle.pg_backend.specs.Backend.{BackendState, was_lost, stored}
 use Rattle.pg_backend.specs.History as back
 use Rattle.pg_pair.specs.Delivering.{IsStored, reached_more}
 use Rattle.pg_pair.specs.Invariant.{Tied}
-use Rattle.pg_pair.specs.View.{Stream, arrived, waiting, PairView}
+use Rattle.pg_pair.specs.View.{WayState, arrived, waiting, PairView}
 use Rattle.pg_pair.proofs.Ends.{backend_stays}
 
 -- with more bytes of those that wait
-arrived_with : (s : Stream) (bytes : List ℕ) → bytes ≡ take (length bytes) (waiting s) → arrived (reached_more s bytes) ≡ arrived s ++ bytes
+arrived_with : (s : WayState) (bytes : List ℕ) → bytes ≡ take (length bytes) (waiting s) → arrived (reached_more s bytes) ≡ arrived s ++ bytes
 arrived_with s bytes e = take-add s.reached (length bytes) s.sent ∙ ap (λ l. arrived s ++ l) (sym e)
 
 -- ---- at the client
@@ -47,13 +47,13 @@ abbrev pub fed_pair : {C : Type 0} → PairView C → List ℕ → ClientView �
 fed_pair p bytes fed sent =
     record p { client = record fed { settled = [] }; to_backend = record p.to_backend { sent = sent }; to_client = reached_more p.to_client bytes; settled = p.settled ++ fed.settled }
 
-abbrev WithinMore : Stream → List ℕ → Type 0
+abbrev WithinMore : WayState → List ℕ → Type 0
 WithinMore s bytes = s.reached + length bytes ≤ length s.sent
 
 -- what an open client does that is fed
 pub fed_open : (old : ClientView) (bytes : List ℕ) (result : Result Unit FeedFault) (fed : ClientView) (before after : List ℕ) → old.closed ≡ None → Feeds old bytes result fed before after
     → FeedsOpen old bytes result fed before after
-fed_open old bytes result fed before after none feeds = subst (λ c. FeedsWith c old bytes result fed before after) none feeds
+fed_open old bytes result fed before after none feeds = subst (λ c. FeedsByCause c old bytes result fed before after) none feeds
 
 pub heard_more : {C : Type 0} (p : PairView C) (t : Tied p) (bytes : List ℕ) (result : Result Unit FeedFault) (fed : ClientView) (sent : List ℕ)
     → p.client.closed ≡ None → (feeds : FeedsOpen p.client bytes result fed p.to_backend.sent sent)
@@ -75,7 +75,7 @@ keeps_fed p bytes result fed sent none e within feeds t =
         fed = ap (λ l. l ++ bytes) t.client.fed ∙ sym (arrived_with p.to_client bytes e);
         given = ap (λ l. l ++ fed.settled) t.client.given;
         sent = ap (λ l. l ++ does.added) t.client.sent ∙ sym put;
-        places = t.client.places;
+        fed_before = t.client.fed_before;
         taken = refl;
         within = within;
       };

@@ -4,38 +4,33 @@ use Rattle.std.specs.List.{flat_map}
 use Rattle.std.proofs.lemmas.List.{append-nil, map-append, length-map}
 use Rattle.pg_wire.specs.declared.session.Request.{Request}
 use Rattle.pg_client.specs.declared.phase.Phase.TheVariants as phase
-use Rattle.pg_client.specs.Session as session
 use Rattle.pg_client.specs.Client.{phase_of}
-use Rattle.pg_client.specs.Turns.{turns_of}
-use Rattle.pg_client.specs.Answering.{calls_of, turns_with}
-use Rattle.pg_client.specs.Turns as client
+use Rattle.pg_client.specs.Answering.{turns_with}
 use Rattle.pg_backend.specs.Lists.{IsPrefix}
 use Rattle.pg_backend.specs.Session.{log_of}
-use Rattle.pg_backend.specs.Turns.{Turn, turn_messages, InTurn, IsCopy, AreCopied, chunks_of}
-use Rattle.pg_pair.specs.declared.event.Call.{Call}
-use Rattle.pg_pair.specs.declared.event.Call.TheVariants as call
-use Rattle.pg_pair.specs.Calling.{client_call, handed_after}
-use Rattle.pg_pair.specs.Copies.{as_turn, turns_made, handed_for}
+use Rattle.pg_wire.specs.Turns.{Turn, turn_messages, IsCopy, AreCopied, chunks_of}
+use Rattle.pg_backend.specs.Turns.{InTurn}
+use Rattle.pg_client.specs.declared.call.Call.{Call}
+use Rattle.pg_client.specs.declared.call.Call.TheVariants as call
+use Rattle.pg_pair.specs.Calling.{handed_after}
+use Rattle.pg_pair.specs.Copies.{turns_made, handed_for}
 use Rattle.pg_pair.specs.Headline.{settled_as, answered_as}
 use Rattle.pg_pair.specs.Invariant.{Tied, TurnsTied}
 use Rattle.pg_pair.specs.Private.Known.{Known}
 use Rattle.pg_pair.specs.View.{PairView}
-use Rattle.pg_pair.proofs.Beginnings.{begins_length, all_of_both}
+use Rattle.pg_backend.proofs.Beginnings.{all_of_both, begins_length}
 use Rattle.pg_pair.proofs.Readiness.{client_idle}
 use Rattle.pg_pair.proofs.Settling.{tied_meets, settled_begin}
 
 -- the turns with one more call
-abbrev pub more_turns : {C : Type 0} (p : PairView C) → Tied p → session.Call → List Turn
-more_turns p t c = map as_turn (turns_with (turns_of (calls_of t.client.history.calls)) c)
+abbrev pub more_turns : {C : Type 0} (p : PairView C) → Tied p → Call → List Turn
+more_turns p t c = turns_with (turns_made t.client.history.calls) c
 
 -- What ties both goes on with the call.
 abbrev pub GoesOn : {C : Type 0} (p : PairView C) → Tied p → Call → Type 0
-GoesOn p t c = TurnsTied (record p { handed = handed_after c p.handed }) (more_turns p t (client_call c))
+GoesOn p t c = TurnsTied (record p { handed = handed_after c p.handed }) (more_turns p t c)
 
 -- ---- a request
-
-asked_turns : (ts : List client.Turn) (r : Request) → map as_turn (ts ++ record { request = r; copies = [] } ∷ []) ≡ map as_turn ts ++ record { request = r; copies = [] } ∷ []
-asked_turns ts r = map-append as_turn ts (record { request = r; copies = [] } ∷ [])
 
 asked_in_turn : Known → {C : Type 0} (p : PairView C) (t : Tied p) (r : Request) → phase_of p.client ≡ phase.Ready → InTurn p.backend.script.answers (turns_made t.client.history.calls ++ record { request = r; copies = [] } ∷ [])
 asked_in_turn k p t r ready =
@@ -56,14 +51,14 @@ asked_in_turn k p t r ready =
 
 pub asked_goes_on : Known → {C : Type 0} (p : PairView C) (t : Tied p) (r : Request) → phase_of p.client ≡ phase.Ready → GoesOn p t (call.Request r)
 asked_goes_on k p t r ready = record {
-  in_turn = subst (InTurn p.backend.script.answers) (sym (asked_turns (turns_of (calls_of t.client.history.calls)) r)) (asked_in_turn k p t r ready);
-  copied = subst AreCopied (sym (asked_turns (turns_of (calls_of t.client.history.calls)) r)) (all_of_both (λ (x : Turn). IsCopy x.copies) (turns_made t.client.history.calls) (record { request = r; copies = [] } ∷ []) t.turns.copied (tt, tt));
-  handed = ap (λ l. l ++ [] ∷ []) t.turns.handed ∙ sym (map-append (λ (x : Turn). chunks_of x.copies) (turns_made t.client.history.calls) (record { request = r; copies = [] } ∷ [])) ∙ ap handed_for (sym (asked_turns (turns_of (calls_of t.client.history.calls)) r));
+  in_turn = asked_in_turn k p t r ready;
+  copied = all_of_both (λ (x : Turn). IsCopy x.copies) (turns_made t.client.history.calls) (record { request = r; copies = [] } ∷ []) t.turns.copied (tt, tt);
+  handed = ap (λ l. l ++ [] ∷ []) t.turns.handed ∙ sym (map-append (λ (x : Turn). chunks_of x.copies) (turns_made t.client.history.calls) (record { request = r; copies = [] } ∷ []));
 }
 
 -- ---- no turn
 
-pub same_goes_on : {C : Type 0} (p : PairView C) (t : Tied p) (c : Call) → more_turns p t (client_call c) ≡ turns_made t.client.history.calls → handed_after c p.handed ≡ p.handed → GoesOn p t c
+pub same_goes_on : {C : Type 0} (p : PairView C) (t : Tied p) (c : Call) → more_turns p t c ≡ turns_made t.client.history.calls → handed_after c p.handed ≡ p.handed → GoesOn p t c
 same_goes_on p t c e h = record {
   in_turn = subst (InTurn p.backend.script.answers) (sym e) t.turns.in_turn;
   copied = subst AreCopied (sym e) t.turns.copied;

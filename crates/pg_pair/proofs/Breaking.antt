@@ -6,7 +6,7 @@ use Rattle.pg_client.specs.History.{with_handed_back}
 use Rattle.pg_backend.specs.Backend.{BackendState, lost_stage}
 use Rattle.pg_backend.specs.History as back
 use Rattle.pg_pair.specs.declared.carry.Way.TheVariants.{ToClient}
-use Rattle.pg_pair.specs.Breaking.{Breaks, broken, is_closed, IsTold, TellsClient}
+use Rattle.pg_pair.specs.Breaking.{Breaks, broken, is_closed, LosesConnection, BreaksToClient}
 use Rattle.pg_pair.specs.Invariant.{Tied}
 use Rattle.pg_pair.specs.View.{PairView}
 
@@ -14,7 +14,7 @@ use Rattle.pg_pair.specs.View.{PairView}
 abbrev pub client_told : {C : Type 0} → PairView C → ClientView → Loss → PairView C
 client_told p c loss = record p { client = c; to_client = broken p.to_client; loss = Some loss }
 
-pub keeps_client_told : {C : Type 0} (p : PairView C) (c : ClientView) (loss : Loss) → IsTold p.client loss c → Tied p → Tied (client_told p c loss)
+pub keeps_client_told : {C : Type 0} (p : PairView C) (c : ClientView) (loss : Loss) → LosesConnection p.client loss c → Tied p → Tied (client_told p c loss)
 keeps_client_told p c loss told t = record {
   client = record {
     history = with_handed_back t.client.history;
@@ -22,7 +22,7 @@ keeps_client_told p c loss told t = record {
     fed = t.client.fed;
     given = t.client.given;
     sent = t.client.sent;
-    places = t.client.places;
+    fed_before = t.client.fed_before;
     taken = told.settled ∙ t.client.taken;
     within = t.client.within;
   };
@@ -53,8 +53,8 @@ keeps_backend_told p b e carries t =
       turns = t.turns;
     })
 
-pub breaks_client : {C : Type 0} (p : PairView C) (c : ClientView) (loss : Loss) → is_closed ToClient p ≡ false → IsTold p.client loss c → Breaks ToClient p (client_told p c loss)
-breaks_client p c loss going told = subst (λ b. TellsClient b p (client_told p c loss)) (sym going) (loss, told, refl)
+pub breaks_client : {C : Type 0} (p : PairView C) (c : ClientView) (loss : Loss) → is_closed ToClient p ≡ false → LosesConnection p.client loss c → Breaks ToClient p (client_told p c loss)
+breaks_client p c loss going told = subst (λ b. BreaksToClient b p (client_told p c loss)) (sym going) (loss, told, refl)
 
 -- a closed client isn't told
 abbrev pub client_marked : {C : Type 0} → PairView C → PairView C
@@ -64,4 +64,4 @@ pub keeps_marked : {C : Type 0} (p : PairView C) → Tied p → Tied (client_mar
 keeps_marked p t = record { client = t.client; backend = t.backend; turns = t.turns }
 
 pub breaks_closed : {C : Type 0} (p : PairView C) → is_closed ToClient p ≡ true → Breaks ToClient p (client_marked p)
-breaks_closed p closed = subst (λ b. TellsClient b p (client_marked p)) (sym closed) refl
+breaks_closed p closed = subst (λ b. BreaksToClient b p (client_marked p)) (sym closed) refl

@@ -1,16 +1,15 @@
 -- A call that the client accepts keeps what is so of a pair.
-use Rattle.std.proofs.Common.{◌≡◌, ℕ, List, [], ◌∷◌, ◌++◌, map, length, refl, ap, sym, subst, ◌∙◌}
+use Rattle.std.proofs.Common.{◌≡◌, ℕ, List, [], ◌∷◌, ◌++◌, length, refl, ap, sym, subst, ◌∙◌}
 use Rattle.std.proofs.lemmas.List.{map-append, length-take-le}
-use Rattle.pg_client.specs.Session as session
 use Rattle.pg_client.specs.Client.{ClientView, phase_of}
 use Rattle.pg_client.specs.Sent.{sent_by}
 use Rattle.pg_client.specs.History.{Calls, with_call}
 use Rattle.pg_client.specs.Calls.{Accepts}
-use Rattle.pg_backend.specs.Turns.{Turn}
-use Rattle.pg_pair.specs.declared.event.Call.{Call}
-use Rattle.pg_pair.specs.declared.event.Call.TheVariants as call
-use Rattle.pg_pair.specs.Calling.{client_call, handed_after, IsAllowedIn}
-use Rattle.pg_pair.specs.Copies.{as_turn, turns_made}
+use Rattle.pg_wire.specs.Turns.{Turn}
+use Rattle.pg_client.specs.declared.call.Call.{Call}
+use Rattle.pg_client.specs.declared.call.Call.TheVariants as call
+use Rattle.pg_pair.specs.Calling.{handed_after, IsAllowedIn}
+use Rattle.pg_pair.specs.Copies.{turns_made}
 use Rattle.pg_pair.specs.Invariant.{Tied, TurnsTied}
 use Rattle.pg_pair.specs.Private.Known.{Known}
 use Rattle.pg_pair.specs.View.{PairView}
@@ -19,32 +18,32 @@ use Rattle.pg_pair.proofs.CopyCalls.{chunk_goes_on, done_goes_on, fail_goes_on}
 use Rattle.pg_pair.proofs.Ends.{backend_stays}
 
 -- the calls with one more
-abbrev pub more_calls : {C : Type 0} (p : PairView C) → Tied p → session.Call → Calls
+abbrev pub more_calls : {C : Type 0} (p : PairView C) → Tied p → Call → Calls
 more_calls p t c = t.client.history.calls ++ (c, length t.client.history.fed) ∷ []
 
-turns_of_more : Known → {C : Type 0} (p : PairView C) (t : Tied p) (c : session.Call) → turns_made (more_calls p t c) ≡ more_turns p t c
-turns_of_more k p t c = ap (map as_turn) (k.one_more t.client.history.calls c (length t.client.history.fed))
+turns_of_more : Known → {C : Type 0} (p : PairView C) (t : Tied p) (c : Call) → turns_made (more_calls p t c) ≡ more_turns p t c
+turns_of_more k p t c = k.one_more t.client.history.calls c (length t.client.history.fed)
 
 -- the pair after a call
 abbrev pub called : {C : Type 0} → PairView C → Call → ClientView → List ℕ → PairView C
-called p c new sent = record p { client = new; to_backend = record p.to_backend { sent = sent }; places = p.places ++ p.to_client.reached ∷ []; handed = handed_after c p.handed }
+called p c new sent = record p { client = new; to_backend = record p.to_backend { sent = sent }; fed_before = p.fed_before ++ p.to_client.reached ∷ []; handed = handed_after c p.handed }
 
 -- Where the turns go on so, a call that was accepted keeps what is so.
 pub accepted : Known → {C : Type 0} (p : PairView C) (t : Tied p) (c : Call) (new : ClientView) (sent : List ℕ)
-    → IsAllowedIn c (phase_of p.client) → Accepts (client_call c) p.client new p.to_backend.sent sent → GoesOn p t c → Tied (called p c new sent)
+    → IsAllowedIn c (phase_of p.client) → Accepts c p.client new p.to_backend.sent sent → GoesOn p t c → Tied (called p c new sent)
 accepted k p t c new sent allowed accepts on =
-    let put : List ℕ = sent_by p.client.settings (client_call c) in
-    let turns : more_turns p t (client_call c) ≡ turns_made (more_calls p t (client_call c)) = sym (turns_of_more k p t (client_call c)) in
+    let put : List ℕ = sent_by p.client.settings c in
+    let turns : more_turns p t c ≡ turns_made (more_calls p t c) = sym (turns_of_more k p t c) in
     let place : length t.client.history.fed ≡ p.to_client.reached = ap length t.client.fed ∙ length-take-le p.to_client.reached p.to_client.sent t.client.within in
     record {
       client = record {
-        history = with_call p.client.settings (client_call c) t.client.history;
+        history = with_call p.client.settings c t.client.history;
         is_history = accepts.history t.client.history t.client.is_history;
         fed = t.client.fed;
         given = t.client.given;
         sent = ap (λ l. l ++ put) t.client.sent ∙ sym accepts.put;
-        places = map-append (λ (x : session.Call × ℕ). x.1) t.client.history.calls ((client_call c, length t.client.history.fed) ∷ [])
-            ∙ ap (λ l. l ++ length t.client.history.fed ∷ []) t.client.places ∙ ap (λ n. p.places ++ n ∷ []) place;
+        fed_before = map-append (λ (x : Call × ℕ). x.1) t.client.history.calls ((c, length t.client.history.fed) ∷ [])
+            ∙ ap (λ l. l ++ length t.client.history.fed ∷ []) t.client.fed_before ∙ ap (λ n. p.fed_before ++ n ∷ []) place;
         taken = ap (λ x. x.settled) accepts.others ∙ t.client.taken;
         within = t.client.within;
       };
@@ -62,5 +61,5 @@ goes_on k p t (call.Fail reason) allowed = fail_goes_on k p t reason allowed
 goes_on k p t call.Terminate allowed = same_goes_on p t call.Terminate refl refl
 
 pub keeps_called : Known → {C : Type 0} (p : PairView C) (c : Call) (new : ClientView) (sent : List ℕ)
-    → IsAllowedIn c (phase_of p.client) → Accepts (client_call c) p.client new p.to_backend.sent sent → Tied p → Tied (called p c new sent)
+    → IsAllowedIn c (phase_of p.client) → Accepts c p.client new p.to_backend.sent sent → Tied p → Tied (called p c new sent)
 keeps_called k p c new sent allowed accepts t = accepted k p t c new sent allowed accepts (goes_on k p t c allowed)

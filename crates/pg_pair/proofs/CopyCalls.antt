@@ -7,9 +7,9 @@ use Rattle.pg_client.specs.Session.{rest_in}
 use Rattle.pg_client.specs.Client.{phase_of}
 use Rattle.pg_client.specs.History.{happenings}
 use Rattle.pg_client.specs.Turns.{turns_of}
-use Rattle.pg_client.specs.Answering.{calls_of, turns_in, last_copies, copies_ended, copies_begun}
-use Rattle.pg_backend.specs.Laws.{copies_in}
-use Rattle.pg_pair.specs.declared.event.Call.TheVariants as call
+use Rattle.pg_wire.specs.Turns.{copies_begun}
+use Rattle.pg_client.specs.Answering.{calls_of, turns_in, last_copies, copies_ended}
+use Rattle.pg_client.specs.declared.call.Call.TheVariants as call
 use Rattle.pg_pair.specs.Calling.{add_to_last}
 use Rattle.pg_pair.specs.Private.Known.{Known}
 use Rattle.pg_pair.specs.Invariant.{Tied}
@@ -18,18 +18,18 @@ use Rattle.pg_pair.proofs.Histories.{in_pair, tied_history}
 use Rattle.pg_pair.proofs.Asking.{GoesOn}
 use Rattle.pg_pair.proofs.Copying.{AreChunks, last_open, copied_on, in_turn_on, handed_chunk, handed_done, handed_failed}
 use Rattle.pg_pair.proofs.Meeting.{user_of}
-use Rattle.pg_pair.proofs.OneCopy.{heard_one, begun_one}
+use Rattle.pg_pair.proofs.OneCopy.{heard_one}
 use Rattle.pg_pair.proofs.Settling.{tied_meets}
 
 -- Of the copies in of a request one at most was begun.
 one_begun : Known → {C : Type 0} (p : PairView C) (t : Tied p) → copies_begun (rest_in (happenings t.client.history)) ≤ 1
 one_begun k p t =
-    let heard : copies_in (segments t.client.history.heard).rest ≤ 1 =
+    let heard : copies_begun (segments t.client.history.heard).rest ≤ 1 =
     elim (tied_meets k p t) [
       | inl s ↦ s.few
       | inr m ↦ heard_one k.one_copy_each k.welcome_is_segment p.backend.script (user_of p.client.settings) m.since t.client.history.heard t.backend.checked.one_copy m.heard_is
     ] in
-    subst (λ ms. copies_begun (segments ms).rest ≤ 1) (sym ((k.order t.client.history).messages)) (begun_one (segments t.client.history.heard).rest heard)
+    subst (λ ms. copies_begun (segments ms).rest ≤ 1) (sym ((k.order t.client.history).messages)) heard
 
 -- While the client is copying in, it has sent chunks alone for the last turn.
 last_chunks : Known → {C : Type 0} (p : PairView C) (t : Tied p) → phase_of p.client ≡ phase.CopyingIn → AreChunks (last_copies (turns_of (calls_of t.client.history.calls)))

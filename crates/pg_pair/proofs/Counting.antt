@@ -8,8 +8,8 @@ use Rattle.pg_client.specs.History.{happenings, History, with_fed, with_heard}
 use Rattle.pg_client.specs.Feed.{Feeds}
 use Rattle.pg_client.specs.Turns.{turns_of}
 use Rattle.pg_client.specs.Answering.{calls_of, turns_in}
-use Rattle.pg_backend.specs.Turns.{Turn, chunks_of}
-use Rattle.pg_pair.specs.Copies.{as_turn, turns_made}
+use Rattle.pg_wire.specs.Turns.{Turn, chunks_of}
+use Rattle.pg_pair.specs.Copies.{turns_made}
 use Rattle.pg_pair.specs.Private.Known.{Known}
 use Rattle.pg_pair.specs.Invariant.{Tied}
 use Rattle.pg_pair.specs.View.{PairView}
@@ -38,7 +38,7 @@ settles_one k p t bytes result fed sent none feeds =
     let all_was : length (p.settled ++ p.client.settled) ≡ length (groups_in was) = before.settled_all in
     let all_now : length (p.settled ++ fed.settled) ≡ length (groups_in now) = after.settled_all in
     let empty : length p.client.settled ≡ 0 = ap length t.client.taken in
-    let handed : length p.handed ≡ length (turns_of (calls_of t.client.history.calls)) = ap length t.turns.handed ∙ length-map (turns_made t.client.history.calls) (λ (x : Turn). chunks_of x.copies) ∙ length-map (turns_of (calls_of t.client.history.calls)) as_turn in
+    let handed : length p.handed ≡ length (turns_of (calls_of t.client.history.calls)) = ap length t.turns.handed ∙ length-map (turns_made t.client.history.calls) (λ (x : Turn). chunks_of x.copies) in
     record {
       one = omega (arith, length-append p.settled p.client.settled, length-append p.settled fed.settled);
       room = omega (arith, length-append p.settled fed.settled);

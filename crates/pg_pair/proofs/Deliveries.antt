@@ -6,24 +6,24 @@ use Rattle.std.proofs.lemmas.List.{append-nil, drop-drop, length-take, take-take
 use Rattle.pg_client.specs.declared.fault.FeedFault.{FeedFault}
 use Rattle.pg_client.specs.declared.phase.Cause.{Cause}
 use Rattle.pg_client.specs.Client.{ClientView}
-use Rattle.pg_client.specs.Feed.{FeedsWith}
+use Rattle.pg_client.specs.Feed.{FeedsByCause}
 use Rattle.pg_pair.specs.declared.carry.CarryFault.{CarryFault}
 use Rattle.pg_pair.specs.declared.carry.Way.{Way}
 use Rattle.pg_pair.specs.declared.carry.Way.TheVariants.{ToBackend, ToClient}
 use Rattle.pg_pair.specs.declared.event.Applied.{Applied}
 use Rattle.pg_pair.specs.declared.event.Applied.TheVariants as applied
 use Rattle.pg_pair.specs.Breaking.{BreaksIf, is_closed, is_shut}
-use Rattle.pg_pair.specs.Delivering.{ArrivesAt, begins, CarriesPiece, DeliversUnless, delivery_applied, EndsWithPiece, Goes, goes_on, GoesWhole}
+use Rattle.pg_pair.specs.Delivering.{ArrivesAt, no_piece, CarriesPiece, DeliversUnless, delivery_applied, EndsWithPiece, DeliversPieces, one_more_piece, EndsWithoutPiece}
 use Rattle.pg_pair.specs.Event.{Applies}
 use Rattle.pg_pair.specs.Carrying.{Carrying, delivered, is_bad, longest_piece, same_front}
 use Rattle.pg_pair.specs.Laws.{delivery_of, DeliveryMoves, Delivers, FallsShort, fed_on, GivesWhole, IsFedOn, LeavesOther, MovesAll, MovesUnless, PutsOut, unfed, WholeMoves}
-use Rattle.pg_pair.specs.View.{PairView, Stream, stream_of, waiting, waiting_at}
+use Rattle.pg_pair.specs.View.{PairView, WayState, way_state, waiting, waiting_at}
 use Rattle.pg_pair.proofs.Delivering.{delivered_first, delivered_within}
 use Rattle.pg_pair.proofs.Ways.{breaks_one, BreaksOne, stream_carried}
 
 -- ---- counting
 
-abbrev pub on_by : Stream → ℕ → Stream
+abbrev pub on_by : WayState → ℕ → WayState
 on_by s n = record s { reached = s.reached + n }
 
 -- so many more of the bytes, where the next piece is one of so many that are asked for
@@ -63,17 +63,17 @@ record Took {C : Type 0} (w : Way) (p : PairView C) (bytes : List ℕ) (answer :
   count : ℕ
   within : count ≤ length bytes
   all : answer ≡ None → count ≡ length bytes
-  way : stream_of w q ≡ on_by (stream_of w p) count
+  way : way_state w q ≡ on_by (way_state w p) count
   other : Onward w p (take count bytes) q
 
-none_on : (s : Stream) → s ≡ on_by s 0
+none_on : (s : WayState) → s ≡ on_by s 0
 none_on s = ap (λ n. record s { reached = n }) (let n = s.reached in let e : n ≡ n + 0 = omega arith in e)
 
-nothing_put : (s : Stream) → s ≡ record s { sent = s.sent ++ [] }
+nothing_put : (s : WayState) → s ≡ record s { sent = s.sent ++ [] }
 nothing_put s = ap (λ l. record s { sent = l }) (sym (append-nil s.sent))
 
 -- what a feed puts out
-put_by : (c : Option Cause) (old : ClientView) (piece : List ℕ) (result : Result Unit FeedFault) (new : ClientView) (before after : List ℕ) → FeedsWith c old piece result new before after → (put : List ℕ) × (after ≡ before ++ put)
+put_by : (c : Option Cause) (old : ClientView) (piece : List ℕ) (result : Result Unit FeedFault) (new : ClientView) (before after : List ℕ) → FeedsByCause c old piece result new before after → (put : List ℕ) × (after ≡ before ++ put)
 put_by (Some c) old piece result new before after h = ([], h.2 ∙ sym (append-nil before))
 put_by None old piece result new before after h = (h.added, h.put)
 
@@ -144,25 +144,25 @@ leaves_on : {C : Type 0} (w : Way) (p : PairView C) (first bytes : List ℕ) (m 
 leaves_on ToBackend p first bytes m q h k = k ∙ h
 leaves_on ToClient p first bytes m q h k = record {
   put = h.put ++ k.put;
-  grown = k.grown ∙ ap (λ (s : Stream). record s { sent = s.sent ++ k.put }) h.grown ∙ ap (λ l. record p.to_backend { sent = l }) (append_assoc p.to_backend.sent h.put k.put);
+  grown = k.grown ∙ ap (λ (s : WayState). record s { sent = s.sent ++ k.put }) h.grown ∙ ap (λ l. record p.to_backend { sent = l }) (append_assoc p.to_backend.sent h.put k.put);
   fed = k.fed p.client p.to_backend.sent first h.fed;
 }
 
 -- So many bytes went.
 record Gone {C : Type 0} (w : Way) (most : ℕ) (p : PairView C) (n : ℕ) (m : PairView C) : Type 0 where
-  way : stream_of w m ≡ on_by (stream_of w p) n
+  way : way_state w m ≡ on_by (way_state w p) n
   asked : n ≤ most
   waited : n ≤ length (waiting_at w p)
   other : Leaves w p (take n (waiting_at w p)) m
 
 none_gone : {C : Type 0} (w : Way) (most : ℕ) (p : PairView C) → Gone w most p 0 p
-none_gone w most p = record { way = none_on (stream_of w p); asked = omega arith; waited = omega arith; other = leaves_none w p }
+none_gone w most p = record { way = none_on (way_state w p); asked = omega arith; waited = omega arith; other = leaves_none w p }
 
 -- what waits then
-left_waiting : {C : Type 0} (w : Way) (p : PairView C) (n : ℕ) (m : PairView C) → stream_of w m ≡ on_by (stream_of w p) n → waiting_at w m ≡ drop n (waiting_at w p)
-left_waiting w p n m e = ap waiting e ∙ sym (drop-drop n (stream_of w p).reached (stream_of w p).sent)
+left_waiting : {C : Type 0} (w : Way) (p : PairView C) (n : ℕ) (m : PairView C) → way_state w m ≡ on_by (way_state w p) n → waiting_at w m ≡ drop n (waiting_at w p)
+left_waiting w p n m e = ap waiting e ∙ sym (drop-drop n (way_state w p).reached (way_state w p).sent)
 
-on_and_on : (s : Stream) (n k : ℕ) → on_by (on_by s n) k ≡ on_by s (n + k)
+on_and_on : (s : WayState) (n k : ℕ) → on_by (on_by s n) k ≡ on_by s (n + k)
 on_and_on s n k = ap (λ r. record s { reached = r }) (let r = s.reached in let e : (r + n) + k ≡ r + (n + k) = omega arith in e)
 
 -- one piece more, of which so many arrived
@@ -176,16 +176,16 @@ gone_on carries w most p n m piece came carrier answer q g c t =
     let more : IsFurther most n t.count bytes piece = further most n t.count bytes piece g.asked g.waited is (omega arith) in
     let arrived : take t.count (delivered piece came) ≡ take t.count piece = ap (take t.count) (sym (delivered_first piece came)) ∙ take-take t.count (length (delivered piece came)) piece within in
     record {
-      way = t.way ∙ ap (λ (s : Stream). on_by s t.count) (stream_carried w m carrier ∙ g.way) ∙ on_and_on (stream_of w p) n t.count;
+      way = t.way ∙ ap (λ (s : WayState). on_by s t.count) (stream_carried w m carrier ∙ g.way) ∙ on_and_on (way_state w p) n t.count;
       asked = more.asked;
       waited = more.waited;
       other = subst (λ l. Leaves w p l q) (ap (λ l. take n bytes ++ l) arrived ∙ sym more.front)
           (leaves_on w p (take n bytes) (take t.count (delivered piece came)) m q g.other (onward_carried w m carrier (take t.count (delivered piece came)) q t.other));
     }
 
-gone : {C : Type 0} (carries : Carrying C) (w : Way) (most : ℕ) (p : PairView C) (n : ℕ) (m : PairView C) → Goes carries w most p n m → Gone w most p n m
-gone carries w most p _ _ begins = none_gone w most p
-gone carries w most p _ _ (goes_on n m piece came carrier q h c whole fine takes) =
+gone : {C : Type 0} (carries : Carrying C) (w : Way) (most : ℕ) (p : PairView C) (n : ℕ) (m : PairView C) → DeliversPieces carries w most p n m → Gone w most p n m
+gone carries w most p _ _ no_piece = none_gone w most p
+gone carries w most p _ _ (one_more_piece n m piece came carrier q h c whole fine takes) =
     let t : Took w (record m { carrier = carrier }) (delivered piece came) None q = subst (λ l. Took w (record m { carrier = carrier }) l None q) (sym whole) (took w (record m { carrier = carrier }) piece None q takes) in
     subst (λ k. Gone w most p (n + k) q) (t.all refl ∙ ap length whole) (gone_on carries w most p n m piece came carrier None q (gone carries w most p n m h) c t)
 
@@ -196,7 +196,7 @@ leaves_broken : {C : Type 0} (w : Way) (p : PairView C) (bytes : List ℕ) (m q 
 leaves_broken ToBackend p bytes m q b h = b.other ToClient (λ e. cc) ∙ h
 leaves_broken ToClient p bytes m q b h =
     let same : q.to_backend ≡ m.to_backend = b.other ToBackend (λ e. cc) in
-    (m.client, record { put = h.put; grown = same ∙ h.grown; fed = subst (λ (s : Stream). IsFedOn p.client p.to_backend.sent bytes m.client s.sent) (sym same) h.fed })
+    (m.client, record { put = h.put; grown = same ∙ h.grown; fed = subst (λ (s : WayState). IsFedOn p.client p.to_backend.sent bytes m.client s.sent) (sym same) h.fed })
 
 leaves_whole : {C : Type 0} (w : Way) (p : PairView C) (bytes : List ℕ) (q : PairView C) → Leaves w p bytes q → LeavesOther w p bytes q
 leaves_whole ToBackend p bytes q h = h
@@ -206,18 +206,18 @@ leaves_after : {C : Type 0} (b : Bool) (w : Way) (p : PairView C) (bytes : List 
 leaves_after {C} false w p bytes m q h k = subst (λ (x : PairView C). LeavesOther w p bytes x) (sym h) (leaves_whole w p bytes m k)
 leaves_after true w p bytes m q h k = leaves_broken w p bytes m q (breaks_one w m q h) k
 
-way_after : {C : Type 0} (b : Bool) (w : Way) (m q : PairView C) → BreaksIf b w m q → stream_of w q ≡ record (stream_of w m) { broken = (stream_of w q).broken }
+way_after : {C : Type 0} (b : Bool) (w : Way) (m q : PairView C) → BreaksIf b w m q → way_state w q ≡ record (way_state w m) { broken = (way_state w q).broken }
 way_after {C} false w m q h =
-    let same : stream_of w q ≡ stream_of w m = ap (λ (x : PairView C). stream_of w x) h in
-    same ∙ ap (λ b. record (stream_of w m) { broken = b }) (sym (ap (λ (s : Stream). s.broken) same))
+    let same : way_state w q ≡ way_state w m = ap (λ (x : PairView C). way_state w x) h in
+    same ∙ ap (λ b. record (way_state w m) { broken = b }) (sym (ap (λ (s : WayState). s.broken) same))
 way_after true w m q h =
-    let own : stream_of w q ≡ record (stream_of w m) { broken = true } = (breaks_one w m q h).own in
-    own ∙ ap (λ b. record (stream_of w m) { broken = b }) (sym (ap (λ (s : Stream). s.broken) own))
+    let own : way_state w q ≡ record (way_state w m) { broken = true } = (breaks_one w m q h).own in
+    own ∙ ap (λ b. record (way_state w m) { broken = b }) (sym (ap (λ (s : WayState). s.broken) own))
 
 -- the way of a delivery, by what went and whether it broke
-way_gone : {C : Type 0} (w : Way) (p m q : PairView C) (n : ℕ) → stream_of w m ≡ on_by (stream_of w p) n → stream_of w q ≡ record (stream_of w m) { broken = (stream_of w q).broken }
-    → stream_of w q ≡ record (stream_of w p) { reached = (stream_of w p).reached + n; broken = (stream_of w q).broken }
-way_gone w p m q n e k = k ∙ ap (λ (s : Stream). record s { broken = (stream_of w q).broken }) e
+way_gone : {C : Type 0} (w : Way) (p m q : PairView C) (n : ℕ) → way_state w m ≡ on_by (way_state w p) n → way_state w q ≡ record (way_state w m) { broken = (way_state w q).broken }
+    → way_state w q ≡ record (way_state w p) { reached = (way_state w p).reached + n; broken = (way_state w q).broken }
+way_gone w p m q n e k = k ∙ ap (λ (s : WayState). record s { broken = (way_state w q).broken }) e
 
 delivers_as : {C : Type 0} (carries : Carrying C) (b : Bool) (w : Way) (most : ℕ) (p : PairView C) (n : ℕ) (m : PairView C) (result : Applied) (q : PairView C)
     → Gone w most p n m → BreaksIf b w m q → MovesUnless (is_shut w p) carries w most p n result q → Delivers carries w most p result q
@@ -249,11 +249,11 @@ left_none : {C : Type 0} (w : Way) (most : ℕ) (p : PairView C) (n : ℕ) (m : 
 left_none w most p n m g (inl e) = inl e
 left_none w most p n m g (inr e) = inr (sym (left_waiting w p n m g.way) ∙ e)
 
-moves_all : {C : Type 0} (w : Way) (most : ℕ) (p : PairView C) (n : ℕ) (m : PairView C) (result : Applied) (q : PairView C) → is_shut w p ≡ false → Gone w most p n m → GoesWhole w most n m result q → MovesAll w most p n result q
+moves_all : {C : Type 0} (w : Way) (most : ℕ) (p : PairView C) (n : ℕ) (m : PairView C) (result : Applied) (q : PairView C) → is_shut w p ≡ false → Gone w most p n m → EndsWithoutPiece w most n m result q → MovesAll w most p n result q
 moves_all {C} w most p n m result q going g h = record {
   lesser = lesser_of n most (waiting_at w p) g.asked g.waited (left_none w most p n m g h.all);
   result_is = h.result_is;
-  whole = ap (λ (s : Stream). s.broken) (ap (λ (x : PairView C). stream_of w x) h.same ∙ g.way) ∙ unbroken_way (stream_of w p).broken (is_closed w p) going;
+  whole = ap (λ (s : WayState). s.broken) (ap (λ (x : PairView C). way_state w x) h.same ∙ g.way) ∙ unbroken_way (way_state w p).broken (is_closed w p) going;
 }
 
 delivers : {C : Type 0} (carries : Carrying C) (b : Bool) (w : Way) (most : ℕ) (p : PairView C) (result : Applied) (q : PairView C) → is_shut w p ≡ b
@@ -317,4 +317,4 @@ lesser_moved false carries gives w most p moved result q going fine (inr h) = ab
 pub whole_moves : {C : Type 0} (carries : Carrying C) → WholeMoves carries
 whole_moves carries gives w most p result q h going fine =
     let d : Delivers carries w most p result q = delivery_moves carries w most p result q h in
-    ap (λ (s : Stream). s.reached) d.way ∙ ap (λ n. (stream_of w p).reached + n) (lesser_moved (is_shut w p) carries gives w most p d.moved result q going fine d.ends)
+    ap (λ (s : WayState). s.reached) d.way ∙ ap (λ n. (way_state w p).reached + n) (lesser_moved (is_shut w p) carries gives w most p d.moved result q going fine d.ends)

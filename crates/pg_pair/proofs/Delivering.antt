@@ -6,12 +6,13 @@ use Rattle.std.proofs.Math.Logic.{∥∥₁_elim}
 use mathlib.Core.Bool.{Bool-set}
 use Rattle.pg_client.specs.declared.fault.FeedFault.{FeedFault}
 use Rattle.pg_client.specs.declared.phase.Cause.{Cause}
-use Rattle.pg_client.specs.declared.place.CopyAnswer.TheVariants as copy
-use Rattle.pg_client.specs.declared.place.Open.TheVariants as begun
-use Rattle.pg_client.specs.declared.place.Stage.TheVariants as stage
-use Rattle.pg_client.specs.declared.place.Stand.{Stand}
-use Rattle.pg_client.specs.declared.place.Stand.TheVariants as stands
-use Rattle.pg_client.specs.Client.{ClientView, phase_of, phase_with, stand_phase}
+use Rattle.pg_client.specs.declared.segment.CopyAnswer.{CopyAnswer}
+use Rattle.pg_client.specs.declared.segment.CopyAnswer.TheVariants as copy
+use Rattle.pg_client.specs.declared.segment.begun.Open.TheVariants as begun
+use Rattle.pg_client.specs.Segment.{Stage, Within}
+use Rattle.pg_client.specs.declared.stand.Stand.{Stand}
+use Rattle.pg_client.specs.declared.stand.Stand.TheVariants as stands
+use Rattle.pg_client.specs.Client.{ClientView, busy_phase_of, phase_of, phase_with, stand_phase}
 use Rattle.pg_client.specs.Feed.{Feeds}
 use Rattle.pg_backend.specs.Backend.{BackendState}
 use Rattle.pg_pair.specs.declared.carry.CarryFault.{CarryFault}
@@ -21,7 +22,7 @@ use Rattle.pg_pair.specs.Carrying.{delivered, same_front}
 use Rattle.pg_pair.specs.Delivering.{ArrivesAt, client_answer, IsStored}
 use Rattle.pg_pair.specs.Private.Known.{Known}
 use Rattle.pg_pair.specs.Invariant.{Tied}
-use Rattle.pg_pair.specs.View.{PairView, Stream, waiting, waiting_at}
+use Rattle.pg_pair.specs.View.{PairView, WayState, waiting, waiting_at}
 use Rattle.pg_pair.proofs.Arriving.{fed_open, fed_pair, heard_more, keeps_fed, keeps_stored, stored_pair}
 use Rattle.pg_pair.proofs.Counting.{SettlesOne, settles_one}
 
@@ -97,7 +98,7 @@ counted count bytes within = length-take-le count bytes within
 itself : (count : ℕ) (bytes : List ℕ) → count ≤ length bytes → take count bytes ≡ take (length (take count bytes)) bytes
 itself count bytes within = ap (λ n. take n bytes) (sym (counted count bytes within))
 
-fits : (s : Stream) (count : ℕ) → s.reached ≤ length s.sent → count ≤ length (waiting s) → s.reached + length (take count (waiting s)) ≤ length s.sent
+fits : (s : WayState) (count : ℕ) → s.reached ≤ length s.sent → count ≤ length (waiting s) → s.reached + length (take count (waiting s)) ≤ length s.sent
 fits s count reached within = omega (arith, counted count (waiting s) within, length-drop s.reached s.sent)
 
 pub pushed_tied : {C : Type 0} (p : PairView C) (count : ℕ) (b : BackendState) → IsPushed p count b → Tied p → Tied (stored_at p count b)
@@ -122,9 +123,12 @@ stand_open : (s : Stand) → is_closed_client (stand_phase s) ≡ false
 stand_open stands.New = refl
 stand_open (stands.Starting w) = refl
 stand_open (stands.Idle asides) = refl
-stand_open (stands.Busy request parts (stage.Within (begun.CopyIn head)) asides copy.Awaited) = refl
-stand_open (stands.Busy request parts (stage.Within (begun.CopyIn head)) asides _) = refl
-stand_open (stands.Busy request parts _ asides answer) = refl
+stand_open (stands.Busy segment) = by segment.stage segment.answer
+  where
+    by : (s : Stage) (a : CopyAnswer) → is_closed_client (busy_phase_of s a) ≡ false
+    by (Within (begun.CopyIn head)) copy.Awaited = refl
+    by (Within (begun.CopyIn head)) _ = refl
+    by _ a = refl
 
 open_none : (c : Option Cause) (s : Stand) → is_closed_client (phase_with c s) ≡ false → c ≡ None
 open_none None s h = refl

@@ -2,17 +2,17 @@
 use Rattle.std.proofs.Common.{◌≡◌, ℕ, List, ◌++◌, length, take, ap, sym, ◌∙◌, arith, length-append}
 use Rattle.std.proofs.lemmas.List.{take-append-le}
 use Rattle.pg_pair.specs.Invariant.{BackendTied, ClientTied, IsWithin}
-use Rattle.pg_pair.specs.View.{Stream, arrived, PairView}
+use Rattle.pg_pair.specs.View.{WayState, arrived, PairView}
 
 -- a way on which this was sent
-abbrev pub with_sent : Stream → List ℕ → Stream
+abbrev pub with_sent : WayState → List ℕ → WayState
 with_sent s sent = record s { sent = sent }
 
 -- what had arrived is as it was
-pub still_arrived : (s : Stream) (sent added : List ℕ) → sent ≡ s.sent ++ added → IsWithin s → arrived s ≡ arrived (with_sent s sent)
+pub still_arrived : (s : WayState) (sent added : List ℕ) → sent ≡ s.sent ++ added → IsWithin s → arrived s ≡ arrived (with_sent s sent)
 still_arrived s sent added more within = sym (ap (take s.reached) more ∙ take-append-le s.reached s.sent added within)
 
-pub still_within : (s : Stream) (sent added : List ℕ) → sent ≡ s.sent ++ added → IsWithin s → IsWithin (with_sent s sent)
+pub still_within : (s : WayState) (sent added : List ℕ) → sent ≡ s.sent ++ added → IsWithin s → IsWithin (with_sent s sent)
 still_within s sent added more within = let n = ap length more in omega (arith, n, within, length-append s.sent added)
 
 unfoldable pub client_stays : {C : Type 0} (p : PairView C) (sent added : List ℕ) → sent ≡ p.to_client.sent ++ added
@@ -23,7 +23,7 @@ client_stays p sent added more t = record {
   fed = t.fed ∙ still_arrived p.to_client sent added more t.within;
   given = t.given;
   sent = t.sent;
-  places = t.places;
+  fed_before = t.fed_before;
   taken = t.taken;
   within = still_within p.to_client sent added more t.within;
 }

@@ -1,7 +1,7 @@
 -- What is kept of a call: the last request's chunks, taken out of the others and put back.
 use Rattle.std.proofs.Common.{◌≡◌, ℕ, List, [], ◌∷◌, ◌++◌, refl, ap, sym, ◌∙◌}
-use Rattle.pg_pair.specs.declared.event.Call.{Call}
-use Rattle.pg_pair.specs.declared.event.Call.TheVariants as call
+use Rattle.pg_client.specs.declared.call.Call.{Call}
+use Rattle.pg_client.specs.declared.call.Call.TheVariants as call
 use Rattle.pg_pair.specs.declared.pair.calling.Kept.{Kept}
 use Rattle.pg_pair.specs.Calling.{add_to_last, handed_after}
 use Rattle.pg_pair.specs.Private.Calling.{handed_by, kept_of}

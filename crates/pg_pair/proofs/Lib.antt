@@ -1,5 +1,4 @@
 -- Lemmas, by the subject.
-pub mod Beginnings
 pub mod Histories
 pub mod Ends
 pub mod Streams

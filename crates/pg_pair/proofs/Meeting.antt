@@ -23,12 +23,12 @@ use Rattle.pg_backend.specs.script.Auth.TheVariants.{Trust, Cleartext, Md5}
 use Rattle.pg_backend.specs.script.Logged.{Logged}
 use Rattle.pg_backend.specs.script.Script.{Script}
 use Rattle.pg_backend.specs.Input.{Input, IsSpelled, transcript, output, sent_bytes, input_log, input_phase, place_phase, end_phase, admission_log, admission_end}
-use Rattle.pg_backend.specs.Laws.{copies_in}
+use Rattle.pg_wire.specs.Turns.{copies_begun}
 use Rattle.pg_backend.specs.Lists.{IsPrefix}
-use Rattle.pg_backend.specs.Opening.{Says, welcome, user_from, asked, Admission, Refused, Awaited, Stopped, Admitted, by_password, admission, admission_messages, started}
+use Rattle.pg_backend.specs.Opening.{Says, welcome, user_from, question_for, Admission, Refused, Awaited, Stopped, Admitted, by_password, admission, admission_messages, started}
 use Rattle.pg_backend.specs.OwnError.{wrong_password}
 use Rattle.pg_backend.specs.Session.{Between, Grouping, Copying, Terminated, Stray, session, replies, log_of}
-use Rattle.pg_pair.proofs.Beginnings.{begins_head, begins_of_nil}
+use Rattle.pg_backend.proofs.Beginnings.{begins_head, begins_of_nil}
 use Rattle.pg_pair.proofs.OneCopy.{rest_one}
 use Rattle.pg_pair.proofs.Opening.{opening, IsUnread, IsRead}
 use Rattle.pg_pair.proofs.Streams.{within_spelled, reads_first, segments_grow}
@@ -40,7 +40,7 @@ user_of settings = user_from [] (startup_pairs settings)
 -- No segment is whole, one copy in at most was begun, and nothing is logged.
 pub record IsSilent (heard : List BackMessage) (log : List Logged) : Type 0 where
   pub none : (segments heard).whole ≡ []
-  pub few : copies_in (segments heard).rest ≤ 1
+  pub few : copies_begun (segments heard).rest ≤ 1
   pub no_log : log ≡ []
 
 -- What a client sends after its startup packet is a password at most, for the first message that it heard, and then these messages,
@@ -56,7 +56,7 @@ pub record HasMet (s : Script) (settings : Settings) (ms : List FrontMessage) (i
   pub read : IsRead settings (passwords settings heard ++ ms) i rest more sent
   pub since : List FrontMessage
   pub follows : ms ≡ since ++ read.left
-  pub heard_is : IsPrefix heard (asked s.auth (user_of settings) ++ (welcome s ++ replies s.answers since))
+  pub heard_is : IsPrefix heard (question_for s.auth (user_of settings) ++ (welcome s ++ replies s.answers since))
   pub log_is : log ≡ log_of s.answers since
   pub phase : input_phase s i ≡ place_phase (session s.answers since).place
 
@@ -77,7 +77,7 @@ IsOutside _ = Unit {0}
 
 -- A client is let in by no message where it was asked for nothing, or by one password.
 abbrev LetsIn : Auth → List ℕ → List FrontMessage → Type 0
-LetsIn auth user by = ((asked auth user ≡ []) × (by ≡ [])) ⊎ ((password : List ℕ) × (by ≡ front.Password password ∷ []))
+LetsIn auth user by = ((question_for auth user ≡ []) × (by ≡ [])) ⊎ ((password : List ℕ) × (by ≡ front.Password password ∷ []))
 
 -- It was let in by the first of these messages, and these are the others.
 record IsInside (auth : Auth) (user : List ℕ) (ms : List FrontMessage) : Type 0 where
@@ -113,14 +113,14 @@ let_in (Md5 expected salt) (c ∷ cs) ms = elim (by_one (md5_text (c ∷ cs) exp
 
 -- No segment is whole, and one copy in at most is begun.
 abbrev IsQuiet : List BackMessage → Type 0
-IsQuiet ms = ((segments ms).whole ≡ []) × (copies_in (segments ms).rest ≤ 1)
+IsQuiet ms = ((segments ms).whole ≡ []) × (copies_begun (segments ms).rest ≤ 1)
 
-quiet_with : (m : BackMessage) (w : List (List BackMessage)) (r : List BackMessage) → copies_in (m ∷ r) ≡ copies_in r → w ≡ [] → copies_in r ≤ 1
-    → ((put_before None m w r).whole ≡ []) × (copies_in (put_before None m w r).rest ≤ 1)
+quiet_with : (m : BackMessage) (w : List (List BackMessage)) (r : List BackMessage) → copies_begun (m ∷ r) ≡ copies_begun r → w ≡ [] → copies_begun r ≤ 1
+    → ((put_before None m w r).whole ≡ []) × (copies_begun (put_before None m w r).rest ≤ 1)
 quiet_with m [] r same none few = (refl, omega (arith, same, few))
 quiet_with m (x ∷ xs) r same none few = absurd cc
 
-quiet_asked : (auth : Auth) (user : List ℕ) (ms : List BackMessage) → IsQuiet ms → IsQuiet (asked auth user ++ ms)
+quiet_asked : (auth : Auth) (user : List ℕ) (ms : List BackMessage) → IsQuiet ms → IsQuiet (question_for auth user ++ ms)
 quiet_asked auth [] ms h = h
 quiet_asked Trust (c ∷ cs) ms h = h
 quiet_asked (Cleartext password) (c ∷ cs) ms h = quiet_with back.AuthCleartext (segments ms).whole (segments ms).rest refl h.0 h.1
@@ -146,7 +146,7 @@ outside_log s (Admitted ms) out = absurd out
 hears_quiet : (heard ms : List BackMessage) → IsPrefix heard ms → IsQuiet ms → IsQuiet heard
 hears_quiet heard ms b q = (
   begins_of_nil (segments heard).whole (subst (IsPrefix (segments heard).whole) q.0 (segments_grow heard ms b)),
-  rest_one heard ms b (subst (AllByRecursion (λ (x : List BackMessage). copies_in x ≤ 1)) (sym q.0) tt, q.1),
+  rest_one heard ms b (subst (AllByRecursion (λ (x : List BackMessage). copies_begun x ≤ 1)) (sym q.0) tt, q.1),
 )
 
 -- ---- the password
@@ -158,7 +158,7 @@ none_sent s settings (m ∷ heard) more b = rw (begins_head m back.AuthOk heard 
 
 -- what is read after the password is the first of what was sent after it
 after_password : (auth : Auth) (s : Script) (settings : Settings) (heard more : List BackMessage) (ms by since left : List FrontMessage)
-    → SendsPassword settings heard ms → LetsIn auth (user_of settings) by → IsPrefix heard (asked auth (user_of settings) ++ (welcome s ++ more))
+    → SendsPassword settings heard ms → LetsIn auth (user_of settings) by → IsPrefix heard (question_for auth (user_of settings) ++ (welcome s ++ more))
     → passwords settings heard ++ ms ≡ (by ++ since) ++ left → ms ≡ since ++ left
 after_password auth s settings heard more ms by since left sends (inl nothing) begins e =
     let none : passwords settings heard ≡ [] = sends.first ∙ none_sent s settings heard more (subst (λ (l : List BackMessage). IsPrefix heard (l ++ (welcome s ++ more))) nothing.0 begins) in
@@ -206,11 +206,11 @@ met : (s : Script) (settings : Settings) (ms : List FrontMessage) (i : Input) (r
 met s settings ms i rest more sent heard log sends read sound (inl out) begins logged =
     let user = user_of settings in
     let a = admission s.auth user i.messages in
-    let quiet = hears_quiet heard (asked s.auth user ++ admission_messages s a) begins (quiet_asked s.auth user (admission_messages s a) (quiet_outside s a out)) in
+    let quiet = hears_quiet heard (question_for s.auth user ++ admission_messages s a) begins (quiet_asked s.auth user (admission_messages s a) (quiet_outside s a out)) in
     inl (record { none = quiet.0; few = quiet.1; no_log = logged ∙ outside_log s a out })
 met s settings ms i rest more sent heard log sends read sound (inr inside) begins logged =
     let user = user_of settings in
-    let first : IsPrefix heard (asked s.auth user ++ (welcome s ++ replies s.answers inside.since)) = subst (λ (a : Admission). IsPrefix heard (asked s.auth user ++ admission_messages s a)) inside.admitted begins in
+    let first : IsPrefix heard (question_for s.auth user ++ (welcome s ++ replies s.answers inside.since)) = subst (λ (a : Admission). IsPrefix heard (question_for s.auth user ++ admission_messages s a)) inside.admitted begins in
     inr (record {
       read = read;
       since = inside.since;
@@ -228,7 +228,7 @@ pub meets : OneSpelling backend → (s : Script) (settings : Settings) (ms : Lis
     → IsSilent heard log ⊎ HasMet s settings ms i rest more sent heard log
 meets one s settings ms i rest more sent heard log limit fed unheard waits sends (inl u) sound stream e spelled logged =
     let none : heard ≡ [] = begins_of_nil heard (heard_first one limit fed unheard waits heard [] stream tt (e ∙ unread_output s i u sound)) in
-    inl (record { none = ap (λ l. (segments l).whole) none; few = subst (λ l. copies_in (segments l).rest ≤ 1) (sym none) (omega arith); no_log = logged ∙ unread_log s i u })
+    inl (record { none = ap (λ l. (segments l).whole) none; few = subst (λ l. copies_begun (segments l).rest ≤ 1) (sym none) (omega arith); no_log = logged ∙ unread_log s i u })
 meets one s settings ms i rest more sent heard log limit fed unheard waits sends (inr r) sound stream e spelled logged =
     let said = answered s settings i.messages in
     let is : transcript s i ≡ map Says said = read_transcript s settings i r.packets sound in

@@ -7,10 +7,10 @@ use Rattle.pg_pair.specs.declared.event.Applied.{Applied}
 use Rattle.pg_pair.specs.declared.pair.carrying.Carried.{Carried}
 use Rattle.pg_pair.specs.declared.pair.delivering.Moved.{Moved}
 use Rattle.pg_pair.specs.Breaking.{BreaksIf, is_closed, is_shut}
-use Rattle.pg_pair.specs.Delivering.{ArrivesAt, CarriesPiece, DeliversUnless, delivery_applied, EndsWithPiece, Goes, goes_on, GoesWhole}
+use Rattle.pg_pair.specs.Delivering.{ArrivesAt, CarriesPiece, DeliversUnless, delivery_applied, EndsWithPiece, DeliversPieces, one_more_piece, EndsWithoutPiece}
 use Rattle.pg_pair.specs.Carrying.{Carrying, delivered, is_bad, longest_piece}
 use Rattle.pg_pair.specs.Private.Delivering.{MovesPiece, PairCarries}
-use Rattle.pg_pair.specs.View.{PairView, stream_of, waiting_at}
+use Rattle.pg_pair.specs.View.{PairView, way_state, waiting_at}
 use Rattle.pg_pair.proofs.Delivering.{delivered_of_count, delivered_of_waiting, delivered_whole, delivered_within}
 
 -- ---- one piece
@@ -91,11 +91,11 @@ open_way false closed e = e
 open_way true closed e = absurd cc
 
 pub going_on : {C : Type 0} (w : Way) (p : PairView C) → is_shut w p ≡ false → is_closed w p ≡ false
-going_on w p e = open_way (stream_of w p).broken (is_closed w p) e
+going_on w p e = open_way (way_state w p).broken (is_closed w p) e
 
 pub goes_further : {C : Type 0} (carries : Carrying C) (w : Way) (most : ℕ) (p : PairView C) (n count : ℕ) (m : PairView C) (moved : Moved) (q : PairView C)
-    → Goes carries w most p n m → count ≡ min (min (length (waiting_at w m)) (most - n)) longest_piece → 0 < count → MovesPiece carries w m (take count (waiting_at w m)) moved q
-    → moved.bad ≡ false → moved.answer ≡ None → count ≤ moved.given → Goes carries w most p (n + moved.given) q
+    → DeliversPieces carries w most p n m → count ≡ min (min (length (waiting_at w m)) (most - n)) longest_piece → 0 < count → MovesPiece carries w m (take count (waiting_at w m)) moved q
+    → moved.bad ≡ false → moved.answer ≡ None → count ≤ moved.given → DeliversPieces carries w most p (n + moved.given) q
 goes_further carries w most p n count m moved q goes e some h fine none whole =
     let piece : List ℕ = take count (waiting_at w m) in
     let long : length piece ≡ count = piece_length w (most - n) count m e in
@@ -104,11 +104,11 @@ goes_further carries w most p n count m moved q goes e some h fine none whole =
     let same : q ≡ h.taken = unbroken moved.bad w h.taken q fine h.breaks in
     let takes : ArrivesAt w (record m { carrier = h.carrier }) piece None h.taken =
     subst (λ a. ArrivesAt w (record m { carrier = h.carrier }) piece a h.taken) none (subst (λ l. ArrivesAt w (record m { carrier = h.carrier }) l moved.answer h.taken) all h.takes) in
-    let on : Goes carries w most p (n + length piece) h.taken = goes_on n m piece h.came h.carrier h.taken goes (carries_piece carries w (most - n) count m moved q e some h) all (sym h.bad ∙ fine) takes in
-    subst (λ l. Goes carries w most p (n + l) q) (sym (h.given ∙ ap length all)) (subst (λ x. Goes carries w most p (n + length piece) x) (sym same) on)
+    let on : DeliversPieces carries w most p (n + length piece) h.taken = one_more_piece n m piece h.came h.carrier h.taken goes (carries_piece carries w (most - n) count m moved q e some h) all (sym h.bad ∙ fine) takes in
+    subst (λ l. DeliversPieces carries w most p (n + l) q) (sym (h.given ∙ ap length all)) (subst (λ x. DeliversPieces carries w most p (n + length piece) x) (sym same) on)
 
 delivers : {C : Type 0} (b : Bool) (carries : Carrying C) (w : Way) (most : ℕ) (p : PairView C) (n : ℕ) (m : PairView C) (result : Applied) (q : PairView C) → b ≡ false
-    → Goes carries w most p n m → GoesWhole w most n m result q ⊎ EndsWithPiece carries w most n m result q → DeliversUnless b carries w most p result q
+    → DeliversPieces carries w most p n m → EndsWithoutPiece w most n m result q ⊎ EndsWithPiece carries w most n m result q → DeliversUnless b carries w most p result q
 delivers false carries w most p n m result q e goes ends = (n, m, goes, ends)
 delivers true carries w most p n m result q e goes ends = absurd cc
 
@@ -116,13 +116,13 @@ none_left : (n most : ℕ) (l : List ℕ) → n ≤ most → 0 ≡ min (min (len
 none_left n most [] within e = inr refl
 none_left n most (x ∷ xs) within e = inl (omega arith)
 
-pub delivers_whole : {C : Type 0} (carries : Carrying C) (w : Way) (most : ℕ) (p : PairView C) (n count : ℕ) (m : PairView C) → is_shut w p ≡ false → Goes carries w most p n m → n ≤ most
+pub delivers_whole : {C : Type 0} (carries : Carrying C) (w : Way) (most : ℕ) (p : PairView C) (n count : ℕ) (m : PairView C) → is_shut w p ≡ false → DeliversPieces carries w most p n m → n ≤ most
     → count ≡ min (min (length (waiting_at w m)) (most - n)) longest_piece → count ≡ 0 → DeliversUnless (is_shut w p) carries w most p (delivery_applied None false n) m
 delivers_whole carries w most p n count m going goes within e none =
     delivers (is_shut w p) carries w most p n m (delivery_applied None false n) m going goes
     (inl (record { all = none_left n most (waiting_at w m) within (sym none ∙ e); result_is = refl; same = refl }))
 
-pub delivers_part : {C : Type 0} (carries : Carrying C) (w : Way) (most : ℕ) (p : PairView C) (n count : ℕ) (m : PairView C) (moved : Moved) (q : PairView C) → is_shut w p ≡ false → Goes carries w most p n m
+pub delivers_part : {C : Type 0} (carries : Carrying C) (w : Way) (most : ℕ) (p : PairView C) (n count : ℕ) (m : PairView C) (moved : Moved) (q : PairView C) → is_shut w p ≡ false → DeliversPieces carries w most p n m
     → count ≡ min (min (length (waiting_at w m)) (most - n)) longest_piece → 0 < count → MovesPiece carries w m (take count (waiting_at w m)) moved q
     → (moved.bad ≡ false → moved.answer ≡ None → count ≤ moved.given → ⊥)
     → DeliversUnless (is_shut w p) carries w most p (delivery_applied moved.answer moved.bad (n + moved.given)) q

@@ -1,5 +1,5 @@
 -- Of what a client hears for one request, one message at most begins a copy in.
-use Rattle.std.proofs.Common.{◌≡◌, ◌≤◌, ℕ, suc, List, [], ◌∷◌, ◌++◌, map, Option, Some, None, refl, ap, sym, subst, ◌∙◌, append_assoc, arith}
+use Rattle.std.proofs.Common.{◌≡◌, ◌≤◌, ℕ, List, [], ◌∷◌, ◌++◌, map, Option, Some, None, refl, ap, sym, subst, ◌∙◌, append_assoc, arith}
 use Rattle.std.specs.List.{AllByRecursion}
 use Rattle.pg_wire.specs.message.BackMessage.{BackMessage}
 use Rattle.pg_wire.specs.message.BackMessage.TheVariants as back
@@ -7,30 +7,24 @@ use Rattle.pg_wire.specs.message.FrontMessage.{FrontMessage}
 use Rattle.pg_wire.specs.value.Status.{Status}
 use Rattle.pg_wire.specs.value.Status.TheVariants.{Idle}
 use Rattle.pg_wire.specs.Segment.{Segments, status_of, put_before, segments}
-use Rattle.pg_client.specs.Answering.{copies_begun}
+use Rattle.pg_wire.specs.Turns.{copies_begun}
 use Rattle.pg_backend.specs.script.Auth.{Auth}
 use Rattle.pg_backend.specs.script.Auth.TheVariants.{Trust, Cleartext, Md5}
 use Rattle.pg_backend.specs.script.Key.{Key}
 use Rattle.pg_backend.specs.script.Script.{Script}
 use Rattle.pg_backend.specs.Check.{HasOneCopyEach}
-use Rattle.pg_backend.specs.Laws.{copies_in, HaveOneCopy, OneCopyEach, WelcomeIsSegment}
+use Rattle.pg_backend.specs.Laws.{HaveOneCopy, OneCopyEach, WelcomeIsSegment}
 use Rattle.pg_backend.specs.Lists.{IsPrefix}
-use Rattle.pg_backend.specs.Opening.{welcome, asked, pair_message, key_messages}
+use Rattle.pg_backend.specs.Opening.{welcome, question_for, pair_message, key_messages}
 use Rattle.pg_backend.specs.Session.{replies}
-use Rattle.pg_pair.proofs.Beginnings.{begins_nil, begins_cons}
+use Rattle.pg_backend.proofs.Beginnings.{begins_cons, begins_nil}
 
--- both ends count alike
-same_copies : (ms : List BackMessage) → copies_begun ms ≡ copies_in ms
-same_copies [] = refl
-same_copies (back.CopyIn head ∷ ms) = ap suc (same_copies ms)
-same_copies (_ ∷ ms) = same_copies ms
-
-first_fewer : (xs more : List BackMessage) → copies_in xs ≤ copies_in (xs ++ more)
+first_fewer : (xs more : List BackMessage) → copies_begun xs ≤ copies_begun (xs ++ more)
 first_fewer [] more = omega arith
 first_fewer (back.CopyIn head ∷ xs) more = omega (arith, first_fewer xs more)
 first_fewer (_ ∷ xs) more = first_fewer xs more
 
-fewer : (xs ys : List BackMessage) → IsPrefix xs ys → copies_in xs ≤ copies_in ys
+fewer : (xs ys : List BackMessage) → IsPrefix xs ys → copies_begun xs ≤ copies_begun ys
 fewer xs ys h = rw (h.1) (first_fewer xs h.0)
 
 -- The whole segments of the first are the first of the second's, and its rest begins what comes next there.
@@ -63,32 +57,32 @@ segments_follow [] more = none_grown (segments more)
 segments_follow (m ∷ xs) more = put_grown (status_of m) m (segments xs).whole (segments xs).rest (segments (xs ++ more)).whole (segments (xs ++ more)).rest (segments_follow xs more)
 
 grown_one : (w : List (List BackMessage)) (r : List BackMessage) (w' : List (List BackMessage)) (r' : List BackMessage) → Grown w r w' r'
-    → AllByRecursion (λ ms. copies_in ms ≤ 1) w' → copies_in r' ≤ 1 → copies_in r ≤ 1
+    → AllByRecursion (λ ms. copies_begun ms ≤ 1) w' → copies_begun r' ≤ 1 → copies_begun r ≤ 1
 grown_one [] r [] r' h all last = omega (arith, fewer r r' h)
 grown_one [] r (s ∷ ss) r' h all last = omega (arith, fewer r s h, all.0)
 grown_one (x ∷ xs) r [] r' h all last = absurd h
 grown_one (x ∷ xs) r (y ∷ ys) r' h all last = grown_one xs r ys r' h.1 all.1 last
 
 -- The rest of a beginning begins one of the segments, or the rest, and a beginning has no more copies.
-pub rest_one : (xs ys : List BackMessage) → IsPrefix xs ys → HaveOneCopy (segments ys) → copies_in (segments xs).rest ≤ 1
+pub rest_one : (xs ys : List BackMessage) → IsPrefix xs ys → HaveOneCopy (segments ys) → copies_begun (segments xs).rest ≤ 1
 rest_one xs ys h one =
     let all : HaveOneCopy (segments (xs ++ h.0)) = subst (λ l. HaveOneCopy (segments l)) h.1 one in
     grown_one (segments xs).whole (segments xs).rest (segments (xs ++ h.0)).whole (segments (xs ++ h.0)).rest (segments_follow xs h.0) all.0 all.1
 
 -- ---- the welcome and the replies
 
-key_none : (key : Option Key) → copies_in (key_messages key ++ back.Ready Idle ∷ []) ≡ 0
+key_none : (key : Option Key) → copies_begun (key_messages key ++ back.Ready Idle ∷ []) ≡ 0
 key_none None = refl
 key_none (Some key) = refl
 
-pairs_none : (pairs : List (List ℕ × List ℕ)) (ms : List BackMessage) → copies_in (map pair_message pairs ++ ms) ≡ copies_in ms
+pairs_none : (pairs : List (List ℕ × List ℕ)) (ms : List BackMessage) → copies_begun (map pair_message pairs ++ ms) ≡ copies_begun ms
 pairs_none [] ms = refl
 pairs_none (p ∷ pairs) ms = pairs_none pairs ms
 
-welcome_none : (s : Script) → copies_in (welcome s) ≡ 0
-welcome_none s = ap copies_in (append_assoc (map pair_message s.pairs) (key_messages s.key) (back.Ready Idle ∷ [])) ∙ pairs_none s.pairs (key_messages s.key ++ back.Ready Idle ∷ []) ∙ key_none s.key
+welcome_none : (s : Script) → copies_begun (welcome s) ≡ 0
+welcome_none s = ap copies_begun (append_assoc (map pair_message s.pairs) (key_messages s.key) (back.Ready Idle ∷ [])) ∙ pairs_none s.pairs (key_messages s.key ++ back.Ready Idle ∷ []) ∙ key_none s.key
 
-asked_none : (auth : Auth) (user : List ℕ) (ms : List BackMessage) → copies_in (asked auth user ++ ms) ≡ copies_in ms
+asked_none : (auth : Auth) (user : List ℕ) (ms : List BackMessage) → copies_begun (question_for auth user ++ ms) ≡ copies_begun ms
 asked_none auth [] ms = refl
 asked_none Trust (c ∷ cs) ms = refl
 asked_none (Cleartext password) (c ∷ cs) ms = refl
@@ -96,12 +90,9 @@ asked_none (Md5 password salt) (c ∷ cs) ms = refl
 
 -- What was heard of a question, the welcome and the replies has one copy in at most after its last whole segment.
 pub heard_one : OneCopyEach → WelcomeIsSegment → (s : Script) (user : List ℕ) (ms : List FrontMessage) (heard : List BackMessage) → HasOneCopyEach s
-    → IsPrefix heard (asked s.auth user ++ (welcome s ++ replies s.answers ms)) → copies_in (segments heard).rest ≤ 1
+    → IsPrefix heard (question_for s.auth user ++ (welcome s ++ replies s.answers ms)) → copies_begun (segments heard).rest ≤ 1
 heard_one one first s user ms heard each begins =
     let of_replies = one s.answers ms each in
-    let of_all : HaveOneCopy (segments (asked s.auth user ++ (welcome s ++ replies s.answers ms))) =
+    let of_all : HaveOneCopy (segments (question_for s.auth user ++ (welcome s ++ replies s.answers ms))) =
     subst HaveOneCopy (sym (first s user (replies s.answers ms))) ((omega (arith, asked_none s.auth user (welcome s), welcome_none s), of_replies.0), of_replies.1) in
-    rest_one heard (asked s.auth user ++ (welcome s ++ replies s.answers ms)) begins of_all
-
-pub begun_one : (ms : List BackMessage) → copies_in ms ≤ 1 → copies_begun ms ≤ 1
-begun_one ms h = omega (arith, same_copies ms)
+    rest_one heard (question_for s.auth user ++ (welcome s ++ replies s.answers ms)) begins of_all

@@ -10,7 +10,7 @@ use Rattle.pg_wire.specs.First.{IsPacket, packet, is_last, EndsIn}
 use Rattle.pg_wire.specs.Frontend.{frontend}
 use Rattle.pg_wire.specs.Laws.{OneSpelling, OnePacket}
 use Rattle.pg_client.specs.declared.settings.Settings.{Settings}
-use Rattle.pg_client.specs.Session.{Call}
+use Rattle.pg_client.specs.declared.call.Call.{Call}
 use Rattle.pg_client.specs.Sent.{startup_pairs}
 use Rattle.pg_client.specs.Turns.{greeting}
 use Rattle.pg_backend.specs.Input.{Input, IsInput, is_started}

@@ -12,8 +12,9 @@ use Rattle.pg_wire.specs.Segment.{segments}
 use Rattle.pg_client.specs.declared.phase.Cause.{Cause}
 use Rattle.pg_client.specs.declared.phase.Cause.TheVariants as cause
 use Rattle.pg_client.specs.declared.phase.Phase.TheVariants as phase
-use Rattle.pg_client.specs.declared.place.Stand.{Stand}
-use Rattle.pg_client.specs.Session.{Start, Ask, Chunk, CopyEnd, CopyFail, Terminate, Happening, Did, Came, IsTerminated, IsReady, whole_in}
+use Rattle.pg_client.specs.declared.stand.Stand.{Stand}
+use Rattle.pg_client.specs.declared.call.Call.TheVariants as call
+use Rattle.pg_client.specs.Session.{Happening, Did, Came, IsTerminated, IsReady, whole_in}
 use Rattle.pg_client.specs.Client.{phase_of, phase_with}
 use Rattle.pg_client.specs.History.{happenings}
 use Rattle.pg_client.specs.Facts.{IsPhase}
@@ -23,17 +24,17 @@ use Rattle.pg_backend.specs.phase.BackPhase.{BackPhase}
 use Rattle.pg_backend.specs.declared.stage.ClosedBy.TheVariants as ending
 use Rattle.pg_backend.specs.declared.stage.BackStage.{BackStage}
 use Rattle.pg_backend.specs.declared.stage.BackStage.TheVariants as stage
-use Rattle.pg_backend.specs.Backend.{is_spared, was_lost, phase_by}
+use Rattle.pg_backend.specs.Backend.{had_memory, was_lost, phase_by}
 use Rattle.pg_backend.specs.Input.{place_phase}
 use Rattle.pg_backend.specs.Session.{log_of}
-use Rattle.pg_backend.specs.Turns.{turn_messages}
-use Rattle.pg_pair.specs.Copies.{as_turn, turns_made}
+use Rattle.pg_wire.specs.Turns.{turn_messages}
+use Rattle.pg_pair.specs.Copies.{turns_made}
 use Rattle.pg_pair.specs.Headline.{settled_as, answered_as, input_bytes, StandsReady, Headline}
 use Rattle.pg_pair.specs.Private.Known.{Known}
 use Rattle.pg_pair.specs.Invariant.{Tied}
 use Rattle.pg_pair.specs.View.{PairView}
+use Rattle.pg_backend.proofs.Beginnings.{begins_length, begins_take}
 use Rattle.pg_pair.proofs.Histories.{in_pair, tied_handled, tied_history}
-use Rattle.pg_pair.proofs.Beginnings.{begins_length, begins_take}
 use Rattle.pg_pair.proofs.Opening.{opening}
 use Rattle.pg_pair.proofs.Settling.{Messages, Met, tied_meets, settled_begin, all_taken, all_asked, one_unsettled}
 
@@ -45,12 +46,12 @@ not_closed (Some c) s e = absurd cc
 
 farewell_said : (hs : List Happening) → (IsTerminated hs → ⊥) → farewell (calls_in hs) ≡ []
 farewell_said [] h = refl
-farewell_said (Did Start ∷ hs) h = farewell_said hs h
-farewell_said (Did (Ask r) ∷ hs) h = farewell_said hs h
-farewell_said (Did (Chunk bytes) ∷ hs) h = farewell_said hs h
-farewell_said (Did CopyEnd ∷ hs) h = farewell_said hs h
-farewell_said (Did (CopyFail reason) ∷ hs) h = farewell_said hs h
-farewell_said (Did Terminate ∷ hs) h = absurd (h tt)
+farewell_said (Did call.Start ∷ hs) h = farewell_said hs h
+farewell_said (Did (call.Request r) ∷ hs) h = farewell_said hs h
+farewell_said (Did (call.Chunk bytes) ∷ hs) h = farewell_said hs h
+farewell_said (Did call.Done ∷ hs) h = farewell_said hs h
+farewell_said (Did (call.Fail reason) ∷ hs) h = farewell_said hs h
+farewell_said (Did call.Terminate ∷ hs) h = absurd (h tt)
 farewell_said (Came m ∷ hs) h = farewell_said hs h
 
 -- What is so of a client that stands ready: it has not ended the session, each of its turns is settled, and a segment is whole.
@@ -70,7 +71,7 @@ client_idle k p t ready =
     let going : IsTerminated hs → ⊥ = λ over. let e : p.client.closed ≡ Some cause.Terminated = t.client.is_history.terminated.0 over in let f : None ≡ Some cause.Terminated = sym none ∙ e in absurd cc in
     let given : length (p.settled ++ p.client.settled) ≡ length p.settled = ap length (ap (λ l. p.settled ++ l) t.client.taken ∙ append-nil p.settled) in
     let all : length (p.settled ++ p.client.settled) ≡ length (turns_of (calls_in hs)) = turns.ready ready in
-    let made : length (turns_of (calls_in hs)) ≡ length (turns_made t.client.history.calls) = ap (λ cs. length (turns_of cs)) told.calls ∙ sym (length-map (turns_of (calls_of t.client.history.calls)) as_turn) in
+    let made : length (turns_of (calls_in hs)) ≡ length (turns_made t.client.history.calls) = ap (λ cs. length (turns_of cs)) told.calls in
     record {
       stays = ap farewell (sym (told.calls)) ∙ farewell_said hs going;
       settled_all = sym given ∙ all ∙ made;
@@ -81,7 +82,7 @@ client_idle k p t ready =
 
 -- ---- of the backend
 
-spared_phase : (s : BackStage) (b : BackPhase) → is_spared s ≡ true → was_lost s ≡ false → phase_by s b ≡ b
+spared_phase : (s : BackStage) (b : BackPhase) → had_memory s ≡ true → was_lost s ≡ false → phase_by s b ≡ b
 spared_phase (stage.First d) b h l = refl
 spared_phase (stage.Open d a) b h l = refl
 spared_phase (stage.Closed ending.Input) b h l = refl
@@ -99,7 +100,7 @@ sent_parts o all ps ms left is e =
 
 ready_with : Known → {C : Type 0} (p : PairView C) (t : Tied p) → IsIdle p t
     → Met p t
-    → p.to_backend.broken ≡ false → is_spared p.backend.stage ≡ true → StandsReady p
+    → p.to_backend.broken ≡ false → had_memory p.backend.stage ≡ true → StandsReady p
 ready_with k p t idle m whole spared =
     let answers = p.backend.script.answers in
     let ms = m.since in
@@ -117,7 +118,7 @@ ready_with k p t idle m whole spared =
     m.read.sent_is ∙ sent_parts (opening p.client.settings) (Messages p t) t.backend.history.input.packets t.backend.history.input.messages left m.read.packets m.read.messages in
     record {
       phase = t.backend.is_history.phase_is ∙ spared_phase p.backend.stage _ spared (t.backend.not_lost whole) ∙ m.phase ∙ ap place_phase rest.1;
-      left = ∣ record { input = t.backend.history.input; rest = t.backend.history.rest; handled = tied_handled p t; left = left; sent = bytes; copies = rest.0 } ∣₁;
+      leaves_copies = ∣ record { input = t.backend.history.input; rest = t.backend.history.rest; handled = tied_handled p t; unhandled = left; sent = bytes; copies = rest.0 } ∣₁;
     }
 
 pub headline : Known → {C : Type 0} (p : PairView C) → Tied p → Headline p

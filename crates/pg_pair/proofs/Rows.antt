@@ -12,11 +12,11 @@ use Rattle.pg_wire.specs.declared.session.Request.{Request}
 use Rattle.pg_wire.specs.declared.session.Request.TheVariants.{Query}
 use Rattle.pg_wire.proofs.Rows.{salted}
 use Rattle.pg_client.specs.declared.phase.Cause.TheVariants as cause
-use Rattle.pg_client.specs.declared.place.Stand.TheVariants as stands
+use Rattle.pg_client.specs.declared.stand.Stand.TheVariants as stands
 use Rattle.pg_client.specs.declared.settings.Settings.{Settings}
-use Rattle.pg_client.specs.Session.{Start, Ask, Chunk, CopyEnd, Terminate}
+use Rattle.pg_client.specs.declared.call.Call.TheVariants as call
 use Rattle.pg_client.specs.History.{Calls}
-use Rattle.pg_client.specs.Turns.{messages_behind}
+use Rattle.pg_client.specs.Turns.{messages_after}
 use Rattle.pg_backend.specs.script.Answer.{Answer}
 use Rattle.pg_backend.specs.script.Auth.TheVariants.{Trust, Cleartext, Md5}
 use Rattle.pg_backend.specs.script.Load.TheVariants as load
@@ -27,7 +27,6 @@ use Rattle.pg_backend.specs.Opening.{Refused, Awaited, Admitted, admission}
 use Rattle.pg_backend.specs.OwnError.{wrong_password}
 use Rattle.pg_backend.specs.Session.{log_of, replies}
 use Rattle.pg_pair.specs.declared.event.Applied.TheVariants as applied
-use Rattle.pg_pair.specs.declared.event.Call.TheVariants as call
 use Rattle.pg_pair.specs.declared.event.Event.TheVariants as event
 use Rattle.pg_pair.specs.declared.carry.CarryFault.{CarryFault}
 use Rattle.pg_pair.specs.declared.carry.Way.{Way}
@@ -37,7 +36,8 @@ use Rattle.pg_pair.specs.Calling.{handed_after}
 use Rattle.pg_pair.specs.Carrying.{delivered, is_bad}
 use Rattle.pg_pair.specs.Delivering.{delivery_applied}
 use Rattle.pg_pair.specs.Event.{Happens, Ran}
-use Rattle.pg_pair.specs.Copies.{handed_for, TookEach, turns_made}
+use Rattle.pg_backend.specs.Turns.{TookEach}
+use Rattle.pg_pair.specs.Copies.{handed_for, turns_made}
 use Rattle.pg_pair.specs.Headline.{answered_as, requests_of, settled_as}
 use Rattle.pg_pair.specs.View.{PairView}
 
@@ -86,7 +86,7 @@ named password = record { user = codes "c"; database = None; pairs = []; passwor
 
 -- what it sends after its startup packet where it was asked this
 abbrev answering : Option (List ℕ) → BackMessage → List FrontMessage
-answering password question = messages_behind (named password) (question ∷ []) (Start ∷ [])
+answering password question = messages_after (named password) (question ∷ []) (call.Start ∷ [])
 
 abbrev salt : List ℕ
 salt = 1 ∷ 2 ∷ 3 ∷ 4 ∷ []
@@ -134,7 +134,7 @@ query_settled = refl
 -- ---- a copy
 
 calls : Calls
-calls = (Start, 0) ∷ (Ask select, 15) ∷ (Chunk (49 ∷ []), 40) ∷ (Chunk (50 ∷ []), 40) ∷ (CopyEnd, 40) ∷ (Terminate, 60) ∷ []
+calls = (call.Start, 0) ∷ (call.Request select, 15) ∷ (call.Chunk (49 ∷ []), 40) ∷ (call.Chunk (50 ∷ []), 40) ∷ (call.Done, 40) ∷ (call.Terminate, 60) ∷ []
 
 -- the chunks that were handed over for the one request
 copy_handed : handed_for (turns_made calls) ≡ ((49 ∷ []) ∷ (50 ∷ []) ∷ []) ∷ []
@@ -181,7 +181,7 @@ fresh = record {
   carrier = tt;
   to_backend = record { sent = []; reached = 0; broken = false };
   to_client = record { sent = []; reached = 0; broken = false };
-  places = [];
+  fed_before = [];
   settled = [];
   handed = [];
   loss = None;

@@ -15,26 +15,27 @@ use Rattle.pg_wire.specs.Laws.{OneOutcome}
 use Rattle.pg_wire.specs.Segment.{Fits, Segments, segments, request_messages, without_asides}
 use Rattle.pg_client.specs.declared.settings.Settings.{Settings}
 use Rattle.pg_client.specs.declared.settled.Settled.{Settled}
-use Rattle.pg_client.specs.Session.{Call, Terminate, Happening, Did, Came, messages_in, requests_in, IsAfterItsCall, groups_in}
+use Rattle.pg_client.specs.declared.call.Call.{Call}
+use Rattle.pg_client.specs.declared.call.Call.TheVariants as call
+use Rattle.pg_client.specs.Session.{Happening, Did, Came, messages_in, requests_in, IsAfterItsCall, groups_in}
 use Rattle.pg_client.specs.History.{Calls, happenings}
-use Rattle.pg_client.specs.Facts.{SettledInOrder}
-use Rattle.pg_client.specs.Turns.{turns_of, calls_in, passwords, first_answer, messages_behind, greeting, farewell}
-use Rattle.pg_client.specs.Turns as client
+use Rattle.pg_client.specs.Facts.{FirstSettled}
+use Rattle.pg_client.specs.Turns.{turns_of, calls_in, passwords, first_answer, messages_after, greeting, farewell}
 use Rattle.pg_client.specs.Answering.{calls_of, turns_in}
 use Rattle.pg_backend.specs.script.Logged.{Logged}
 use Rattle.pg_backend.specs.Laws.{FitEach, AreFirstOf}
 use Rattle.pg_backend.specs.Lists.{IsPrefix}
-use Rattle.pg_backend.specs.Opening.{welcome, asked}
+use Rattle.pg_backend.specs.Opening.{welcome, question_for}
 use Rattle.pg_backend.specs.Session.{replies, log_of}
-use Rattle.pg_backend.specs.Turns.{Turn, turn_messages}
-use Rattle.pg_backend.specs.Turns as backend
-use Rattle.pg_pair.specs.Copies.{as_turn, turns_made, TookEach}
+use Rattle.pg_wire.specs.Turns.{Turn, turn_messages, chunks_of}
+use Rattle.pg_backend.specs.Turns.{TookEach}
+use Rattle.pg_pair.specs.Copies.{turns_made}
 use Rattle.pg_pair.specs.Headline.{settled_as, answered_as, requests_of, requests_logged, MatchesCalls}
 use Rattle.pg_pair.specs.Private.Known.{Known}
 use Rattle.pg_pair.specs.Invariant.{Tied}
 use Rattle.pg_pair.specs.View.{arrived, waiting, PairView}
+use Rattle.pg_backend.proofs.Beginnings.{begins_cons, begins_head, begins_nil, begins_tail, begins_take}
 use Rattle.pg_pair.proofs.Histories.{in_pair, tied_history}
-use Rattle.pg_pair.proofs.Beginnings.{begins_nil, begins_head, begins_tail, begins_cons, begins_take}
 use Rattle.pg_pair.proofs.Meeting.{user_of, IsSilent, SendsPassword, HasMet, meets}
 use Rattle.pg_pair.proofs.Opening.{opening, IsUnread, IsRead, reads}
 use Rattle.pg_pair.proofs.Streams.{segments_grow}
@@ -43,7 +44,7 @@ use Rattle.pg_pair.proofs.Streams.{segments_grow}
 
 -- groups that are settled in order, by the segments that a log's entries fit
 settled_first : OneOutcome → (rs : List Request) (xs : List (List BackMessage)) (ss : List Settled) (ls : List Logged) (ys : List (List BackMessage))
-    → SettledInOrder rs xs ss → FitEach ls ys → IsPrefix xs ys → IsPrefix (map (λ (l : Logged). l.request) ls) rs
+    → FirstSettled rs xs ss → FitEach ls ys → IsPrefix xs ys → IsPrefix (map (λ (l : Logged). l.request) ls) rs
     → IsPrefix (map settled_as ss) (map answered_as ls)
 settled_first one rs [] [] ls ys s f b q = begins_nil _
 settled_first one [] [] (t ∷ ts) ls ys s f b q = absurd s
@@ -64,20 +65,7 @@ without_first : (xs ys : List (List BackMessage)) (y : List BackMessage) → IsP
 without_first [] ys y h = begins_nil ys
 without_first (x ∷ xs) ys y h = begins_tail x y xs ys h
 
-took_each : (ls : List Logged) (hs : List (List (List ℕ))) → backend.TookEach ls hs → TookEach ls hs
-took_each [] hs h = tt
-took_each (l ∷ ls) [] h = absurd h
-took_each (l ∷ ls) (x ∷ hs) h = (record { first = begins_take l.loaded x h.0.begins; all = h.0.all }, took_each ls hs h.1)
-
 -- ---- what a client sends
-
-turns_messages : (ts : List client.Turn) → flat_map client.turn_messages ts ≡ flat_map turn_messages (map as_turn ts)
-turns_messages [] = refl
-turns_messages (t ∷ ts) = ap (λ l. client.turn_messages t ++ l) (turns_messages ts)
-
-turns_requests : (ts : List client.Turn) → map (λ (t : Turn). t.request) (map as_turn ts) ≡ map (λ (t : client.Turn). t.request) ts
-turns_requests [] = refl
-turns_requests (t ∷ ts) = ap (λ l. t.request ∷ l) (turns_requests ts)
 
 -- the messages after the password: those of its turns, and maybe a Terminate
 abbrev pub turns_sent : Calls → List FrontMessage
@@ -87,12 +75,9 @@ turns_sent cs = flat_map turn_messages (turns_made cs) ++ farewell (calls_of cs)
 abbrev pub all_messages : Settings → List BackMessage → Calls → List FrontMessage
 all_messages settings heard cs = passwords settings heard ++ turns_sent cs
 
-all_messages_are : (settings : Settings) (heard : List BackMessage) (cs : Calls) → messages_behind settings heard (calls_of cs) ≡ all_messages settings heard cs
-all_messages_are settings heard cs = ap (λ l. passwords settings heard ++ (l ++ farewell (calls_of cs))) (turns_messages (turns_of (calls_of cs)))
-
 one_farewell : (cs : List Call) → (farewell cs ≡ []) ⊎ (farewell cs ≡ front.Terminate ∷ [])
 one_farewell [] = inl refl
-one_farewell (Terminate ∷ cs) = inr refl
+one_farewell (call.Terminate ∷ cs) = inr refl
 one_farewell (_ ∷ cs) = one_farewell cs
 
 -- no message of a turn is a password, so the first isn't one
@@ -125,17 +110,17 @@ Happened p t = happenings t.client.history
 abbrev pub Messages : {C : Type 0} (p : PairView C) → Tied p → List FrontMessage
 Messages p t = all_messages p.client.settings t.client.history.heard t.client.history.calls
 
-after_happened : Known → {C : Type 0} (p : PairView C) (t : Tied p) → messages_behind p.client.settings (messages_in (Happened p t)) (calls_in (Happened p t)) ≡ Messages p t
+after_happened : Known → {C : Type 0} (p : PairView C) (t : Tied p) → messages_after p.client.settings (messages_in (Happened p t)) (calls_in (Happened p t)) ≡ Messages p t
 after_happened k p t =
     let told = k.order t.client.history in
-    ap (λ ms. messages_behind p.client.settings ms (calls_in (Happened p t))) told.messages ∙ ap (messages_behind p.client.settings t.client.history.heard) told.calls ∙ all_messages_are p.client.settings t.client.history.heard t.client.history.calls
+    ap (λ ms. messages_after p.client.settings ms (calls_in (Happened p t))) told.messages ∙ ap (messages_after p.client.settings t.client.history.heard) told.calls
 
 -- what the client has sent, in messages
 pub sent_messages : Known → {C : Type 0} (p : PairView C) (t : Tied p) → p.to_backend.sent ≡ greeting p.client.settings (calls_of t.client.history.calls) ++ flat_map (spelling frontend) (Messages p t)
 sent_messages k p t =
     let turns = k.turns (in_pair p t.client.history) p.client (tied_history p t) in
     let told = k.order t.client.history in
-    turns.sent_is ∙ ap (λ cs. greeting p.client.settings cs ++ flat_map (spelling frontend) (messages_behind p.client.settings (messages_in (Happened p t)) (calls_in (Happened p t)))) told.calls
+    turns.sent_is ∙ ap (λ cs. greeting p.client.settings cs ++ flat_map (spelling frontend) (messages_after p.client.settings (messages_in (Happened p t)) (calls_in (Happened p t)))) told.calls
     ∙ ap (λ l. greeting p.client.settings (calls_of t.client.history.calls) ++ flat_map (spelling frontend) l) (after_happened k p t)
 
 -- what it sends has a spelling
@@ -161,7 +146,7 @@ pub tied_none : Known → {C : Type 0} (p : PairView C) (t : Tied p) → calls_o
 tied_none k p t e =
     let told = k.order t.client.history in
     let nothing : t.client.history.heard ≡ [] = sym (told.messages) ∙ none_heard (Happened p t) t.client.is_history.expected.after (told.calls ∙ e) in
-    sym (all_messages_are p.client.settings t.client.history.heard t.client.history.calls) ∙ ap (messages_behind p.client.settings t.client.history.heard) e ∙ ap (λ ms. messages_behind p.client.settings ms []) nothing
+    ap (messages_after p.client.settings t.client.history.heard) e ∙ ap (λ ms. messages_after p.client.settings ms []) nothing
 
 -- the password that it has sent
 tied_password : Known → {C : Type 0} (p : PairView C) (t : Tied p) → SendsPassword p.client.settings t.client.history.heard (turns_sent t.client.history.calls)
@@ -193,15 +178,15 @@ tied_meets k p t =
     t.backend.faultless (tied_history p t).stream (take-append-drop p.to_client.reached p.to_client.sent ∙ sym t.backend.sent ∙ t.backend.is_history.sent_is) t.backend.is_history.spelled t.backend.is_history.log_is
 
 -- the settled groups, by what was heard
-pub settled_by_heard : Known → {C : Type 0} (p : PairView C) (t : Tied p) → SettledInOrder (map (λ (x : Turn). x.request) (turns_made t.client.history.calls)) (drop 1 (segments t.client.history.heard).whole) p.settled
+pub settled_by_heard : Known → {C : Type 0} (p : PairView C) (t : Tied p) → FirstSettled (map (λ (x : Turn). x.request) (turns_made t.client.history.calls)) (drop 1 (segments t.client.history.heard).whole) p.settled
 settled_by_heard k p t =
     let facts = k.facts (in_pair p t.client.history) p.client (tied_history p t) in
     let told = k.order t.client.history in
-    subst (λ rs. SettledInOrder rs (drop 1 (segments t.client.history.heard).whole) p.settled) (told.requests ∙ sym (turns_requests (turns_of (calls_of t.client.history.calls))))
-    (subst (λ ms. SettledInOrder (requests_in (Happened p t)) (drop 1 (segments ms).whole) p.settled) told.messages
-    (subst (SettledInOrder (requests_in (Happened p t)) (groups_in (Happened p t))) (ap (λ l. p.settled ++ l) t.client.taken ∙ append-nil p.settled) facts.in_order))
+    subst (λ rs. FirstSettled rs (drop 1 (segments t.client.history.heard).whole) p.settled) told.requests
+    (subst (λ ms. FirstSettled (requests_in (Happened p t)) (drop 1 (segments ms).whole) p.settled) told.messages
+    (subst (FirstSettled (requests_in (Happened p t)) (groups_in (Happened p t))) (ap (λ l. p.settled ++ l) t.client.taken ∙ append-nil p.settled) facts.in_order))
 
-none_settled : (rs : List Request) (xs : List (List BackMessage)) (ss : List Settled) → xs ≡ [] → SettledInOrder rs xs ss → ss ≡ []
+none_settled : (rs : List Request) (xs : List (List BackMessage)) (ss : List Settled) → xs ≡ [] → FirstSettled rs xs ss → ss ≡ []
 none_settled rs [] [] e h = refl
 none_settled [] [] (s ∷ ss) e h = absurd h
 none_settled (r ∷ rs) [] (s ∷ ss) e h = absurd h
@@ -216,10 +201,10 @@ met_begins k p t m =
     let answers = p.backend.script.answers in
     let ms = m.since in
     let user = user_of p.client.settings in
-    let first : List BackMessage = asked p.backend.script.auth user ++ welcome p.backend.script in
+    let first : List BackMessage = question_for p.backend.script.auth user ++ welcome p.backend.script in
     let heard : IsPrefix (segments t.client.history.heard).whole (first ∷ (segments (replies answers ms)).whole) =
     subst (λ (s : Segments). IsPrefix (segments t.client.history.heard).whole s.whole) (k.welcome_is_segment p.backend.script user (replies answers ms))
-    (segments_grow t.client.history.heard (asked p.backend.script.auth user ++ (welcome p.backend.script ++ replies answers ms)) m.heard_is) in
+    (segments_grow t.client.history.heard (question_for p.backend.script.auth user ++ (welcome p.backend.script ++ replies answers ms)) m.heard_is) in
     rw (m.log_is) (settled_first k.one_outcome (map (λ (x : Turn). x.request) (turns_made t.client.history.calls)) (drop 1 (segments t.client.history.heard).whole) p.settled (log_of answers ms) (segments (replies answers ms)).whole
     (settled_by_heard k p t) (k.segments_fit_log answers ms) (without_first (segments t.client.history.heard).whole (segments (replies answers ms)).whole first heard)
     (k.turns_logged answers (turns_made t.client.history.calls) ms t.turns.in_turn (met_handled p t m)))
@@ -230,14 +215,10 @@ settled_begin k p t = elim (tied_meets k p t) [
   | inr m ↦ met_begins k p t m
 ]
 
-abbrev handed_of : List Turn → List (List (List ℕ))
-handed_of ts = map (λ (x : Turn). backend.chunks_of x.copies) ts
-
 pub all_taken : Known → {C : Type 0} (p : PairView C) (t : Tied p) → TookEach p.backend.log p.handed
 all_taken k p t = elim (tied_meets k p t) [
   | inl s ↦ rw (s.no_log) tt
-  | inr m ↦ rw (m.log_is, t.turns.handed) (took_each (log_of p.backend.script.answers m.since) (handed_of (turns_made t.client.history.calls))
-      (k.turns_loaded p.backend.script.answers (turns_made t.client.history.calls) m.since t.turns.in_turn t.turns.copied (met_handled p t m)))
+  | inr m ↦ rw (m.log_is, t.turns.handed) (k.turns_loaded p.backend.script.answers (turns_made t.client.history.calls) m.since t.turns.in_turn t.turns.copied (met_handled p t m))
 ]
 
 log_first : (ls : List Logged) (rs : List Request) → IsPrefix (map (λ (l : Logged). l.request) ls) rs → map (λ (l : Logged). l.request) ls ≡ take (length ls) rs
@@ -258,7 +239,7 @@ all_asked k p t = record {
   fed = t.client.fed;
   given = t.client.given;
   sent = t.client.sent;
-  places = t.client.places;
+  fed_before = t.client.fed_before;
   logged = logged_first k p t;
   handed = t.turns.handed;
 }
@@ -272,5 +253,5 @@ one_unsettled k p t =
     let made : length (turns_in hs) ≡ length (turns_of (calls_of t.client.history.calls)) = ap (λ cs. length (turns_of cs)) ((k.order t.client.history).calls) in
     let all : length (p.settled ++ p.client.settled) ≡ length (groups_in hs) = turns.settled_all in
     let given : length (p.settled ++ p.client.settled) ≡ length p.settled = ap length (ap (λ l. p.settled ++ l) t.client.taken ∙ append-nil p.settled) in
-    let handed : length p.handed ≡ length (turns_of (calls_of t.client.history.calls)) = ap length t.turns.handed ∙ length-map (turns_made t.client.history.calls) (λ (x : Turn). backend.chunks_of x.copies) ∙ length-map (turns_of (calls_of t.client.history.calls)) as_turn in
+    let handed : length p.handed ≡ length (turns_of (calls_of t.client.history.calls)) = ap length t.turns.handed ∙ length-map (turns_made t.client.history.calls) (λ (x : Turn). chunks_of x.copies) in
     omega arith

@@ -13,14 +13,14 @@ use Rattle.pg_wire.specs.Frontend.{frontend}
 use Rattle.pg_wire.specs.Laws.{FaultyBeginsNone, FaultyBeginsNoPacket}
 use Rattle.pg_wire.specs.Stream.{IsWithin, IsFaulty}
 use Rattle.pg_client.specs.declared.settings.Settings.{Settings}
-use Rattle.pg_client.specs.Session.{Call}
+use Rattle.pg_client.specs.declared.call.Call.{Call}
 use Rattle.pg_client.specs.Turns.{greeting}
 use Rattle.pg_client.specs.Answering.{calls_of}
 use Rattle.pg_backend.specs.Input.{Input, IsInput, is_started, IsFaultyRest}
 use Rattle.pg_pair.specs.Private.Known.{Known}
 use Rattle.pg_pair.specs.Invariant.{Tied}
 use Rattle.pg_pair.specs.View.{waiting, PairView}
-use Rattle.pg_pair.proofs.Beginnings.{empty_left, all_back}
+use Rattle.pg_backend.proofs.Beginnings.{all_back, empty_left}
 use Rattle.pg_pair.proofs.Faults.{fault_stays, packet_fault_stays, no_fault_of_nothing, no_packet_fault_of_nothing}
 use Rattle.pg_pair.proofs.Opening.{opening, IsUnread}
 use Rattle.pg_pair.proofs.Settling.{Messages, sent_messages, tied_reads, tied_spelled, tied_packet, tied_none}

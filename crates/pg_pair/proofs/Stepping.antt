@@ -7,7 +7,7 @@ use Rattle.pg_backend.specs.script.Script.{Script}
 use Rattle.pg_backend.specs.Backend.{BackendState, Steps, StepsFrom, was_lost}
 use Rattle.pg_backend.specs.History.{History, IsHistoryOf, with_handled, with_message}
 use Rattle.pg_backend.specs.Check.{IsChecked}
-use Rattle.pg_backend.specs.Input.{Input, Takes, packet_taken, message_taken}
+use Rattle.pg_backend.specs.Input.{Input, HandlesNext, packet_taken, message_taken}
 use Rattle.pg_backend.specs.Turns.{InTurn}
 use Rattle.pg_backend.specs.phase.BackPhase.{BackPhase}
 use Rattle.pg_backend.specs.phase.BackPhase.TheVariants as back
@@ -22,7 +22,7 @@ use Rattle.pg_pair.specs.View.{PairView}
 use Rattle.pg_pair.proofs.Ends.{client_stays}
 use Rattle.pg_pair.proofs.Sound.{not_faulty}
 
-taken_faultless : (limit : ℕ) (i : Input) (rest : List ℕ) (j : Input) (left : List ℕ) → Takes limit i rest j left → j.faulty ≡ false
+taken_faultless : (limit : ℕ) (i : Input) (rest : List ℕ) (j : Input) (left : List ℕ) → HandlesNext limit i rest j left → j.faulty ≡ false
 taken_faultless limit i rest j left (packet_taken ps p more s h) = refl
 taken_faultless limit i rest j left (message_taken ps ms m more s h) = refl
 

@@ -11,7 +11,7 @@ use Rattle.pg_wire.specs.contracts.session.Outcome as outcome
 use Rattle.pg_backend.specs.phase_contracts.BackPhase as back_phase
 use Rattle.pg_backend.specs.phase.BackPhase.{BackPhase}
 use Rattle.pg_backend.specs.script.Logged.{Logged}
-use Rattle.pg_pair.specs.Copies.{Took, TookEach}
+use Rattle.pg_backend.specs.Turns.{Took, TookEach}
 use Rattle.pg_pair.specs.Headline.{Headline}
 use Rattle.pg_pair.specs.Invariant.{Tied}
 use Rattle.pg_pair.specs.View.{PairView}
@@ -42,7 +42,7 @@ kept_headline p holds some = record {
   one_at_most = ∥∥₁_elim some le_prop (λ t. (holds t).one_at_most);
   ready = λ a b c. record {
     phase = ∥∥₁_elim some (phase_prop _ _) (λ t. ((holds t).ready a b c).phase);
-    left = ∥∥₁_elim some ∥∥₁_prop (λ t. ((holds t).ready a b c).left);
+    leaves_copies = ∥∥₁_elim some ∥∥₁_prop (λ t. ((holds t).ready a b c).leaves_copies);
   };
 }
 

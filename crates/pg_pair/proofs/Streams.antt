@@ -8,7 +8,7 @@ use Rattle.pg_wire.specs.Laws.{OneSpelling}
 use Rattle.pg_wire.specs.Segment.{status_of, put_before, segments}
 use Rattle.pg_wire.specs.Stream.{IsWithin}
 use Rattle.pg_backend.specs.Lists.{IsPrefix}
-use Rattle.pg_pair.proofs.Beginnings.{begins_nil, begins_cons, begins_head, begins_tail}
+use Rattle.pg_backend.proofs.Beginnings.{begins_cons, begins_head, begins_nil, begins_tail}
 
 pub within_spelled : {M : Type 0} (d : Direction M) (limit : ℕ) (ms : List M) → AllByRecursion (IsWithin d limit) ms → AllByRecursion (HasSpelling d) ms
 within_spelled d limit [] h = tt

@@ -7,26 +7,26 @@ use Rattle.pg_pair.specs.declared.carry.Way.{Way}
 use Rattle.pg_pair.specs.declared.carry.Way.TheVariants.{ToBackend, ToClient}
 use Rattle.pg_pair.specs.declared.event.Applied.{Applied}
 use Rattle.pg_pair.specs.declared.event.Applied.TheVariants as applied
-use Rattle.pg_pair.specs.declared.event.Call.{Call}
+use Rattle.pg_client.specs.declared.call.Call.{Call}
 use Rattle.pg_pair.specs.declared.event.Event.{Event}
 use Rattle.pg_pair.specs.declared.event.Event.TheVariants as event
 use Rattle.pg_pair.specs.declared.event.PairFault.{PairFault}
 use Rattle.pg_pair.specs.declared.event.PairFault.TheVariants as fault
-use Rattle.pg_pair.specs.Breaking.{Breaks, BreaksIf, BreaksUnless, is_closed, is_shut, TellsClient}
+use Rattle.pg_pair.specs.Breaking.{Breaks, BreaksIf, BreaksUnless, is_closed, is_shut, BreaksToClient}
 use Rattle.pg_pair.specs.Calling.{CallsClient}
-use Rattle.pg_pair.specs.Delivering.{ArrivesAt, begins, DeliversUnless, EndsWithPiece, Goes, goes_on}
+use Rattle.pg_pair.specs.Delivering.{ArrivesAt, no_piece, DeliversUnless, EndsWithPiece, DeliversPieces, one_more_piece}
 use Rattle.pg_pair.specs.Event.{Applies}
 use Rattle.pg_pair.specs.Stepping.{StepsUnlessClosed}
 use Rattle.pg_pair.specs.Carrying.{Carrying, delivered, is_bad}
 use Rattle.pg_pair.specs.Laws.{break_of, break_event, bad_carrier, no_memory, CarriedBadly, delivery_of, WaysBreak, WhyBroken}
-use Rattle.pg_pair.specs.View.{PairView, Stream, stream_of}
+use Rattle.pg_pair.specs.View.{PairView, WayState, way_state}
 
 -- A way is broken where it was, and else whole.
 abbrev pub IsLike : {C : Type 0} → Way → PairView C → PairView C → Type 0
-IsLike w p q = (stream_of w q).broken ≡ (stream_of w p).broken
+IsLike w p q = (way_state w q).broken ≡ (way_state w p).broken
 
 pub like_same : {C : Type 0} (w : Way) (p q : PairView C) → q ≡ p → IsLike w p q
-like_same {C} w p q e = ap (λ (x : PairView C). (stream_of w x).broken) e
+like_same {C} w p q e = ap (λ (x : PairView C). (way_state w x).broken) e
 
 -- ---- calls and steps
 
@@ -55,33 +55,33 @@ like_taken {C} ToClient ToBackend p (b ∷ bytes) answer q (result, h, e) = ap (
 like_taken {C} ToClient ToClient p (b ∷ bytes) answer q (result, h, e) = ap (λ (x : PairView C). x.to_client.broken) h.rest
 
 -- the carrier alone changes no way
-pub stream_carried : {C : Type 0} (w : Way) (p : PairView C) (carrier : C) → stream_of w (record p { carrier = carrier }) ≡ stream_of w p
+pub stream_carried : {C : Type 0} (w : Way) (p : PairView C) (carrier : C) → way_state w (record p { carrier = carrier }) ≡ way_state w p
 stream_carried ToBackend p carrier = refl
 stream_carried ToClient p carrier = refl
 
 like_taken_on : {C : Type 0} (v w : Way) (p : PairView C) (carrier : C) (bytes : List ℕ) (answer : Option Applied) (q : PairView C) → ArrivesAt v (record p { carrier = carrier }) bytes answer q → IsLike w p q
-like_taken_on v w p carrier bytes answer q h = like_taken v w (record p { carrier = carrier }) bytes answer q h ∙ ap (λ (s : Stream). s.broken) (stream_carried w p carrier)
+like_taken_on v w p carrier bytes answer q h = like_taken v w (record p { carrier = carrier }) bytes answer q h ∙ ap (λ (s : WayState). s.broken) (stream_carried w p carrier)
 
-pub like_gone : {C : Type 0} (carries : Carrying C) (v w : Way) (most : ℕ) (p : PairView C) (n : ℕ) (q : PairView C) → Goes carries v most p n q → IsLike w p q
-like_gone carries v w most p _ _ begins = refl
-like_gone carries v w most p _ _ (goes_on n m piece came carrier q h c whole fine takes) = like_taken_on v w m carrier piece None q takes ∙ like_gone carries v w most p n m h
+pub like_gone : {C : Type 0} (carries : Carrying C) (v w : Way) (most : ℕ) (p : PairView C) (n : ℕ) (q : PairView C) → DeliversPieces carries v most p n q → IsLike w p q
+like_gone carries v w most p _ _ no_piece = refl
+like_gone carries v w most p _ _ (one_more_piece n m piece came carrier q h c whole fine takes) = like_taken_on v w m carrier piece None q takes ∙ like_gone carries v w most p n m h
 
 -- ---- breaks
 
 -- what a break changes: its own way is broken, and the other is as it was
 pub record BreaksOne {C : Type 0} (w : Way) (p q : PairView C) : Type 0 where
-  pub own : stream_of w q ≡ record (stream_of w p) { broken = true }
-  pub other : (v : Way) → (v ≡ w → ⊥) → stream_of v q ≡ stream_of v p
+  pub own : way_state w q ≡ record (way_state w p) { broken = true }
+  pub other : (v : Way) → (v ≡ w → ⊥) → way_state v q ≡ way_state v p
   pub carrier : q.carrier ≡ p.carrier
 
-breaks_client : {C : Type 0} (b : Bool) (p q : PairView C) → TellsClient b p q → BreaksOne ToClient p q
+breaks_client : {C : Type 0} (b : Bool) (p q : PairView C) → BreaksToClient b p q → BreaksOne ToClient p q
 breaks_client {C} true p q h = record {
   own = ap (λ (x : PairView C). x.to_client) h;
   other = other;
   carrier = ap (λ (x : PairView C). x.carrier) h;
 }
   where
-    other : (v : Way) → (v ≡ ToClient → ⊥) → stream_of v q ≡ stream_of v p
+    other : (v : Way) → (v ≡ ToClient → ⊥) → way_state v q ≡ way_state v p
     other ToBackend apart = ap (λ (x : PairView C). x.to_backend) h
     other ToClient apart = absurd (apart refl)
 breaks_client {C} false p q h = record {
@@ -90,7 +90,7 @@ breaks_client {C} false p q h = record {
   carrier = ap (λ (x : PairView C). x.carrier) h.2;
 }
   where
-    other : (v : Way) → (v ≡ ToClient → ⊥) → stream_of v q ≡ stream_of v p
+    other : (v : Way) → (v ≡ ToClient → ⊥) → way_state v q ≡ way_state v p
     other ToBackend apart = ap (λ (x : PairView C). x.to_backend) h.2
     other ToClient apart = absurd (apart refl)
 
@@ -101,7 +101,7 @@ breaks_one {C} ToBackend p q h = record {
   carrier = ap (λ (x : PairView C). x.carrier) h;
 }
   where
-    other : (v : Way) → (v ≡ ToBackend → ⊥) → stream_of v q ≡ stream_of v p
+    other : (v : Way) → (v ≡ ToBackend → ⊥) → way_state v q ≡ way_state v p
     other ToBackend apart = absurd (apart refl)
     other ToClient apart = ap (λ (x : PairView C). x.to_client) h
 breaks_one ToClient p q h = breaks_client (is_closed ToClient p) p q h
@@ -114,12 +114,12 @@ same_way ToClient ToClient = inl refl
 
 -- A way is as it was, or is broken now.
 abbrev IsLikeOrBroken : {C : Type 0} → Way → Way → PairView C → PairView C → Type 0
-IsLikeOrBroken v w p q = IsLike w p q ⊎ ((v ≡ w) × ((stream_of w q).broken ≡ true))
+IsLikeOrBroken v w p q = IsLike w p q ⊎ ((v ≡ w) × ((way_state w q).broken ≡ true))
 
 by_break : {C : Type 0} (v w : Way) (p q : PairView C) → BreaksOne v p q → IsLikeOrBroken v w p q
 by_break v w p q h = elim (same_way v w) [
-  | inl e ↦ inr (e, subst (λ (x : Way). (stream_of x q).broken ≡ true) e (ap (λ (s : Stream). s.broken) h.own))
-  | inr apart ↦ inl (ap (λ (s : Stream). s.broken) (h.other w apart))
+  | inl e ↦ inr (e, subst (λ (x : Way). (way_state x q).broken ≡ true) e (ap (λ (s : WayState). s.broken) h.own))
+  | inr apart ↦ inl (ap (λ (s : WayState). s.broken) (h.other w apart))
 ]
 
 by_break_event : {C : Type 0} (b : Bool) (v w : Way) (p : PairView C) (result : Applied) (q : PairView C) → BreaksUnless b v p result q → IsLikeOrBroken v w p q
@@ -130,7 +130,7 @@ by_break_event false v w p result q h = by_break v w p q (breaks_one v p q h.1)
 
 -- A way is as it was, or it is broken now, for a reason.
 abbrev Keeps : {C : Type 0} → Carrying C → Event → PairView C → Result Applied PairFault → PairView C → Way → Type 0
-Keeps carries e p result q w = IsLike w p q ⊎ (((stream_of w q).broken ≡ true) × WhyBroken carries w e result q)
+Keeps carries e p result q w = IsLike w p q ⊎ (((way_state w q).broken ≡ true) × WhyBroken carries w e result q)
 
 keeps_broken : {C : Type 0} (carries : Carrying C) (v w : Way) (e : Event) (p : PairView C) (result : Result Applied PairFault) (q : PairView C) → e ≡ break_of v → IsLikeOrBroken v w p q → Keeps carries e p result q w
 keeps_broken carries v w e p result q is (inl same) = inl same
@@ -188,12 +188,12 @@ keeps carries e p (Err fault.Memory) q w h =
     (by_break_event (is_shut ToClient h.1.between) ToClient w h.1.between h.1.second_result q h.1.second)
 
 for_a_reason : {C : Type 0} (carries : Carrying C) (e : Event) (p : PairView C) (result : Result Applied PairFault) (q : PairView C) (w : Way) → Keeps carries e p result q w
-    → (stream_of w p).broken ≡ false → (stream_of w q).broken ≡ true → WhyBroken carries w e result q
+    → (way_state w p).broken ≡ false → (way_state w q).broken ≡ true → WhyBroken carries w e result q
 for_a_reason carries e p result q w (inl like) was now = absurd cc
 for_a_reason carries e p result q w (inr h) was now = h.1
 
 for_good : {C : Type 0} (carries : Carrying C) (e : Event) (p : PairView C) (result : Result Applied PairFault) (q : PairView C) (w : Way) → Keeps carries e p result q w
-    → (stream_of w p).broken ≡ true → (stream_of w q).broken ≡ true
+    → (way_state w p).broken ≡ true → (way_state w q).broken ≡ true
 for_good carries e p result q w (inl like) was = like ∙ was
 for_good carries e p result q w (inr h) was = h.0
 

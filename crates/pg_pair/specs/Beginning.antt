@@ -7,10 +7,10 @@ use Rattle.pg_client.specs.Client as client
 use Rattle.pg_backend.specs.script.Script.{Script}
 use Rattle.pg_backend.specs.declared.stage.BackStage.TheVariants as stage
 use Rattle.pg_wire.specs.Direction.{longest}
-use Rattle.pg_pair.specs.View.{Stream, PairView}
+use Rattle.pg_pair.specs.View.{WayState, PairView}
 
 -- a way along which nothing was sent
-abbrev pub silent : Stream
+abbrev pub silent : WayState
 silent = record { sent = []; reached = 0; broken = false }
 
 -- A new pair of these settings, this script and this carrier: both ends are new, nothing was sent
@@ -32,7 +32,7 @@ pub record IsBegun {C : Type 0} (settings : Settings) (script : Script) (carrier
     carrier = carrier;
     to_backend = silent;
     to_client = silent;
-    places = [];
+    fed_before = [];
     settled = [];
     handed = [];
     loss = None;

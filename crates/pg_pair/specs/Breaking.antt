@@ -15,7 +15,7 @@ use Rattle.pg_pair.specs.declared.carry.Way.{Way}
 use Rattle.pg_pair.specs.declared.carry.Way.TheVariants.{ToBackend, ToClient}
 use Rattle.pg_pair.specs.declared.event.Applied.{Applied}
 use Rattle.pg_pair.specs.declared.event.Applied.TheVariants as applied
-use Rattle.pg_pair.specs.View.{DoesNothing, PairView, Stream, stream_of}
+use Rattle.pg_pair.specs.View.{DoesNothing, PairView, WayState, way_state}
 
 -- whether a backend in this phase is closed
 abbrev pub is_closed_backend : BackPhase → Bool
@@ -34,12 +34,12 @@ is_closed ToClient p = is_closed_client (phase_of p.client)
 
 -- whether nothing can arrive along this way any more: it is broken, or its receiving end is closed
 abbrev pub is_shut : {C : Type 0} → Way → PairView C → Bool
-is_shut w p = (stream_of w p).broken || is_closed w p
+is_shut w p = (way_state w p).broken || is_closed w p
 
 -- The client's `lost` was called and answered this: the client is closed, with the cause Lost
 -- unless it had one before, and handed back the request that isn't settled. Its settled groups
 -- stay.
-pub record IsTold (old : ClientView) (loss : Loss) (new : ClientView) : Type 0 where
+pub record LosesConnection (old : ClientView) (loss : Loss) (new : ClientView) : Type 0 where
   pub settings : new.settings ≡ old.settings
   pub closed : new.closed ≡ Some (first_cause old.closed cause.Lost)
   pub settled : new.settled ≡ old.settled
@@ -47,14 +47,14 @@ pub record IsTold (old : ClientView) (loss : Loss) (new : ClientView) : Type 0 w
   pub history : Carries old new with_handed_back
 
 -- the same way, broken
-abbrev pub broken : Stream → Stream
+abbrev pub broken : WayState → WayState
 broken s = record s { broken = true }
 
 -- The way to the client breaks. An open client (false) is closed by `lost`, and the pair keeps what
 -- that answered; of a closed one (true) nothing changes.
-abbrev pub TellsClient : {C : Type 0} → Bool → PairView C → PairView C → Type 0
-TellsClient true p q = q ≡ record p { to_client = broken p.to_client }
-TellsClient false p q = (loss : Loss) × IsTold p.client loss q.client
+abbrev pub BreaksToClient : {C : Type 0} → Bool → PairView C → PairView C → Type 0
+BreaksToClient true p q = q ≡ record p { to_client = broken p.to_client }
+BreaksToClient false p q = (loss : Loss) × LosesConnection p.client loss q.client
     × (q ≡ record p { client = q.client; to_client = broken p.to_client; loss = Some loss })
 
 -- A way breaks, and its receiving end is closed by `lost`, unless it was closed before.
@@ -63,7 +63,7 @@ Breaks ToBackend p q = q ≡ record p {
   backend = record p.backend { stage = lost_stage p.backend.stage };
   to_backend = broken p.to_backend;
 }
-Breaks ToClient p q = TellsClient (is_closed ToClient p) p q
+Breaks ToClient p q = BreaksToClient (is_closed ToClient p) p q
 
 -- A break event: the way breaks, and the answer is Done. Where the way is shut (true) nothing
 -- happens.

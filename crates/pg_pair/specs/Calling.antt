@@ -1,26 +1,16 @@
 -- What a call of the client does to a pair.
-use Rattle.std.specs.Prelude.{◌≡◌, ℕ, List, [], ◌∷◌, ◌++◌, Option, Some, None}
-use Rattle.pg_wire.specs.declared.session.Request.{Request}
+use Rattle.std.specs.Prelude.{◌≡◌, ℕ, List, [], ◌∷◌, ◌++◌}
 use Rattle.pg_client.specs.declared.fault.CallFault.{CallFault}
 use Rattle.pg_client.specs.declared.phase.Phase.{Phase}
 use Rattle.pg_client.specs.declared.phase.Phase.TheVariants as phase
-use Rattle.pg_client.specs.Session as session
+use Rattle.pg_client.specs.Session.{request_made}
 use Rattle.pg_client.specs.Client.{ClientView, phase_of, IsOpenPhase}
 use Rattle.pg_client.specs.Calls.{Accepts, RefusesUnless, RefusesCopy, RefusesEnd}
 use Rattle.pg_pair.specs.declared.event.Applied.{Applied}
 use Rattle.pg_pair.specs.declared.event.Applied.TheVariants as applied
-use Rattle.pg_pair.specs.declared.event.Call.{Call}
-use Rattle.pg_pair.specs.declared.event.Call.TheVariants as call
+use Rattle.pg_client.specs.declared.call.Call.{Call}
+use Rattle.pg_client.specs.declared.call.Call.TheVariants as call
 use Rattle.pg_pair.specs.View.{PairView}
-
--- the same call in the words of pg_client's history
-abbrev pub client_call : Call → session.Call
-client_call call.Start = session.Start
-client_call (call.Request r) = session.Ask r
-client_call (call.Chunk bytes) = session.Chunk bytes
-client_call call.Done = session.CopyEnd
-client_call (call.Fail reason) = session.CopyFail reason
-client_call call.Terminate = session.Terminate
 
 -- The client's phase is one in which this call is allowed.
 abbrev pub IsAllowedIn : Call → Phase → Type 0
@@ -34,17 +24,12 @@ IsAllowedIn call.Terminate p = IsOpenPhase p
 -- The client has this reason to refuse the call: C1 or C2 in another phase, and C3 where what it
 -- would send has no spelling or memory was refused.
 abbrev pub RefusesCall : ClientView → Call → CallFault → Type 0
-RefusesCall c call.Start f = RefusesUnless phase.New c session.Start f
-RefusesCall c (call.Request r) f = RefusesUnless phase.Ready c (session.Ask r) f
-RefusesCall c (call.Chunk bytes) f = RefusesCopy c (session.Chunk bytes) f
-RefusesCall c call.Done f = RefusesCopy c session.CopyEnd f
-RefusesCall c (call.Fail reason) f = RefusesCopy c (session.CopyFail reason) f
+RefusesCall c call.Start f = RefusesUnless phase.New c call.Start f
+RefusesCall c (call.Request r) f = RefusesUnless phase.Ready c (call.Request r) f
+RefusesCall c (call.Chunk bytes) f = RefusesCopy c (call.Chunk bytes) f
+RefusesCall c call.Done f = RefusesCopy c call.Done f
+RefusesCall c (call.Fail reason) f = RefusesCopy c (call.Fail reason) f
 RefusesCall c call.Terminate f = RefusesEnd c f
-
--- the request that a call makes, if it makes one
-abbrev pub request_of : Call → Option Request
-request_of (call.Request r) = Some r
-request_of _ = None
 
 -- the lists of chunks, with one chunk more at the end of the last list; without a list, none
 abbrev pub add_to_last : List ℕ → List (List (List ℕ)) → List (List (List ℕ))
@@ -60,14 +45,14 @@ handed_after (call.Chunk bytes) handed = add_to_last bytes handed
 handed_after _ handed = handed
 
 -- The client accepted the call: what it put out was sent to the backend, and the pair notes how
--- many bytes had reached the client (`places`) and the request or the chunk (`handed`).
+-- many bytes had reached the client (`fed_before`) and the request or the chunk (`handed`).
 pub record Accepted {C : Type 0} (c : Call) (p q : PairView C) : Type 0 where
   pub allowed : IsAllowedIn c (phase_of p.client)
-  pub accepts : Accepts (client_call c) p.client q.client p.to_backend.sent q.to_backend.sent
+  pub accepts : Accepts c p.client q.client p.to_backend.sent q.to_backend.sent
   pub rest : q ≡ record p {
     client = q.client;
     to_backend = record p.to_backend { sent = q.to_backend.sent };
-    places = p.places ++ p.to_client.reached ∷ [];
+    fed_before = p.fed_before ++ p.to_client.reached ∷ [];
     handed = handed_after c p.handed;
   }
 
@@ -76,5 +61,5 @@ pub record Accepted {C : Type 0} (c : Call) (p q : PairView C) : Type 0 where
 abbrev pub CallsClient : {C : Type 0} → Call → PairView C → Applied → PairView C → Type 0
 CallsClient c p applied.Done q = Accepted c p q
 CallsClient c p (applied.Refused request f) q =
-    (request ≡ request_of c) × RefusesCall p.client c f × (q ≡ p)
+    (request ≡ request_made c) × RefusesCall p.client c f × (q ≡ p)
 CallsClient c p _ q = ⊥

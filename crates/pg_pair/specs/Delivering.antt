@@ -13,7 +13,7 @@ use Rattle.pg_pair.specs.declared.event.Applied.{Applied}
 use Rattle.pg_pair.specs.declared.event.Applied.TheVariants as applied
 use Rattle.pg_pair.specs.Breaking.{BreaksIf}
 use Rattle.pg_pair.specs.Carrying.{Carrying, delivered, is_bad, longest_piece}
-use Rattle.pg_pair.specs.View.{DoesNothing, PairView, Stream, waiting_at}
+use Rattle.pg_pair.specs.View.{DoesNothing, PairView, WayState, waiting_at}
 
 -- The carrier is lent the next piece: the first bytes that wait on this way, at least one, and at
 -- most `most` and 4,096. `came` is what arrived or the fault, and `carrier` the carrier after it.
@@ -26,7 +26,7 @@ pub record CarriesPiece {C : Type 0} (carries : Carrying C) (w : Way) (most : �
 -- ---- at the ends
 
 -- the way after these bytes more have reached its receiving end
-abbrev pub reached_more : Stream → List ℕ → Stream
+abbrev pub reached_more : WayState → List ℕ → WayState
 reached_more s bytes = record s { reached = s.reached + length bytes }
 
 -- Bytes reach the client, and its `feed` answers this: what it puts out is sent to the backend, and
@@ -79,15 +79,15 @@ ArrivesAt ToClient p (b ∷ bytes) answer q = (result : Result Unit FeedFault)
 
 -- From the pair `p` pieces of n bytes in all were delivered, one after the other. Each arrived
 -- whole and unchanged, and the end answered no fault.
-pub data Goes {C : Type 0} (carries : Carrying C) (w : Way) (most : ℕ)
+pub data DeliversPieces {C : Type 0} (carries : Carrying C) (w : Way) (most : ℕ)
     (p : PairView C) : ℕ → PairView C → Type 0 where
-  begins : Goes carries w most p 0 p
-  goes_on : (n : ℕ) (m : PairView C) (piece : List ℕ)
+  no_piece : DeliversPieces carries w most p 0 p
+  one_more_piece : (n : ℕ) (m : PairView C) (piece : List ℕ)
       (came : Result (List ℕ) CarryFault) (carrier : C) (q : PairView C)
-      → Goes carries w most p n m → CarriesPiece carries w (most - n) m piece came carrier
+      → DeliversPieces carries w most p n m → CarriesPiece carries w (most - n) m piece came carrier
       → delivered piece came ≡ piece → is_bad piece came ≡ false
       → ArrivesAt w (record m { carrier = carrier }) piece None q
-      → Goes carries w most p (n + length piece) q
+      → DeliversPieces carries w most p (n + length piece) q
 
 -- the answer of a delivery that moved so many bytes: the fault of the receiving end, else Carrier
 -- where the carrier was bad, else Nothing for no byte, and Done
@@ -98,7 +98,7 @@ delivery_applied None false zero = applied.Nothing
 delivery_applied None false (suc n) = applied.Done
 
 -- The delivery ends here, as n bytes are all that was asked for, or nothing waits any more.
-pub record GoesWhole {C : Type 0} (w : Way) (most n : ℕ)
+pub record EndsWithoutPiece {C : Type 0} (w : Way) (most n : ℕ)
     (m : PairView C) (result : Applied) (q : PairView C) : Type 0 where
   pub all : (n ≡ most) ⊎ (waiting_at w m ≡ [])
   pub result_is : result ≡ delivery_applied None false n
@@ -126,5 +126,5 @@ abbrev pub DeliversUnless : {C : Type 0}
     → Bool → Carrying C → Way → ℕ → PairView C → Applied → PairView C → Type 0
 DeliversUnless true carries w most p result q = DoesNothing p result q
 DeliversUnless {C} false carries w most p result q = (n : ℕ) × (m : PairView C)
-    × Goes carries w most p n m
-    × (GoesWhole w most n m result q ⊎ EndsWithPiece carries w most n m result q)
+    × DeliversPieces carries w most p n m
+    × (EndsWithoutPiece w most n m result q ⊎ EndsWithPiece carries w most n m result q)

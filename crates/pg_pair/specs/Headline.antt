@@ -13,11 +13,12 @@ use Rattle.pg_client.specs.History.{History, IsHistoryOf}
 use Rattle.pg_client.specs.Client as client
 use Rattle.pg_backend.specs.script.Logged.{Logged}
 use Rattle.pg_backend.specs.phase.BackPhase.TheVariants as backend_phase
-use Rattle.pg_backend.specs.Backend.{HasHandled, is_spared}
+use Rattle.pg_backend.specs.Backend.{HasHandled, had_memory}
 use Rattle.pg_backend.specs.Backend as backend
 use Rattle.pg_backend.specs.Input.{Input}
-use Rattle.pg_backend.specs.Turns.{Turn, AreCopies}
-use Rattle.pg_pair.specs.Copies.{TookEach, turns_made, handed_for}
+use Rattle.pg_wire.specs.Turns.{Turn, AreCopies}
+use Rattle.pg_backend.specs.Turns.{TookEach}
+use Rattle.pg_pair.specs.Copies.{turns_made, handed_for}
 use Rattle.pg_pair.specs.View.{arrived, PairView}
 
 -- the request and the outcome of a group that the client has settled
@@ -37,15 +38,16 @@ abbrev pub requests_logged : List Logged → List Request
 requests_logged ls = map (λ l. l.request) ls
 
 -- By this history the client was fed what has reached it, gave the pair its settled groups, put out
--- what was sent to the backend, and was called at the pair's places. The log's requests are the
--- first that these calls made, and `handed` has the chunks of each that they made.
+-- what was sent to the backend, and accepted each call once it was fed as many bytes as
+-- `fed_before` says. The log's requests are the first that these calls made, and `handed` has the
+-- chunks of each that they made.
 pub record MatchesCalls {C : Type 0} (p : PairView C) : Type 0 where
   pub history : History
   pub client_history : IsHistoryOf history p.client
   pub fed : history.fed ≡ arrived p.to_client
   pub given : history.given ≡ p.settled
   pub sent : history.sent ≡ p.to_backend.sent
-  pub places : map (λ c. c.1) history.calls ≡ p.places
+  pub fed_before : map (λ c. c.1) history.calls ≡ p.fed_before
   pub logged : requests_logged p.backend.log
       ≡ take (length p.backend.log) (requests_of (turns_made history.calls))
   pub handed : p.handed ≡ handed_for (turns_made history.calls)
@@ -60,15 +62,15 @@ pub record LeavesCopies {C : Type 0} (p : PairView C) : Type 0 where
   pub input : Input
   pub rest : List ℕ
   pub handled : HasHandled p.backend (arrived p.to_backend) input rest p.to_client.sent
-  pub left : List FrontMessage
-  pub sent : p.to_backend.sent ≡ input_bytes input ++ flat_map (spelling frontend) left
-  pub copies : AreCopies left
+  pub unhandled : List FrontMessage
+  pub sent : p.to_backend.sent ≡ input_bytes input ++ flat_map (spelling frontend) unhandled
+  pub copies : AreCopies unhandled
 
 -- The backend's phase is Ready, and what was sent to it beyond what it has handled is copy messages
 -- alone, which it drops.
 pub record StandsReady {C : Type 0} (p : PairView C) : Type 0 where
   pub phase : backend.phase_of p.backend.stage ≡ backend_phase.Ready
-  pub left : ∥ LeavesCopies p ∥₁
+  pub leaves_copies : ∥ LeavesCopies p ∥₁
 
 -- The theorem of a pair, true at any time: what the client has settled is what the backend has
 -- answered.
@@ -88,4 +90,4 @@ pub record Headline {C : Type 0} (p : PairView C) : Type 0 where
   -- where the client's phase is Ready, so is the backend's, with copy messages alone left to drop,
   -- unless the way to the backend is broken or a step of the backend was refused memory
   pub ready : client.phase_of p.client ≡ client_phase.Ready
-      → p.to_backend.broken ≡ false → is_spared p.backend.stage ≡ true → StandsReady p
+      → p.to_backend.broken ≡ false → had_memory p.backend.stage ≡ true → StandsReady p

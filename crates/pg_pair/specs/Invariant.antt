@@ -5,17 +5,18 @@ use Rattle.pg_client.specs.History.{History, IsHistoryOf}
 use Rattle.pg_backend.specs.Check.{IsChecked}
 use Rattle.pg_backend.specs.Backend.{was_lost}
 use Rattle.pg_backend.specs.History as back
-use Rattle.pg_backend.specs.Turns.{Turn, InTurn, AreCopied}
+use Rattle.pg_wire.specs.Turns.{Turn, AreCopied}
+use Rattle.pg_backend.specs.Turns.{InTurn}
 use Rattle.pg_pair.specs.Copies.{turns_made, handed_for}
-use Rattle.pg_pair.specs.View.{Stream, arrived, PairView}
+use Rattle.pg_pair.specs.View.{WayState, arrived, PairView}
 
 -- No more bytes have reached an end than were sent to it.
-abbrev pub IsWithin : Stream → Type 0
+abbrev pub IsWithin : WayState → Type 0
 IsWithin s = s.reached ≤ length s.sent
 
 -- The client's part: it has a history by which it was fed the bytes that have reached it, has put
--- out what was sent to the backend, and was called at the pair's places. All groups that it has
--- settled are with the pair.
+-- out what was sent to the backend, and accepted each call once it was fed as many bytes as
+-- `fed_before` says. All groups that it has settled are with the pair.
 abbrev pub ClientTied : {C : Type 0} → PairView C → Type 0
 ClientTied p = record {
   history : History;
@@ -23,7 +24,7 @@ ClientTied p = record {
   fed : history.fed ≡ arrived p.to_client;
   given : history.given ≡ p.settled;
   sent : history.sent ≡ p.to_backend.sent;
-  places : map (λ c. c.1) history.calls ≡ p.places;
+  fed_before : map (λ c. c.1) history.calls ≡ p.fed_before;
   taken : p.client.settled ≡ [];
   within : IsWithin p.to_client;
 }

@@ -13,10 +13,10 @@ use Rattle.pg_pair.specs.declared.event.Event.TheVariants as event
 use Rattle.pg_pair.specs.declared.event.PairFault.{PairFault}
 use Rattle.pg_pair.specs.declared.event.PairFault.TheVariants as fault
 use Rattle.pg_pair.specs.Breaking.{is_shut}
-use Rattle.pg_pair.specs.Delivering.{delivery_applied, EndsWithPiece, Goes}
+use Rattle.pg_pair.specs.Delivering.{delivery_applied, EndsWithPiece, DeliversPieces}
 use Rattle.pg_pair.specs.Event.{Applies}
 use Rattle.pg_pair.specs.Carrying.{Carrying, is_bad}
-use Rattle.pg_pair.specs.View.{DoesNothing, PairView, stream_of, waiting_at}
+use Rattle.pg_pair.specs.View.{DoesNothing, PairView, way_state, waiting_at}
 
 -- the event that delivers at most so many bytes along a way
 abbrev pub delivery_of : Way → ℕ → Event
@@ -61,7 +61,7 @@ pub record MovesAll {C : Type 0} (w : Way) (most : ℕ)
     (p : PairView C) (moved : ℕ) (result : Applied) (q : PairView C) : Type 0 where
   pub lesser : moved ≡ min most (length (waiting_at w p))
   pub result_is : result ≡ delivery_applied None false moved
-  pub whole : (stream_of w q).broken ≡ false
+  pub whole : (way_state w q).broken ≡ false
 
 -- The delivery ended with a piece that didn't go whole: the carrier failed, gave fewer or other
 -- bytes, or the end answered a fault.
@@ -69,7 +69,7 @@ pub record FallsShort {C : Type 0} (carries : Carrying C)
     (w : Way) (most : ℕ) (p : PairView C) (result : Applied) (q : PairView C) : Type 0 where
   pub before : ℕ
   pub between : PairView C
-  pub goes : Goes carries w most p before between
+  pub goes : DeliversPieces carries w most p before between
   pub ends : EndsWithPiece carries w most before between result q
 
 -- How a delivery ends: along a shut way (true) nothing happens; else all that could move has moved,
@@ -85,9 +85,9 @@ MovesUnless false carries w most p moved result q =
 pub record Delivers {C : Type 0} (carries : Carrying C)
     (w : Way) (most : ℕ) (p : PairView C) (result : Applied) (q : PairView C) : Type 0 where
   pub moved : ℕ
-  pub way : stream_of w q ≡ record (stream_of w p) {
-    reached = (stream_of w p).reached + moved;
-    broken = (stream_of w q).broken;
+  pub way : way_state w q ≡ record (way_state w p) {
+    reached = (way_state w p).reached + moved;
+    broken = (way_state w q).broken;
   }
   pub asked : moved ≤ most
   pub waited : moved ≤ length (waiting_at w p)
@@ -113,7 +113,7 @@ WholeMoves {C} carries = GivesWhole carries
     → (w : Way) (most : ℕ) (p : PairView C) (result : Applied) (q : PairView C)
     → Applies carries (delivery_of w most) p (Ok result) q → is_shut w p ≡ false
     → (result ≡ applied.Done) ⊎ (result ≡ applied.Nothing)
-    → (stream_of w q).reached ≡ (stream_of w p).reached + min most (length (waiting_at w p))
+    → (way_state w q).reached ≡ (way_state w p).reached + min most (length (waiting_at w p))
 
 -- ---- what breaks a way
 
@@ -138,9 +138,9 @@ pub data WhyBroken {C : Type 0} (carries : Carrying C)
 -- An event breaks a way for no reason but those of WhyBroken, and a broken way stays broken.
 pub record BreaksOnly {C : Type 0} (carries : Carrying C) (e : Event)
     (p : PairView C) (result : Result Applied PairFault) (q : PairView C) : Type 0 where
-  pub why : (w : Way) → (stream_of w p).broken ≡ false → (stream_of w q).broken ≡ true
+  pub why : (w : Way) → (way_state w p).broken ≡ false → (way_state w q).broken ≡ true
       → WhyBroken carries w e result q
-  pub stays : (w : Way) → (stream_of w p).broken ≡ true → (stream_of w q).broken ≡ true
+  pub stays : (w : Way) → (way_state w p).broken ≡ true → (way_state w q).broken ≡ true
 
 -- Law: BreaksOnly holds of each event.
 abbrev pub WaysBreak : {C : Type 0} → Carrying C → Type 0

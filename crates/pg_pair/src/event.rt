@@ -1,26 +1,9 @@
 //! What may happen to a pair, and what comes of it.
 
 use pg_backend::BackendFault;
-use pg_client::{CallFault, FeedFault};
-use pg_wire::{Request, Seq};
+use pg_client::{Call, CallFault, FeedFault};
+use pg_wire::Request;
 use thiserror::Error;
-
-/// A call of the client.
-#[derive(Clone, Debug, PartialEq, Eq, Drop)]
-pub enum Call {
-    /// Sends the startup packet.
-    Start,
-    /// Makes a request.
-    Request(Request),
-    /// Hands over a chunk of a copy: the bytes of one CopyData.
-    Chunk(Seq<u8>),
-    /// Says that the data of a copy is complete.
-    Done,
-    /// Says that a copy is to fail, for this reason.
-    Fail(Seq<u8>),
-    /// Ends the session.
-    Terminate,
-}
 
 /// What may happen to a pair.
 #[derive(Clone, Debug, PartialEq, Eq, Drop)]

@@ -8,5 +8,6 @@ pub mod laws;
 mod pair;
 
 pub use carry::{Carry, CarryFault, Direct, Way};
-pub use event::{Applied, Call, Event, PairFault};
+pub use event::{Applied, Event, PairFault};
 pub use pair::Pair;
+pub use pg_client::Call;

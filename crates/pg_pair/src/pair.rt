@@ -22,19 +22,19 @@ use pg_wire::{LONGEST, Seq};
 use std::alloc::Global;
 use std::marker::Model;
 
-// One way: all that one end has put out, and what has reached the other.
+// One way: all that one end has put out, how much of it has reached the other, and whether the way is broken.
 #[derive(Drop)]
-struct Stream {
+struct WayState {
     sent: Vec<u8>,
     reached: usize,
     broken: bool,
 }
 
-impl Stream {
-    fn new(alloc: Global) -> Stream
+impl WayState {
+    fn new(alloc: Global) -> WayState
         ensures { (result.sent.items ≡ []) × (result.reached ≡ 0) × (result.broken ≡ false) }
     {
-        Stream {
+        WayState {
             sent: Vec::new(alloc),
             reached: 0,
             broken: false,
@@ -57,9 +57,9 @@ pub struct Pair<C: Carry> {
     client: Client,
     backend: Backend,
     carrier: C,
-    to_backend: Stream,
-    to_client: Stream,
-    places: Vec<usize>,
+    to_backend: WayState,
+    to_client: WayState,
+    fed_before: Vec<usize>,
     settled: Vec<Settled>,
     handed: Vec<Seq<Seq<u8>>>,
     loss: Option<Loss>,
@@ -86,7 +86,7 @@ impl<C: Carry> Pair<C> {
     ghost use Rattle.pg_pair.specs.Event.{Applies, Ran};
     ghost use Rattle.pg_pair.specs.Beginning.{IsBegun};
     ghost use Rattle.pg_pair.specs.Private.Passing.{Passes};
-    ghost use Rattle.pg_pair.specs.View.{stream_of};
+    ghost use Rattle.pg_pair.specs.View.{way_state};
 
     /// A new client with these settings, whose limit is from 64 to 1,073,741,823, and a new backend
     /// that plays this script, whose `check` has answered Ok. Nothing is sent yet. It takes no
@@ -101,9 +101,9 @@ impl<C: Carry> Pair<C> {
             client: Client::new(alloc, settings),
             backend: Backend::new(alloc, script, LONGEST),
             carrier,
-            to_backend: Stream::new(alloc),
-            to_client: Stream::new(alloc),
-            places: Vec::new(alloc),
+            to_backend: WayState::new(alloc),
+            to_client: WayState::new(alloc),
+            fed_before: Vec::new(alloc),
             settled: Vec::new(alloc),
             handed: Vec::new(alloc),
             loss: None,
@@ -192,7 +192,7 @@ impl<C: Carry> Pair<C> {
 
     /// All bytes that were sent along a way.
     pub fn sent(&self, way: Way) -> &[u8]
-        ensures { result.now ≡ (stream_of way self.now).sent }
+        ensures { result.now ≡ (way_state way self.now).sent }
     {
         match way {
             Way::ToBackend => self.to_backend.sent.as_slice(),
@@ -202,8 +202,8 @@ impl<C: Carry> Pair<C> {
 
     /// How many bytes of a way have reached the receiving end: the first of those that were sent.
     pub fn reached(&self, way: Way) -> usize
-        ensures value { result ≡ (stream_of way self.now).reached }
-        ensures within { result ≤ length (stream_of way self.now).sent }
+        ensures value { result ≡ (way_state way self.now).reached }
+        ensures within { result ≤ length (way_state way self.now).sent }
     {
         match way {
             Way::ToBackend => self.to_backend.reached,
@@ -213,7 +213,7 @@ impl<C: Carry> Pair<C> {
 
     /// Whether a way is broken, so that nothing more arrives along it.
     pub fn broken(&self, way: Way) -> bool
-        ensures { result ≡ (stream_of way self.now).broken }
+        ensures { result ≡ (way_state way self.now).broken }
     {
         match way {
             Way::ToBackend => self.to_backend.broken,

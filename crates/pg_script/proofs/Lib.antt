@@ -1,4 +1,5 @@
--- Laws of the definitions, how messages are written, and worked examples.
+-- Beginnings of lists, laws of the definitions, how messages are written, and worked examples.
+pub mod Beginnings
 pub mod Definitions
 pub mod Replying
 pub mod Turns

@@ -59,8 +59,8 @@ IsSpelledWhole s = AllByRecursion (HasSpelling backend) (script_messages s)
 
 -- No encoder would refuse a message of the script. For a script in a program that means that each
 -- has a spelling, as its numbers are of their types.
-abbrev pub HasNoFault : Script → Type 0
-HasNoFault s = AllByRecursion (λ m. encode_fault backend m ≡ None) (script_messages s)
+abbrev pub IsEncodable : Script → Type 0
+IsEncodable s = AllByRecursion (λ m. encode_fault backend m ≡ None) (script_messages s)
 
 -- The script can be played: an answer has at most one copy from the client, and each message has a
 -- spelling.
@@ -73,5 +73,5 @@ pub record IsChecked (s : Script) : Type 0 where
 abbrev pub Checks : Script → Result Unit ScriptFault → Type 0
 Checks s (Ok x) = IsChecked s
 Checks s (Err faults.Copies) = HasOneCopyEach s → ⊥
-Checks s (Err faults.Encode) = HasOneCopyEach s × (HasNoFault s → ⊥)
-Checks s (Err faults.Memory) = HasOneCopyEach s × HasNoFault s
+Checks s (Err faults.Encode) = HasOneCopyEach s × (IsEncodable s → ⊥)
+Checks s (Err faults.Memory) = HasOneCopyEach s × IsEncodable s

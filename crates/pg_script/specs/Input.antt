@@ -59,15 +59,15 @@ IsOpenRest false limit rest = IsOpenPacket rest
 IsOpenRest true limit rest = IsOpen frontend limit rest
 
 -- From an input and its rest, one packet or message more is handled: the next input and its rest.
-pub data Takes (limit : ℕ) : Input → List ℕ → Input → List ℕ → Type 0 where
+pub data HandlesNext (limit : ℕ) : Input → List ℕ → Input → List ℕ → Type 0 where
   packet_taken : (ps : List First) (p : First) (rest : List ℕ)
       → is_started ps ≡ false → IsPacket p
-      → Takes limit
+      → HandlesNext limit
       (record { packets = ps; messages = []; faulty = false }) (packet p ++ rest)
       (record { packets = ps ++ p ∷ []; messages = []; faulty = false }) rest
   message_taken : (ps : List First) (ms : List FrontMessage) (m : FrontMessage) (rest : List ℕ)
       → is_started ps ≡ true → IsWithin frontend limit m
-      → Takes limit
+      → HandlesNext limit
       (record { packets = ps; messages = ms; faulty = false }) (spelling frontend m ++ rest)
       (record { packets = ps; messages = ms ++ m ∷ []; faulty = false }) rest
 

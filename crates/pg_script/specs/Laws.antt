@@ -1,8 +1,7 @@
 -- Laws of verdicts, replies, sessions, transcripts and logs.
-use Rattle.std.specs.Prelude.{◌≡◌, ◌≤◌, ◌⊎◌, ℕ, suc, true, false, List, [], ◌∷◌, ◌++◌, length, map, Some, None}
+use Rattle.std.specs.Prelude.{◌≡◌, ◌≤◌, ◌⊎◌, ℕ, true, false, List, [], ◌∷◌, ◌++◌, length, map, Some, None}
 use Rattle.std.specs.List.{flat_map, list_all, AllByRecursion}
 use Rattle.pg_wire.specs.message.BackMessage.{BackMessage}
-use Rattle.pg_wire.specs.message.BackMessage.TheVariants as back
 use Rattle.pg_wire.specs.message.FrontMessage.{FrontMessage}
 use Rattle.pg_wire.specs.message.FrontMessage.TheVariants as front
 use Rattle.pg_wire.specs.declared.session.Request.{Request}
@@ -16,9 +15,10 @@ use Rattle.pg_script.specs.Fitting.{fits, answer_for}
 use Rattle.pg_script.specs.Lists.{IsPrefix}
 use Rattle.pg_script.specs.Replies.{Verdict, verdict, reply}
 use Rattle.pg_script.specs.Session.{Between, Terminated, session, replies, log_of}
-use Rattle.pg_script.specs.Opening.{welcome, asked}
+use Rattle.pg_script.specs.Opening.{welcome, question_for}
 use Rattle.pg_script.specs.Input.{Input, transcript, input_log}
-use Rattle.pg_script.specs.Turns.{Turn, turn_messages, AreCopies, InTurn, turn_exchanges, turn_place, AreCopied, chunks_of, TookEach}
+use Rattle.pg_wire.specs.Turns.{Turn, turn_messages, AreCopies, AreCopied, chunks_of, copies_begun}
+use Rattle.pg_script.specs.Turns.{InTurn, turn_exchanges, turn_place, TookEach}
 
 -- ---- one request
 
@@ -77,15 +77,9 @@ abbrev pub SegmentsFitLog : Type 0
 SegmentsFitLog = (answers : List Answer) (ms : List FrontMessage)
     → FitEach (log_of answers ms) (segments (replies answers ms)).whole
 
--- how many CopyInResponse are among the messages
-abbrev pub copies_in : List BackMessage → ℕ
-copies_in [] = 0
-copies_in (back.CopyIn head ∷ ms) = suc (copies_in ms)
-copies_in (_ ∷ ms) = copies_in ms
-
 -- Each whole segment has at most one CopyInResponse, and so has the rest.
 abbrev pub HaveOneCopy : Segments → Type 0
-HaveOneCopy s = AllByRecursion (λ ms. copies_in ms ≤ 1) s.whole × copies_in s.rest ≤ 1
+HaveOneCopy s = AllByRecursion (λ ms. copies_begun ms ≤ 1) s.whole × copies_begun s.rest ≤ 1
 
 -- Where each answer has at most one copy from the client, so has each segment of what is sent.
 abbrev pub OneCopyEach : Type 0
@@ -95,9 +89,9 @@ OneCopyEach = (answers : List Answer) (ms : List FrontMessage)
 -- The question to a client that is let in, if there is one, and the welcome are the first segment.
 abbrev pub WelcomeIsSegment : Type 0
 WelcomeIsSegment = (s : Script) (user : List ℕ) (ms : List BackMessage)
-    → segments (asked s.auth user ++ (welcome s ++ ms))
+    → segments (question_for s.auth user ++ (welcome s ++ ms))
     ≡ record {
-      whole = (asked s.auth user ++ welcome s) ∷ (segments ms).whole;
+      whole = (question_for s.auth user ++ welcome s) ∷ (segments ms).whole;
       rest = (segments ms).rest;
     }
 

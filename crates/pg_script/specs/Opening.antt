@@ -49,9 +49,9 @@ question (Cleartext password) = back.AuthCleartext ∷ []
 question (Md5 password salt) = back.AuthMd5 salt ∷ []
 
 -- what a client with this user is asked for; one whose user is empty is refused without a question
-abbrev pub asked : Auth → List ℕ → List BackMessage
-asked auth [] = []
-asked auth (c ∷ cs) = question auth
+abbrev pub question_for : Auth → List ℕ → List BackMessage
+question_for auth [] = []
+question_for auth (c ∷ cs) = question auth
 
 -- what becomes of a client after its Startup: it is refused with an error; its password is awaited;
 -- before its password it sent a Terminate or a message that may not stand there (Stopped); or it is
@@ -93,7 +93,7 @@ admission_messages s (Admitted ms) = welcome s ++ replies s.answers ms
 abbrev pub started : Script → List (List ℕ × List ℕ) → List FrontMessage → List BackMessage
 started s pairs ms =
     let user = user_from [] pairs in
-    asked s.auth user ++ admission_messages s (admission s.auth user ms)
+    question_for s.auth user ++ admission_messages s (admission s.auth user ms)
 
 -- ---- all that is sent
 

@@ -60,42 +60,43 @@ copy_place (m ∷ ms) = copy_place ms
 
 -- the session from this exchange on. Undecided, it is the last, and the messages end at
 -- `unfinished`; decided, `rest` has what follows, given how many messages its copy used up.
-abbrev pub begun : Exchange → Option Verdict → Place → (ℕ → Session) → Session
-begun e None unfinished rest = record { exchanges = e ∷ []; place = unfinished }
-begun e (Some v) unfinished rest =
+abbrev pub from_exchange : Exchange → Option Verdict → Place → (ℕ → Session) → Session
+from_exchange e None unfinished rest = record { exchanges = e ∷ []; place = unfinished }
+from_exchange e (Some v) unfinished rest =
     record { exchanges = e ∷ (rest v.taken).exchanges; place = (rest v.taken).place }
 
 -- the session from this request on, where these messages follow it; `rest` has what comes after as
 -- many of them as its copy used up
-abbrev pub begin : List Answer → Request → List FrontMessage → (ℕ → Session) → Session
-begin answers r ms rest =
-    begun (exchange r (answer_for answers r) ms) (verdict (answer_for answers r) ms)
+abbrev pub from_request : List Answer → Request → List FrontMessage → (ℕ → Session) → Session
+from_request answers r ms rest =
+    from_exchange (exchange r (answer_for answers r) ms) (verdict (answer_for answers r) ms)
     (copy_place (map in_copy ms)) rest
 
 -- the session from a message on, by its meaning, after these steps of an open group. `ms` follow
 -- it; `rest` reads them past the first n, with the answers left and the steps so far.
-abbrev pub read : List Answer → Meaning → List Step → List FrontMessage
+abbrev pub from_message : List Answer → Meaning → List Step → List FrontMessage
     → (ℕ → List Answer → List Step → Session) → Session
-read answers (Asks text) [] ms rest =
-    begin answers (request.Query text) ms (λ n. rest n (others answers) [])
-read answers (Asks text) (s ∷ ss) ms rest = only Stray
-read answers (Adds s) steps ms rest = rest 0 answers (steps ++ s ∷ [])
-read answers Closes steps ms rest =
-    begin answers (request.Group steps) ms (λ n. rest n (others answers) [])
-read answers Drops steps ms rest = rest 0 answers steps
-read answers Leaves steps ms rest = only Terminated
-read answers Strays steps ms rest = only Stray
+from_message answers (Asks text) [] ms rest =
+    from_request answers (request.Query text) ms (λ n. rest n (others answers) [])
+from_message answers (Asks text) (s ∷ ss) ms rest = only Stray
+from_message answers (Adds s) steps ms rest = rest 0 answers (steps ++ s ∷ [])
+from_message answers Closes steps ms rest =
+    from_request answers (request.Group steps) ms (λ n. rest n (others answers) [])
+from_message answers Drops steps ms rest = rest 0 answers steps
+from_message answers Leaves steps ms rest = only Terminated
+from_message answers Strays steps ms rest = only Stray
 
 -- the session of the messages past the first n, which a copy has used up, with these answers left
 -- and these steps of an open group before
-abbrev pub cut : ℕ → List Answer → List Step → List FrontMessage → Session
-cut n answers steps [] = only (place_after steps)
-cut (suc n) answers steps (m ∷ ms) = cut n answers steps ms
-cut zero answers steps (m ∷ ms) = read answers (meaning m) steps ms (λ n a s. cut n a s ms)
+abbrev pub session_past : ℕ → List Answer → List Step → List FrontMessage → Session
+session_past n answers steps [] = only (place_after steps)
+session_past (suc n) answers steps (m ∷ ms) = session_past n answers steps ms
+session_past zero answers steps (m ∷ ms) =
+    from_message answers (meaning m) steps ms (λ n a s. session_past n a s ms)
 
 -- the session of the messages after authentication
 abbrev pub session : List Answer → List FrontMessage → Session
-session answers ms = cut 0 answers [] ms
+session answers ms = session_past 0 answers [] ms
 
 -- what is sent last: an error, where the messages end at one that may not stand there
 abbrev pub farewell : Place → List BackMessage
@@ -103,12 +104,12 @@ farewell Stray = back.ErrorResponse fatal_unexpected ∷ []
 farewell _ = []
 
 -- all that is sent in this session
-abbrev pub said : Session → List BackMessage
-said s = flat_map (λ e. e.reply) s.exchanges ++ farewell s.place
+abbrev pub all_sent : Session → List BackMessage
+all_sent s = flat_map (λ e. e.reply) s.exchanges ++ farewell s.place
 
 -- all that is sent in the session of these messages
 abbrev pub replies : List Answer → List FrontMessage → List BackMessage
-replies answers ms = said (session answers ms)
+replies answers ms = all_sent (session answers ms)
 
 -- the log's entry for a request, once it is decided: its outcome and the chunks that were taken for
 -- it

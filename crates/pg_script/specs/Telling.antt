@@ -10,24 +10,24 @@ use Rattle.pg_wire.specs.Backend.{backend}
 use Rattle.pg_wire.specs.Direction.{spelling, encode_fault, HasSpelling}
 
 -- No encoder would refuse one of these messages.
-abbrev pub NoFault : List BackMessage → Type 0
-NoFault ms = AllByRecursion (λ m. encode_fault backend m ≡ None) ms
+abbrev pub AreEncodable : List BackMessage → Type 0
+AreEncodable ms = AllByRecursion (λ m. encode_fault backend m ≡ None) ms
 
 -- Ok: each message has a spelling, and the bytes are all of these, in order. Memory: no message is
 -- at fault. Any other fault: some message is.
-abbrev pub AreTold : List BackMessage → List ℕ → Result Unit EncodeFault → Type 0
-AreTold ms added (Ok x) = AllByRecursion (HasSpelling backend) ms
+abbrev pub AreEncoded : List BackMessage → List ℕ → Result Unit EncodeFault → Type 0
+AreEncoded ms added (Ok x) = AllByRecursion (HasSpelling backend) ms
     × (added ≡ flat_map (spelling backend) ms)
-AreTold ms added (Err faults.Memory) = NoFault ms
-AreTold ms added (Err f) = NoFault ms → ⊥
+AreEncoded ms added (Err faults.Memory) = AreEncodable ms
+AreEncoded ms added (Err f) = AreEncodable ms → ⊥
 
 -- The messages were appended to the buffer. Where the answer is a fault, some of their bytes may
 -- have been appended.
-pub record Tells (ms : List BackMessage) (old : List ℕ)
+pub record EncodesAll (ms : List BackMessage) (old : List ℕ)
     (result : Result Unit EncodeFault) (new : List ℕ) : Type 0 where
   pub added : List ℕ
   pub appended : new ≡ old ++ added
-  pub says : AreTold ms added result
+  pub says : AreEncoded ms added result
 
 -- the result of two writes, one after the other: Ok where both are, else the first fault other than
 -- Memory, else Memory

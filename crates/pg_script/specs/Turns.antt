@@ -1,40 +1,17 @@
 -- What a client sends that takes turns ("Message Flow"): a request and what it sends for that
 -- request's copies, and the next request once this one is decided.
-use Rattle.std.specs.Prelude.{ℕ, ◌≡◌, Bool, true, false, IsSome, List, [], ◌∷◌, ◌++◌, Option, Some, None, map}
-use Rattle.std.specs.List.{list_any, AllByRecursion}
+use Rattle.std.specs.Prelude.{ℕ, ◌≡◌, Bool, true, false, IsSome, List, [], ◌∷◌, Option, Some, None, length, map, take}
+use Rattle.std.specs.List.{list_any}
 use Rattle.pg_wire.specs.message.FrontMessage.{FrontMessage}
-use Rattle.pg_wire.specs.message.FrontMessage.TheVariants as front
 use Rattle.pg_wire.specs.declared.session.Part.{Part}
 use Rattle.pg_wire.specs.declared.session.Part.TheVariants as whole
-use Rattle.pg_wire.specs.declared.session.Request.{Request}
-use Rattle.pg_wire.specs.Segment.{request_messages}
+use Rattle.pg_wire.specs.Turns.{Turn, AreCopies}
 use Rattle.pg_script.specs.declared.script.Answer.{Answer}
 use Rattle.pg_script.specs.declared.script.Logged.{Logged}
 use Rattle.pg_script.specs.Fitting.{answer_for, others}
-use Rattle.pg_script.specs.Lists.{IsPrefix}
 use Rattle.pg_script.specs.Meaning.{in_copy}
 use Rattle.pg_script.specs.Replies.{Verdict, verdict}
 use Rattle.pg_script.specs.Session.{Exchange, exchange, Place, Between, copy_place}
-
--- a request, and the copy messages that its client sends for it before the next one
-pub record Turn : Type 0 where
-  pub request : Request
-  pub copies : List FrontMessage
-
--- all that the client sends in a turn
-abbrev pub turn_messages : Turn → List FrontMessage
-turn_messages t = request_messages t.request ++ t.copies
-
--- whether the message is a CopyData, a CopyDone or a CopyFail
-abbrev pub is_copy : FrontMessage → Bool
-is_copy (front.CopyData bytes) = true
-is_copy front.CopyDone = true
-is_copy (front.CopyFail reason) = true
-is_copy m = false
-
--- Each message is a CopyData, a CopyDone or a CopyFail.
-abbrev pub AreCopies : List FrontMessage → Type 0
-AreCopies ms = AllByRecursion (λ m. is_copy m ≡ true) ms
 
 -- The client takes turns: after each request it sends copy messages alone, and these decide the
 -- request before it makes the next one.
@@ -65,24 +42,6 @@ turn_place answers (t ∷ u ∷ ts) = turn_place (others answers) (u ∷ ts)
 
 -- ---- the data of copies
 
--- The messages are chunks, and then at most one end of a copy ("COPY Operations").
-abbrev pub IsCopy : List FrontMessage → Type 0
-IsCopy [] = Unit {0}
-IsCopy (front.CopyData bytes ∷ ms) = IsCopy ms
-IsCopy (front.CopyDone ∷ ms) = ms ≡ []
-IsCopy (front.CopyFail reason ∷ ms) = ms ≡ []
-IsCopy (m ∷ ms) = ⊥
-
--- What is sent for each turn's copies is chunks, and then at most one end.
-abbrev pub AreCopied : List Turn → Type 0
-AreCopied ts = AllByRecursion (λ t. IsCopy t.copies) ts
-
--- the bytes of the CopyData among these messages, in order
-abbrev pub chunks_of : List FrontMessage → List (List ℕ)
-chunks_of [] = []
-chunks_of (front.CopyData bytes ∷ ms) = bytes ∷ chunks_of ms
-chunks_of (m ∷ ms) = chunks_of ms
-
 -- whether this part of an outcome is a copy from the client, which is always one that was accepted
 abbrev pub is_copied_in : Part → Bool
 is_copied_in (whole.CopyIn head tag) = true
@@ -91,7 +50,7 @@ is_copied_in p = false
 -- Of one request: the chunks that the backend took are a prefix of those that the client handed
 -- over, and all of them where its outcome has a copy from the client.
 pub record Took (l : Logged) (handed : List (List ℕ)) : Type 0 where
-  pub begins : IsPrefix l.loaded handed
+  pub first : l.loaded ≡ take (length l.loaded) handed
   pub all : list_any is_copied_in l.outcome.parts ≡ true → l.loaded ≡ handed
 
 -- Took holds of entry k of the log and list k of `handed`, for each entry. `handed` may have more

@@ -4,7 +4,7 @@ ghost use Rattle.std.specs.Prelude.{◌≡◌};
 ghost use Rattle.std.specs.List.{list_all, flat_map};
 ghost use Rattle.pg_script.specs.Check.{is_copy_in, has_one_copy, part_messages, answer_messages};
 ghost use Rattle.pg_script.specs.Check.{script_messages, Checks};
-ghost use Rattle.pg_script.specs.Telling.{Tells, script_fault};
+ghost use Rattle.pg_script.specs.Telling.{EncodesAll, script_fault};
 
 use crate::fault::ScriptFault;
 use crate::script::{Answer, Load, Script, ScriptPart};
@@ -36,7 +36,7 @@ fn all_have_one_copy(answers: &[Answer]) -> bool
 
 /// What a part stands for.
 fn tell_part(part: &ScriptPart, out: &mut Vec<u8>) -> Result<(), EncodeFault>
-    ensures { Tells (part_messages part.now) out.old.items result out.new.items }
+    ensures { EncodesAll (part_messages part.now) out.old.items result out.new.items }
 {
     match part {
         ScriptPart::CopyIn { head, load } => match load {
@@ -51,7 +51,7 @@ fn tell_part(part: &ScriptPart, out: &mut Vec<u8>) -> Result<(), EncodeFault>
 }
 
 fn tell_parts(parts: &[ScriptPart], out: &mut Vec<u8>) -> Result<(), EncodeFault>
-    ensures { Tells (flat_map part_messages parts.now) out.old.items result out.new.items }
+    ensures { EncodesAll (flat_map part_messages parts.now) out.old.items result out.new.items }
 {
     let mut so_far = Ok(());
     for part in parts {
@@ -74,7 +74,7 @@ impl Tell for Answer {
 
 /// What a script stands for.
 fn tell_script(script: &Script, out: &mut Vec<u8>) -> Result<(), EncodeFault>
-    ensures { Tells (script_messages script.now) out.old.items result out.new.items }
+    ensures { EncodesAll (script_messages script.now) out.old.items result out.new.items }
 {
     let pairs = tell_all(script.pairs.as_slice(), out);
     let so_far = tell_key(&script.key, out);

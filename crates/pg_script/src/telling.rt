@@ -8,11 +8,11 @@ ghost use Rattle.pg_wire.specs.message.BackMessage.{BackMessage};
 ghost use Rattle.pg_wire.specs.message.BackMessage.TheVariants.{DataRow, CopyData};
 ghost use Rattle.pg_wire.specs.declared.session.Part.TheVariants.{Rows, CopyOut, CopyIn, Described};
 ghost use Rattle.pg_wire.specs.declared.session.Part.TheVariants.{Executed};
-ghost use Rattle.pg_wire.specs.Segment.{messages_of, parameters_sent, columns_sent, end_sent};
+ghost use Rattle.pg_wire.specs.Segment.{messages_of, parameters_sent, columns_sent, execute_end_sent};
 ghost use Rattle.pg_script.specs.Outcome.{complete};
 ghost use Rattle.pg_script.specs.Replies.{aside_message, error_sent};
 ghost use Rattle.pg_script.specs.Opening.{pair_message, key_messages};
-ghost use Rattle.pg_script.specs.Telling.{Tells, both};
+ghost use Rattle.pg_script.specs.Telling.{EncodesAll, both};
 
 use crate::script::{Key, Load, ScriptPart};
 use pg_wire::backend::{
@@ -45,12 +45,12 @@ pub trait Tell: Drop {
 
     /// Appends its messages. After a fault some of their bytes may have been appended.
     fn tell(&self, out: &mut Vec<u8>) -> Result<(), EncodeFault>
-        ensures { Tells (messages self.now) out.old.items result out.new.items };
+        ensures { EncodesAll (messages self.now) out.old.items result out.new.items };
 }
 
 /// Tells each of them, in their order.
 pub fn tell_all<T: Tell>(items: &[T], out: &mut Vec<u8>) -> Result<(), EncodeFault>
-    ensures { Tells (flat_map T.messages items.now) out.old.items result out.new.items }
+    ensures { EncodesAll (flat_map T.messages items.now) out.old.items result out.new.items }
 {
     let mut so_far = Ok(());
     for item in items {
@@ -111,7 +111,7 @@ fn tell_rows(
     tag: &[u8],
     out: &mut Vec<u8>,
 ) -> Result<(), EncodeFault>
-    ensures { Tells (messages_of (Rows columns.now rows.now tag.now))
+    ensures { EncodesAll (messages_of (Rows columns.now rows.now tag.now))
         out.old.items result out.new.items }
 {
     let head = row_description(columns, out);
@@ -126,7 +126,7 @@ fn tell_copy_out(
     tag: &[u8],
     out: &mut Vec<u8>,
 ) -> Result<(), EncodeFault>
-    ensures { Tells (messages_of (CopyOut head.now chunks.now tag.now))
+    ensures { EncodesAll (messages_of (CopyOut head.now chunks.now tag.now))
         out.old.items result out.new.items }
 {
     let head = copy_out(head, out);
@@ -137,14 +137,15 @@ fn tell_copy_out(
 
 /// A copy from the client that is complete.
 fn tell_copy_in(head: &CopyHead, tag: &[u8], out: &mut Vec<u8>) -> Result<(), EncodeFault>
-    ensures { Tells (messages_of (CopyIn head.now tag.now)) out.old.items result out.new.items }
+    ensures { EncodesAll (messages_of (CopyIn head.now tag.now))
+        out.old.items result out.new.items }
 {
     let head = copy_in(head, out);
     both(head, command_complete(tag, out))
 }
 
 fn tell_parameters(parameters: &Option<Seq<u32>>, out: &mut Vec<u8>) -> Result<(), EncodeFault>
-    ensures { Tells (parameters_sent parameters.now) out.old.items result out.new.items }
+    ensures { EncodesAll (parameters_sent parameters.now) out.old.items result out.new.items }
 {
     match parameters {
         None => Ok(()),
@@ -153,7 +154,7 @@ fn tell_parameters(parameters: &Option<Seq<u32>>, out: &mut Vec<u8>) -> Result<(
 }
 
 fn tell_columns(columns: &Option<Seq<Column>>, out: &mut Vec<u8>) -> Result<(), EncodeFault>
-    ensures { Tells (columns_sent columns.now ∷ []) out.old.items result out.new.items }
+    ensures { EncodesAll (columns_sent columns.now ∷ []) out.old.items result out.new.items }
 {
     match columns {
         None => encode(&BackMessage::NoData, out),
@@ -166,7 +167,7 @@ fn tell_described(
     columns: &Option<Seq<Column>>,
     out: &mut Vec<u8>,
 ) -> Result<(), EncodeFault>
-    ensures { Tells (messages_of (Described parameters.now columns.now))
+    ensures { EncodesAll (messages_of (Described parameters.now columns.now))
         out.old.items result out.new.items }
 {
     let parameters = tell_parameters(parameters, out);
@@ -174,7 +175,7 @@ fn tell_described(
 }
 
 fn tell_end(end: &ExecEnd, out: &mut Vec<u8>) -> Result<(), EncodeFault>
-    ensures { Tells (end_sent end.now ∷ []) out.old.items result out.new.items }
+    ensures { EncodesAll (execute_end_sent end.now ∷ []) out.old.items result out.new.items }
 {
     match end {
         ExecEnd::Complete(tag) => command_complete(tag.as_slice(), out),
@@ -184,7 +185,8 @@ fn tell_end(end: &ExecEnd, out: &mut Vec<u8>) -> Result<(), EncodeFault>
 }
 
 fn tell_executed(rows: &[Values], end: &ExecEnd, out: &mut Vec<u8>) -> Result<(), EncodeFault>
-    ensures { Tells (messages_of (Executed rows.now end.now)) out.old.items result out.new.items }
+    ensures { EncodesAll (messages_of (Executed rows.now end.now))
+        out.old.items result out.new.items }
 {
     let rows = tell_all(rows, out);
     both(rows, tell_end(end, out))
@@ -222,7 +224,7 @@ impl Tell for ScriptPart {
 
 /// An error, if there is one.
 pub fn tell_error(error: &Option<Fields>, out: &mut Vec<u8>) -> Result<(), EncodeFault>
-    ensures { Tells (error_sent error.now) out.old.items result out.new.items }
+    ensures { EncodesAll (error_sent error.now) out.old.items result out.new.items }
 {
     match error {
         None => Ok(()),
@@ -232,7 +234,7 @@ pub fn tell_error(error: &Option<Fields>, out: &mut Vec<u8>) -> Result<(), Encod
 
 /// The key with which a client may cancel, if there is one.
 pub fn tell_key(key: &Option<Key>, out: &mut Vec<u8>) -> Result<(), EncodeFault>
-    ensures { Tells (key_messages key.now) out.old.items result out.new.items }
+    ensures { EncodesAll (key_messages key.now) out.old.items result out.new.items }
 {
     match key {
         None => Ok(()),

@@ -12,29 +12,7 @@ joined = flat_map (λ segment. segment)
 
 ready_is : (m : BackMessage) (status : Status) → status_of m ≡ Some status → m ≡ back.Ready status
 ready_is (back.Ready s) status e = cc
-ready_is back.AuthOk status e = absurd cc
-ready_is back.AuthCleartext status e = absurd cc
-ready_is (back.AuthMd5 salt) status e = absurd cc
-ready_is (back.AuthOther code rest) status e = absurd cc
-ready_is (back.KeyData process secret) status e = absurd cc
-ready_is (back.ParameterStatus name value) status e = absurd cc
-ready_is (back.RowDescription columns) status e = absurd cc
-ready_is (back.DataRow values) status e = absurd cc
-ready_is (back.CommandComplete tag) status e = absurd cc
-ready_is back.EmptyQuery status e = absurd cc
-ready_is back.ParseComplete status e = absurd cc
-ready_is back.BindComplete status e = absurd cc
-ready_is back.CloseComplete status e = absurd cc
-ready_is back.NoData status e = absurd cc
-ready_is back.PortalSuspended status e = absurd cc
-ready_is (back.ParameterDescription types) status e = absurd cc
-ready_is (back.ErrorResponse fields) status e = absurd cc
-ready_is (back.NoticeResponse fields) status e = absurd cc
-ready_is (back.Notification process channel payload) status e = absurd cc
-ready_is (back.CopyIn head) status e = absurd cc
-ready_is (back.CopyOut head) status e = absurd cc
-ready_is (back.CopyData bytes) status e = absurd cc
-ready_is back.CopyDone status e = absurd cc
+ready_is m status e = absurd cc
 
 -- ---- the segments are a cut
 
@@ -82,18 +60,18 @@ first_ready (m ∷ a) (n ∷ b) s t x y p q e =
     (cc (head, r.0), r.1, r.2)
 
 -- a whole segment, and what stands after it
-behind : (segment body : List BackMessage) (status : Status) (others : List (List BackMessage)) (rest : List BackMessage) → segment ≡ body ++ back.Ready status ∷ [] → joined (segment ∷ others) ++ rest ≡ body ++ back.Ready status ∷ (joined others ++ rest)
-behind segment body status others rest e =
+after : (segment body : List BackMessage) (status : Status) (others : List (List BackMessage)) (rest : List BackMessage) → segment ≡ body ++ back.Ready status ∷ [] → joined (segment ∷ others) ++ rest ≡ body ++ back.Ready status ∷ (joined others ++ rest)
+after segment body status others rest e =
     ap (λ (s : List BackMessage). (s ++ joined others) ++ rest) e
     ∙ ap (λ (xs : List BackMessage). xs ++ rest) (append_assoc body (back.Ready status ∷ []) (joined others))
     ∙ append_assoc body (back.Ready status ∷ joined others) rest
 
 once : (v w : List (List BackMessage)) (x y : List BackMessage) → joined v ++ x ≡ joined w ++ y → AllByRecursion EndsAtReady v → AllByRecursion EndsAtReady w → NoReady x → NoReady y → (v ≡ w) × (x ≡ y)
 once [] [] x y e p q a b = (refl, e)
-once [] (s ∷ w) x y e p q a b = absurd (none_ready q.0.0 q.0.1 (joined w ++ y) (subst NoReady (e ∙ behind s q.0.0 q.0.1 w y q.0.2) a))
-once (s ∷ v) [] x y e p q a b = absurd (none_ready p.0.0 p.0.1 (joined v ++ x) (subst NoReady (sym e ∙ behind s p.0.0 p.0.1 v x p.0.2) b))
+once [] (s ∷ w) x y e p q a b = absurd (none_ready q.0.0 q.0.1 (joined w ++ y) (subst NoReady (e ∙ after s q.0.0 q.0.1 w y q.0.2) a))
+once (s ∷ v) [] x y e p q a b = absurd (none_ready p.0.0 p.0.1 (joined v ++ x) (subst NoReady (sym e ∙ after s p.0.0 p.0.1 v x p.0.2) b))
 once (s ∷ v) (t ∷ w) x y e p q a b =
-    let f = first_ready p.0.0 q.0.0 p.0.1 q.0.1 (joined v ++ x) (joined w ++ y) p.0.3 q.0.3 (sym (behind s p.0.0 p.0.1 v x p.0.2) ∙ e ∙ behind t q.0.0 q.0.1 w y q.0.2) in
+    let f = first_ready p.0.0 q.0.0 p.0.1 q.0.1 (joined v ++ x) (joined w ++ y) p.0.3 q.0.3 (sym (after s p.0.0 p.0.1 v x p.0.2) ∙ e ∙ after t q.0.0 q.0.1 w y q.0.2) in
     let r = once v w x y f.2 p.1 q.1 a b in
     let same : s ≡ t = p.0.2 ∙ ap (λ (xs : List BackMessage). xs ++ back.Ready p.0.1 ∷ []) f.0 ∙ ap (λ (u : Status). q.0.0 ++ back.Ready u ∷ []) f.1 ∙ sym q.0.2 in
     (ap (λ (u : List BackMessage). u ∷ v) same ∙ ap (λ (us : List (List BackMessage)). t ∷ us) r.0, r.1)

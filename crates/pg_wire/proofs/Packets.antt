@@ -24,10 +24,10 @@ use Rattle.pg_wire.specs.Laws.{ReadsNoFurther, OneBeginning, PacketsAgain}
 use Rattle.pg_layout.specs.Private.Reader.{Fails, pair_at, signed_at, terminated_at, parameter_at, whole}
 use Rattle.pg_wire.specs.FirstDecoder.{FirstState, PacketFaultHolds, HasBegun}
 use Rattle.pg_wire.specs.Private.FirstReader.{first_code, first_kind_of, first_of, FindsPacket}
-use Rattle.pg_layout.proofs.Layouts.{IsBytes, IsBytes-take, wide32, bind_some, pair_reads}
-use Rattle.pg_layout.proofs.Fields.{int32_reads, parameters_reads}
+use Rattle.pg_layout.proofs.Layouts.{IsBytes, IsBytes-take, wide32, bind_some, pair_reads, int32_reads}
+use Rattle.pg_layout.proofs.Fields.{parameters_reads}
 use Rattle.pg_message.proofs.Bodies.{passes, ended_some}
-use Rattle.pg_wire.proofs.Rests.{IsBytes-drop}
+use Rattle.pg_wire.proofs.Rests.{IsBytes-drop, pos_same}
 
 -- ---- which packets have a spelling
 
@@ -102,6 +102,11 @@ all_named : (pairs : List (List ℕ × List ℕ)) → AllByRecursion (λ p. (0 <
 all_named [] a = refl
 all_named (p ∷ ps) a = or_from _ _ (ne_eqb _ _ (λ same. omega (arith, a.0.0))) (all_named ps a.1)
 
+-- a parameter has no number
+no_numbers : (pairs : List (List ℕ × List ℕ)) → AllByRecursion (λ p. (parameter p).IsOfType) pairs
+no_numbers [] = tt
+no_numbers (p ∷ ps) = ((tt, tt), no_numbers ps)
+
 -- The packet has this kind and this content.
 record IsContent (k : FirstKind) (bytes : List ℕ) (p : First) : Type 0 where
   code_is : code p ≡ first_code k
@@ -113,8 +118,9 @@ first_sound kinds.Startup bytes p fits e =
     let x = bind_some (terminated_at parameter_at bytes) (λ (a : List (List ℕ × List ℕ) × List ℕ). cond (eqb (length a.1) 0) (Some (first.Startup a.0)) None) p e in
     let g = ended_some x.0.1 (first.Startup x.0.0) p x.2 in
     let t = parameters_reads.sound bytes x.0.0 x.0.1 fits x.1 in
-    let is : bytes ≡ flat_map parameter x.0.0 ++ 0 ∷ [] = t.parts ∙ ap (λ (r : List ℕ). (flat_map parameter x.0.0 ++ 0 ∷ []) ++ r) g.0 ∙ append-nil (flat_map parameter x.0.0 ++ 0 ∷ []) in
-    subst (IsContent kinds.Startup bytes) g.1 (record { code_is = refl; content_is = sym is; spelled = record { of_type = tt; no_zero = t.spelled.no_zero; named = all_named x.0.0 t.spelled.of_type } })
+    let all : List ℕ = content (first.Startup x.0.0) in
+    let is : bytes ≡ all = t.parts ∙ ap (λ (r : List ℕ). all ++ r) g.0 ∙ append-nil all in
+    subst (IsContent kinds.Startup bytes) g.1 (record { code_is = refl; content_is = sym is; spelled = record { of_type = no_numbers x.0.0; no_zero = t.spelled.no_zero; named = all_named x.0.0 t.spelled.of_type } })
 first_sound kinds.Cancel bytes p fits e =
     let reads = pair_reads _ _ _ _ int32_reads int32_reads in
     let x = bind_some (pair_at (signed_at w32) (signed_at w32) bytes) (λ (a : (ℤ × ℤ) × List ℕ). cond (eqb (length a.1) 0) (Some (first.Cancel a.0.0 a.0.1)) None) p e in
@@ -133,7 +139,7 @@ first_again : (p : First) → IsPacket p → first_of (kind p) (content p) ≡ S
 unfolding kind
 first_again (first.Startup pairs) s =
     let q = packet_parts (first.Startup pairs) s in
-    let bytes = flat_map parameter pairs ++ 0 ∷ [] in
+    let bytes = content (first.Startup pairs) in
     let again = parameters_reads.again pairs [] (record { no_zero = q.0.no_zero; countable = refl; of_type = named_all pairs q.0.named }) (omega (arith, q.1)) in
     ap (λ (b : List ℕ). whole first.Startup (terminated_at parameter_at b)) (sym (append-nil bytes)) ∙ ap (λ (o : Option (List (List ℕ × List ℕ) × List ℕ)). whole first.Startup o) again
 first_again (first.Cancel process secret) s =
@@ -158,9 +164,6 @@ same_length rest y z g h = sym g.length_is ∙ h.length_is
 
 same_code : (rest : List ℕ) (y z : ℤ) → PacketCode rest y → PacketCode rest z → y ≡ z
 same_code rest y z g h = sym g.code_is ∙ h.code_is
-
-pos_same : (a b : ℕ) → pos a ≡ pos b → a ≡ b
-pos_same a b e = cc
 
 code_small : (p : First) → code p < 2 ^ 31
 code_small (first.Startup pairs) = lit< tt
@@ -315,8 +318,8 @@ packet_found rest k len n p fits w size e =
     let lens : packet_length p ≡ len = omega (arith, length-take n (drop 8 rest), length-drop 8 rest, w.there, w.not_short) in
     let length_bytes : take 4 rest ≡ to_be_bytes w32 (packet_length p) = number_again (take 4 rest) len (omega (arith, length-take 4 rest, w.there, w.not_short)) (IsBytes-take 4 rest fits) w.head.length_is ∙ ap (to_be_bytes w32) (sym lens) in
     let code_bytes : take 4 (drop 4 rest) ≡ to_be_bytes w32 (code p) = number_again (take 4 (drop 4 rest)) (first_code k) (omega (arith, length-take 4 (drop 4 rest), length-drop 4 rest, w.there, w.not_short)) (IsBytes-take 4 (drop 4 rest) (IsBytes-drop 4 rest fits)) w.code.code_is ∙ ap (to_be_bytes w32) (sym found.code_is) in
-    let behind : drop n (drop 8 rest) ≡ drop len rest = drop-drop n 8 rest ∙ ap (λ (j : ℕ). drop j rest) (omega (arith, w.not_short)) in
-    let back : drop 8 rest ≡ content p ++ drop len rest = sym (take-append-drop n (drop 8 rest)) ∙ ap (λ (u : List ℕ). u ++ drop n (drop 8 rest)) (sym found.content_is) ∙ ap (λ (u : List ℕ). content p ++ u) behind in
+    let after : drop n (drop 8 rest) ≡ drop len rest = drop-drop n 8 rest ∙ ap (λ (j : ℕ). drop j rest) (omega (arith, w.not_short)) in
+    let back : drop 8 rest ≡ content p ++ drop len rest = sym (take-append-drop n (drop 8 rest)) ∙ ap (λ (u : List ℕ). u ++ drop n (drop 8 rest)) (sym found.content_is) ∙ ap (λ (u : List ℕ). content p ++ u) after in
     let head_bytes = to_be_bytes w32 (packet_length p) ++ to_be_bytes w32 (code p) in
     let parts : rest ≡ head_bytes ++ (content p ++ drop len rest) =
     eight rest (omega (arith, w.there, w.not_short)) ∙ ap (λ (u : List ℕ). (u ++ take 4 (drop 4 rest)) ++ drop 8 rest) length_bytes ∙ ap (λ (u : List ℕ). (to_be_bytes w32 (packet_length p) ++ u) ++ drop 8 rest) code_bytes ∙ ap (λ (u : List ℕ). head_bytes ++ u) back in
@@ -331,8 +334,8 @@ packet_bad rest k len n w size none = (refl, pos (first_code k), len, w, no_pack
         let l = leads rest p (drop len rest) s rest_is in
         let kinds_same : kind p ≡ k = same_kind p k (same_code rest (pos (code p)) (pos (first_code k)) l.code w.code) in
         let lens : packet_length p ≡ len = pos_same _ _ (same_length rest (pos (packet_length p)) (pos len) l.head w.head) in
-        let behind : drop 8 rest ≡ content p ++ drop len rest = ap (drop 8) rest_is in
-        let bytes : take n (drop 8 rest) ≡ content p = ap (take n) behind ∙ take_at (content p) (drop len rest) n (omega arith) in
+        let after : drop 8 rest ≡ content p ++ drop len rest = ap (drop 8) rest_is in
+        let bytes : take n (drop 8 rest) ≡ content p = ap (take n) after ∙ take_at (content p) (drop len rest) n (omega arith) in
         none-some p (sym none ∙ ap (first_of k) bytes ∙ ap (λ j. first_of j (content p)) (sym kinds_same) ∙ first_again p s)
 
 -- ---- what a connection begins with
@@ -344,9 +347,9 @@ one_packet p q x y s t e =
     let g = leads (packet p ++ x) q y t e in
     let lens : packet_length p ≡ packet_length q = pos_same _ _ (same_length (packet p ++ x) (pos (packet_length p)) (pos (packet_length q)) f.head g.head) in
     let codes : code p ≡ code q = pos_same _ _ (same_code (packet p ++ x) (pos (code p)) (pos (code q)) f.code g.code) in
-    let behind : content p ++ x ≡ content q ++ y = ap (drop 8) e in
-    let contents : content p ≡ content q = sym (take_at (content p) x (length (content p)) refl) ∙ ap (take (length (content p))) behind ∙ take_at (content q) y (length (content p)) (omega arith) in
-    (one_to_one p q s t codes contents, append_cancel_left (content p) x y (behind ∙ ap (λ (b : List ℕ). b ++ y) (sym contents)))
+    let after : content p ++ x ≡ content q ++ y = ap (drop 8) e in
+    let contents : content p ≡ content q = sym (take_at (content p) x (length (content p)) refl) ∙ ap (take (length (content p))) after ∙ take_at (content q) y (length (content p)) (omega arith) in
+    (one_to_one p q s t codes contents, append_cancel_left (content p) x y (after ∙ ap (λ (b : List ℕ). b ++ y) (sym contents)))
 
 -- a packet more at the end
 pub ends_more : (ps : List First) (p : First) → EndsIn ps false → EndsIn (ps ++ p ∷ []) (is_last p)

@@ -68,6 +68,6 @@ answer_spelled user password salt =
     let message = hex_digest (password ++ user) ++ salt in
     record {
       of_type = tt;
-      no_fault = no_fault_of (contains_zero (md5_text user password salt)) (length (string (md5_text user password salt))) (digits_not_zero (md5 message) (md5_is_bytes message))
+      no_fault = no_fault_of (contains_zero (md5_text user password salt)) (length (string (md5_text user password salt)).bytes) (digits_not_zero (md5 message) (md5_is_bytes message))
           (omega (arith, length-append (md5_text user password salt) (0 ∷ []), length-md5_text user password salt));
     }

@@ -3,6 +3,7 @@ use Rattle.std.proofs.Common.{◌≡◌, true, List, [], ◌∷◌, ◌++◌, co
 use Rattle.std.specs.Prelude.{pos, negsuc}
 use Rattle.std.specs.List.{flat_map}
 use Rattle.std.proofs.lemmas.Int.{ints}
+use Rattle.std.proofs.Math.Facts.{sfits_lit}
 use Rattle.hex.specs.Hex.{encode_with}
 use Rattle.md5.specs.Md5.{block_words, rounds, compress, hash_after, digest_bytes, md5}
 use Rattle.pg_layout.specs.declared.fault.EncodeFault.TheVariants as faults
@@ -31,7 +32,6 @@ use Rattle.pg_wire.specs.First.{packet, packet_fault, IsBeginning, IsFaultyPacke
 use Rattle.pg_message.specs.Backend.{backend}
 use Rattle.pg_wire.specs.Stream.{IsStream, IsFaulty, IsOpen}
 use Rattle.pg_wire.specs.Password.{hex_digest, md5_text}
-use Rattle.pg_message.specs.Private.BackReader.{back_message_of}
 use Rattle.pg_wire.specs.declared.first.kind.FirstKind.TheVariants as packets
 use Rattle.pg_layout.specs.Private.Reader.{counted_at, times_at, value_at}
 use Rattle.pg_wire.proofs.Packets.{no_code, packet_bad}
@@ -75,7 +75,7 @@ zero_in_text = refl
 two_messages : IsStream backend 64 (0x52 ∷ 0 ∷ 0 ∷ 0 ∷ 8 ∷ 0 ∷ 0 ∷ 0 ∷ 0 ∷ 0x5A ∷ 0 ∷ 0 ∷ 0 ∷ 5 ∷ 0x49 ∷ 0x5A ∷ 0 ∷ []) (AuthOk ∷ Ready Idle ∷ []) (0x5A ∷ 0 ∷ [])
 two_messages = record {
   whole = refl;
-  each = (record { spelled = record { of_type = tt; no_fault = refl }; limited = lit≤ tt }, (record { spelled = record { of_type = tt; no_fault = refl }; limited = lit≤ tt }, tt));
+  each = (record { spelled = record { of_type = sfits_lit tt; no_fault = refl }; limited = lit≤ tt }, (record { spelled = record { of_type = tt; no_fault = refl }; limited = lit≤ tt }, tt));
 }
 
 four_bytes : IsOpen backend 64 (0x21 ∷ 0 ∷ 0 ∷ 0 ∷ [])
@@ -95,25 +95,22 @@ long_length = (68, record { there = omega arith; tag_is = refl; length_is = refl
 
 -- a whole message whose body no message of its tag has
 bad_status : IsFaulty backend 64 (0x5A ∷ 0 ∷ 0 ∷ 0 ∷ 5 ∷ 0x58 ∷ []) (wire.BadBody 90)
-unfolding back_message_of
 bad_status = bad_fault backend 64 (0x5A ∷ 0 ∷ 0 ∷ 0 ∷ 5 ∷ 0x58 ∷ []) 90 5 1
     (record { head = record { there = omega arith; tag_is = refl; length_is = refl }; known = is_tag 90 kinds.Ready refl; not_short = omega arith; not_long = omega arith; there = omega arith })
     refl (read_none 90 kinds.Ready (0x58 ∷ []) refl refl)
 
 byte_after : IsFaulty backend 64 (0x5A ∷ 0 ∷ 0 ∷ 0 ∷ 6 ∷ 0x49 ∷ 0x49 ∷ []) (wire.BadBody 90)
-unfolding back_message_of
 byte_after = bad_fault backend 64 (0x5A ∷ 0 ∷ 0 ∷ 0 ∷ 6 ∷ 0x49 ∷ 0x49 ∷ []) 90 6 2
     (record { head = record { there = omega arith; tag_is = refl; length_is = refl }; known = is_tag 90 kinds.Ready refl; not_short = omega arith; not_long = omega arith; there = omega arith })
     refl (read_none 90 kinds.Ready (0x49 ∷ 0x49 ∷ []) refl refl)
 
 no_zero_byte : IsFaulty backend 64 (0x43 ∷ 0 ∷ 0 ∷ 0 ∷ 6 ∷ 0x4F ∷ 0x4B ∷ []) (wire.BadBody 67)
-unfolding back_message_of
 no_zero_byte = bad_fault backend 64 (0x43 ∷ 0 ∷ 0 ∷ 0 ∷ 6 ∷ 0x4F ∷ 0x4B ∷ []) 67 6 2
     (record { head = record { there = omega arith; tag_is = refl; length_is = refl }; known = is_tag 67 kinds.CommandComplete refl; not_short = omega arith; not_long = omega arith; there = omega arith })
     refl (read_none 67 kinds.CommandComplete (0x4F ∷ 0x4B ∷ []) refl refl)
 
 below_null : IsFaulty backend 64 (0x44 ∷ 0 ∷ 0 ∷ 0 ∷ 0x0A ∷ 0 ∷ 1 ∷ 0xFF ∷ 0xFF ∷ 0xFF ∷ 0xFE ∷ []) (wire.BadBody 68)
-unfolding back_message_of counted_at times_at value_at
+unfolding counted_at times_at value_at
 below_null = bad_fault backend 64 (0x44 ∷ 0 ∷ 0 ∷ 0 ∷ 0x0A ∷ 0 ∷ 1 ∷ 0xFF ∷ 0xFF ∷ 0xFF ∷ 0xFE ∷ []) 68 10 6
     (record { head = record { there = omega arith; tag_is = refl; length_is = refl }; known = is_tag 68 kinds.DataRow refl; not_short = omega arith; not_long = omega arith; there = omega arith })
     refl (read_none 68 kinds.DataRow (0 ∷ 1 ∷ 0xFF ∷ 0xFF ∷ 0xFF ∷ 0xFE ∷ []) refl refl)

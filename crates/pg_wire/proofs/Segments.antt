@@ -17,7 +17,7 @@ use Rattle.pg_wire.specs.declared.session.Part.TheVariants as part
 use Rattle.pg_wire.specs.declared.session.Request.{Request}
 use Rattle.pg_wire.specs.declared.session.Step.{Step}
 use Rattle.pg_wire.specs.declared.session.Step.TheVariants as step
-use Rattle.pg_wire.specs.Segment.{Fields, asides_of, without_asides, messages_of, columns_sent, end_sent, is_result, is_answer, Asked, Results, Steps, asked, Answers, IsDone, IsCutOff, Reads, Fits}
+use Rattle.pg_wire.specs.Segment.{Fields, asides_of, without_asides, messages_of, columns_sent, execute_end_sent, is_result, is_answer, Asked, Results, Steps, asked, Answers, IsDone, IsCutOff, Reads, Fits}
 
 -- ---- lists
 
@@ -107,12 +107,12 @@ result_once (part.CopyOut head chunks tag) (part.CopyOut head' chunks' tag') h k
 result_once (part.CopyIn head tag) (part.CopyIn head' tag') h k x y e = (cc, cc)
 result_once _ _ h k x y e = absurd cc
 
-end_rows_none : (end : ExecEnd) → row_in (end_sent end) ≡ None
+end_rows_none : (end : ExecEnd) → row_in (execute_end_sent end) ≡ None
 end_rows_none (ends.Complete tag) = refl
 end_rows_none ends.Empty = refl
 end_rows_none ends.Suspended = refl
 
-end_once : (end end' : ExecEnd) → end_sent end ≡ end_sent end' → end ≡ end'
+end_once : (end end' : ExecEnd) → execute_end_sent end ≡ execute_end_sent end' → end ≡ end'
 end_once (ends.Complete tag) (ends.Complete tag') e = cc
 end_once ends.Empty ends.Empty e = refl
 end_once ends.Suspended ends.Suspended e = refl
@@ -120,7 +120,7 @@ end_once _ _ e = absurd cc
 
 executed_once : (rows rows' : List (List (Option (List ℕ)))) (end end' : ExecEnd) → Once (part.Executed rows end) (part.Executed rows' end')
 executed_once rows rows' end end' x y e =
-    let r = rows_then rows rows' (end_sent end) (end_sent end') [] [] x y (end_rows_none end) (end_rows_none end') e in
+    let r = rows_then rows rows' (execute_end_sent end) (execute_end_sent end') [] [] x y (end_rows_none end) (end_rows_none end') e in
     let same : rows ≡ rows' = r.0 in
     let ended : end ≡ end' = end_once end end' r.1 in
     (cc, r.2)
@@ -155,10 +155,10 @@ answer_once (step.Close target name) part.Shut part.Shut h k x y e = (refl, cc)
 answer_once _ _ _ h k x y e = absurd cc
 
 -- what is still asked after a next answer
-abbrev behind : Asked → Asked
-behind Results = Results
-behind (Steps []) = Steps []
-behind (Steps (s ∷ ss)) = Steps ss
+abbrev after : Asked → Asked
+after Results = Results
+after (Steps []) = Steps []
+after (Steps (s ∷ ss)) = Steps ss
 
 -- an answer to what is asked, whatever is left then
 abbrev IsNext : Asked → Part → Type 0
@@ -169,7 +169,7 @@ next_once Results p q h k = result_once p q h.1.0 k.1.0
 next_once (Steps []) p q h k = absurd h.1
 next_once (Steps (s ∷ ss)) p q h k = answer_once s p q h.1.0 k.1.0
 
-first_next : (a : Asked) (p : Part) (ps : List Part) (rest : Asked) → Answers a (p ∷ ps) rest → IsNext a p × Answers (behind a) ps rest
+first_next : (a : Asked) (p : Part) (ps : List Part) (rest : Asked) → Answers a (p ∷ ps) rest → IsNext a p × Answers (after a) ps rest
 first_next Results p ps rest h = ((Results, (h.0, refl)), h.1)
 first_next (Steps []) p ps rest h = absurd h
 first_next (Steps (s ∷ ss)) p ps rest h = ((Steps ss, (h.0, refl)), h.1)
@@ -310,7 +310,7 @@ parts_once a b c (p ∷ ps) (q ∷ qs) t u one other h k tail tail' e =
     let f = first_next a p ps b h in
     let g = first_next a q qs c k in
     let same = once (next_once a p q f.0 g.0) in
-    let r = parts_once (behind a) b c ps qs t u one other f.1 g.1 tail tail' same.1 in
+    let r = parts_once (after a) b c ps qs t u one other f.1 g.1 tail tail' same.1 in
     (ap (λ (x : Part). x ∷ ps) same.0 ∙ ap (λ (xs : List Part). q ∷ xs) r.0, r.1)
   where
     once : Once p q → (p ≡ q) × (flat_map messages_of ps ++ t ≡ flat_map messages_of qs ++ u)

@@ -16,10 +16,10 @@ module _ {M : Type 0} (d : Direction M) (one : OneToOne d) where
       let g = first_head d longest (spelling d m ++ x) n y (record { spelled = t; limited = (spelled_parts d n t).1 }) e in
       let lens : length_field d m ≡ length_field d n = pos_same _ _ (same_length (spelling d m ++ x) (d.tag m) (d.tag n) (pos (length_field d m)) (pos (length_field d n)) f.0 g.0) in
       let tags : d.tag m ≡ d.tag n = same_tag (spelling d m ++ x) (d.tag m) (d.tag n) (pos (length_field d m)) (pos (length_field d n)) f.0 g.0 in
-      let behind : d.body m ++ x ≡ d.body n ++ y = ap (drop 5) e in
+      let after : d.body m ++ x ≡ d.body n ++ y = ap (drop 5) e in
       let size : length (d.body m) ≡ length (d.body n) = omega arith in
-      let bodies : d.body m ≡ d.body n = sym (take_at (d.body m) x (length (d.body m)) refl) ∙ ap (take (length (d.body m))) behind ∙ take_at (d.body n) y (length (d.body m)) (sym size) in
-      (one m n s t tags bodies, append_cancel_left (d.body m) x y (behind ∙ ap (λ (b : List ℕ). b ++ y) (sym bodies)))
+      let bodies : d.body m ≡ d.body n = sym (take_at (d.body m) x (length (d.body m)) refl) ∙ ap (take (length (d.body m))) after ∙ take_at (d.body n) y (length (d.body m)) (sym size) in
+      (one m n s t tags bodies, append_cancel_left (d.body m) x y (after ∙ ap (λ (b : List ℕ). b ++ y) (sym bodies)))
 
   readings : (limit : ℕ) (ms ns : List M) (x y : List ℕ) → flat_map (spelling d) ms ++ x ≡ flat_map (spelling d) ns ++ y → AllByRecursion (IsWithin d limit) ms → AllByRecursion (IsWithin d limit) ns → BeginsNoMessage d limit y
       → (later : List M) × (ns ≡ ms ++ later) × (x ≡ flat_map (spelling d) later ++ y)

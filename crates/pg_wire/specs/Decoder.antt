@@ -14,22 +14,22 @@ pub record DecoderState : Type 0 where
 
 -- A decoder may store this fault, as it is answered for good. Want of memory passes and is never
 -- stored.
-abbrev pub Stays : Option WireFault → Type 0
-Stays None = Unit {0}
-Stays (Some wire.Memory) = ⊥
-Stays (Some f) = Unit {0}
+abbrev pub IsLasting : Option WireFault → Type 0
+IsLasting None = Unit {0}
+IsLasting (Some wire.Memory) = ⊥
+IsLasting (Some f) = Unit {0}
 
 -- The rest has the stored fault, if there is one.
-abbrev pub FaultHolds : {M : Type 0} → Direction M → ℕ → List ℕ → Option WireFault → Type 0
-FaultHolds d limit rest None = Unit {0}
-FaultHolds d limit rest (Some f) = IsFaulty d limit rest f
+abbrev pub HasStoredFault : {M : Type 0} → Direction M → ℕ → List ℕ → Option WireFault → Type 0
+HasStoredFault d limit rest None = Unit {0}
+HasStoredFault d limit rest (Some f) = IsFaulty d limit rest f
 
 -- The decoder was pushed these bytes in all, and has given these messages: they are the first of
 -- the stream, and the bytes kept are its rest.
 pub record HasTaken {M : Type 0} (d : Direction M) (s : DecoderState) (pushed : List ℕ)
     (given : List M) : Type 0 where
   pub stream : IsStream d s.limit pushed given s.kept
-  pub fault : FaultHolds d s.limit s.kept s.fault
+  pub fault : HasStoredFault d s.limit s.kept s.fault
 
 -- A push keeps the whole piece, or refuses it and changes nothing: by the fault that was found
 -- before, or for want of memory, but never a piece without bytes.

@@ -8,6 +8,7 @@ pub mod Laws
 pub mod Password
 pub mod Fault
 pub mod Segment
+pub mod Turns
 -- Words of private functions, which no public contract cites.
 pub mod Private
 -- What the crates below define and the contracts here speak of. Who uses pg_wire names it through

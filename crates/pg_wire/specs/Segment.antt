@@ -32,7 +32,8 @@ Fields = List ErrorField
 -- the message that asks for a step: the one of its name
 abbrev pub step_message : Step → FrontMessage
 step_message (step.Parse name text types) = front.Parse name text types
-step_message (step.Bind portal statement formats values result_formats) = front.Bind portal statement formats values result_formats
+step_message (step.Bind portal statement formats values result_formats) = front.Bind portal
+    statement formats values result_formats
 step_message (step.Describe target name) = front.Describe target name
 step_message (step.Execute portal max_rows) = front.Execute portal max_rows
 step_message (step.Close target name) = front.Close target name
@@ -73,10 +74,10 @@ columns_sent None = NoData
 columns_sent (Some columns) = RowDescription columns
 
 -- the message with which an Execute ends
-abbrev pub end_sent : ExecEnd → BackMessage
-end_sent (ends.Complete tag) = CommandComplete tag
-end_sent ends.Empty = EmptyQuery
-end_sent ends.Suspended = PortalSuspended
+abbrev pub execute_end_sent : ExecEnd → BackMessage
+execute_end_sent (ends.Complete tag) = CommandComplete tag
+execute_end_sent ends.Empty = EmptyQuery
+execute_end_sent ends.Suspended = PortalSuspended
 
 -- the messages of a part: one whole result of a query, or the whole answer to one step
 abbrev pub messages_of : Part → List BackMessage
@@ -91,7 +92,7 @@ messages_of part.Parsed = ParseComplete ∷ []
 messages_of part.Bound = BindComplete ∷ []
 messages_of (part.Described parameters columns) = parameters_sent parameters
     ++ columns_sent columns ∷ []
-messages_of (part.Executed rows end) = map DataRow rows ++ end_sent end ∷ []
+messages_of (part.Executed rows end) = map DataRow rows ++ execute_end_sent end ∷ []
 messages_of part.Shut = CloseComplete ∷ []
 
 -- whether the part is a result of a query

@@ -3,7 +3,7 @@
 ghost use Rattle.std.specs.Prelude.{◌≡◌, ◌<◌, ◌≤◌, ◌++◌, [], List, ℕ, length, None, OnOk, MatchOption};
 ghost use Rattle.pg_message.specs.Direction.{IsLimit};
 ghost use Rattle.pg_wire.specs.Stream.{Head};
-ghost use Rattle.pg_wire.specs.Decoder.{HasTaken, Pushes, Stays, Takes, given_after};
+ghost use Rattle.pg_wire.specs.Decoder.{HasTaken, Pushes, IsLasting, Takes, given_after};
 ghost use Rattle.pg_wire.specs.Private.Found.{Judges, Finds};
 
 use crate::fault::WireFault;
@@ -92,13 +92,13 @@ pub type FrontDecoder = Decoder<FrontMessage>;
 
 impl<M: Message> Model for Decoder<M> {
     ghost use Rattle.std.specs.Prelude.{◌≤◌};
-    ghost use Rattle.pg_wire.specs.Decoder.{DecoderState, Stays};
+    ghost use Rattle.pg_wire.specs.Decoder.{DecoderState, IsLasting};
 
     ghost Value = { DecoderState };
 
     ghost view = { λ d. record { kept = d.buffer; limit = d.limit; fault = d.fault } };
 
-    ghost invariant = { λ d. (64 ≤ d.limit) × (d.limit ≤ 1073741823) × Stays d.fault };
+    ghost invariant = { λ d. (64 ≤ d.limit) × (d.limit ≤ 1073741823) × IsLasting d.fault };
 }
 
 impl<M: Message> Decoder<M> {
@@ -110,7 +110,7 @@ impl<M: Message> Decoder<M> {
         fault: Option<WireFault>,
     ) -> Self
         requires limit { IsLimit limit }
-        requires fault { Stays fault }
+        requires fault { IsLasting fault }
         ensures { result ≡ record { kept = buffer; limit = limit; fault = fault } }
     {
         Decoder {

@@ -130,14 +130,14 @@ pub struct FirstDecoder {
 }
 
 impl Model for FirstDecoder {
-    ghost use Rattle.pg_wire.specs.Decoder.{Stays};
+    ghost use Rattle.pg_wire.specs.Decoder.{IsLasting};
     ghost use Rattle.pg_wire.specs.FirstDecoder.{FirstState};
 
     ghost Value = { FirstState };
 
     ghost view = { λ d. record { kept = d.buffer; ended = d.ended; fault = d.fault } };
 
-    ghost invariant = { λ d. Stays d.fault };
+    ghost invariant = { λ d. IsLasting d.fault };
 }
 
 impl FirstDecoder {

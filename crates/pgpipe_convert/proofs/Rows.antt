@@ -10,22 +10,22 @@ use Rattle.pgpipe_convert.specs.declared.convert.Converted.TheVariants as conver
 use Rattle.pgpipe_convert.specs.declared.format.Format.TheVariants as format
 use Rattle.pgpipe_convert.specs.Convert.{IsOutput, file_of, none_left}
 
-abbrev behind_head : List ℕ → List ℕ
-behind_head rest = 0x50 ∷ 0x47 ∷ 0x43 ∷ 0x4F ∷ 0x50 ∷ 0x59 ∷ 0x0A ∷ 0xFF ∷ 0x0D ∷ 0x0A ∷ 0x00 ∷ 0 ∷ 0 ∷ 0 ∷ 0 ∷ 0 ∷ 0 ∷ 0 ∷ 0 ∷ rest
+abbrev after_head : List ℕ → List ℕ
+after_head rest = 0x50 ∷ 0x47 ∷ 0x43 ∷ 0x4F ∷ 0x50 ∷ 0x59 ∷ 0x0A ∷ 0xFF ∷ 0x0D ∷ 0x0A ∷ 0x00 ∷ 0 ∷ 0 ∷ 0 ∷ 0 ∷ 0 ∷ 0 ∷ 0 ∷ 0 ∷ rest
 
 -- 1 and null, as text, and as a binary row with a trailer after it
 abbrev text_row : List ℕ
 text_row = 0x31 ∷ 0x09 ∷ 0x5C ∷ 0x4E ∷ 0x0A ∷ []
 
 abbrev binary_file : List ℕ
-binary_file = behind_head (0x00 ∷ 0x02 ∷ 0x00 ∷ 0x00 ∷ 0x00 ∷ 0x01 ∷ 0x31 ∷ 0xFF ∷ 0xFF ∷ 0xFF ∷ 0xFF ∷ 0xFF ∷ 0xFF ∷ [])
+binary_file = after_head (0x00 ∷ 0x02 ∷ 0x00 ∷ 0x00 ∷ 0x00 ∷ 0x01 ∷ 0x31 ∷ 0xFF ∷ 0xFF ∷ 0xFF ∷ 0xFF ∷ 0xFF ∷ 0xFF ∷ [])
 
 pub text_to_binary : (ended : Type 0) → ended → IsOutput (file_of format.Text 2) format.Binary ended text_row converted.Whole binary_file
 unfolding text_reading
 text_to_binary ended e = record {
   left = none_left Ended;
   answer = (Ended, tt, refl);
-  before = behind_head (0x00 ∷ 0x02 ∷ 0x00 ∷ 0x00 ∷ 0x00 ∷ 0x01 ∷ 0x31 ∷ 0xFF ∷ 0xFF ∷ 0xFF ∷ 0xFF ∷ []);
+  before = after_head (0x00 ∷ 0x02 ∷ 0x00 ∷ 0x00 ∷ 0x00 ∷ 0x01 ∷ 0x31 ∷ 0xFF ∷ 0xFF ∷ 0xFF ∷ 0xFF ∷ []);
   are_converted = record { rows = (Some (0x31 ∷ []) ∷ None ∷ []) ∷ []; read = inr (e, refl); each_writable = (refl, tt); each_row = refl };
   with_trailer = refl;
 }
@@ -55,18 +55,18 @@ rows_before_a_fault ended = record {
 }
 
 -- the same in binary: no trailer stands after the rows
-pub no_trailer_after_a_fault : (ended : Type 0) → IsOutput (file_of format.Text 1) format.Binary ended a_and_two (converted.Text (text_fault.Columns 2)) (behind_head (0x00 ∷ 0x01 ∷ 0x00 ∷ 0x00 ∷ 0x00 ∷ 0x01 ∷ 0x61 ∷ []))
+pub no_trailer_after_a_fault : (ended : Type 0) → IsOutput (file_of format.Text 1) format.Binary ended a_and_two (converted.Text (text_fault.Columns 2)) (after_head (0x00 ∷ 0x01 ∷ 0x00 ∷ 0x00 ∷ 0x00 ∷ 0x01 ∷ 0x61 ∷ []))
 unfolding text_reading
 no_trailer_after_a_fault ended = record {
   left = none_left (Bad (converted.Text (text_fault.Columns 2)));
   answer = refl;
-  before = behind_head (0x00 ∷ 0x01 ∷ 0x00 ∷ 0x00 ∷ 0x00 ∷ 0x01 ∷ 0x61 ∷ []);
+  before = after_head (0x00 ∷ 0x01 ∷ 0x00 ∷ 0x00 ∷ 0x00 ∷ 0x01 ∷ 0x61 ∷ []);
   are_converted = record { rows = (Some (0x61 ∷ []) ∷ []) ∷ []; read = inl refl; each_writable = (refl, tt); each_row = refl };
   with_trailer = refl;
 }
 
 -- a binary file without its trailer has a fault only where the input has ended
-pub no_trailer_read : (ended : Type 0) → ended → IsOutput (file_of format.Binary 1) format.Text ended (behind_head (0x00 ∷ 0x01 ∷ 0x00 ∷ 0x00 ∷ 0x00 ∷ 0x01 ∷ 0x61 ∷ [])) (converted.Binary binary_fault.Truncated) (0x61 ∷ 0x0A ∷ [])
+pub no_trailer_read : (ended : Type 0) → ended → IsOutput (file_of format.Binary 1) format.Text ended (after_head (0x00 ∷ 0x01 ∷ 0x00 ∷ 0x00 ∷ 0x00 ∷ 0x01 ∷ 0x61 ∷ [])) (converted.Binary binary_fault.Truncated) (0x61 ∷ 0x0A ∷ [])
 unfolding binary_reading binary.head_at binary.fixed_at binary.signature_at binary.flags_at binary.extension_at binary.rows_reading binary.row_at binary.values_at binary.value_at
 no_trailer_read ended e = record {
   left = none_left (Bad (converted.Binary binary_fault.Truncated));

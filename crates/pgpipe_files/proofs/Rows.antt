@@ -10,7 +10,7 @@ use Rattle.pg_wire.specs.value.Status.TheVariants as status
 use Rattle.pg_backend.specs.script.Auth.TheVariants as auth
 use Rattle.pg_backend.specs.script.Script.{Script}
 use Rattle.pg_backend.specs.script.ScriptPart.TheVariants as part
-use Rattle.pg_pair.specs.declared.event.Call.TheVariants as call
+use Rattle.pg_client.specs.declared.call.Call.TheVariants as call
 use Rattle.pg_pair.specs.declared.event.Event.TheVariants as event
 use Rattle.hex.proofs.OnLiterals.{hex_on_literals}
 use Rattle.pgpipe_files.specs.Arguments.{number_of, numbers_of, texts_of}

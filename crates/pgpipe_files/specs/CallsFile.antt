@@ -7,7 +7,7 @@ use Rattle.pg_wire.specs.value.Target.{Target}
 use Rattle.pg_wire.specs.declared.session.Step.{Step}
 use Rattle.pg_wire.specs.declared.session.Step.TheVariants as step
 use Rattle.pg_wire.specs.declared.session.Request.TheVariants as request
-use Rattle.pg_pair.specs.declared.event.Call.TheVariants as call
+use Rattle.pg_client.specs.declared.call.Call.TheVariants as call
 use Rattle.pg_pair.specs.declared.event.Event.{Event}
 use Rattle.pg_pair.specs.declared.event.Event.TheVariants as event
 use Rattle.pgpipe_files.specs.declared.calls_file.CallLine.{CallLine}
@@ -53,16 +53,16 @@ abbrev pub set : {A : Type 0} → CallsSoFar → Option A → (A → Settings) �
 set s read make = if_before_start s >>= λ _. read >>= λ x. Some (record s { settings = make x })
 
 -- the same with one thing more that is to happen
-abbrev pub says : CallsSoFar → Said → CallsSoFar
-says s said = record s { lines = s.lines ++ said ∷ [] }
+abbrev pub with_line : CallsSoFar → Said → CallsSoFar
+with_line s next = record s { lines = s.lines ++ next ∷ [] }
 
 -- a line that asks for what `make` says, where its fields can be read
-abbrev pub said : {A : Type 0} → CallsSoFar → Option A → (A → Said) → Option CallsSoFar
-said s read make = read >>= λ x. Some (says s (make x))
+abbrev pub asks_for : {A : Type 0} → CallsSoFar → Option A → (A → Said) → Option CallsSoFar
+asks_for s read make = read >>= λ x. Some (with_line s (make x))
 
 -- a line that asks for the event that `make` says, where its fields can be read
-abbrev pub called : {A : Type 0} → CallsSoFar → Option A → (A → Event) → Option CallsSoFar
-called s read make = said s read (λ x. Happens (make x))
+abbrev pub asks_for_event : {A : Type 0} → CallsSoFar → Option A → (A → Event) → Option CallsSoFar
+asks_for_event s read make = asks_for s read (λ x. Happens (make x))
 
 -- the path, where it is UTF-8
 abbrev pub path : List ℕ → Option (List ℕ)
@@ -80,22 +80,27 @@ call_line s n verb.Password fields =
     set s (text_of fields) (λ password. record s.settings { password = Some password })
 call_line s n verb.Start fields =
     nothing_of fields
-    >>= λ _. Some (record (says s (Happens (event.Call call.Start))) { started = true })
+    >>= λ _. Some (record (with_line s (Happens (event.Call call.Start))) { started = true })
 call_line s n verb.Query fields =
-    called s (text_of fields) (λ text. event.Call (call.Request (request.Query text)))
+    asks_for_event s (text_of fields) (λ text. event.Call (call.Request (request.Query text)))
 call_line s n verb.Group fields =
     nothing_of fields >>= λ _. Some (record s { group = Some (record { row = n; steps = [] }) })
-call_line s n verb.Chunk fields = called s (text_of fields) (λ bytes. event.Call (call.Chunk bytes))
-call_line s n verb.File fields = said s (text_of fields >>= λ bytes. path bytes) HandsOver
-call_line s n verb.Done fields = called s (nothing_of fields) (λ _. event.Call call.Done)
-call_line s n verb.Fail fields = called s (text_of fields) (λ reason. event.Call (call.Fail reason))
-call_line s n verb.Terminate fields = called s (nothing_of fields) (λ _. event.Call call.Terminate)
-call_line s n verb.ToBackend fields = called s (number_of fields) event.ToBackend
-call_line s n verb.ToClient fields = called s (number_of fields) event.ToClient
-call_line s n verb.Step fields = called s (nothing_of fields) (λ _. event.Step)
-call_line s n verb.BreakToBackend fields = called s (nothing_of fields) (λ _. event.BreakToBackend)
-call_line s n verb.BreakToClient fields = called s (nothing_of fields) (λ _. event.BreakToClient)
-call_line s n verb.Flow fields = said s (nothing_of fields) (λ _. Flows)
+call_line s n verb.Chunk fields =
+    asks_for_event s (text_of fields) (λ bytes. event.Call (call.Chunk bytes))
+call_line s n verb.File fields = asks_for s (text_of fields >>= λ bytes. path bytes) HandsOver
+call_line s n verb.Done fields = asks_for_event s (nothing_of fields) (λ _. event.Call call.Done)
+call_line s n verb.Fail fields =
+    asks_for_event s (text_of fields) (λ reason. event.Call (call.Fail reason))
+call_line s n verb.Terminate fields =
+    asks_for_event s (nothing_of fields) (λ _. event.Call call.Terminate)
+call_line s n verb.ToBackend fields = asks_for_event s (number_of fields) event.ToBackend
+call_line s n verb.ToClient fields = asks_for_event s (number_of fields) event.ToClient
+call_line s n verb.Step fields = asks_for_event s (nothing_of fields) (λ _. event.Step)
+call_line s n verb.BreakToBackend fields =
+    asks_for_event s (nothing_of fields) (λ _. event.BreakToBackend)
+call_line s n verb.BreakToClient fields =
+    asks_for_event s (nothing_of fields) (λ _. event.BreakToClient)
+call_line s n verb.Flow fields = asks_for s (nothing_of fields) (λ _. Flows)
 
 -- ---- lines in a group
 
@@ -118,7 +123,8 @@ step_of step_line.Close fields = named_of fields >>= λ named. Some (step.Close 
 -- the line `sync`, which makes the group's steps one request
 abbrev pub sync_said : CallsSoFar → Group → Row → Option CallsSoFar
 sync_said s group fields =
-    called s (nothing_of fields) (λ _. event.Call (call.Request (request.Group group.steps)))
+    asks_for_event s (nothing_of fields)
+    (λ _. event.Call (call.Request (request.Group group.steps)))
 
 -- what CALLS asks for after a line in this group: a step more (Some), or the `sync` that ends the
 -- group

@@ -3,7 +3,7 @@
 ghost use Rattle.std.specs.Prelude.{◌≡◌, ◌<◌, ℕ, ◌+◌, length, Some, Ok, Err, IfOk, OnOk, OnErr, IsSome};
 ghost use Rattle.std.specs.Option.{option_copied};
 ghost use Rattle.pgpipe_files.specs.declared.fault.LineFault.TheVariants.{Line};
-ghost use Rattle.pgpipe_files.specs.CallsFile.{Happens, call_line, called, calls_line, calls_of, calls_said, if_before_start, in_group, in_no_group, line_said, no_calls, path, says, what_is_said};
+ghost use Rattle.pgpipe_files.specs.CallsFile.{Happens, call_line, asks_for_event, calls_line, calls_of, calls_said, if_before_start, in_group, in_no_group, line_said, no_calls, path, with_line, what_is_said};
 ghost use Rattle.pgpipe_files.specs.Arguments.{nothing_of};
 ghost use Rattle.pgpipe_files.specs.Filling.{chunk_lines, filled, files, next_file};
 ghost use Rattle.pgpipe_files.specs.Private.Files.{file_place, path_of};
@@ -284,21 +284,22 @@ impl CallsDraft {
     }
 
     fn line(&mut self, line: CallLine) -> Result<(), Refusal>
-        ensures { Leaves result self.new (Some (says self.old (line_said line))) }
+        ensures { Leaves result self.new (Some (with_line self.old (line_said line))) }
     {
         self.lines.push(line)?;
         Ok(())
     }
 
     fn event(&mut self, event: Event) -> Result<(), Refusal>
-        ensures { Leaves result self.new (Some (says self.old (Happens event))) }
+        ensures { Leaves result self.new (Some (with_line self.old (Happens event))) }
     {
         self.line(CallLine::Event(event))
     }
 
     // An event whose line is its verb alone.
     fn alone(&mut self, event: Event, arguments: Arguments) -> Result<(), Refusal>
-        ensures { Leaves result self.new (called self.old (nothing_of arguments) (λ _. event)) }
+        ensures { Leaves result self.new
+            (asks_for_event self.old (nothing_of arguments) (λ _. event)) }
     {
         arguments.end()?;
         self.event(event)

@@ -92,8 +92,8 @@ pub two_fields : (s mid new : LineState) (a : Option (List ℕ)) (b c : List ℕ
 two_fields s mid new a b c h k e = k ∙ ap (λ (x : List ℕ). with_field mid (Some x)) e ∙ ap (λ (m : LineState). with_field m (Some c)) h
 
 -- lines after others
-pub behind : (s mid new : LineState) (xs ys : List Row) → mid ≡ with_rows s xs → new ≡ with_rows mid ys → new ≡ with_rows s (xs ++ ys)
-behind s mid new xs ys h k = k ∙ ap (λ (t : LineState). with_rows t ys) h ∙ sym (with_rows-append s xs ys)
+pub after : (s mid new : LineState) (xs ys : List Row) → mid ≡ with_rows s xs → new ≡ with_rows mid ys → new ≡ with_rows s (xs ++ ys)
+after s mid new xs ys h k = k ∙ ap (λ (t : LineState). with_rows t ys) h ∙ sym (with_rows-append s xs ys)
 
 pub on_ok : {A E : Type 0} (P Q : Type 0) → (r : Result A E) → OnOk r P → (P → Q) → OnOk r Q
 on_ok P Q (Ok x) h f = f h
@@ -103,7 +103,7 @@ on_ok P Q (Err e) h f = h
 pub five_put : (old s1 s2 s3 s4 new : LineState) (first last : Row) (xs ys zs : List Row) → s1 ≡ with_row old first → s2 ≡ with_rows s1 xs → s3 ≡ with_rows s2 ys → s4 ≡ with_rows s3 zs
     → new ≡ with_row s4 last → new ≡ with_rows old (first ∷ (xs ++ ys ++ zs ++ last ∷ []))
 five_put old s1 s2 s3 s4 new first last xs ys zs h1 h2 h3 h4 h5 =
-    behind old s4 new (first ∷ (xs ++ ys ++ zs)) (last ∷ []) (behind old s3 s4 (first ∷ (xs ++ ys)) zs (behind old s2 s3 (first ∷ xs) ys (behind old s1 s2 (first ∷ []) xs h1 h2) h3) h4) h5
+    after old s4 new (first ∷ (xs ++ ys ++ zs)) (last ∷ []) (after old s3 s4 (first ∷ (xs ++ ys)) zs (after old s2 s3 (first ∷ xs) ys (after old s1 s2 (first ∷ []) xs h1 h2) h3) h4) h5
 
 -- ---- a line
 
@@ -167,13 +167,13 @@ whole_text rows = ap (λ (s : LineState). s.text) (lines_of_rows [] rows)
 pub three_put : (s1 s2 s3 : LineState) (text : List ℕ) (xs ys zs : List Row) → s1 ≡ with_rows (whole_lines []) xs → s2 ≡ with_rows s1 ys → s3 ≡ with_rows s2 zs → text ≡ s3.text
     → text ≡ text_lines (xs ++ ys ++ zs)
 three_put s1 s2 s3 text xs ys zs h1 h2 h3 e =
-    e ∙ ap (λ (s : LineState). s.text) (behind (whole_lines []) s2 s3 (xs ++ ys) zs (behind (whole_lines []) s1 s2 xs ys h1 h2) h3) ∙ whole_text (xs ++ ys ++ zs)
+    e ∙ ap (λ (s : LineState). s.text) (after (whole_lines []) s2 s3 (xs ++ ys) zs (after (whole_lines []) s1 s2 xs ys h1 h2) h3) ∙ whole_text (xs ++ ys ++ zs)
 
-pub two_behind : (s1 s2 s3 : LineState) (text : List ℕ) (xs : List Row) (y z : Row) → s1 ≡ with_rows (whole_lines []) xs → s2 ≡ with_row s1 y → s3 ≡ with_row s2 z → text ≡ s3.text
+pub two_after : (s1 s2 s3 : LineState) (text : List ℕ) (xs : List Row) (y z : Row) → s1 ≡ with_rows (whole_lines []) xs → s2 ≡ with_row s1 y → s3 ≡ with_row s2 z → text ≡ s3.text
     → text ≡ text_lines (xs ++ y ∷ z ∷ [])
-two_behind s1 s2 s3 text xs y z h1 h2 h3 e =
+two_after s1 s2 s3 text xs y z h1 h2 h3 e =
     let both : s3 ≡ with_rows s1 (y ∷ z ∷ []) = h3 ∙ ap (λ (s : LineState). with_row s z) h2 in
-    e ∙ ap (λ (s : LineState). s.text) (behind (whole_lines []) s1 s3 xs (y ∷ z ∷ []) h1 both) ∙ whole_text (xs ++ y ∷ z ∷ [])
+    e ∙ ap (λ (s : LineState). s.text) (after (whole_lines []) s1 s3 xs (y ∷ z ∷ []) h1 both) ∙ whole_text (xs ++ y ∷ z ∷ [])
 
 -- ---- chunks that were loaded
 
@@ -217,4 +217,4 @@ logged_more s now new log i entry lt is h k =
     let place : 1 + length (take i log) ≡ i + 1 = omega (arith, length-take-le i log (omega arith)) in
     let all : loaded_rows 1 (take (i + 1) log) ≡ loaded_rows 1 (take i log) ++ loaded_rows_of (length entry.loaded) (i + 1) entry.loaded =
     ap (loaded_rows 1) (taken log i entry lt is) ∙ loaded_rows-last 1 (take i log) entry ∙ ap (λ (n : ℕ). loaded_rows 1 (take i log) ++ loaded_rows_of (length entry.loaded) n entry.loaded) place in
-    behind s now new (loaded_rows 1 (take i log)) (loaded_rows_of (length entry.loaded) (i + 1) entry.loaded) h k ∙ ap (with_rows s) (sym all)
+    after s now new (loaded_rows 1 (take i log)) (loaded_rows_of (length entry.loaded) (i + 1) entry.loaded) h k ∙ ap (with_rows s) (sym all)

@@ -8,13 +8,13 @@ use Rattle.pg_pair.specs.declared.carry.Way.{Way}
 use Rattle.pg_pair.specs.declared.carry.Way.TheVariants.{ToBackend, ToClient}
 use Rattle.pg_pair.specs.declared.event.Applied.{Applied}
 use Rattle.pg_pair.specs.declared.event.Applied.TheVariants as applied
-use Rattle.pg_pair.specs.declared.event.Call.{Call}
+use Rattle.pg_client.specs.declared.call.Call.{Call}
 use Rattle.pg_pair.specs.declared.event.Event.{Event}
 use Rattle.pg_pair.specs.declared.event.Event.TheVariants as event
-use Rattle.pg_pair.specs.Breaking.{Breaks, BreaksIf, BreaksUnless, is_closed, is_shut, TellsClient}
+use Rattle.pg_pair.specs.Breaking.{Breaks, BreaksIf, BreaksUnless, is_closed, is_shut, BreaksToClient}
 use Rattle.pg_pair.specs.Calling.{CallsClient}
 use Rattle.pg_pair.specs.Carrying.{Carrying, delivered, is_bad}
-use Rattle.pg_pair.specs.Delivering.{ArrivesAt, begins, DeliversUnless, EndsWithPiece, Goes, goes_on, Pushing}
+use Rattle.pg_pair.specs.Delivering.{ArrivesAt, no_piece, DeliversUnless, EndsWithPiece, DeliversPieces, one_more_piece, Pushing}
 use Rattle.pg_pair.specs.Event.{Applies}
 use Rattle.pg_pair.specs.Stepping.{StepsOnce, StepsUnlessClosed}
 use Rattle.pg_pair.specs.View.{PairView}
@@ -46,7 +46,7 @@ module _ {C : Type 0} (carries : Carrying C) where
   steps_keep back.Grouping p a q h = step_keeps p a q h
   steps_keep back.CopyIn p a q h = step_keeps p a q h
 
-  tells_keep : (closed : Bool) (p q : PairView C) → TellsClient closed p q → Keeps p q
+  tells_keep : (closed : Bool) (p q : PairView C) → BreaksToClient closed p q → Keeps p q
   tells_keep true p q h = let n = ap (λ (x : PairView C). length x.settled) h in omega (arith, n)
   tells_keep false p q h = let n = ap (λ (x : PairView C). length x.settled) h.2 in omega (arith, n)
 
@@ -71,9 +71,9 @@ module _ {C : Type 0} (carries : Carrying C) where
   takes_in_keeps ToBackend p (b ∷ bytes) answer q h = pushing_keeps p (b ∷ bytes) h.0 q h.1
   takes_in_keeps ToClient p (b ∷ bytes) answer q h = let n = ap (λ (x : PairView C). length x.settled) h.1.rest in omega (arith, n, length-append p.settled h.1.fed.settled)
 
-  goes_keeps : (w : Way) (most : ℕ) (p : PairView C) (n : ℕ) (q : PairView C) → Goes carries w most p n q → Keeps p q
-  goes_keeps w most p n q begins = omega arith
-  goes_keeps w most p n q (goes_on k m piece came carrier r g c same good t) = omega (arith, goes_keeps w most p k m g, takes_in_keeps w (record m { carrier = carrier }) piece None r t)
+  goes_keeps : (w : Way) (most : ℕ) (p : PairView C) (n : ℕ) (q : PairView C) → DeliversPieces carries w most p n q → Keeps p q
+  goes_keeps w most p n q no_piece = omega arith
+  goes_keeps w most p n q (one_more_piece k m piece came carrier r g c same good t) = omega (arith, goes_keeps w most p k m g, takes_in_keeps w (record m { carrier = carrier }) piece None r t)
 
   ends_keep : (w : Way) (most n : ℕ) (m : PairView C) (a : Applied) (q : PairView C) → EndsWithPiece carries w most n m a q → Keeps m q
   ends_keep w most n m a q h = omega (arith, takes_in_keeps w (record m { carrier = h.carrier }) (delivered h.piece h.came) h.answer h.taken h.takes_in, breaks_if_keep (is_bad h.piece h.came) w h.taken q h.breaks)

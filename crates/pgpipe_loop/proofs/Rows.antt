@@ -2,15 +2,15 @@
 use Rattle.std.proofs.Common.{◌≡◌, ℕ, true, false, [], ◌∷◌, refl}
 use Rattle.pg_pair.specs.declared.event.Applied.TheVariants as applied
 use Rattle.pg_pair.specs.declared.event.Event.TheVariants as event
-use Rattle.pg_pair.specs.View.{Stream, PairView}
+use Rattle.pg_pair.specs.View.{WayState, PairView}
 use Rattle.pgpipe_files.specs.declared.calls_file.CallLine.TheVariants as calls
-use Rattle.pgpipe_loop.specs.RunLoop.{line_doings, came_to_nothing, left_to_happen}
+use Rattle.pgpipe_loop.specs.RunLoop.{line_events, came_to_nothing, left_to_happen}
 
 -- so many bytes of ten have reached the other end
-stream : ℕ → Stream
+stream : ℕ → WayState
 stream n = record { sent = 0 ∷ 1 ∷ 2 ∷ 3 ∷ 4 ∷ 5 ∷ 6 ∷ 7 ∷ 8 ∷ 9 ∷ []; reached = n; broken = false }
 
-one_event : line_doings 9 (calls.Event event.Step) ≡ record { event = event.Step; again = 0 } ∷ []
+one_event : line_events 9 (calls.Event event.Step) ≡ record { event = event.Step; again = 0 } ∷ []
 one_event = refl
 
 -- a delivery comes to nothing where no more bytes have reached the other end, and a step where it is answered so

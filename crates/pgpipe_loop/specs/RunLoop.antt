@@ -25,12 +25,12 @@ use mathlib.Core.List.{IsPrefix}
 
 -- an event to come, and how many times it may happen again after that: it does while something
 -- comes of it
-pub record Doing : Type 0 where
+pub record PlannedEvent : Type 0 where
   pub event : Event
   pub again : ℕ
 
 -- an event that happens at most so many times
-abbrev pub times : ℕ → Event → List Doing
+abbrev pub times : ℕ → Event → List PlannedEvent
 times zero e = []
 times (suc n) e = record { event = e; again = n } ∷ []
 
@@ -40,20 +40,20 @@ most_times = 2 ^ 64 - 1
 
 -- half a flow: deliveries to the backend while a byte moves, steps while something is handled, and
 -- deliveries to the client while a byte moves, of `cut` bytes each
-abbrev pub flow_once : ℕ → List Doing
+abbrev pub flow_once : ℕ → List PlannedEvent
 flow_once cut = times most_times (event.ToBackend cut) ++ times most_times event.Step
     ++ times most_times (event.ToClient cut)
 
 -- the events of a line of CALLS: its own event once, or those of a flow
-abbrev pub line_doings : ℕ → CallLine → List Doing
-line_doings cut (line.Event e) = times 1 e
-line_doings cut line.Flow = flow_once cut ++ flow_once cut
+abbrev pub line_events : ℕ → CallLine → List PlannedEvent
+line_events cut (line.Event e) = times 1 e
+line_events cut line.Flow = flow_once cut ++ flow_once cut
 -- a file that isn't filled in; a loop has none
-line_doings cut (line.File path) = []
+line_events cut (line.File path) = []
 
 -- the events of all lines of CALLS; a delivery of a flow has at most `cut` bytes
-abbrev pub doings : ℕ → List CallLine → List Doing
-doings cut lines = flat_map (line_doings cut) lines
+abbrev pub planned_events : ℕ → List CallLine → List PlannedEvent
+planned_events cut lines = flat_map (line_events cut) lines
 
 -- ---- what happens
 
@@ -76,7 +76,7 @@ came_to_nothing (event.ToClient n) p answer q = nat_eq q.to_client.reached p.to_
 came_to_nothing e p answer q = is_nothing answer
 
 -- what is still to come of an event that has just happened: nothing where nothing came of it (true)
-abbrev pub left_to_happen : Bool → Doing → List Doing
+abbrev pub left_to_happen : Bool → PlannedEvent → List PlannedEvent
 left_to_happen true d = []
 left_to_happen false d = times d.again d.event
 
@@ -94,10 +94,10 @@ rows_between p answer q =
 -- this pair; these are still to come, these are their rows, and this says whether one was answered
 -- Carrier.
 pub data Happened {C : Type 0} (carries : Carrying C) (begun : PairView C)
-    (all : List Doing) : PairView C → List Doing → List Row → Bool → Type 0 where
+    (all : List PlannedEvent) : PairView C → List PlannedEvent → List Row → Bool → Type 0 where
   nothing : Happened carries begun all begun all [] false
-  one_more : (p q : PairView C) (d : Doing) (left : List Doing) (rows : List Row) (failed : Bool)
-      (answer : Applied)
+  one_more : (p q : PairView C) (d : PlannedEvent) (left : List PlannedEvent) (rows : List Row)
+      (failed : Bool) (answer : Applied)
       → Happened carries begun all p (d ∷ left) rows failed
       → Applies carries d.event p (Ok answer) q
       → Happened carries begun all q (left_to_happen (came_to_nothing d.event p answer q) d ++ left)
@@ -106,10 +106,10 @@ pub data Happened {C : Type 0} (carries : Carrying C) (begun : PairView C)
 -- ---- what is sent
 
 -- The text is the lines of the events that have happened so far.
-pub record IsTextSoFar {C : Type 0} (carries : Carrying C) (begun : PairView C) (all : List Doing)
-    (text : List ℕ) : Type 0 where
+pub record IsTextSoFar {C : Type 0} (carries : Carrying C) (begun : PairView C)
+    (all : List PlannedEvent) (text : List ℕ) : Type 0 where
   pub pair : PairView C
-  pub left : List Doing
+  pub left : List PlannedEvent
   pub rows : List Row
   pub failed : Bool
   pub happened : Happened carries begun all pair left rows failed
@@ -121,8 +121,8 @@ ending_of p =
     closing_rows p.backend.log (client.phase_of p.client) (backend.phase_of p.backend.stage)
 
 -- All events have happened, and the text is their lines and the closing lines.
-pub record IsWholeText {C : Type 0} (carries : Carrying C) (begun : PairView C) (all : List Doing)
-    (failed : Bool) (text : List ℕ) : Type 0 where
+pub record IsWholeText {C : Type 0} (carries : Carrying C) (begun : PairView C)
+    (all : List PlannedEvent) (failed : Bool) (text : List ℕ) : Type 0 where
   pub pair : PairView C
   pub rows : List Row
   pub happened : Happened carries begun all pair [] rows failed
@@ -130,7 +130,8 @@ pub record IsWholeText {C : Type 0} (carries : Carrying C) (begun : PairView C) 
 
 -- The text is a prefix of the lines of the events that have happened, or of all with the closing
 -- lines, and may end within a line.
-abbrev pub IsPartOfText : {C : Type 0} → Carrying C → PairView C → List Doing → List ℕ → Type 0
+abbrev pub IsPartOfText : {C : Type 0} → Carrying C → PairView C → List PlannedEvent → List ℕ
+    → Type 0
 IsPartOfText carries begun all text = (whole : List ℕ) × IsPrefix text whole
     × (IsTextSoFar carries begun all whole
     ⊎ ((failed : Bool) × IsWholeText carries begun all failed whole))
@@ -142,8 +143,8 @@ says_carrier_failed ran.CarrierFailed = true
 
 -- What `run_loop` answers, by the text sent. Ok: all lines. Memory: whole lines, up to the event
 -- where memory was refused. Device: the sink broke, and a prefix was sent.
-abbrev pub LoopAnswers : {C : Type 0} → Type 0 → Carrying C → PairView C → List Doing → List ℕ
-    → Result Ran ToolFault → Type 0
+abbrev pub LoopAnswers : {C : Type 0} → Type 0 → Carrying C → PairView C → List PlannedEvent
+    → List ℕ → Result Ran ToolFault → Type 0
 LoopAnswers broke carries begun all text (Ok r) =
     IsWholeText carries begun all (says_carrier_failed r) text
 LoopAnswers broke carries begun all text (Err fault.Memory) = IsTextSoFar carries begun all text

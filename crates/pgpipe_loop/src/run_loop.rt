@@ -10,7 +10,7 @@ ghost use Rattle.pg_pair.specs.View.{PairView};
 ghost use Rattle.pg_pair.specs.declared.event.Event.TheVariants as event;
 ghost use Rattle.pgpipe_files.specs.Filling.{next_file};
 ghost use Rattle.pgpipe_loop.specs.Lines.{event_rows, text_lines};
-ghost use Rattle.pgpipe_loop.specs.RunLoop.{Doing, times, most_times, flow_once, line_doings, doings, is_carrier, is_nothing, LoopAnswers};
+ghost use Rattle.pgpipe_loop.specs.RunLoop.{PlannedEvent, times, most_times, flow_once, line_events, planned_events, is_carrier, is_nothing, LoopAnswers};
 ghost use Rattle.pgpipe_loop.specs.Private.Running.{at, delivery, SendsLines, Prints, HasDone, DoesAll, DoesOnce, Closes, EndsLoop};
 ghost use Rattle.pgpipe_base.specs.Receiving.{CountsNoFailure};
 
@@ -146,7 +146,7 @@ impl<C: Carry> Running<C> {
 
     // Does a line of the calls.
     fn line<K: Sink>(&mut self, line: CallLine, cut: u32, sink: &mut K) -> Result<(), ToolFault>
-        ensures { DoesAll C.carries K.takes K.failures (line_doings cut line)
+        ensures { DoesAll C.carries K.takes K.failures (line_events cut line)
             (at self.old.pair self.old.carrier_failed sink.old) result
             (at self.new.pair self.new.carrier_failed sink.new) }
     {
@@ -171,7 +171,7 @@ impl<C: Carry> Running<C> {
         cut: u32,
         sink: &mut K,
     ) -> Result<(), ToolFault>
-        ensures { DoesAll C.carries K.takes K.failures (doings cut lines)
+        ensures { DoesAll C.carries K.takes K.failures (planned_events cut lines)
             (at self.old.pair self.old.carrier_failed sink.old) result
             (at self.new.pair self.new.carrier_failed sink.new) }
     {
@@ -197,9 +197,9 @@ impl<C: Carry> Running<C> {
         cut: u32,
         sink: &mut K,
     ) -> Result<Ran, ToolFault>
-        ensures { (start : K) (begun : PairView C) (all : List Doing)
+        ensures { (start : K) (begun : PairView C) (all : List PlannedEvent)
             → HasDone C.carries K.takes K.failures start begun all
-            (at self.old.pair self.old.carrier_failed sink.old) (doings cut lines)
+            (at self.old.pair self.old.carrier_failed sink.old) (planned_events cut lines)
             → EndsLoop C.carries K.takes K.failures start begun all result sink.new }
     {
         self.lines(lines, cut, sink)?;
@@ -261,7 +261,7 @@ pub fn run_loop<C: Carry, K: Sink>(
     ensures ran { (begun : PairView C) × (sent : List (List ℕ))
         × IsBegun calls.settings script carrier begun × FoldsTo K.takes sink.old sent sink.new
         × LoopAnswers (HasRisen (K.failures sink.old) (K.failures sink.new)) C.carries begun
-        (doings cut calls.lines) (concat sent) result }
+        (planned_events cut calls.lines) (concat sent) result }
     // where the answer isn't Device, the sink didn't fail
     ensures sink { CountsNoFailure (K.failures sink.old) result (K.failures sink.new) }
 {

@@ -23,7 +23,7 @@ use Rattle.pgpipe_show.specs.declared.decoding.Decoding.{Decoding}
 use Rattle.pgpipe_show.specs.declared.decoding.Decoding.TheVariants as decoding
 use Rattle.pgpipe_show.specs.Messages.{line, lines}
 use Rattle.pgpipe_base.specs.Outbox.{Puts}
-use Rattle.pgpipe_show.specs.Show.{limit, AreMessages, ComesAfter, IsClientSide, AreShown, AreAllShown, IsOpenFor, IsFaultyFor}
+use Rattle.pgpipe_show.specs.Show.{length_limit, AreMessages, ComesAfter, IsClientSide, AreShown, AreAllShown, IsOpenFor, IsFaultyFor}
 use Rattle.pgpipe_show.specs.Private.Showing.{HasPut, PutsMessages, HasPutPackets, PutsPackets, end_stop, is_front, unshown, AreAt, IsSoundAt, HasShown, ArePut, Stops, StepShows, StepsSource}
 use Rattle.pgpipe_show.proofs.MessageLines.{stream_append}
 use Rattle.pgpipe_show.proofs.PacketLines.{next_append, beginning_append}
@@ -59,14 +59,14 @@ client_received bytes text n rest piece c = record {
 lines_append : {M : Type 0} (D : Direction M) (ms ns : List M) → lines D (ms ++ ns) ≡ lines D ms ++ lines D ns
 lines_append D ms ns = flat_map-append (line D) ms ns
 
-messages_then : {M : Type 0} (D : Direction M) (bytes text rest : List ℕ) (ns : List M) (rest' : List ℕ) → AreMessages D bytes text rest → IsStream D limit rest ns rest' → AreMessages D bytes (text ++ lines D ns) rest'
+messages_then : {M : Type 0} (D : Direction M) (bytes text rest : List ℕ) (ns : List M) (rest' : List ℕ) → AreMessages D bytes text rest → IsStream D length_limit rest ns rest' → AreMessages D bytes (text ++ lines D ns) rest'
 messages_then D bytes text rest ns rest' a s = record {
   messages = a.messages ++ ns;
   stream = stream_append D bytes a.messages rest ns rest' a.stream s;
   each_line = ap (λ (u : List ℕ). u ++ lines D ns) a.each_line ∙ sym (lines_append D a.messages ns);
 }
 
-client_messages : (bytes text rest : List ℕ) (ns : List _) (rest' : List ℕ) → IsClientSide bytes text next.Message rest → IsStream frontend limit rest ns rest' → IsClientSide bytes (text ++ lines frontend ns) next.Message rest'
+client_messages : (bytes text rest : List ℕ) (ns : List _) (rest' : List ℕ) → IsClientSide bytes text next.Message rest → IsStream frontend length_limit rest ns rest' → IsClientSide bytes (text ++ lines frontend ns) next.Message rest'
 client_messages bytes text rest ns rest' c s = record {
   packets = c.packets;
   following = c.following;
@@ -114,8 +114,8 @@ module _ {K : Type 0} (takes : K → List ℕ → K → Type 0) (failures : K �
   -- ---- what taking messages leads to
 
   module _ {M : Type 0} (D : Direction M) (front : Bool) (n : Next) (kept before c : List ℕ) (s : K)
-      (more : (text : List ℕ) (ns : List M) (rest : List ℕ) → AreShown front bytes text n kept → IsStream D limit kept ns rest → AreShown front bytes (text ++ lines D ns) n rest)
-      (faulty : (rest : List ℕ) (f : WireFault) → IsFaulty D limit rest f → IsFaultyFor front n rest f)
+      (more : (text : List ℕ) (ns : List M) (rest : List ℕ) → AreShown front bytes text n kept → IsStream D length_limit kept ns rest → AreShown front bytes (text ++ lines D ns) n rest)
+      (faulty : (rest : List ℕ) (f : WireFault) → IsFaulty D length_limit rest f → IsFaultyFor front n rest f)
       (p : ArePut takes failures front start bytes before n kept c s) where
     abbrev all_put : (rest c' : List ℕ) (s' : K) → HasPut takes failures D c s kept rest c' s' → ArePut takes failures front start bytes before n rest c' s'
     all_put rest c' s' h = record {
@@ -143,10 +143,10 @@ module _ {K : Type 0} (takes : K → List ℕ → K → Type 0) (failures : K �
     messages_stop stop.SourceFailed c' s' h = absurd h
     messages_stop stop.Endless c' s' h = absurd h
 
-  back_more : (kept text : List ℕ) (ns : List _) (rest : List ℕ) → AreShown false bytes text next.Message kept → IsStream backend limit kept ns rest → AreShown false bytes (text ++ lines backend ns) next.Message rest
+  back_more : (kept text : List ℕ) (ns : List _) (rest : List ℕ) → AreShown false bytes text next.Message kept → IsStream backend length_limit kept ns rest → AreShown false bytes (text ++ lines backend ns) next.Message rest
   back_more kept text ns rest a s = (refl, messages_then backend bytes text kept ns rest a.1 s)
 
-  front_more : (kept text : List ℕ) (ns : List _) (rest : List ℕ) → AreShown true bytes text next.Message kept → IsStream frontend limit kept ns rest → AreShown true bytes (text ++ lines frontend ns) next.Message rest
+  front_more : (kept text : List ℕ) (ns : List _) (rest : List ℕ) → AreShown true bytes text next.Message kept → IsStream frontend length_limit kept ns rest → AreShown true bytes (text ++ lines frontend ns) next.Message rest
   front_more kept text ns rest a s = client_messages bytes text kept ns rest a s
 
   module _ (kept before c : List ℕ) (s : K) (p : ArePut takes failures false start bytes before next.Message kept c s) where

@@ -15,7 +15,7 @@ use Rattle.pgpipe_show.specs.declared.show.Shown.{Shown}
 use Rattle.pgpipe_show.specs.declared.show.Shown.TheVariants as shown
 use Rattle.pgpipe_show.specs.Messages.{line, lines}
 use Rattle.pgpipe_base.specs.Outbox.{Puts}
-use Rattle.pgpipe_show.specs.Show.{limit}
+use Rattle.pgpipe_show.specs.Show.{length_limit}
 use Rattle.pgpipe_show.specs.Private.Showing.{IsSound, HasPut, Breaks, PutsMessages, StepsSource, PutsLine, fault_stop}
 use Rattle.pgpipe_base.proofs.Pieces.{puts_none, puts_then}
 
@@ -24,14 +24,14 @@ each_append P [] ys all more = more
 each_append P (x ∷ xs) ys all more = (all.0, each_append P xs ys all.1 more)
 
 -- messages after messages
-pub stream_append : {M : Type 0} (D : Direction M) (bytes : List ℕ) (ms : List M) (rest : List ℕ) (ns : List M) (rest' : List ℕ) → IsStream D limit bytes ms rest → IsStream D limit rest ns rest' → IsStream D limit bytes (ms ++ ns) rest'
+pub stream_append : {M : Type 0} (D : Direction M) (bytes : List ℕ) (ms : List M) (rest : List ℕ) (ns : List M) (rest' : List ℕ) → IsStream D length_limit bytes ms rest → IsStream D length_limit rest ns rest' → IsStream D length_limit bytes (ms ++ ns) rest'
 stream_append D bytes ms rest ns rest' s t = record {
   whole = s.whole ∙ ap (λ (u : List ℕ). flat_map (spelling D) ms ++ u) t.whole ∙ sym (append_assoc (flat_map (spelling D) ms) (flat_map (spelling D) ns) rest') ∙ ap (λ (u : List ℕ). u ++ rest') (sym (flat_map-append (spelling D) ms ns));
-  each = each_append (IsWithin D limit) ms ns s.each t.each;
+  each = each_append (IsWithin D length_limit) ms ns s.each t.each;
 }
 
 -- one message at the beginning
-one_message : {M : Type 0} (D : Direction M) (rest : List ℕ) (m : M) (rest' : List ℕ) → rest ≡ spelling D m ++ rest' → IsWithin D limit m → IsStream D limit rest (m ∷ []) rest'
+one_message : {M : Type 0} (D : Direction M) (rest : List ℕ) (m : M) (rest' : List ℕ) → rest ≡ spelling D m ++ rest' → IsWithin D length_limit m → IsStream D length_limit rest (m ∷ []) rest'
 one_message D rest m rest' e w = record { whole = e ∙ ap (λ (u : List ℕ). u ++ rest') (sym (append-nil (spelling D m))); each = (w, tt) }
 
 lines_then : {M : Type 0} (D : Direction M) (ms : List M) (m : M) → lines D (ms ++ m ∷ []) ≡ lines D ms ++ line D m
@@ -47,7 +47,7 @@ module _ {K M : Type 0} (D : Direction M) (takes : K → List ℕ → K → Type
   has_put_none = record { messages = []; stream = record { whole = refl; each = tt }; put = puts_none takes failures c0 s0; within = λ w. w }
 
   -- the line of the next message is put
-  has_put_more : (rest c : List ℕ) (s : K) (m : M) (rest' c' : List ℕ) (s' : K) → HasPut takes failures D c0 s0 bytes rest c s → rest ≡ spelling D m ++ rest' → IsWithin D limit m
+  has_put_more : (rest c : List ℕ) (s : K) (m : M) (rest' c' : List ℕ) (s' : K) → HasPut takes failures D c0 s0 bytes rest c s → rest ≡ spelling D m ++ rest' → IsWithin D length_limit m
       → PutsLine takes failures c s (line D m) (Ok tt) c' s' → HasPut takes failures D c0 s0 bytes rest' c' s'
   has_put_more rest c s m rest' c' s' h e w p = record {
     messages = h.messages ++ m ∷ [];
@@ -57,7 +57,7 @@ module _ {K M : Type 0} (D : Direction M) (takes : K → List ℕ → K → Type
   }
 
   -- the sink failed in the line of the next message
-  breaks_more : (rest c : List ℕ) (s : K) (m : M) (rest' c' : List ℕ) (s' : K) (f : LinkFault) → HasPut takes failures D c0 s0 bytes rest c s → rest ≡ spelling D m ++ rest' → IsWithin D limit m
+  breaks_more : (rest c : List ℕ) (s : K) (m : M) (rest' c' : List ℕ) (s' : K) (f : LinkFault) → HasPut takes failures D c0 s0 bytes rest c s → rest ≡ spelling D m ++ rest' → IsWithin D length_limit m
       → Puts {A = Unit {0}} takes failures c s (line D m) (Err f) c' s' → Breaks takes failures D c0 s0 bytes c' s'
   breaks_more rest c s m rest' c' s' f h e w p = record {
     fault = f;
@@ -74,7 +74,7 @@ module _ {K M : Type 0} (D : Direction M) (takes : K → List ℕ → K → Type
     pub at_none : (o : Option M) (d' : DecoderState) → o ≡ None → Takes D d (Ok o) d' → PutsMessages takes failures D c0 s0 bytes (Ok d') c s
     at_none o d' none got =
         let t = subst (λ (x : Option M). Takes D d (Ok x) d') none got in
-        let is_open : IsOpen D limit d.kept = subst (λ (l : ℕ). IsOpen D l d.kept) sound.limited t.2 in
+        let is_open : IsOpen D length_limit d.kept = subst (λ (l : ℕ). IsOpen D l d.kept) sound.limited t.2 in
         subst (λ (e : DecoderState). PutsMessages takes failures D c0 s0 bytes (Ok e) c s) (sym t.1) (sound, h, is_open)
 
     -- the rest is faulty, or memory was refused
@@ -93,7 +93,7 @@ module _ {K M : Type 0} (D : Direction M) (takes : K → List ℕ → K → Type
         → IsSound d' × HasPut takes failures D c0 s0 bytes d'.kept c' s'
     at_line o d' m c' s' some got p =
         let t = subst (λ (x : Option M). Takes D d (Ok x) d') some got in
-        let within : IsWithin D limit m = subst (λ (l : ℕ). IsWithin D l m) sound.limited t.1 in
+        let within : IsWithin D length_limit m = subst (λ (l : ℕ). IsWithin D l m) sound.limited t.1 in
         (record { limited = ap (λ (e : DecoderState). e.limit) t.3 ∙ sound.limited; no_fault = ap (λ (e : DecoderState). e.fault) t.3 ∙ sound.no_fault }, has_put_more d.kept c s m d'.kept c' s' h t.2 within p)
 
     -- the work stopped in it

@@ -12,7 +12,7 @@ use Rattle.pg_wire.specs.message.First.{First}
 use Rattle.pg_wire.specs.message.First.TheVariants as first
 use Rattle.pg_wire.specs.First.{packet, longest_packet, packet_length, packet_has_zero, packet_has_no_name, packet_fault, IsPacket, is_last, EndsIn, IsBeginning, IsFaultyPacket, IsOpenPacket, BeginsNoPacket}
 use Rattle.pg_wire.specs.FirstDecoder.{FirstState, FirstTakes, NoMorePackets}
-use Rattle.pgpipe_show.specs.Packets.{packet_line, packet_lines, after, next_after, have_ended}
+use Rattle.pgpipe_show.specs.Packets.{packet_line, packet_lines, after_packet, next_after, have_ended}
 use Rattle.pgpipe_base.specs.declared.stop.Stop.{Stop}
 use Rattle.pgpipe_base.specs.declared.stop.Stop.TheVariants as stop
 use Rattle.pgpipe_show.specs.declared.show.Shown.{Shown}
@@ -62,14 +62,14 @@ beginning_append bytes ps rest qs e rest' s t = record {
   last = ends_append ps qs e s.last t.last;
 }
 
-last_has_ended : (p : First) → have_ended (after p) ≡ is_last p
+last_has_ended : (p : First) → have_ended (after_packet p) ≡ is_last p
 last_has_ended (first.Startup pairs) = refl
 last_has_ended (first.Cancel process secret) = refl
 last_has_ended first.Ssl = refl
 last_has_ended first.Gss = refl
 
 -- one packet at the beginning
-one_packet : (rest : List ℕ) (p : First) (rest' : List ℕ) → rest ≡ packet p ++ rest' → IsPacket p → IsBeginning rest (p ∷ []) (have_ended (after p)) rest'
+one_packet : (rest : List ℕ) (p : First) (rest' : List ℕ) → rest ≡ packet p ++ rest' → IsPacket p → IsBeginning rest (p ∷ []) (have_ended (after_packet p)) rest'
 one_packet rest p rest' e w = record { whole = e ∙ ap (λ (u : List ℕ). u ++ rest') (sym (append-nil (packet p))); each = (w, tt); last = last_has_ended p }
 
 lines_then : (ps : List First) (p : First) → packet_lines (ps ++ p ∷ []) ≡ packet_lines ps ++ packet_line p
@@ -109,14 +109,14 @@ module _ {K : Type 0} (takes : K → List ℕ → K → Type 0) (failures : K �
       taken : FirstTakes d (Ok (Some p)) d'
       taken = subst (λ (x : Option First). FirstTakes d (Ok x) d') some got
 
-      begins : IsBeginning bytes (h.packets ++ p ∷ []) (have_ended (after p)) d'.kept
-      begins = beginning_append bytes h.packets d.kept (p ∷ []) (have_ended (after p)) d'.kept h.beginning (one_packet d.kept p d'.kept taken.3 taken.2)
+      begins : IsBeginning bytes (h.packets ++ p ∷ []) (have_ended (after_packet p)) d'.kept
+      begins = beginning_append bytes h.packets d.kept (p ∷ []) (have_ended (after_packet p)) d'.kept h.beginning (one_packet d.kept p d'.kept taken.3 taken.2)
 
-      next_is : next_after (h.packets ++ p ∷ []) ≡ after p
+      next_is : next_after (h.packets ++ p ∷ []) ≡ after_packet p
       next_is = next_append h.packets (p ∷ []) h.next_is
 
       -- its line is put
-      pub at_line : (c' : List ℕ) (s' : K) → PutsLine takes failures c s (packet_line p) (Ok tt) c' s' → (d'.ended ≡ have_ended (after p)) × (d'.fault ≡ None) × HasPutPackets takes failures c0 s0 bytes (after p) d'.kept c' s'
+      pub at_line : (c' : List ℕ) (s' : K) → PutsLine takes failures c s (packet_line p) (Ok tt) c' s' → (d'.ended ≡ have_ended (after_packet p)) × (d'.fault ≡ None) × HasPutPackets takes failures c0 s0 bytes (after_packet p) d'.kept c' s'
       at_line c' s' q = (
         ap (λ (e : FirstState). e.ended) taken.4 ∙ sym (last_has_ended p),
         ap (λ (e : FirstState). e.fault) taken.4 ∙ sound,
@@ -147,13 +147,13 @@ module _ {K : Type 0} (takes : K → List ℕ → K → Type 0) (failures : K �
       at_stop stop.Endless c' s' q = absurd q
 
       -- it was the last packet
-      pub at_last : (n : Next) (c' : List ℕ) (s' : K) → n ≡ after p → (n ≡ next.Packet → ⊥) → PutsLine takes failures c s (packet_line p) (Ok tt) c' s' → PutsPackets takes failures c0 s0 bytes (Ok n) d' c' s'
+      pub at_last : (n : Next) (c' : List ℕ) (s' : K) → n ≡ after_packet p → (n ≡ next.Packet → ⊥) → PutsLine takes failures c s (packet_line p) (Ok tt) c' s' → PutsPackets takes failures c0 s0 bytes (Ok n) d' c' s'
       at_last next.Packet c' s' is last q = absurd (last refl)
       at_last next.Message c' s' is last q = let l = at_line c' s' q in (l.1, subst (λ (n : Next). HasPutPackets takes failures c0 s0 bytes n d'.kept c' s') (sym is) l.2)
       at_last next.Nothing c' s' is last q = let l = at_line c' s' q in (l.1, subst (λ (n : Next). HasPutPackets takes failures c0 s0 bytes n d'.kept c' s') (sym is) l.2)
 
       -- more packets may come
-      pub at_more : (c' : List ℕ) (s' : K) → after p ≡ next.Packet → PutsLine takes failures c s (packet_line p) (Ok tt) c' s' → (d'.ended ≡ false) × (d'.fault ≡ None) × HasPutPackets takes failures c0 s0 bytes next.Packet d'.kept c' s'
+      pub at_more : (c' : List ℕ) (s' : K) → after_packet p ≡ next.Packet → PutsLine takes failures c s (packet_line p) (Ok tt) c' s' → (d'.ended ≡ false) × (d'.fault ≡ None) × HasPutPackets takes failures c0 s0 bytes next.Packet d'.kept c' s'
       at_more c' s' is q = let l = at_line c' s' q in (l.0 ∙ ap have_ended is, l.1, subst (λ (n : Next). HasPutPackets takes failures c0 s0 bytes n d'.kept c' s') is l.2)
 
 pub is_no_packet : (n : Next) → (n ≡ next.Message) ⊎ (n ≡ next.Nothing) → n ≡ next.Packet → ⊥

@@ -25,7 +25,7 @@ use Rattle.pgpipe_show.specs.Packets.{packet_line}
 use Rattle.pgpipe_base.specs.declared.fault.ToolFault.TheVariants as fault
 use Rattle.pgpipe_base.specs.Outbox.{body_text, line_of}
 use Rattle.pgpipe_show.specs.Messages.{line}
-use Rattle.pgpipe_show.specs.Show.{limit, AreMessages, IsClientSide, AreShownBefore, ShowAnswers}
+use Rattle.pgpipe_show.specs.Show.{length_limit, AreMessages, IsClientSide, AreShownBefore, ShowAnswers}
 
 -- a line by the text of its length
 by_length : (name : List ℕ) (n : ℕ) (bytes digits : List ℕ) → decimal n ≡ digits → line_of name n bytes ≡ name ++ (32 ∷ []) ++ digits ++ (32 ∷ []) ++ body_text bytes ++ (10 ∷ [])
@@ -91,7 +91,7 @@ a_client = record {
   packets = first.Ssl ∷ user ∷ [];
   following = spelling frontend select;
   later = line frontend select ++ [];
-  beginning = record { whole = refl; each = (record { of_type = tt; no_fault = refl }, (record { of_type = tt; no_fault = refl }, tt)); last = (refl, refl) };
+  beginning = record { whole = refl; each = (record { of_type = tt; no_fault = refl }, (record { of_type = ((tt, tt), tt); no_fault = refl }, tt)); last = (refl, refl) };
   next_is = refl;
   follows = record { messages = select ∷ []; stream = record { whole = refl; each = (record { spelled = record { of_type = tt; no_fault = refl }; limited = omega arith }, tt) }; each_line = refl };
   each_line = as_lists (packet_line first.Ssl) (packet_line user) (line frontend select);
@@ -129,7 +129,7 @@ ready_and rest = record {
 abbrev no_message : List ℕ
 no_message = 0x21 ∷ 0 ∷ 0 ∷ 0 ∷ 4 ∷ []
 
-unknown : IsFaulty backend limit no_message (wire.UnknownTag 33)
+unknown : IsFaulty backend length_limit no_message (wire.UnknownTag 33)
 unknown = (pos 4, record { there = omega arith; tag_is = refl; length_is = refl }, no_tag 33 refl)
 
 pub unknown_tag : ShowAnswers ⊥ ⊥ false (spelling backend (Ready Idle) ++ no_message) (line backend (Ready Idle)) (Ok (shown.Fault (wire.UnknownTag 33)))
@@ -144,7 +144,7 @@ cut_off = (
   next.Message,
   five_bytes,
   (refl, record { messages = []; stream = record { whole = refl; each = tt }; each_line = refl }),
-  partial_open backend limit five_bytes 90 5 (record { there = omega arith; tag_is = refl; length_is = refl }) (is_tag 90 kinds.Ready refl) (omega arith) (omega arith) (omega arith),
+  partial_open backend length_limit five_bytes 90 5 (record { there = omega arith; tag_is = refl; length_is = refl }) (is_tag 90 kinds.Ready refl) (omega arith) (omega arith) (omega arith),
   refl,
   omega arith,
 )
@@ -161,7 +161,7 @@ broken_at_once broke is =
         n = next.Message;
         rest = [];
         shown = (refl, record { messages = []; stream = record { whole = refl; each = tt }; each_line = refl });
-        is_open = short_open backend limit [] (omega arith);
+        is_open = short_open backend length_limit [] (omega arith);
       };
     } in
     inl (is, (line backend (Ready Idle), [], next.Message, (refl, ready_and []), (line backend (Ready Idle), refl)), ([], before, omega arith))

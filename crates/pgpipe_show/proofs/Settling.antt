@@ -14,9 +14,9 @@ use Rattle.pgpipe_base.specs.declared.fault.ToolFault.TheVariants as fault
 use Rattle.pgpipe_base.specs.Outbox.{Puts}
 use Rattle.pgpipe_base.specs.Stop.{Settles, answer_of}
 use mathlib.Core.List.{IsPrefix}
-use Rattle.pgpipe_show.specs.Show.{limit, AreShown, AreAllShown, AreShownBefore, AreMostlyShown, ArePartlyShown, IsShownAtOnce, ShowAnswers}
+use Rattle.pgpipe_show.specs.Show.{length_limit, AreShown, AreAllShown, AreShownBefore, AreMostlyShown, ArePartlyShown, IsShownAtOnce, ShowAnswers}
 use Rattle.pgpipe_base.specs.Receiving.{HasStopped, CountsNoFailure}
-use Rattle.pgpipe_show.specs.Private.Showing.{ArePut, IsBroken, Stops, StopsSource}
+use Rattle.pgpipe_show.specs.Private.Showing.{ArePut, HasSinkFailed, Stops, StopsSource}
 use Rattle.pg_wire.specs.Backend.{backend}
 use Rattle.pg_wire.proofs.Rests.{short_open}
 use Rattle.pg_wire.proofs.Packets.{short_open as short_packet_open}
@@ -49,7 +49,7 @@ module _ {K : Type 0} (takes : K → List ℕ → K → Type 0) (failures : K �
       let all = puts_then takes failures [] start h.text c s [] (Err f) c' s' h.put p in
       ((all.pieces, all.calls, ((h.text, rest, n, h.shown, (all.sent.0, all.sent.1 ∙ append-nil h.text)), (before, b, sent_at_once takes failures start before h.text c s [] (Err f) c' s' h.put p h.begins h.within))), all.counted)
 
-  broken : (start : K) (bytes before c : List ℕ) (s : K) → AreShownBefore front bytes before → IsBroken takes failures front start bytes before c s → Fails start bytes s
+  broken : (start : K) (bytes before c : List ℕ) (s : K) → AreShownBefore front bytes before → HasSinkFailed takes failures front start bytes before c s → Fails start bytes s
   broken start bytes before c s b h = ((h.put.pieces, h.put.calls, ((h.text, h.rest, h.n, h.shown, (h.put.sent.0, h.put.sent.1)), (before, b, h.at_once))), h.put.counted)
 
   -- where all was sent, the answer speaks of the source alone
@@ -98,7 +98,7 @@ source_counts ended old new pieces stop.Endless s = tt
 
 -- of no bytes no line is shown
 all_of_nothing : (front : Bool) → AreAllShown front [] []
-all_of_nothing false = record { n = next.Message; rest = []; shown = (refl, record { messages = []; stream = record { whole = refl; each = tt }; each_line = refl }); is_open = short_open backend limit [] (omega arith) }
+all_of_nothing false = record { n = next.Message; rest = []; shown = (refl, record { messages = []; stream = record { whole = refl; each = tt }; each_line = refl }); is_open = short_open backend length_limit [] (omega arith) }
 all_of_nothing true = record { n = next.Packet; rest = []; shown = client_begins; is_open = short_packet_open [] (omega arith) }
 
 pub nothing_shown : (front : Bool) → AreMostlyShown front [] []

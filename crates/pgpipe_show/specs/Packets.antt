@@ -26,16 +26,16 @@ abbrev pub packet_lines : List First → List ℕ
 packet_lines packets = flat_map packet_line packets
 
 -- what may come after this packet: messages, nothing that is read, or another packet
-abbrev pub after : First → Next
-after (first.Startup pairs) = next.Message
-after (first.Cancel process secret) = next.Nothing
-after first.Ssl = next.Packet
-after first.Gss = next.Packet
+abbrev pub after_packet : First → Next
+after_packet (first.Startup pairs) = next.Message
+after_packet (first.Cancel process secret) = next.Nothing
+after_packet first.Ssl = next.Packet
+after_packet first.Gss = next.Packet
 
 -- what may come after these packets, by the last of them; at first a packet
 abbrev pub next_after : List First → Next
 next_after [] = next.Packet
-next_after (p ∷ []) = after p
+next_after (p ∷ []) = after_packet p
 next_after (p ∷ q ∷ packets) = next_after (q ∷ packets)
 
 -- whether no further first packet may come

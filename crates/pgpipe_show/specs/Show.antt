@@ -20,15 +20,15 @@ use Rattle.pgpipe_base.specs.Outbox.{most_collected}
 use mathlib.Core.List.{IsPrefix}
 
 -- the greatest length field of a message that is shown
-abbrev pub limit : ℕ
-limit = longest
+abbrev pub length_limit : ℕ
+length_limit = longest
 
 -- ---- the messages of one direction
 
 -- The bytes are messages of this direction and this rest, and the text is the messages' lines.
 pub record AreMessages {M : Type 0} (d : Direction M) (bytes text rest : List ℕ) : Type 0 where
   pub messages : List M
-  pub stream : IsStream d limit bytes messages rest
+  pub stream : IsStream d length_limit bytes messages rest
   pub each_line : text ≡ lines d messages
 
 -- ---- what a client sends
@@ -60,16 +60,16 @@ AreShown true bytes text n rest = IsClientSide bytes text n rest
 
 -- The rest is open, where n may come next. After a Cancel any rest is, as nothing more is read.
 abbrev pub IsOpenFor : Bool → Next → List ℕ → Type 0
-IsOpenFor false n rest = IsOpen backend limit rest
+IsOpenFor false n rest = IsOpen backend length_limit rest
 IsOpenFor true next.Packet rest = IsOpenPacket rest
-IsOpenFor true next.Message rest = IsOpen frontend limit rest
+IsOpenFor true next.Message rest = IsOpen frontend length_limit rest
 IsOpenFor true next.Nothing rest = Unit {0}
 
 -- The rest is faulty for this reason, where n may come next. After a Cancel no rest is.
 abbrev pub IsFaultyFor : Bool → Next → List ℕ → WireFault → Type 0
-IsFaultyFor false n rest f = IsFaulty backend limit rest f
+IsFaultyFor false n rest f = IsFaulty backend length_limit rest f
 IsFaultyFor true next.Packet rest f = IsFaultyPacket rest f
-IsFaultyFor true next.Message rest f = IsFaulty frontend limit rest f
+IsFaultyFor true next.Message rest f = IsFaulty frontend length_limit rest f
 IsFaultyFor true next.Nothing rest f = ⊥
 
 -- ---- how much is shown

@@ -5,7 +5,7 @@ ghost use Rattle.pg_wire.specs.Encoder.{Encodes};
 ghost use Rattle.pg_wire.specs.Stream.{IsWithin};
 ghost use Rattle.pgpipe_show.specs.Messages.{line};
 ghost use Rattle.pgpipe_base.specs.Outbox.{line_of};
-ghost use Rattle.pgpipe_show.specs.Show.{limit};
+ghost use Rattle.pgpipe_show.specs.Show.{length_limit};
 ghost use Rattle.pgpipe_show.specs.Private.Showing.{IsSound, PutsLine, PutsMessages, LeavesSource};
 
 use crate::show::Shown;
@@ -47,7 +47,7 @@ fn put_message<M: Message, K: Sink>(
     outbox: &mut Outbox,
     sink: &mut K,
 ) -> Result<(), Stop<Shown>>
-    requires { IsWithin M.direction limit message }
+    requires { IsWithin M.direction length_limit message }
     ensures { PutsLine K.takes K.failures outbox.old sink.old
         (line M.direction message) result outbox.new sink.new }
 {

@@ -3,7 +3,7 @@
 ghost use Rattle.std.specs.Prelude.{◌≡◌, ◌≤◌, ◌++◌, [], length, drop, false, None};
 ghost use Rattle.pg_wire.specs.Encoder.{EncodesPacket};
 ghost use Rattle.pg_wire.specs.First.{IsPacket};
-ghost use Rattle.pgpipe_show.specs.Packets.{word, packet_line, after};
+ghost use Rattle.pgpipe_show.specs.Packets.{word, packet_line, after_packet};
 ghost use Rattle.pgpipe_base.specs.Outbox.{line_of};
 ghost use Rattle.pgpipe_show.specs.Private.Showing.{PutsLine, PutsPackets, LeavesSource};
 
@@ -26,8 +26,8 @@ pub enum Next {
 }
 
 // What comes after a packet.
-fn after(packet: &First) -> Next
-    ensures { result ≡ after packet.now }
+fn after_packet(packet: &First) -> Next
+    ensures { result ≡ after_packet packet.now }
 {
     match packet {
         First::Startup(_) => Next::Message,
@@ -108,7 +108,7 @@ pub fn put_packets<K: Sink>(
         match first.next() {
             Ok(None) => return Ok(Next::Packet),
             Ok(Some(packet)) => {
-                let next = after(&packet);
+                let next = after_packet(&packet);
                 put_packet(packet, spelled, outbox, sink)?;
                 match next {
                     Next::Packet => {}

@@ -71,7 +71,7 @@ pub record WasRun {C K : Type 0} (carries : Carrying C) (takes : K → List ℕ 
   pub is_begun : IsBegun calls.settings script carrier begun
   pub was_sent : FoldsTo takes sink sent sink'
   pub answers : loop.LoopAnswers (HasRisen (failures sink) (failures sink')) carries begun
-      (loop.doings cut calls.lines) (concat sent) answer
+      (loop.planned_events cut calls.lines) (concat sent) answer
   pub sink_counts : CountsNoFailure (failures sink) answer (failures sink')
 
 -- ---- a loop of two files: SCRIPT is read, then CALLS with the files that it names, and then the

@@ -6,11 +6,11 @@ use Rattle.pg_wire.specs.link.LinkFault.{LinkFault}
 use Rattle.pg_client.specs.declared.fault.CallFault.{CallFault}
 use Rattle.pg_client.specs.Client.{ClientView}
 use Rattle.pg_client.specs.History.{Carries, History, IsHistoryOf, with_call}
-use Rattle.pg_client.specs.Session.{Call}
+use Rattle.pg_client.specs.declared.call.Call.{Call}
 use Rattle.pg_client.specs.declared.settings.Settings.{Settings}
 use Rattle.test_client.specs.declared.driver.DriverFault.{DriverFault}
 use Rattle.test_client.specs.declared.driver.DriverFault.TheVariants as faults
-use Rattle.test_client.specs.Driver.{Comes, Drives, Fails, HasFailed, HasHistory, HasReceived, IsLater, NoneFailed, most_receives, never, with_failed}
+use Rattle.test_client.specs.Driver.{ResultMeans, Drives, FaultMeans, HasFailed, HasHistory, HasReceived, IsLater, NoneFailed, most_receives, never, with_failed}
 use Rattle.test_client.proofs.Later.{later_then, stays}
 
 -- ---- steps of a relation
@@ -31,7 +31,7 @@ none_then was mid now first next = (next.0 ∙ first.0, next.1 ∙ first.1)
 -- ---- what it comes to
 
 fault_then : (refused : CallFault → Type 0) (ended : Type 0) (was mid now : ℕ × ℕ) (xs ys : List (List ℕ)) (client : ClientView) (f : DriverFault)
-    → NoneFailed was mid → Fails never ended mid now ys client f → Fails refused ended was now (xs ++ ys) client f
+    → NoneFailed was mid → FaultMeans never ended mid now ys client f → FaultMeans refused ended was now (xs ++ ys) client f
 fault_then refused ended was mid now xs ys client (faults.Call f) none c = absurd c.2
 fault_then refused ended was mid now xs ys client (faults.Feed f) none c = (none_then was mid now none c.0, c.1)
 fault_then refused ended was mid now xs ys client (faults.Link f) none c = fails_then was mid now none c
@@ -40,7 +40,7 @@ fault_then refused ended was mid now xs ys client faults.Endless none c = (none_
 fault_then refused ended was mid now xs ys client faults.CopyIn none c = (none_then was mid now none c.0, c.1)
 
 comes_then : {A : Type 0} (refused : CallFault → Type 0) (ended : Type 0) (was mid now : ℕ × ℕ) (xs ys : List (List ℕ)) (client : ClientView) (result : Result A DriverFault)
-    → NoneFailed was mid → Comes never ended mid now ys client result → Comes refused ended was now (xs ++ ys) client result
+    → NoneFailed was mid → ResultMeans never ended mid now ys client result → ResultMeans refused ended was now (xs ++ ys) client result
 comes_then refused ended was mid now xs ys client (Ok x) none c = none_then was mid now none c
 comes_then refused ended was mid now xs ys client (Err f) none c = fault_then refused ended was mid now xs ys client f none c
 
@@ -49,13 +49,13 @@ module _ {S : Type 0} (gives : S → List ℕ → S → Type 0) where
 
   -- nothing was received, and it comes to this
   abbrev pub drives_none : {A : Type 0} (refused : CallFault → Type 0) (ended : Type 0) (was now : ℕ × ℕ) (append : History → History) (source : S) (old new : ClientView) (result : Result A DriverFault)
-      → Carries old new append → Comes refused ended was now [] new result → Drives gives refused ended was now append source old result source new
+      → Carries old new append → ResultMeans refused ended was now [] new result → Drives gives refused ended was now append source old result source new
   drives_none refused ended was now append source old new result carries comes =
       record { pieces = []; received = refl; later = λ h r. stays (append h) new (carries h r); comes = comes }
 
   -- a piece was received
   abbrev pub drives_one : {A : Type 0} (refused : CallFault → Type 0) (ended : Type 0) (was now : ℕ × ℕ) (append : History → History) (source : S) (old : ClientView) (piece : List ℕ) (source' : S) (new : ClientView) (result : Result A DriverFault)
-      → gives source piece source' → ((h : History) → IsHistoryOf h old → IsLater (append h) (concat (piece ∷ [])) new) → Comes refused ended was now (piece ∷ []) new result
+      → gives source piece source' → ((h : History) → IsHistoryOf h old → IsLater (append h) (concat (piece ∷ [])) new) → ResultMeans refused ended was now (piece ∷ []) new result
       → Drives gives refused ended was now append source old result source' new
   drives_one refused ended was now append source old piece source' new result given later comes =
       record { pieces = piece ∷ []; received = (source', given, refl); later = later; comes = comes }
@@ -96,7 +96,7 @@ module _ {S : Type 0} (gives : S → List ℕ → S → Type 0) where
 
   -- it stops waiting, with this answer
   pub stops_waiting : (was : ℕ × ℕ) (source : S) (old : ClientView) (count : ℕ) (now : ℕ × ℕ) (source' : S) (client : ClientView) (ended : Type 0) (result : Result Unit DriverFault) (w : Waits was source old count now source' client)
-      → Comes never ended was now w.did.pieces client result → Drives gives never ended was now (λ h. h) source old result source' client
+      → ResultMeans never ended was now w.did.pieces client result → Drives gives never ended was now (λ h. h) source old result source' client
   stops_waiting was source old count now source' client ended result w comes = record { pieces = w.did.pieces; received = w.did.received; later = w.did.later; comes = comes }
 
   -- by what it did last
@@ -121,7 +121,7 @@ module _ {S : Type 0} (gives : S → List ℕ → S → Type 0) where
     comes = fault_then refused ended was was now [] w.pieces new f (refl, refl) w.comes;
   }
     where
-      same : (g : DriverFault) → Fails never ended was now w.pieces new g → (h : History) → with_call settings c h ≡ with_failed settings c g h
+      same : (g : DriverFault) → FaultMeans never ended was now w.pieces new g → (h : History) → with_call settings c h ≡ with_failed settings c g h
       same (faults.Call g) comes h = absurd comes.2
       same (faults.Feed g) comes h = refl
       same (faults.Link g) comes h = refl

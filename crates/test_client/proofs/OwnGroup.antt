@@ -10,7 +10,7 @@ use Rattle.pg_client.specs.Answering.{AllSettled}
 use Rattle.pg_client.specs.Client.{ClientView, phase_of}
 use Rattle.pg_client.specs.Driving.{requests_by}
 use Rattle.pg_client.specs.History.{Calls, Carries, History, IsHistoryOf, blank, with_call, with_given}
-use Rattle.pg_client.specs.Session.{Ask, Start}
+use Rattle.pg_client.specs.declared.call.Call.TheVariants as call
 use Rattle.test_client.specs.Driver.{AwaitsRequest, IsLater}
 
 -- what the law requests_of_the_calls says to a driver
@@ -18,7 +18,7 @@ pub record Laws : Type 0 where
   -- a client that stands ready has settled what its calls asked for
   pub ready : (h : History) (client : ClientView) → IsHistoryOf h client → phase_of client ≡ phase.Ready → AllSettled (requests_by h.calls) (h.given ++ client.settled)
   -- a request more is the last of these
-  pub asked : (calls : Calls) (r : Request) (place : ℕ) → requests_by (calls ++ (Ask r, place) ∷ []) ≡ requests_by calls ++ r ∷ []
+  pub asked : (calls : Calls) (r : Request) (place : ℕ) → requests_by (calls ++ (call.Request r, place) ∷ []) ≡ requests_by calls ++ r ∷ []
 
 -- ---- groups and their requests
 
@@ -43,9 +43,9 @@ last_group given settled before r was now =
 
 -- ---- the session begins
 
-pub begins : Laws → (settings : Settings) (fresh started now : ClientView) (bytes : List ℕ) → IsHistoryOf blank fresh → Carries fresh started (with_call settings Start) → ((h : History) → IsHistoryOf h started → IsLater h bytes now) → phase_of now ≡ phase.Ready → AwaitsRequest now
+pub begins : Laws → (settings : Settings) (fresh started now : ClientView) (bytes : List ℕ) → IsHistoryOf blank fresh → Carries fresh started (with_call settings call.Start) → ((h : History) → IsHistoryOf h started → IsLater h bytes now) → phase_of now ≡ phase.Ready → AwaitsRequest now
 begins laws settings fresh started now bytes new start went ready =
-    let k = went (with_call settings Start blank) (start blank new) in
+    let k = went (with_call settings call.Start blank) (start blank new) in
     record {
       history = k.history;
       is_its_own = k.is_its_own;
@@ -62,9 +62,9 @@ pub record HasAnswered (r : Request) (client : ClientView) : Type 0 where
   pub ready : phase_of client ≡ phase.Ready
   pub own : requests client.settled ≡ r ∷ []
 
-pub answered : Laws → (r : Request) (settings : Settings) (old asked now : ClientView) (bytes : List ℕ) → AwaitsRequest old → Carries old asked (with_call settings (Ask r)) → ((h : History) → IsHistoryOf h asked → IsLater h bytes now) → phase_of now ≡ phase.Ready → HasAnswered r now
+pub answered : Laws → (r : Request) (settings : Settings) (old asked now : ClientView) (bytes : List ℕ) → AwaitsRequest old → Carries old asked (with_call settings (call.Request r)) → ((h : History) → IsHistoryOf h asked → IsLater h bytes now) → phase_of now ≡ phase.Ready → HasAnswered r now
 answered laws r settings old asked now bytes a ask went ready =
-    let k = went (with_call settings (Ask r) a.history) (ask a.history a.is_its_own) in
+    let k = went (with_call settings (call.Request r) a.history) (ask a.history a.is_its_own) in
     let given : List Settled = a.history.given in
     let before : List Request = requests_by a.history.calls in
     let was : AllSettled before given = ap requests (sym (append-nil given) ∙ ap (λ (gs : List Settled). given ++ gs) (sym a.none_waits)) ∙ laws.ready a.history old a.is_its_own a.ready in

@@ -11,7 +11,8 @@ use Rattle.pg_client.specs.declared.settings.Settings.{Settings}
 use Rattle.pg_client.specs.Client.{ClientView, phase_of}
 use Rattle.pg_client.specs.Driving.{IsLeftBy}
 use Rattle.pg_client.specs.History.{History, IsHistoryOf, blank, with_call, with_given}
-use Rattle.pg_client.specs.Session.{Call, Ask, Start}
+use Rattle.pg_client.specs.declared.call.Call.{Call}
+use Rattle.pg_client.specs.declared.call.Call.TheVariants as call
 use Rattle.test_client.specs.declared.driver.DriverFault.{DriverFault}
 use Rattle.test_client.specs.declared.driver.DriverFault.TheVariants as faults
 
@@ -57,24 +58,25 @@ NoneFailed was now = (now.0 ≡ was.0) × (now.1 ≡ was.1)
 -- What is true of each fault: the client refused the call, before any piece; `feed` closed the
 -- client by it; a call of source or sink failed; the source had ended; 2^64 - 1 pieces were
 -- received; or the client awaits a copy. For any fault but Link no call failed.
-abbrev pub Fails : (refused : CallFault → Type 0) (ended : Type 0) (was now : ℕ × ℕ) → List (List ℕ)
-    → ClientView → DriverFault → Type 0
-Fails refused ended was now pieces client (faults.Call f) =
+abbrev pub FaultMeans : (refused : CallFault → Type 0) (ended : Type 0) (was now : ℕ × ℕ)
+    → List (List ℕ) → ClientView → DriverFault → Type 0
+FaultMeans refused ended was now pieces client (faults.Call f) =
     NoneFailed was now × (pieces ≡ []) × refused f
-Fails refused ended was now pieces client (faults.Feed f) =
+FaultMeans refused ended was now pieces client (faults.Feed f) =
     NoneFailed was now × IsLeftBy (Err f) client.closed
-Fails refused ended was now pieces client (faults.Link f) = HasFailed was now
-Fails refused ended was now pieces client faults.Ended = NoneFailed was now × ended
-Fails refused ended was now pieces client faults.Endless =
+FaultMeans refused ended was now pieces client (faults.Link f) = HasFailed was now
+FaultMeans refused ended was now pieces client faults.Ended = NoneFailed was now × ended
+FaultMeans refused ended was now pieces client faults.Endless =
     NoneFailed was now × (most_receives ≤ length pieces)
-Fails refused ended was now pieces client faults.CopyIn =
+FaultMeans refused ended was now pieces client faults.CopyIn =
     NoneFailed was now × (phase_of client ≡ phase.CopyingIn)
 
--- Of a driver's result: no call of source or sink failed, or its fault is true, as Fails says.
-abbrev pub Comes : {A : Type 0} (refused : CallFault → Type 0) (ended : Type 0) (was now : ℕ × ℕ)
-    → List (List ℕ) → ClientView → Result A DriverFault → Type 0
-Comes refused ended was now pieces client (Ok x) = NoneFailed was now
-Comes refused ended was now pieces client (Err f) = Fails refused ended was now pieces client f
+-- Of a driver's result: no call of source or sink failed, or its fault is true, as FaultMeans says.
+abbrev pub ResultMeans : {A : Type 0} (refused : CallFault → Type 0) (ended : Type 0)
+    (was now : ℕ × ℕ) → List (List ℕ) → ClientView → Result A DriverFault → Type 0
+ResultMeans refused ended was now pieces client (Ok x) = NoneFailed was now
+ResultMeans refused ended was now pieces client (Err f) =
+    FaultMeans refused ended was now pieces client f
 
 -- for a driver that makes no call: no refusal is possible
 abbrev pub never : CallFault → Type 0
@@ -91,7 +93,7 @@ pub record Drives {S A : Type 0} (gives : S → List ℕ → S → Type 0)
   pub pieces : List (List ℕ)
   pub received : FoldsTo gives source pieces source'
   pub later : (h : History) → IsHistoryOf h old → IsLater (append h) (concat pieces) new
-  pub comes : Comes refused ended was now pieces new result
+  pub comes : ResultMeans refused ended was now pieces new result
 
 -- Just one piece was received, and the client is open after it.
 pub record HasReceived (pieces : List (List ℕ)) (client : ClientView) : Type 0 where
@@ -105,22 +107,22 @@ with_failed settings c _ h = with_call settings c h
 
 -- a history after `connect`: with `start`, unless the client refused it
 abbrev pub with_start : Settings → Result ClientView DriverFault → History → History
-with_start settings (Ok client) h = with_call settings Start h
-with_start settings (Err f) h = with_failed settings Start f h
+with_start settings (Ok client) h = with_call settings call.Start h
+with_start settings (Err f) h = with_failed settings call.Start f h
 
 -- a history after `ask`: with this request, unless the client refused it, and with its group taken,
 -- if it was answered
 abbrev pub with_asked : Settings → Request → Result Settled DriverFault → History → History
-with_asked settings r (Ok group) h = with_given group (with_call settings (Ask r) h)
-with_asked settings r (Err f) h = with_failed settings (Ask r) f h
+with_asked settings r (Ok group) h = with_given group (with_call settings (call.Request r) h)
+with_asked settings r (Err f) h = with_failed settings (call.Request r) f h
 
--- The driver began with a new client of these settings (`fresh`), `did` this with it, and `left` is
--- the client afterwards, which it answers where it could connect.
+-- The driver began with a new client of these settings (`fresh`), `did` this with it, and `latest`
+-- is the client afterwards, which it answers where it could connect.
 pub record Connects (settings : Settings) (result : Result ClientView DriverFault)
     (did : ClientView → ClientView → Type 0) : Type 0 where
   pub fresh : ClientView
-  pub left : ClientView
+  pub latest : ClientView
   pub is_new : IsHistoryOf blank fresh
   pub settings_are : fresh.settings ≡ settings
-  pub given : IfOk result (λ client. client ≡ left)
-  pub did_so : did fresh left
+  pub given : IfOk result (λ client. client ≡ latest)
+  pub did_so : did fresh latest

@@ -5,7 +5,7 @@ ghost use Rattle.pg_wire.specs.Direction.{IsLimit};
 ghost use Rattle.pg_wire.specs.Link.{Counts};
 ghost use Rattle.pg_client.specs.Calls.{RefusesUnless};
 ghost use Rattle.pg_client.specs.Client.{phase_of};
-ghost use Rattle.pg_client.specs.Session.{Ask, Start};
+ghost use Rattle.pg_client.specs.declared.call.Call.TheVariants as call;
 ghost use Rattle.test_client.specs.declared.driver.DriverFault.TheVariants as faults;
 ghost use Rattle.test_client.specs.Driver.{AwaitsRequest, Connects, Drives, HasHistory, HasReceived, never, with_asked, with_start};
 
@@ -149,10 +149,10 @@ pub fn connect<S: Source, K: Sink>(
 ) -> Result<Client, DriverFault>
     requires { IsLimit settings.limit }
     ensures ready { IfOk result (λ client. AwaitsRequest client) }
-    ensures connects { Connects settings result (λ fresh left.
-        Drives S.gives (RefusesUnless Phase.New fresh Start) (S.has_ended source.new)
+    ensures connects { Connects settings result (λ fresh latest.
+        Drives S.gives (RefusesUnless Phase.New fresh call.Start) (S.has_ended source.new)
         (S.failures source.old, K.failures sink.old) (S.failures source.new, K.failures sink.new)
-        (with_start fresh.settings result) source.old fresh result source.new left) }
+        (with_start fresh.settings result) source.old fresh result source.new latest) }
 {
     requests_of_the_calls();
     let mut client = Client::new(alloc, settings);
@@ -179,7 +179,7 @@ pub fn ask<S: Source, K: Sink>(
     ensures again { OnOk result (AwaitsRequest client.new) }
     ensures history { HasHistory client.new }
     ensures asks { Drives S.gives
-        (λ f. (client.new ≡ client.old) × RefusesUnless Phase.Ready client.old (Ask request) f)
+        (λ f. (client.new ≡ client.old) × RefusesUnless Phase.Ready client.old (call.Request request) f)
         (S.has_ended source.new) (S.failures source.old, K.failures sink.old)
         (S.failures source.new, K.failures sink.new)
         (with_asked client.old.settings request result)

@@ -21,7 +21,7 @@ const LIMIT: u32 = 65_536;
 
 /// How a file is cut into pieces.
 #[derive(Clone, Copy, Debug)]
-pub enum Cut {
+pub enum FileCut {
     /// It is pushed whole.
     Nowhere,
     /// A byte at a time.
@@ -161,18 +161,18 @@ fn read_piece<F: File>(
 }
 
 /// The rows of a file that comes in pieces.
-pub fn read<F: File>(alloc: Global, bytes: &[u8], cut: Cut) -> Result<Vec<Row>> {
+pub fn read<F: File>(alloc: Global, bytes: &[u8], cut: FileCut) -> Result<Vec<Row>> {
     let mut reader = F::begin(alloc);
     let mut rows = Vec::new(alloc);
     let most = bytes.len();
     match cut {
-        Cut::Nowhere => read_piece(&mut reader, bytes, most, &mut rows)?,
-        Cut::Everywhere => {
+        FileCut::Nowhere => read_piece(&mut reader, bytes, most, &mut rows)?,
+        FileCut::Everywhere => {
             for i in 0..bytes.len() {
                 read_piece(&mut reader, &bytes[i..i + 1], most, &mut rows)?;
             }
         }
-        Cut::At(place) => {
+        FileCut::At(place) => {
             let (front, back) = bytes.split_at(place.min(bytes.len()));
             read_piece(&mut reader, front, most, &mut rows)?;
             read_piece(&mut reader, back, most, &mut rows)?;

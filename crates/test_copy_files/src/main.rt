@@ -5,19 +5,19 @@
 mod file;
 
 use anyhow::{Result, bail, ensure};
-use file::{Cut, File, read, write};
+use file::{File, FileCut, read, write};
 use pg_copy::{BinaryReader, Row, TextReader};
 use std::alloc::Global;
 use std::fs;
 
 /// The rows of a file, which are the same however it is cut.
 fn rows_of<F: File>(alloc: Global, bytes: &[u8]) -> Result<Vec<Row>> {
-    let rows = read::<F>(alloc, bytes, Cut::Nowhere)?;
-    if read::<F>(alloc, bytes, Cut::Everywhere)?.as_slice() != rows.as_slice() {
+    let rows = read::<F>(alloc, bytes, FileCut::Nowhere)?;
+    if read::<F>(alloc, bytes, FileCut::Everywhere)?.as_slice() != rows.as_slice() {
         bail!("a byte at a time gives other rows");
     }
     for place in 0..bytes.len() {
-        if read::<F>(alloc, bytes, Cut::At(place))?.as_slice() != rows.as_slice() {
+        if read::<F>(alloc, bytes, FileCut::At(place))?.as_slice() != rows.as_slice() {
             bail!("cut at {place} it gives other rows");
         }
     }

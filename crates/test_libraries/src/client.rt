@@ -3,7 +3,7 @@ mod copies;
 mod faults;
 mod passwords;
 
-use pg_client::{Cause, Client, Loss, Phase, Settings, Settled};
+use pg_client::{Call, Cause, Client, Loss, Phase, Settings, Settled};
 use pg_wire::{Aside, Outcome, Part, Request, Seq, Status, Step};
 use std::alloc::{AllocError, Global};
 use std::test::Fail;
@@ -18,15 +18,9 @@ const ANSWER: [u8; 14] = [0x43, 0, 0, 0, 7, 0x4F, 0x4B, 0, 0x5A, 0, 0, 0, 5, 0x4
 const ERROR: [u8; 6] = [0x45, 0, 0, 0, 5, 0];
 
 /// What is done with a client.
-#[derive(Clone, Copy)]
+#[derive(Drop)]
 enum Act<'a> {
-    Start,
-    Query,
-    Group,
-    Chunk(&'a [u8]),
-    Done,
-    Fail(&'a [u8]),
-    Terminate,
+    Call(Call),
     Cancel,
     Feed(&'a [u8]),
     /// What was put out is taken off.
@@ -49,27 +43,43 @@ fn group(alloc: Global) -> Result<Request, AllocError> {
     Ok(Request::Group(Seq::new(vec![in alloc; execute(alloc)]?)))
 }
 
-fn ask(client: &mut Client, request: Request, out: &mut Vec<u8>) -> Result<(), Fail> {
-    match client.request(request, out) {
+/// The client is started.
+fn start() -> Act<'static> {
+    Act::Call(Call::Start)
+}
+
+/// The query is asked.
+fn ask(alloc: Global) -> Result<Act<'static>, AllocError> {
+    Ok(Act::Call(Call::Request(query(alloc)?)))
+}
+
+/// The group is asked.
+fn ask_group(alloc: Global) -> Result<Act<'static>, AllocError> {
+    Ok(Act::Call(Call::Request(group(alloc)?)))
+}
+
+fn request(client: &mut Client, made: Request, out: &mut Vec<u8>) -> Result<(), Fail> {
+    match client.request(made, out) {
         Ok(()) => Ok(()),
         Err((_, fault)) => Err(fault.into()),
     }
 }
 
-fn perform(
-    alloc: Global,
-    client: &mut Client,
-    act: Act<'_>,
-    out: &mut Vec<u8>,
-) -> Result<(), Fail> {
+fn call(client: &mut Client, made: &Call, out: &mut Vec<u8>) -> Result<(), Fail> {
+    match made {
+        Call::Start => client.start(out)?,
+        Call::Request(asked) => request(client, asked.clone()?, out)?,
+        Call::Chunk(bytes) => client.copy_chunk(bytes.as_slice(), out)?,
+        Call::Done => client.copy_done(out)?,
+        Call::Fail(reason) => client.copy_fail(reason.as_slice(), out)?,
+        Call::Terminate => client.terminate(out)?,
+    }
+    Ok(())
+}
+
+fn perform(client: &mut Client, act: &Act<'_>, out: &mut Vec<u8>) -> Result<(), Fail> {
     match act {
-        Act::Start => client.start(out)?,
-        Act::Query => ask(client, query(alloc)?, out)?,
-        Act::Group => ask(client, group(alloc)?, out)?,
-        Act::Chunk(bytes) => client.copy_chunk(bytes, out)?,
-        Act::Done => client.copy_done(out)?,
-        Act::Fail(reason) => client.copy_fail(reason, out)?,
-        Act::Terminate => client.terminate(out)?,
+        Act::Call(made) => call(client, made, out)?,
         Act::Cancel => client.cancel_packet(out)?,
         Act::Feed(bytes) => client.feed(bytes, out)?,
         Act::Send => out.clear(),
@@ -77,14 +87,9 @@ fn perform(
     Ok(())
 }
 
-fn perform_all(
-    alloc: Global,
-    client: &mut Client,
-    acts: &[Act<'_>],
-    out: &mut Vec<u8>,
-) -> Result<(), Fail> {
+fn perform_all(client: &mut Client, acts: &[Act<'_>], out: &mut Vec<u8>) -> Result<(), Fail> {
     for one in acts {
-        perform(alloc, client, *one, out)?;
+        perform(client, one, out)?;
     }
     Ok(())
 }
@@ -102,10 +107,10 @@ fn fresh(alloc: Global) -> Result<Client, AllocError> {
 }
 
 /// A new client after these acts, and what it has put out.
-fn behind(alloc: Global, acts: &[Act<'_>]) -> Result<(Client, Vec<u8>), Fail> {
+fn after(alloc: Global, acts: &[Act<'_>]) -> Result<(Client, Vec<u8>), Fail> {
     let mut client = fresh(alloc)?;
     let mut out = Vec::new(alloc);
-    perform_all(alloc, &mut client, acts, &mut out)?;
+    perform_all(&mut client, acts, &mut out)?;
     Ok((client, out))
 }
 
@@ -152,13 +157,8 @@ fn failed(alloc: Global) -> Result<Option<Settled>, AllocError> {
 
 /// A client that made a query and was fed these bytes.
 fn answered(alloc: Global, bytes: &[u8]) -> Result<(Client, Vec<u8>), Fail> {
-    let acts = [
-        Act::Start,
-        Act::Feed(&WELCOME),
-        Act::Query,
-        Act::Feed(bytes),
-    ];
-    behind(alloc, &acts)
+    let acts = [start(), Act::Feed(&WELCOME), ask(alloc)?, Act::Feed(bytes)];
+    after(alloc, &acts)
 }
 
 #[test]
@@ -178,13 +178,13 @@ fn a_group_waits_for_its_last_byte(rt: HostRuntime) -> Result<(), Fail> {
 /// A client that made a query, where the last byte of the answer came alone.
 fn answered_at_last(alloc: Global) -> Result<(Client, Vec<u8>), Fail> {
     let acts = [
-        Act::Start,
+        start(),
         Act::Feed(&WELCOME),
-        Act::Query,
+        ask(alloc)?,
         Act::Feed(&ANSWER[..13]),
         Act::Feed(&ANSWER[13..]),
     ];
-    behind(alloc, &acts)
+    after(alloc, &acts)
 }
 
 #[test]
@@ -206,13 +206,13 @@ fn a_group_settles_with_its_error(rt: HostRuntime) -> Result<(), Fail> {
 /// A client that was told a notice before its query, which is answered.
 fn told(alloc: Global) -> Result<(Client, Vec<u8>), Fail> {
     let acts = [
-        Act::Start,
+        start(),
         Act::Feed(&WELCOME),
         Act::Feed(b"N\0\0\0\x05\0"),
-        Act::Query,
+        ask(alloc)?,
         Act::Feed(&ANSWER),
     ];
-    behind(alloc, &acts)
+    after(alloc, &acts)
 }
 
 fn noted(alloc: Global) -> Result<Option<Settled>, AllocError> {

@@ -204,7 +204,7 @@ const CUTS: [(usize, &[usize]); 5] = [
 ];
 
 #[test]
-fn no_file_is_named_behind_the_end(rt: HostRuntime) -> Result<(), Fail> {
+fn no_file_is_named_after_the_end(rt: HostRuntime) -> Result<(), Fail> {
     let alloc = rt.alloc();
     let calls = read_calls(alloc, b"query\tfile\nflow\n\\.\nfile\tp\n")?;
     assert!(rt; calls.next_file().is_none());

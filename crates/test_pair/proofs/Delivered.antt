@@ -9,7 +9,7 @@ use Rattle.pg_pair.specs.declared.event.PairFault.TheVariants as fault
 use Rattle.pg_pair.specs.Event.{Applies}
 use Rattle.pg_pair.specs.Carrying.{Carrying}
 use Rattle.pg_pair.specs.Laws.{delivery_of, DeliveryMoves, Delivers, LeavesOther}
-use Rattle.pg_pair.specs.View.{PairView, Stream, stream_of, waiting_at}
+use Rattle.pg_pair.specs.View.{PairView, WayState, way_state, waiting_at}
 
 -- a delivery isn't dropped
 happens : {C : Type 0} (carries : Carrying C) (w : Way) (most : ℕ) (p : PairView C) (result : Result Applied PairFault) (q : PairView C) → DeliveryMoves carries → Applies carries (delivery_of w most) p result q
@@ -23,16 +23,16 @@ pub record HasMoved {C : Type 0} (w : Way) (most : ℕ) (p : PairView C) (before
   pub grows : before ≤ after
   pub asked : after - before ≤ most
   pub waited : after - before ≤ length (waiting_at w p)
-  pub reached : (stream_of w q).reached ≡ (stream_of w p).reached + (after - before)
+  pub reached : (way_state w q).reached ≡ (way_state w p).reached + (after - before)
   pub other : LeavesOther w p (take (after - before) (waiting_at w p)) q
 
 pub has_moved : {C : Type 0} (carries : Carrying C) (w : Way) (e : Event) (most : ℕ) (p : PairView C) (result : Result Applied PairFault) (q : PairView C) (before after : ℕ) → DeliveryMoves carries → e ≡ delivery_of w most
-    → Applies carries e p result q → before ≡ (stream_of w p).reached → after ≡ (stream_of w q).reached → HasMoved w most p before after q
+    → Applies carries e p result q → before ≡ (way_state w p).reached → after ≡ (way_state w q).reached → HasMoved w most p before after q
 has_moved carries w e most p result q before after law is h was now =
     let d : Delivers carries w most p (happens carries w most p result q law (subst (λ (x : Event). Applies carries x p result q) is h)).0 q =
     (happens carries w most p result q law (subst (λ (x : Event). Applies carries x p result q) is h)).1 in
     let moved : ℕ = d.moved in
-    let way : (stream_of w q).reached ≡ (stream_of w p).reached + moved = ap (λ (s : Stream). s.reached) d.way in
+    let way : (way_state w q).reached ≡ (way_state w p).reached + moved = ap (λ (s : WayState). s.reached) d.way in
     let all : moved ≡ after - before = omega arith in
     let asked : moved ≤ most = d.asked in
     let waited : moved ≤ length (waiting_at w p) = d.waited in

@@ -3,16 +3,16 @@
 #![tactic(auto)]
 
 ghost use Rattle.std.specs.Prelude.{◌≡◌, ◌≤◌, ◌+◌, IfNone, IfSome, false, length, map, take, true};
-ghost use Rattle.pg_backend.specs.Backend.{is_spared};
+ghost use Rattle.pg_backend.specs.Backend.{had_memory};
 ghost use Rattle.pg_backend.specs.Check.{IsChecked};
 ghost use Rattle.pg_client.specs.Client.{phase_of};
 ghost use Rattle.pg_client.specs.declared.phase.Phase.TheVariants.{Ready};
 ghost use Rattle.pg_pair.specs.Event.{Ran};
 ghost use Rattle.pg_pair.specs.Beginning.{IsBegun};
-ghost use Rattle.pg_pair.specs.Copies.{TookEach};
+ghost use Rattle.pg_backend.specs.Turns.{TookEach};
 ghost use Rattle.pg_pair.specs.Laws.{delivery_of, LeavesOther};
 ghost use Rattle.pg_pair.specs.Headline.{answered_as, MatchesCalls, settled_as, StandsReady};
-ghost use Rattle.pg_pair.specs.View.{PairView, stream_of, waiting_at};
+ghost use Rattle.pg_pair.specs.View.{PairView, way_state, waiting_at};
 ghost use Rattle.pg_wire.specs.Direction.{IsLimit};
 
 use pg_backend::Script;
@@ -41,7 +41,7 @@ pub fn settled_when_ready<C: Carry>(pair: &Pair<C>) -> Option<&[Settled]>
     ensures none { IfNone result (phase_of pair.now.client ≡ Ready → ⊥) }
     ensures client { IfSome result (λ groups. phase_of pair.now.client ≡ Ready) }
     ensures backend { IfSome result (λ groups. pair.now.to_backend.broken ≡ false
-        → is_spared pair.now.backend.stage ≡ true → StandsReady pair.now) }
+        → had_memory pair.now.backend.stage ≡ true → StandsReady pair.now) }
 {
     if pair.client().phase() != Phase::Ready {
         return None;
@@ -67,7 +67,7 @@ pub fn play<C: Carry>(
     ensures copied { TookEach result.0.backend.log result.0.handed }
     ensures asked { ∥ MatchesCalls result.0 ∥₁ }
     ensures ready { phase_of result.0.client ≡ Ready → result.0.to_backend.broken ≡ false
-        → is_spared result.0.backend.stage ≡ true → StandsReady result.0 }
+        → had_memory result.0.backend.stage ≡ true → StandsReady result.0 }
 {
     let mut pair = Pair::new(alloc, settings, script, carrier);
     let ran = pair.run(events);
@@ -90,8 +90,8 @@ fn delivery_of(way: Way, most: u32) -> Event
 pub fn deliver<C: Carry>(pair: &mut Pair<C>, way: Way, most: u32) -> usize
     ensures asked { result ≤ most }
     ensures waited { result ≤ length (waiting_at way pair.old) }
-    ensures reached { (stream_of way pair.new).reached
-        ≡ (stream_of way pair.old).reached + result }
+    ensures reached { (way_state way pair.new).reached
+        ≡ (way_state way pair.old).reached + result }
     ensures other { LeavesOther way pair.old (take result (waiting_at way pair.old)) pair.new }
 {
     delivery_moves::<C>();

@@ -4,25 +4,23 @@ ghost use Rattle.std.specs.Prelude.{◌≡◌};
 ghost use Rattle.test_sessions.specs.Entry.{server_bytes};
 
 use hex::FromHexError;
-use pg_wire::{Seq, Step, Target, Values};
+use pg_client::Call;
+use pg_wire::{Request, Seq, Step, Target, Values};
 use std::alloc::{AllocError, AllocFailed, Global};
 use thiserror::Error;
 
 /// A call, a step of the next group, or bytes.
 #[derive(Debug, Drop)]
 pub enum Entry {
-    /// The parameters of the startup packet, the user first.
+    /// The call of start, with the parameters of the startup packet, the user first.
     Start(Seq<(Seq<u8>, Seq<u8>)>),
     /// The password that the client has, after its start. It is sent where the server asks for it, not by a call.
     Password(Seq<u8>),
-    Query(Seq<u8>),
     Step(Step),
-    /// The group of the steps before it.
+    /// The request of a group of the steps before it.
     Sync,
-    Chunk(Vec<u8>),
-    Done,
-    Fail(Vec<u8>),
-    Terminate,
+    /// Another call.
+    Call(Call),
     /// What the client has sent since the last time.
     Sent(Vec<u8>),
     /// What the server has sent.
@@ -173,6 +171,10 @@ fn close_of(alloc: Global, text: &str) -> Result<Step, EntryFault> {
     })
 }
 
+fn query_of(alloc: Global, text: &str) -> Result<Call, EntryFault> {
+    Ok(Call::Request(Request::Query(text_of(alloc, text)?)))
+}
+
 impl Entry {
     /// The entry of a line: its name, a space, and its fields, parted by spaces. Bytes are in hexadecimal.
     pub fn of_line(alloc: Global, line: &str) -> Result<Entry, EntryFault> {
@@ -180,17 +182,17 @@ impl Entry {
         match name {
             "start" => Ok(Entry::Start(parameters_of(alloc, rest)?)),
             "password" => Ok(Entry::Password(text_of(alloc, rest)?)),
-            "query" => Ok(Entry::Query(text_of(alloc, rest)?)),
             "parse" => Ok(Entry::Step(parse_of(alloc, rest)?)),
             "bind" => Ok(Entry::Step(bind_of(alloc, rest)?)),
             "describe" => Ok(Entry::Step(describe_of(alloc, rest)?)),
             "execute" => Ok(Entry::Step(execute_of(alloc, rest)?)),
             "close" => Ok(Entry::Step(close_of(alloc, rest)?)),
             "sync" => Ok(Entry::Sync),
-            "chunk" => Ok(Entry::Chunk(bytes_of(alloc, rest)?)),
-            "done" => Ok(Entry::Done),
-            "fail" => Ok(Entry::Fail(Vec::from_slice(alloc, rest.as_bytes())?)),
-            "terminate" => Ok(Entry::Terminate),
+            "query" => Ok(Entry::Call(query_of(alloc, rest)?)),
+            "chunk" => Ok(Entry::Call(Call::Chunk(Seq::new(bytes_of(alloc, rest)?)))),
+            "done" => Ok(Entry::Call(Call::Done)),
+            "fail" => Ok(Entry::Call(Call::Fail(text_of(alloc, rest)?))),
+            "terminate" => Ok(Entry::Call(Call::Terminate)),
             "sent" => Ok(Entry::Sent(bytes_of(alloc, rest)?)),
             "bytes" => Ok(Entry::Bytes(bytes_of(alloc, rest)?)),
             _ => Err(EntryFault::NoEntry),

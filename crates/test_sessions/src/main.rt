@@ -11,7 +11,7 @@ mod words;
 use anyhow::{Context, Result, bail};
 use entry::Entry;
 use print::print;
-use replay::{Cut, SessionEnd, replay};
+use replay::{SessionEnd, StreamCut, replay};
 use std::alloc::Global;
 use std::io;
 use std::io::{BufRead, BufReader, BufWriter, Write};
@@ -47,13 +47,13 @@ fn read_sessions(alloc: Global, input: impl BufRead + Drop) -> Result<Vec<Sessio
 
 // Replays the session in all ways, which have to end the same.
 fn replay_cut(alloc: Global, entries: &[Entry]) -> Result<SessionEnd> {
-    let ending = replay(alloc, entries, Cut::Nowhere)?;
-    if replay(alloc, entries, Cut::Everywhere)? != ending {
+    let ending = replay(alloc, entries, StreamCut::Nowhere)?;
+    if replay(alloc, entries, StreamCut::Everywhere)? != ending {
         bail!("a byte at a time settles something else");
     }
     let longest = entries.iter().map(Entry::server_bytes).max().unwrap_or(0);
     for place in 0..longest {
-        if replay(alloc, entries, Cut::At(place))? != ending {
+        if replay(alloc, entries, StreamCut::At(place))? != ending {
             bail!("cut at {place} it settles something else");
         }
     }

@@ -5,14 +5,14 @@ ghost use Rattle.test_sessions.specs.Entry.{password_of};
 
 use crate::entry::Entry;
 use anyhow::{Result, bail};
-use pg_client::{Cause, Client, FeedFault, Loss, Phase, Settings, Settled};
+use pg_client::{Call, Cause, Client, FeedFault, Loss, Phase, Settings, Settled};
 use pg_wire::{Part, Request, Seq, Step};
 use std::alloc::Global;
 use std::mem;
 
 /// How the server's bytes are cut into pieces.
 #[derive(Clone, Copy, Debug)]
-pub enum Cut {
+pub enum StreamCut {
     /// They are fed as they came.
     Nowhere,
     /// A byte at a time.
@@ -70,6 +70,18 @@ fn request(client: &mut Client, request: Request, out: &mut Vec<u8>) -> Result<(
     }
 }
 
+fn call(client: &mut Client, made: &Call, out: &mut Vec<u8>) -> Result<()> {
+    match made {
+        Call::Start => client.start(out)?,
+        Call::Request(asked) => request(client, asked.clone()?, out)?,
+        Call::Chunk(bytes) => client.copy_chunk(bytes.as_slice(), out)?,
+        Call::Done => client.copy_done(out)?,
+        Call::Fail(reason) => client.copy_fail(reason.as_slice(), out)?,
+        Call::Terminate => client.terminate(out)?,
+    }
+    Ok(())
+}
+
 impl Running {
     fn new(alloc: Global, settings: Settings) -> Running
         requires { settings.limit ≡ 65536 }
@@ -97,15 +109,15 @@ impl Running {
         Ok(())
     }
 
-    fn feed(&mut self, bytes: &[u8], cut: Cut) -> Result<()> {
+    fn feed(&mut self, bytes: &[u8], cut: StreamCut) -> Result<()> {
         match cut {
-            Cut::Nowhere => self.feed_piece(bytes)?,
-            Cut::Everywhere => {
+            StreamCut::Nowhere => self.feed_piece(bytes)?,
+            StreamCut::Everywhere => {
                 for i in 0..bytes.len() {
                     self.feed_piece(&bytes[i..i + 1])?;
                 }
             }
-            Cut::At(place) => {
+            StreamCut::At(place) => {
                 let (front, back) = bytes.split_at(place.min(bytes.len()));
                 self.feed_piece(front)?;
                 self.feed_piece(back)?;
@@ -114,7 +126,7 @@ impl Running {
         Ok(())
     }
 
-    fn make(&mut self, alloc: Global, entry: &Entry, cut: Cut) -> Result<()> {
+    fn make(&mut self, alloc: Global, entry: &Entry, cut: StreamCut) -> Result<()> {
         let Running {
             client,
             steps,
@@ -122,18 +134,14 @@ impl Running {
             ..
         } = self;
         match entry {
-            Entry::Start(_) => client.start(out)?,
+            Entry::Start(_) => call(client, &Call::Start, out)?,
             Entry::Password(_) => {}
-            Entry::Query(text) => request(client, Request::Query(text.clone()?), out)?,
             Entry::Step(step) => steps.push(step.clone()?)?,
             Entry::Sync => {
                 let steps = mem::replace(steps, Vec::new(alloc));
                 request(client, Request::Group(Seq::new(steps)), out)?;
             }
-            Entry::Chunk(bytes) => client.copy_chunk(bytes.as_slice(), out)?,
-            Entry::Done => client.copy_done(out)?,
-            Entry::Fail(reason) => client.copy_fail(reason.as_slice(), out)?,
-            Entry::Terminate => client.terminate(out)?,
+            Entry::Call(made) => call(client, made, out)?,
             Entry::Sent(bytes) => {
                 if out.as_slice() != bytes.as_slice() {
                     bail!("the client sends other bytes than {:?}", bytes);
@@ -231,7 +239,7 @@ fn settings_of(alloc: Global, entries: &[Entry]) -> Result<Settings>
 }
 
 /// Makes the session again.
-pub fn replay(alloc: Global, entries: &[Entry], cut: Cut) -> Result<SessionEnd> {
+pub fn replay(alloc: Global, entries: &[Entry], cut: StreamCut) -> Result<SessionEnd> {
     let mut running = Running::new(alloc, settings_of(alloc, entries)?);
     for entry in entries {
         running.make(alloc, entry, cut)?;

@@ -1,4 +1,4 @@
-use crate::links::{Paper, broke_behind, sheet, source_of};
+use crate::links::{Paper, broke_after, sheet, source_of};
 use pg_copy::{BinaryFault, TextFault};
 use pgpipe_base::ToolFault;
 use pgpipe_convert::Format;
@@ -164,13 +164,13 @@ fn converts_to(alloc: Global, sends: u8) -> bool {
         &mut source,
         &mut sink,
     );
-    answer == Err(ToolFault::Device) && broke_behind(&sink, sends, BINARY_ROW)
+    answer == Err(ToolFault::Device) && broke_after(&sink, sends, BINARY_ROW)
 }
 
 #[test]
 fn a_sink_that_fails(rt: HostRuntime) {
     // 32 bytes make five sends
     for sends in 0..5 {
-        assert!(rt; converts_to(rt.alloc(), sends), "behind {sends}");
+        assert!(rt; converts_to(rt.alloc(), sends), "after {sends}");
     }
 }

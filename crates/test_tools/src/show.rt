@@ -1,4 +1,4 @@
-use crate::links::{broke_behind, sheet, source_of};
+use crate::links::{broke_after, sheet, source_of};
 use pg_wire::WireFault;
 use pgpipe_base::ToolFault;
 use pgpipe_show::show::{Shown, show};
@@ -124,7 +124,7 @@ fn shows_to(alloc: Global, front: bool, bytes: &[u8], sends: u8, lines: &[u8]) -
     let mut source = source_of(bytes, 5, 0);
     let mut sink = sheet(alloc, u64::from(sends) + 1);
     let shown = show(alloc, front, &mut source, &mut sink);
-    shown == Err(ToolFault::Device) && broke_behind(&sink, sends, lines)
+    shown == Err(ToolFault::Device) && broke_after(&sink, sends, lines)
 }
 
 #[test]
@@ -132,13 +132,13 @@ fn a_sink_that_fails(rt: HostRuntime) {
     for sends in 0..4 {
         assert!(rt;
             shows_to(rt.alloc(), false, STREAM, sends, LINES),
-            "behind {sends}"
+            "after {sends}"
         );
     }
     for sends in 0..11 {
         assert!(rt;
             shows_to(rt.alloc(), true, CLIENT, sends, CLIENT_LINES),
-            "behind {sends}"
+            "after {sends}"
         );
     }
 }

@@ -28,18 +28,18 @@ impl<M: Debug> fmt::Display for Decoded<M> {
 
 /// How the bytes of a vector are cut into pieces.
 #[derive(Clone, Copy, Debug)]
-pub enum Cut {
+pub enum VectorCut {
     Nowhere,
     Everywhere,
     At(usize),
 }
 
-impl fmt::Display for Cut {
+impl fmt::Display for VectorCut {
     fn fmt<W: fmt::Write>(&self, f: &mut fmt::Formatter<W>) -> fmt::Result {
         match self {
-            Cut::Nowhere => write!(f, "in one piece"),
-            Cut::Everywhere => write!(f, "a byte at a time"),
-            Cut::At(place) => write!(f, "cut at {place}"),
+            VectorCut::Nowhere => write!(f, "in one piece"),
+            VectorCut::Everywhere => write!(f, "a byte at a time"),
+            VectorCut::At(place) => write!(f, "cut at {place}"),
         }
     }
 }
@@ -48,13 +48,13 @@ impl fmt::Display for Cut {
 #[derive(Clone, Copy, Debug, Error)]
 pub enum Flaw {
     #[error("{0}: an answer came before the last byte")]
-    Early(Cut),
+    Early(VectorCut),
     #[error("{0}: the decoder keeps {1} bytes")]
-    Keeps(Cut, usize),
+    Keeps(VectorCut, usize),
     #[error("{0}: the decoder answers something else after the last byte")]
-    Unsteady(Cut),
+    Unsteady(VectorCut),
     #[error("{0}: the reading is not that of one piece")]
-    Differs(Cut),
+    Differs(VectorCut),
     #[error("the message is not encoded: {0}")]
     Unwritten(EncodeFault),
     #[error("the message is encoded as other bytes")]
@@ -82,7 +82,7 @@ fn feed<D: Subject>(decoder: &mut D, piece: &[u8]) -> Result<Decoded<D::Item>, F
 }
 
 /// Gives the decoder a piece after which more is to come, so that it has no answer yet.
-fn feed_part<D: Subject>(decoder: &mut D, piece: &[u8], cut: Cut) -> Result<(), Flaw> {
+fn feed_part<D: Subject>(decoder: &mut D, piece: &[u8], cut: VectorCut) -> Result<(), Flaw> {
     match feed(decoder, piece)? {
         Decoded::Open => Ok(()),
         _ => Err(Flaw::Early(cut)),
@@ -90,15 +90,19 @@ fn feed_part<D: Subject>(decoder: &mut D, piece: &[u8], cut: Cut) -> Result<(), 
 }
 
 /// What a new decoder answers with the last of the bytes, and not before.
-fn read<D: Subject>(decoder: &mut D, bytes: &[u8], cut: Cut) -> Result<Decoded<D::Item>, Flaw> {
+fn read<D: Subject>(
+    decoder: &mut D,
+    bytes: &[u8],
+    cut: VectorCut,
+) -> Result<Decoded<D::Item>, Flaw> {
     match cut {
-        Cut::Nowhere => feed(decoder, bytes),
-        Cut::At(place) => {
+        VectorCut::Nowhere => feed(decoder, bytes),
+        VectorCut::At(place) => {
             let (first, second) = bytes.split_at_checked(place).unwrap_or((bytes, &[]));
             feed_part(decoder, first, cut)?;
             feed(decoder, second)
         }
-        Cut::Everywhere => match bytes.split_last() {
+        VectorCut::Everywhere => match bytes.split_last() {
             None => feed(decoder, bytes),
             Some((last, before)) => {
                 for byte in before {
@@ -115,7 +119,7 @@ fn check_end<D: Subject>(
     decoder: &mut D,
     found: &Decoded<D::Item>,
     len: usize,
-    cut: Cut,
+    cut: VectorCut,
 ) -> Result<(), Flaw> {
     let (kept, later) = match found {
         Decoded::Open => (len, Decoded::Open),
@@ -132,7 +136,11 @@ fn check_end<D: Subject>(
 }
 
 /// Reads the bytes by a new decoder.
-fn read_cut<D: Subject>(alloc: Global, bytes: &[u8], cut: Cut) -> Result<Decoded<D::Item>, Flaw> {
+fn read_cut<D: Subject>(
+    alloc: Global,
+    bytes: &[u8],
+    cut: VectorCut,
+) -> Result<Decoded<D::Item>, Flaw> {
     let mut decoder = D::begin(alloc);
     let found = read(&mut decoder, bytes, cut)?;
     check_end(&mut decoder, &found, bytes.len(), cut)?;
@@ -152,13 +160,13 @@ fn check_spelling<D: Subject>(alloc: Global, message: &D::Item, bytes: &[u8]) ->
 
 /// The one reading of the bytes, whole and however they are cut. A message is encoded as the very bytes.
 pub fn judge<D: Subject>(alloc: Global, bytes: &[u8]) -> Result<Decoded<D::Item>, Flaw> {
-    let whole = read_cut::<D>(alloc, bytes, Cut::Nowhere)?;
-    if read_cut::<D>(alloc, bytes, Cut::Everywhere)? != whole {
-        return Err(Flaw::Differs(Cut::Everywhere));
+    let whole = read_cut::<D>(alloc, bytes, VectorCut::Nowhere)?;
+    if read_cut::<D>(alloc, bytes, VectorCut::Everywhere)? != whole {
+        return Err(Flaw::Differs(VectorCut::Everywhere));
     }
     for place in 0..bytes.len() {
-        if read_cut::<D>(alloc, bytes, Cut::At(place))? != whole {
-            return Err(Flaw::Differs(Cut::At(place)));
+        if read_cut::<D>(alloc, bytes, VectorCut::At(place))? != whole {
+            return Err(Flaw::Differs(VectorCut::At(place)));
         }
     }
     if let Decoded::Message(message) = &whole {

@@ -20,7 +20,7 @@ use Rattle.pg_script.specs.Copies.{CopyEnd, accepted, refused, copy_end}
 use Rattle.pg_script.specs.Meaning.{in_copy}
 use Rattle.pg_script.specs.OwnError.{canceled, out_of_copy}
 use Rattle.pg_script.specs.Replies.{Shape, Whole, Copies, shape, after_part, Verdict, verdict, at_copy_end, outcome_at, aside_message, parts_sent, after_end, after_copy, reply}
-use Rattle.pg_script.specs.Session.{Exchange, exchange, Place, Between, Terminated, Session, only, copy_place, begun, begin, cut, farewell, said, decided}
+use Rattle.pg_script.specs.Session.{Exchange, exchange, Place, Between, Terminated, Session, only, copy_place, from_exchange, from_request, session_past, farewell, all_sent, decided}
 use Rattle.pg_backend.specs.Awaited.{prepend, WithinRequest, chunks_in, AllWait, NotRefused, Undecided}
 use Rattle.pg_backend.specs.Private.Moves.{parts_before, parts_after, CopyEffect, Decides, Keeps, Abandons, effect, has_effect}
 use Rattle.pg_backend.proofs.Definitions.MessageSends.{Beyond, Grown, grown, now}
@@ -151,26 +151,26 @@ pub verdict_at : (a : Answer) (since : List FrontMessage) (before : List ScriptP
 verdict_at a since before head load later o is end = rw is (rw end refl)
 
 said_undecided : (left : List Answer) (r : Request) (since : List FrontMessage) (rest : ℕ → Session) → verdict (answer_for left r) since ≡ None
-    → (said (begin left r since rest) ≡ reply (answer_for left r) since) × (decided (begin left r since rest) ≡ [])
+    → (all_sent (from_request left r since rest) ≡ reply (answer_for left r) since) × (decided (from_request left r since rest) ≡ [])
 said_undecided left r since rest is = open_exchange (exchange r (answer_for left r) since) _ (copy_place (map in_copy since)) rest is is (no_farewell_copy (map in_copy since))
   where
     open_exchange : (e : Exchange) (o : Option Verdict) (place : Place) (rest : ℕ → Session) → o ≡ None → e.verdict ≡ None → farewell place ≡ []
-        → (said (begun e o place rest) ≡ e.reply) × (decided (begun e o place rest) ≡ [])
+        → (all_sent (from_exchange e o place rest) ≡ e.reply) × (decided (from_exchange e o place rest) ≡ [])
     open_exchange e None place rest is none silent = (said_open e place silent, rw none refl)
     open_exchange e (Some v) place rest is none silent = cc
 
 -- where all of the messages are taken, nothing comes after the exchange
 said_decided : (left : List Answer) (r : Request) (since : List FrontMessage) (v : Verdict)
     → verdict (answer_for left r) since ≡ Some v → v.taken ≡ length since
-    → let s = begin left r since (λ n. cut n (others left) [] since) in
-    (said s ≡ reply (answer_for left r) since) × (decided s ≡ record { request = r; outcome = v.outcome; loaded = v.loaded } ∷ []) × (s.place ≡ Between)
+    → let s = from_request left r since (λ n. session_past n (others left) [] since) in
+    (all_sent s ≡ reply (answer_for left r) since) × (decided s ≡ record { request = r; outcome = v.outcome; loaded = v.loaded } ∷ []) × (s.place ≡ Between)
 said_decided left r since v is all =
     let a = answer_for left r in
-    let rest : cut v.taken (others left) [] since ≡ only Between = ap (λ n. cut n (others left) [] since) all ∙ ap (λ l. cut (length since) (others left) [] l) (sym (append-nil since)) ∙ passes (others left) since [] in
-    closed_exchange (exchange r a since) _ (copy_place (map in_copy since)) (λ n. cut n (others left) [] since) is is rest
+    let rest : session_past v.taken (others left) [] since ≡ only Between = ap (λ n. session_past n (others left) [] since) all ∙ ap (λ l. session_past (length since) (others left) [] l) (sym (append-nil since)) ∙ passes (others left) since [] in
+    closed_exchange (exchange r a since) _ (copy_place (map in_copy since)) (λ n. session_past n (others left) [] since) is is rest
   where
     closed_exchange : (e : Exchange) (o : Option Verdict) (place : Place) (rest : ℕ → Session) → o ≡ Some v → e.verdict ≡ Some v → rest v.taken ≡ only Between
-        → (said (begun e o place rest) ≡ e.reply) × (decided (begun e o place rest) ≡ record { request = e.request; outcome = v.outcome; loaded = v.loaded } ∷ []) × ((begun e o place rest).place ≡ Between)
+        → (all_sent (from_exchange e o place rest) ≡ e.reply) × (decided (from_exchange e o place rest) ≡ record { request = e.request; outcome = v.outcome; loaded = v.loaded } ∷ []) × ((from_exchange e o place rest).place ≡ Between)
     closed_exchange e None place rest is same after_it = cc
     closed_exchange e (Some w) place rest is same after_it =
         let eq : w ≡ v = same_Some w v is in
@@ -190,14 +190,14 @@ joined x y z w = ap (λ l. x ++ l) (sym (append_assoc y (z ∷ []) w)) ∙ sym (
 
 -- what is sent and logged while the copy goes on
 record Waiting (left : List Answer) (r : Request) (load : Load) (before : List ScriptPart) (head : CopyHead) (since : List FrontMessage) : Type 0 where
-  said_is : said (begin left r since (λ n. cut n (others left) [] since)) ≡ map aside_message (answer_for left r).before ++ (parts_sent before ++ back.CopyIn head ∷ [])
-  decided_is : decided (begin left r since (λ n. cut n (others left) [] since)) ≡ []
+  said_is : all_sent (from_request left r since (λ n. session_past n (others left) [] since)) ≡ map aside_message (answer_for left r).before ++ (parts_sent before ++ back.CopyIn head ∷ [])
+  decided_is : decided (from_request left r since (λ n. session_past n (others left) [] since)) ≡ []
 
 waiting : (left : List Answer) (r : Request) (load : Load) (before : List ScriptPart) (head : CopyHead) (later : List ScriptPart) (since : List FrontMessage)
     → shape (answer_for left r).parts ≡ Copies before head load later → copy_end load since ≡ None → Waiting left r load before head since
 waiting left r load before head later since is none =
     let a = answer_for left r in
-    let u = said_undecided left r since (λ n. cut n (others left) [] since) (verdict_at a since before head load later None is none) in
+    let u = said_undecided left r since (λ n. session_past n (others left) [] since) (verdict_at a since before head load later None is none) in
     record { said_is = u.0 ∙ reply_at a since before head load later None is none; decided_is = u.1 }
 
 pub still_none : (load : Load) (loaded : List (List ℕ)) (since : List FrontMessage) (a : Answer) → Undecided a load loaded since → copy_end load since ≡ None
@@ -205,7 +205,7 @@ still_none load loaded since a u = copy_end_of load since ∙ ends_none load (ma
 
 goes_on_silent : (left : List Answer) (r : Request) (load : Load) (before : List ScriptPart) (head : CopyHead) (s t : List FrontMessage)
     → Waiting left r load before head s → Waiting left r load before head t
-    → Beyond (begin left r s (λ n. cut n (others left) [] s)) (begin left r t (λ n. cut n (others left) [] t)) [] []
+    → Beyond (from_request left r s (λ n. session_past n (others left) [] s)) (from_request left r t (λ n. session_past n (others left) [] t)) [] []
 goes_on_silent left r load before head s t v w = record {
   said_is = w.said_is ∙ sym v.said_is ∙ sym (append-nil _);
   decided_is = w.decided_is ∙ sym (append-nil _ ∙ v.decided_is);
@@ -215,7 +215,7 @@ goes_on_silent left r load before head s t v w = record {
 beyond_effect : (left : List Answer) (r : Request) (load : Load) (loaded : List (List ℕ)) (since : List FrontMessage) (m : FrontMessage) (e : CopyEffect)
     → Undecided (answer_for left r) load loaded since → IsEffect load (map in_copy (since ++ m ∷ [])) e
     → let s = since ++ m ∷ [] in let v = has_effect left r load e in
-    Beyond (begin left r since (λ n. cut n (others left) [] since)) (begin left r s (λ n. cut n (others left) [] s)) v.sent v.logged
+    Beyond (from_request left r since (λ n. session_past n (others left) [] since)) (from_request left r s (λ n. session_past n (others left) [] s)) v.sent v.logged
 beyond_effect left r load loaded since m (Keeps more) u h =
     goes_on_silent left r load u.before u.head since (since ++ m ∷ [])
     (waiting left r load u.before u.head u.later since u.copies (still_none load loaded since (answer_for left r) u))
@@ -236,9 +236,9 @@ beyond_effect left r load loaded since m (Decides taken result) u h =
       said_is = c.0 ∙ reply_at a s u.before u.head load u.later (Some e) u.copies end
           ∙ joined (map aside_message a.before) (parts_sent u.before) (back.CopyIn u.head) (after_end a u.later result)
           ∙ ap (λ l. l ++ after_end a u.later result) (sym w.said_is)
-          ∙ ap (λ l. said (begin left r since (λ n. cut n (others left) [] since)) ++ after_end a l result) (sym parts.1);
+          ∙ ap (λ l. all_sent (from_request left r since (λ n. session_past n (others left) [] since)) ++ after_end a l result) (sym parts.1);
       decided_is = c.1 ∙ ap (λ l. l ++ record { request = r; outcome = outcome_at a u.before result; loaded = taken } ∷ []) (sym w.decided_is)
-          ∙ ap (λ l. decided (begin left r since (λ n. cut n (others left) [] since)) ++ record { request = r; outcome = outcome_at a l result; loaded = taken } ∷ []) (sym parts.0);
+          ∙ ap (λ l. decided (from_request left r since (λ n. session_past n (others left) [] since)) ++ record { request = r; outcome = outcome_at a l result; loaded = taken } ∷ []) (sym parts.0);
     }
 
 -- what a message does to a copy
@@ -253,7 +253,7 @@ pub copying_grows : (answers : List Answer) (ms : List FrontMessage) (m : FrontM
     → let v = has_effect left r load (effect load loaded (in_copy m)) in Grown answers ms (ms ++ m ∷ []) v.sent v.logged
 copying_grows answers ms m done left r load loaded since b u =
     let v = has_effect left r load (effect load loaded (in_copy m)) in
-    grown answers ms (ms ++ m ∷ []) done (begin left r since (λ n. cut n (others left) [] since)) (begin left r (since ++ m ∷ []) (λ n. cut n (others left) [] (since ++ m ∷ []))) v.sent v.logged
-    (now answers ms _ (b.goes_on [] ∙ ap (λ l. prepend done (begin left r l (λ n. cut n (others left) [] l))) (append-nil since)))
-    (b.goes_on (m ∷ []))
+    grown answers ms (ms ++ m ∷ []) done (from_request left r since (λ n. session_past n (others left) [] since)) (from_request left r (since ++ m ∷ []) (λ n. session_past n (others left) [] (since ++ m ∷ []))) v.sent v.logged
+    (now answers ms _ (b.continues [] ∙ ap (λ l. prepend done (from_request left r l (λ n. session_past n (others left) [] l))) (append-nil since)))
+    (b.continues (m ∷ []))
     (beyond_effect left r load loaded since m (effect load loaded (in_copy m)) u (copy_effect load loaded since m (answer_for left r) u))

@@ -19,7 +19,7 @@ use Rattle.pg_backend.specs.declared.stage.Next.{Next}
 use Rattle.pg_backend.specs.declared.stage.Next.TheVariants as next
 use Rattle.pg_backend.specs.declared.stage.BackStage.TheVariants as stage
 use Rattle.pg_script.specs.Opening.{Says}
-use Rattle.pg_script.specs.Input.{Input, is_started, Takes, message_taken, IsSpelled, sent_bytes, packets_end, end_phase}
+use Rattle.pg_script.specs.Input.{Input, is_started, HandlesNext, message_taken, IsSpelled, sent_bytes, packets_end, end_phase}
 use Rattle.pg_backend.specs.History.{History, IsHistoryOf, StandsAt, with_handled}
 use Rattle.pg_backend.specs.Stage.{BackendState, phase_of, phase_by}
 use Rattle.pg_backend.specs.Private.Moves.{Move, move}
@@ -32,7 +32,7 @@ open_input ps ms = record { packets = ps; messages = ms; faulty = false }
 
 -- What is told of the next message.
 pub record MessageHandled (b : BackendState) (e : Effect) (was : History) (ps : List First) (ms : List FrontMessage) (m : FrontMessage) (n : Next) (left : List ℕ) : Type 0 where
-  pub takes : Takes b.limit (open_input ps ms) was.rest (open_input ps (ms ++ m ∷ [])) left
+  pub takes : HandlesNext b.limit (open_input ps ms) was.rest (open_input ps (ms ++ m ∷ [])) left
   pub leads : NextAt b.script ps (ms ++ m ∷ []) (frontend.tag m) e.left n
   pub handled : IsHistoryOf (with_handled (open_input ps (ms ++ m ∷ [])) left (flat_map sent_bytes e.sent) was) (applied b e)
 
@@ -40,7 +40,7 @@ message_sent : (s : Script) (ps : List First) (ms : List FrontMessage) (m : Fron
 message_sent s ps ms m v l = record { more = append-nil _ ∙ l.sends ∙ ap (λ x. x ++ map Says v.sent) (sym (append-nil _)) }
 
 takes_message : (limit : ℕ) (ps : List First) (ms : List FrontMessage) (m : FrontMessage) (rest left : List ℕ) → is_started ps ≡ true → IsWithin frontend limit m → rest ≡ spelling frontend m ++ left
-    → Takes limit (open_input ps ms) rest (open_input ps (ms ++ m ∷ [])) left
+    → HandlesNext limit (open_input ps ms) rest (open_input ps (ms ++ m ∷ [])) left
 takes_message limit ps ms m rest left started within is = rw is (message_taken ps ms m left started within)
 
 -- the phase after the message

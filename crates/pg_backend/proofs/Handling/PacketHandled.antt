@@ -15,9 +15,9 @@ use Rattle.pg_backend.specs.declared.stage.ClosedBy.TheVariants as closed_by
 use Rattle.pg_backend.specs.declared.stage.BackStage.{BackStage}
 use Rattle.pg_backend.specs.declared.stage.BackStage.TheVariants as stage
 use Rattle.pg_script.specs.Session.{Stray}
-use Rattle.pg_script.specs.Opening.{Sent, No, Says, user_from, asked, admission, admission_messages, sent_for}
+use Rattle.pg_script.specs.Opening.{Sent, No, Says, user_from, question_for, admission, admission_messages, sent_for}
 use Rattle.pg_script.specs.OwnError.{no_user}
-use Rattle.pg_script.specs.Input.{Input, is_started, Takes, packet_taken, IsSpelled, sent_bytes, packets_log, admission_log, admission_end, At, Opening, Refusal, End, packets_end, end_phase, IsStray}
+use Rattle.pg_script.specs.Input.{Input, is_started, HandlesNext, packet_taken, IsSpelled, sent_bytes, packets_log, admission_log, admission_end, At, Opening, Refusal, End, packets_end, end_phase, IsStray}
 use Rattle.pg_backend.specs.History.{History, IsHistoryOf, StandsAt, with_handled}
 use Rattle.pg_backend.specs.Stage.{BackendState, awaited_end, phase_of, phase_by}
 use Rattle.pg_backend.specs.Private.Advancing.{Effect, applied, packet_effect, startup_effect, Begun}
@@ -48,11 +48,11 @@ packet_done s limit left log d d' p ps was st es go begun h is spelled no_log ph
 
 -- What is told of the next packet.
 pub record PacketHandled (b : BackendState) (e : Effect) (was : History) (ps : List First) (p : First) (left : List ℕ) : Type 0 where
-  pub takes : Takes b.limit (first_input ps) was.rest (first_input (ps ++ p ∷ [])) left
+  pub takes : HandlesNext b.limit (first_input ps) was.rest (first_input (ps ++ p ∷ [])) left
   pub place : IsStray b.script (first_input (ps ++ p ∷ [])) → ⊥
   pub handled : IsHistoryOf (with_handled (first_input (ps ++ p ∷ [])) left (flat_map sent_bytes e.sent) was) (applied b e)
 
-takes_packet : (limit : ℕ) (ps : List First) (p : First) (rest left : List ℕ) → is_started ps ≡ false → IsPacket p → rest ≡ packet p ++ left → Takes limit (first_input ps) rest (first_input (ps ++ p ∷ [])) left
+takes_packet : (limit : ℕ) (ps : List First) (p : First) (rest left : List ℕ) → is_started ps ≡ false → IsPacket p → rest ≡ packet p ++ left → HandlesNext limit (first_input ps) rest (first_input (ps ++ p ∷ [])) left
 takes_packet limit ps p rest left not_yet spelled is = rw is (packet_taken ps p left not_yet spelled)
 
 not_stray : (s : Script) (ps : List First) (p : First) (e : End) → GoOn ps → packets_end s (p ∷ []) [] ≡ e → (e ≡ At Stray → ⊥) → IsStray s (first_input (ps ++ p ∷ [])) → ⊥
@@ -61,7 +61,7 @@ not_stray s ps p e go is none stray = none (sym is ∙ sym (end_more s ps (p ∷
 by_startup : (s : Script) (limit : ℕ) (left : List Answer) (log : List Logged) (d d' : FirstState) (pairs : List (List ℕ × List ℕ)) (user : List ℕ) (ps : List First) (was : History)
     → let p = first.Startup pairs in let b : BackendState = record { script = s; limit = limit; left = left; stage = stage.First d; log = log } in let e = startup_effect b d' user in
     user_from [] pairs ≡ user
-    → GoOn ps → HasBegun d' was.pushed (ps ++ p ∷ []) → d'.ended ≡ true → d'.fault ≡ None → Takes limit (first_input ps) was.rest (first_input (ps ++ p ∷ [])) d'.kept
+    → GoOn ps → HasBegun d' was.pushed (ps ++ p ∷ []) → d'.ended ≡ true → d'.fault ≡ None → HandlesNext limit (first_input ps) was.rest (first_input (ps ++ p ∷ [])) d'.kept
     → IsHistoryOf (with_input (first_input ps) was) b → AllByRecursion IsSpelled e.sent → PacketHandled b e was ps p d'.kept
 by_startup s limit left log d d' pairs [] ps was is go begun ended none takes h spelled =
     let p = first.Startup pairs in
@@ -70,7 +70,7 @@ by_startup s limit left log d d' pairs [] ps was is go begun ended none takes h 
       takes = takes;
       place = not_stray s ps p Refusal go end (λ e. cc);
       handled = packet_done s limit left log d d' p ps was (stage.Closed closed_by.Input) (Says (back.ErrorResponse no_user) ∷ []) go begun h
-          (sym (ap (λ u. map Says (asked s.auth u ++ admission_messages s (admission s.auth u []))) is)) spelled (ap (λ u. admission_log s (admission s.auth u [])) is) (sym (ap end_phase end)) tt;
+          (sym (ap (λ u. map Says (question_for s.auth u ++ admission_messages s (admission s.auth u []))) is)) spelled (ap (λ u. admission_log s (admission s.auth u [])) is) (sym (ap end_phase end)) tt;
     }
 by_startup s limit left log d d' pairs (c ∷ cs) ps was is go begun ended none takes h spelled =
     let p = first.Startup pairs in
@@ -88,7 +88,7 @@ by_startup s limit left log d d' pairs (c ∷ cs) ps was is go begun ended none 
 
 by_packet : (s : Script) (limit : ℕ) (left : List Answer) (log : List Logged) (d d' : FirstState) (p : First) (ps : List First) (was : History)
     → let b : BackendState = record { script = s; limit = limit; left = left; stage = stage.First d; log = log } in let e = packet_effect b d' p in
-    GoOn ps → HasBegun d' was.pushed (ps ++ p ∷ []) → d'.ended ≡ is_last p → d'.fault ≡ None → Takes limit (first_input ps) was.rest (first_input (ps ++ p ∷ [])) d'.kept
+    GoOn ps → HasBegun d' was.pushed (ps ++ p ∷ []) → d'.ended ≡ is_last p → d'.fault ≡ None → HandlesNext limit (first_input ps) was.rest (first_input (ps ++ p ∷ [])) d'.kept
     → IsHistoryOf (with_input (first_input ps) was) b → AllByRecursion IsSpelled e.sent → PacketHandled b e was ps p d'.kept
 by_packet s limit left log d d' first.Ssl ps was go begun ended none takes h spelled = record {
   takes = takes;

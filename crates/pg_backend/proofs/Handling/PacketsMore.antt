@@ -11,6 +11,7 @@ use Rattle.pg_script.specs.declared.script.Script.{Script}
 use Rattle.pg_script.specs.Opening.{Sent, No, sent_for}
 use Rattle.pg_script.specs.Input.{Input, is_started, sent_bytes, packets_log, packets_end, transcript, output, IsSpelled}
 use Rattle.pg_backend.specs.History.{History}
+use Rattle.pg_script.proofs.Beginnings.{all_of_both}
 
 -- a history of which this input was handled
 abbrev pub with_input : Input → History → History
@@ -74,10 +75,6 @@ log_none s (first.Startup pairs ∷ packets) ms h = absurd (no_last h.0)
 
 -- ---- what is sent
 
-pub all_append : {A : Type 0} (P : A → Type 0) (xs ys : List A) → AllByRecursion P xs → AllByRecursion P ys → AllByRecursion P (xs ++ ys)
-all_append P [] ys h k = k
-all_append P (x ∷ xs) ys h k = (h.0, all_append P xs ys h.1 k)
-
 -- What is sent beyond what was, where nothing is faulty.
 pub record SentMore (s : Script) (i j : Input) (es : List Sent) : Type 0 where
   pub more : transcript s j ≡ transcript s i ++ es
@@ -86,7 +83,7 @@ pub output_more : (s : Script) (i j : Input) (es : List Sent) (sent : List ℕ) 
 output_more s i j es sent h is = ap (λ l. l ++ flat_map sent_bytes es) is ∙ sym (flat_map-append sent_bytes (transcript s i) es) ∙ ap (flat_map sent_bytes) (sym h.more)
 
 pub spelled_more : (s : Script) (i j : Input) (es : List Sent) → SentMore s i j es → AllByRecursion IsSpelled (transcript s i) → AllByRecursion IsSpelled es → AllByRecursion IsSpelled (transcript s j)
-spelled_more s i j es h k l = rw h.more (all_append IsSpelled (transcript s i) es k l)
+spelled_more s i j es h k l = rw h.more (all_of_both IsSpelled (transcript s i) es k l)
 
 -- for one packet more
 pub packet_sent : (s : Script) (ps : List First) (p : First) (es : List Sent) → GoOn ps → es ≡ sent_for s (p ∷ []) []

@@ -9,7 +9,7 @@ use Rattle.pg_script.specs.declared.script.Auth.{Auth}
 use Rattle.pg_script.specs.declared.script.Auth.TheVariants.{Trust, Cleartext, Md5}
 use Rattle.pg_script.specs.declared.script.Script.{Script}
 use Rattle.pg_script.specs.Session.{replies}
-use Rattle.pg_script.specs.Opening.{Says, welcome, user_from, question, asked, by_password, by_auth, admission, admission_messages, started, sent_for}
+use Rattle.pg_script.specs.Opening.{Says, welcome, user_from, question, question_for, by_password, by_auth, admission, admission_messages, started, sent_for}
 use Rattle.pg_script.specs.Input.{admission_log, packets_log, admission_end}
 use Rattle.pg_backend.specs.Awaited.{IsAsked, LetIn, AwaitsAt}
 use Rattle.pg_backend.specs.Private.Opening.{awaits_first, greeting}
@@ -25,7 +25,7 @@ pub record Greeted (s : Script) (ps : List First) (pairs : List (List ℕ × Lis
 -- what is sent and logged after it, and where the messages end
 started_is : (s : Script) (pairs : List (List ℕ × List ℕ)) (c : ℕ) (cs : List ℕ) (auth : Auth) (ms : List FrontMessage) → s.auth ≡ auth → user_from [] pairs ≡ c ∷ cs
     → started s pairs ms ≡ question auth ++ admission_messages s (by_auth auth (c ∷ cs) ms)
-started_is s pairs c cs auth ms a u = ap (λ x. asked s.auth x ++ admission_messages s (admission s.auth x ms)) u ∙ ap (λ x. question x ++ admission_messages s (by_auth x (c ∷ cs) ms)) a
+started_is s pairs c cs auth ms a u = ap (λ x. question_for s.auth x ++ admission_messages s (admission s.auth x ms)) u ∙ ap (λ x. question x ++ admission_messages s (by_auth x (c ∷ cs) ms)) a
 
 logged_is : (s : Script) (pairs : List (List ℕ × List ℕ)) (c : ℕ) (cs : List ℕ) (auth : Auth) (ms : List FrontMessage) → s.auth ≡ auth → user_from [] pairs ≡ c ∷ cs
     → packets_log s (first.Startup pairs ∷ []) ms ≡ admission_log s (by_auth auth (c ∷ cs) ms)

@@ -23,7 +23,7 @@ use Rattle.pg_backend.specs.declared.stage.BackStage.TheVariants as stage
 use Rattle.std.proofs.lemmas.Option.{same_Some}
 use Rattle.pg_script.specs.Session.{Stray}
 use Rattle.pg_script.specs.Opening.{sent_for}
-use Rattle.pg_script.specs.Input.{Input, Takes, IsSpelled, sent_bytes, last_word, At, packets_end}
+use Rattle.pg_script.specs.Input.{Input, HandlesNext, IsSpelled, sent_bytes, last_word, At, packets_end}
 use Rattle.pg_backend.specs.Backend.{StepsFrom}
 use Rattle.pg_backend.specs.History.{History, IsHistoryOf, with_handled, with_message, with_fault}
 use Rattle.pg_backend.specs.Stage.{BackendState, IsSound}
@@ -101,7 +101,7 @@ takes_first s limit left log d new before after was going a h =
     let is : a.0 ≡ e = a.1.5 in
     let sends = rw is at a.3 in
     let ph = packet_handled s limit left log d d' p was.input.packets was going a.1.2 a.1.3 (subst (λ x. IsHistoryOf (with_input x was) (at s limit left log (stage.First d))) same h) sends.spelled in
-    (flat_map sent_bytes e.sent, sends.appended, (open_input (was.input.packets ++ p ∷ []) [], d'.kept, subst (λ x. Takes limit x was.rest (open_input (was.input.packets ++ p ∷ []) []) d'.kept) (sym same) ph.takes, ph.place, rw (a.2, is) ph.handled))
+    (flat_map sent_bytes e.sent, sends.appended, (open_input (was.input.packets ++ p ∷ []) [], d'.kept, subst (λ x. HandlesNext limit x was.rest (open_input (was.input.packets ++ p ∷ []) []) d'.kept) (sym same) ph.takes, ph.place, rw (a.2, is) ph.handled))
 
 -- ---- a message
 
@@ -133,7 +133,7 @@ takes_open s limit left log d w new before after was limited a h =
       (
         j,
         d'.kept,
-        subst (λ x. Takes limit x was.rest j d'.kept) (sym same) mh.takes,
+        subst (λ x. HandlesNext limit x was.rest j d'.kept) (sym same) mh.takes,
         (λ stray. not_strayed s v.left was.input.packets (was.input.messages ++ m ∷ []) (frontend.tag m) v.next a.1.4 mh.leads stray),
         rw (a.2, is) mh.handled,
       ),
@@ -160,7 +160,7 @@ strays_open s limit left log d w t new before after was limited a h =
         m,
         d'.kept,
         st.1,
-        subst (λ x. Takes limit x was.rest j d'.kept) (sym same) (subst (λ x. Takes limit (open_input was.input.packets was.input.messages) was.rest x d'.kept) (sym same_j) mh.takes),
+        subst (λ x. HandlesNext limit x was.rest j d'.kept) (sym same) (subst (λ x. HandlesNext limit (open_input was.input.packets was.input.messages) was.rest x d'.kept) (sym same_j) mh.takes),
         st.0,
         subst (λ x. IsHistoryOf (with_handled x d'.kept (flat_map sent_bytes e.sent) was) new) (sym same_j) (rw (a.2, is) mh.handled),
       ),
@@ -196,12 +196,12 @@ refused_is (Err faults.Closed) e = cc
 refused_is (Err (faults.Unexpected t)) e = cc
 refused_is (Ok x) e = cc
 
-pub had_memory : (r : Result Bool BackendFault) → is_refused r ≡ false → r ≡ Err faults.Memory → ⊥
-had_memory (Err faults.Memory) e is = cc
-had_memory (Err (faults.Wire f)) e is = cc
-had_memory (Err faults.Closed) e is = cc
-had_memory (Err (faults.Unexpected t)) e is = cc
-had_memory (Ok x) e is = cc
+pub memory_not_refused : (r : Result Bool BackendFault) → is_refused r ≡ false → r ≡ Err faults.Memory → ⊥
+memory_not_refused (Err faults.Memory) e is = cc
+memory_not_refused (Err (faults.Wire f)) e is = cc
+memory_not_refused (Err faults.Closed) e is = cc
+memory_not_refused (Err (faults.Unexpected t)) e is = cc
+memory_not_refused (Ok x) e is = cc
 
 -- a step that was refused memory
 pub refused_done : (s : Script) (limit : ℕ) (left : List Answer) (log : List Logged) (st : BackStage) (mid new : BackendState) (before after : List ℕ) (r : Result Bool BackendFault)

@@ -21,7 +21,7 @@ use Rattle.pg_script.specs.Input.{sent_bytes, IsSpelled}
 use Rattle.pg_backend.specs.Stage.{BackendState}
 use Rattle.pg_backend.specs.Private.Opening.{awaits_first, greeting, Greets}
 use Rattle.pg_backend.specs.Private.Playing.{PlayingState}
-use Rattle.pg_script.specs.Telling.{Tells}
+use Rattle.pg_script.specs.Telling.{EncodesAll}
 use Rattle.pg_backend.specs.Private.Telling.{AreSent}
 use Rattle.pg_backend.specs.Private.Advancing.{applied, named_effect, Sends}
 
@@ -36,7 +36,7 @@ says ms before after h = record {
   appended = h.appended ∙ ap (λ l. before ++ l) (sym (flat_map-map sent_bytes Says ms));
 }
 
-pub says_all : (ms : List BackMessage) (before after : List ℕ) → Tells ms before (Ok tt) after → Sends (map Says ms) before after
+pub says_all : (ms : List BackMessage) (before after : List ℕ) → EncodesAll ms before (Ok tt) after → Sends (map Says ms) before after
 says_all ms before after h = says ms before after (record { spelled = h.says.0; appended = h.appended ∙ ap (λ l. before ++ l) h.says.1 })
 
 pub put_ok : (r : Result Unit EncodeFault) (s : Result Unit BackendFault) (x : Unit {0}) → MatchResult r (λ _. s ≡ Ok tt) (λ _. s ≡ Err faults.Memory) → s ≡ Ok x → r ≡ Ok tt

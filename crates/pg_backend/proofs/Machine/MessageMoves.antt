@@ -23,7 +23,7 @@ use Rattle.pg_backend.specs.declared.stage.Next.TheVariants as next
 use Rattle.pg_script.specs.Fitting.{answer_for, others}
 use Rattle.pg_script.specs.Meaning.{in_copy, meaning}
 use Rattle.pg_script.specs.Replies.{Shape, Whole, Copies, shape, Verdict, verdict, verdict_of, at_copy_end}
-use Rattle.pg_script.specs.Session.{Exchange, exchange, Place, Copying, Terminated, Stray, Session, copy_place, begun, begin, read, cut, session}
+use Rattle.pg_script.specs.Session.{Exchange, exchange, Place, Copying, Terminated, Stray, Session, copy_place, from_exchange, from_request, from_message, session_past, session}
 use Rattle.pg_backend.specs.Awaited.{BetweenRequests, WithinRequest, AllWait, Undecided, SessionAwaits}
 use Rattle.pg_script.specs.Input.{At}
 use Rattle.pg_backend.specs.Stage.{awaited_end}
@@ -72,8 +72,8 @@ strays_tag m is = cc
 
 -- where a message leads that closes the session
 reading_place : (answers : List Answer) (ms : List FrontMessage) (m : FrontMessage) (done : List Exchange) (left : List Answer) (steps : List Step) (k : Meaning) → meaning m ≡ k
-    → BetweenRequests answers ms done left steps → (session answers (ms ++ m ∷ [])).place ≡ (read left k steps [] (λ n a s. cut n a s [])).place
-reading_place answers ms m done left steps k is r = ap (λ (s : Session). s.place) (r.goes_on (m ∷ [])) ∙ ap (λ x. (read left x steps [] (λ n a s. cut n a s [])).place) is
+    → BetweenRequests answers ms done left steps → (session answers (ms ++ m ∷ [])).place ≡ (from_message left k steps [] (λ n a s. session_past n a s [])).place
+reading_place answers ms m done left steps k is r = ap (λ (s : Session). s.place) (r.continues (m ∷ [])) ∙ ap (λ x. (from_message left x steps [] (λ n a s. session_past n a s [])).place) is
 
 between_stands : (answers : List Answer) (ms : List FrontMessage) (m : FrontMessage) (done : List Exchange) (left : List Answer) (steps : List Step) (k : Meaning) → meaning m ≡ k
     → BetweenRequests answers ms done left steps → let v = between left steps k in NextStands answers (ms ++ m ∷ []) (frontend.tag m) v.left v.next
@@ -88,10 +88,10 @@ between_stands answers ms m done left steps Strays is r = (reading_place answers
 -- ---- the data of a copy
 
 -- a copy that isn't decided
-undecided_place : (left : List Answer) (r : Request) (s : List FrontMessage) (rest : ℕ → Session) → verdict (answer_for left r) s ≡ None → (begin left r s rest).place ≡ copy_place (map in_copy s)
+undecided_place : (left : List Answer) (r : Request) (s : List FrontMessage) (rest : ℕ → Session) → verdict (answer_for left r) s ≡ None → (from_request left r s rest).place ≡ copy_place (map in_copy s)
 undecided_place left r s rest is = open_place (exchange r (answer_for left r) s) _ (copy_place (map in_copy s)) rest is
   where
-    open_place : (e : Exchange) (o : Option Verdict) (place : Place) (rest : ℕ → Session) → o ≡ None → (begun e o place rest).place ≡ place
+    open_place : (e : Exchange) (o : Option Verdict) (place : Place) (rest : ℕ → Session) → o ≡ None → (from_exchange e o place rest).place ≡ place
     open_place e None place rest is = refl
     open_place e (Some v) place rest is = cc
 
@@ -113,8 +113,8 @@ effect_stands answers ms m done left r load loaded since (Decides more result) b
     )
 effect_stands answers ms m done left r load loaded since Abandons b u h =
     let s = since ++ m ∷ [] in
-    ap (λ (x : Session). x.place) (b.goes_on (m ∷ []))
-    ∙ undecided_place left r s (λ n. cut n (others left) [] s) (verdict_at (answer_for left r) s u.before u.head load u.later None u.copies (copy_end_of load s ∙ h.0))
+    ap (λ (x : Session). x.place) (b.continues (m ∷ []))
+    ∙ undecided_place left r s (λ n. session_past n (others left) [] s) (verdict_at (answer_for left r) s u.before u.head load u.later None u.copies (copy_end_of load s ∙ h.0))
     ∙ h.1
 
 -- ---- both
@@ -138,14 +138,14 @@ moved s answers ms m left (awaits.Data c) h = record {
 -- where the messages end
 pub stands_at : (answers : List Answer) (ms : List FrontMessage) (left : List Answer) (a : Awaits) → SessionAwaits answers ms left a → At (session answers ms).place ≡ awaited_end a
 stands_at answers ms left (awaits.Password expected) h = absurd h
-stands_at answers ms left (awaits.Request steps) h = ap (λ (s : Session). At s.place) (now answers ms _ (h.1.goes_on []))
+stands_at answers ms left (awaits.Request steps) h = ap (λ (s : Session). At s.place) (now answers ms _ (h.1.continues []))
 stands_at answers ms left (awaits.Data c) h =
     let a = answer_for left c.request in
     let since = h.1 in
     let u = h.3 in
-    ap At (ap (λ (s : Session). s.place) (now answers ms _ (h.2.goes_on []))
-    ∙ ap (λ l. (begin left c.request l (λ n. cut n (others left) [] l)).place) (append-nil since)
-    ∙ undecided_place left c.request since (λ n. cut n (others left) [] since) (verdict_at a since u.before u.head c.load u.later None u.copies (still_none c.load c.loaded since a u))
+    ap At (ap (λ (s : Session). s.place) (now answers ms _ (h.2.continues []))
+    ∙ ap (λ l. (from_request left c.request l (λ n. session_past n (others left) [] l)).place) (append-nil since)
+    ∙ undecided_place left c.request since (λ n. session_past n (others left) [] since) (verdict_at a since u.before u.head c.load u.later None u.copies (still_none c.load c.loaded since a u))
     ∙ waiting_place (map in_copy since) u.waits)
   where
     waiting_place : (ms : List InCopy) → AllWait ms → copy_place ms ≡ Copying

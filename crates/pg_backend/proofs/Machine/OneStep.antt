@@ -17,7 +17,7 @@ use Rattle.pg_backend.specs.declared.stage.Next.{Next}
 use Rattle.pg_backend.specs.declared.stage.Next.TheVariants as next
 use Rattle.pg_backend.specs.declared.stage.BackStage.{BackStage}
 use Rattle.pg_backend.specs.declared.stage.BackStage.TheVariants as stage
-use Rattle.pg_backend.specs.Stage.{BackendState, IsThere, IsWaiting, IsBroken, WantsMemory}
+use Rattle.pg_backend.specs.Stage.{BackendState, IsNextWhole, IsWaiting, HasFaultyRest, WantsMemory}
 use Rattle.pg_backend.specs.Private.Moves.{Move, move}
 use Rattle.pg_backend.specs.Private.Advancing.{Effect, applied, stage_of, message_effect, stray_tag, packet_effect, Begun, Taken, HasNext, TakesEffect, Sends, Advances, BreaksOff, Hands}
 use Rattle.pg_backend.proofs.Machine.Effects.{says}
@@ -29,7 +29,7 @@ differs f g is e = cc
 
 -- The decoder wants memory for what is there, or the rest is faulty.
 abbrev Reason : BackStage → WireFault → Type 0
-Reason s f = ((f ≡ wire.Memory) × IsThere s) ⊎ ((f ≢ wire.Memory) × IsBroken s f)
+Reason s f = ((f ≡ wire.Memory) × IsNextWhole s) ⊎ ((f ≢ wire.Memory) × HasFaultyRest s f)
 
 first_reason : (d d' : FirstState) (f : WireFault) → d.fault ≡ None → FirstTakes d (Err f) d' → Reason (stage.First d) f
 first_reason d d' wire.Memory none h = inl (refl, (h.3, h.4, h.5))
@@ -57,7 +57,7 @@ open_reason d d' a (wire.BadFirst n) none (inr h) = inr (λ e. cc, h.2)
 open_reason d d' a (wire.BadBody t) none (inl h) = absurd (differs d.fault _ none h.0)
 open_reason d d' a (wire.BadBody t) none (inr h) = inr (λ e. cc, h.2)
 
-not_waiting : (s : BackStage) (f : WireFault) → IsBroken s f → IsWaiting s → ⊥
+not_waiting : (s : BackStage) (f : WireFault) → HasFaultyRest s f → IsWaiting s → ⊥
 not_waiting (stage.First d) f h w = w.no_fault f h
 not_waiting (stage.Open d a) f h w = w.no_fault f h
 not_waiting (stage.Closed e) f h w = w
@@ -70,7 +70,7 @@ wanted (stage.Open d a) f (inr h) = inr (not_waiting (stage.Open d a) f h.1)
 wanted (stage.Closed e) f (inl h) = h.1
 wanted (stage.Closed e) f (inr h) = h.1
 
-broken : (s : BackStage) (f g : WireFault) → f ≡ g → g ≢ wire.Memory → Reason s f → IsBroken s g
+broken : (s : BackStage) (f g : WireFault) → f ≡ g → g ≢ wire.Memory → Reason s f → HasFaultyRest s g
 broken s f g e not_memory (inl h) = absurd (not_memory (sym e ∙ h.0))
 broken s f g e not_memory (inr h) = rw (← e) h.1
 

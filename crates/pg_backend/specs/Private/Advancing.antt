@@ -25,7 +25,7 @@ use Rattle.pg_script.specs.Lists.{IsPrefix}
 use Rattle.pg_script.specs.Opening.{Sent, No, Says, user_from}
 use Rattle.pg_script.specs.OwnError.{no_user}
 use Rattle.pg_script.specs.Input.{sent_bytes, IsSpelled, last_word}
-use Rattle.pg_backend.specs.Stage.{BackendState, phase_of, IsWaiting, IsBroken, WantsMemory}
+use Rattle.pg_backend.specs.Stage.{BackendState, phase_of, IsWaiting, HasFaultyRest, WantsMemory}
 use Rattle.pg_backend.specs.Private.Opening.{awaits_first, greeting}
 use Rattle.pg_backend.specs.Private.Moves.{Move, move}
 use Rattle.pg_backend.specs.Private.Telling.{AreSent}
@@ -128,7 +128,7 @@ Advances old before (Ok true) new after = (e : Effect) × HasNext old old.stage 
     × (new ≡ applied old e) × Sends e.sent before after
 Advances old before (Err (faults.Unexpected t)) new after = (e : Effect)
     × HasNext old old.stage (Some t) e × (new ≡ applied old e) × Sends e.sent before after
-Advances old before (Err (faults.Wire f)) new after = IsBroken old.stage f
+Advances old before (Err (faults.Wire f)) new after = HasFaultyRest old.stage f
     × (new ≡ record old { stage = stage.Closed closed_by.Input })
     × Sends (last_word true) before after
 Advances old before (Err faults.Memory) new after = WantsMemory old.stage

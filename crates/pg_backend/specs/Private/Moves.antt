@@ -103,15 +103,15 @@ opened left r a (Some v) = record {
 }
 
 -- a request, where these answers are left
-abbrev pub asked : List Answer → Request → Move
-asked left r = opened left r (answer_for left r) (verdict (answer_for left r) [])
+abbrev pub requested : List Answer → Request → Move
+requested left r = opened left r (answer_for left r) (verdict (answer_for left r) [])
 
 -- what a message of this meaning does where a request is awaited, or the next step after these
 abbrev pub between : List Answer → List Step → Meaning → Move
-between left [] (Asks text) = asked left (request.Query text)
+between left [] (Asks text) = requested left (request.Query text)
 between left (s ∷ ss) (Asks text) = strays left 81
 between left steps (Adds s) = stays left (awaits.Request (steps ++ s ∷ []))
-between left steps Closes = asked left (request.Group steps)
+between left steps Closes = requested left (request.Group steps)
 between left steps Drops = stays left (awaits.Request steps)
 between left steps Leaves = ends left
 between left steps Strays = strays left 112

@@ -1,25 +1,17 @@
 //! The bytes that come from the server.
 
-ghost use Rattle.std.specs.Prelude.{◌≡◌, ◌<◌, false, length, None, OnOk};
-ghost use Rattle.std.specs.VecDeque.{deque_capacity};
-ghost use Rattle.pg_wire.specs.message.BackMessage.{BackMessage};
-ghost use Rattle.pg_wire.specs.message.BackMessage.TheVariants.{ParameterStatus};
-ghost use Rattle.pg_wire.specs.value.Status.{Status};
-ghost use Rattle.pg_client.specs.Session.{is_question};
+ghost use Rattle.std.specs.Prelude.{◌≡◌, None};
+ghost use Rattle.pg_wire.specs.message.BackMessage.TheVariants.{KeyData, ParameterStatus, Ready};
 ghost use Rattle.pg_client.specs.Feed.{Feeds};
-ghost use Rattle.pg_client.specs.Private.Feeding.{HearsAll, HearsMessage, HearsNext, IsNews, Knows, Notes, PutsAnswer, question, says_value};
+ghost use Rattle.pg_client.specs.Private.Feeding.{HearsAll, HearsMessage, HearsNext, IsHeard, PutsAnswer, SendsFor};
 
 use crate::client::Client;
 use crate::fault::FeedFault;
-use crate::hearing::{Heard, hear, hear_parameter};
-use crate::news::News;
+use crate::kind::Kind;
 use crate::phase::Cause;
-use crate::place::{Stand, Welcome};
 use crate::sending::put_password;
-use crate::settled::Settled;
-use pg_wire::{BackMessage, Seq};
-use std::alloc::AllocError;
-use std::collections::VecDeque;
+use crate::startup::ToSend;
+use pg_wire::{BackMessage, Seq, Status};
 
 impl Client {
     /// Takes the bytes that came from the server, all of the piece, in whatever pieces they come. Groups that are settled then
@@ -65,7 +57,7 @@ impl Client {
     {
         match self.decoder.next() {
             Ok(None) => Ok(false),
-            Ok(Some(message)) => match self.hear(message, out) {
+            Ok(Some(message)) => match self.hear_and_send(message, out) {
                 Ok(()) => Ok(true),
                 Err(fault) => {
                     self.closed = fault.cause();
@@ -80,92 +72,84 @@ impl Client {
         }
     }
 
-    // Takes a message in, and answers it if it is a question.
-    fn hear(&mut self, message: BackMessage, out: &mut Vec<u8>) -> Result<(), FeedFault>
+    // Takes a message in, and puts out what it makes the client send.
+    fn hear_and_send(&mut self, message: BackMessage, out: &mut Vec<u8>) -> Result<(), FeedFault>
         ensures message { HearsMessage message self.old result self.new }
         ensures answer { PutsAnswer self.old.settings message out.old.items result out.new.items }
     {
-        match message {
-            BackMessage::AuthCleartext => self.hear_question(None, out),
-            BackMessage::AuthMd5(salt) => self.hear_question(Some(salt), out),
-            BackMessage::ParameterStatus { name, value } => self.hear_parameter(name, value),
-            message => self.hear_other(message),
+        match self.hear(message) {
+            Ok(to_send) => self.send(to_send, out),
+            Err(fault) => Err(fault),
         }
     }
 
-    // Answers a question for a password. `start` has judged the password, so memory alone may be wanting.
-    fn hear_question(&mut self, salt: Option<[u8; 4]>, out: &mut Vec<u8>) -> Result<(), FeedFault>
-        ensures message { HearsMessage (question salt) self.old result self.new }
-        ensures answer { PutsAnswer self.old.settings (question salt) out.old.items result out.new.items }
+    // Puts an answer out. `start` has judged the password, so memory alone may be wanting.
+    fn send(&self, to_send: ToSend, out: &mut Vec<u8>) -> Result<(), FeedFault>
+        ensures { SendsFor self.now.settings to_send out.old.items result out.new.items }
     {
-        if !matches!(self.stand, Stand::Starting(Welcome::Fresh)) {
-            return Err(FeedFault::Unexpected(b'R'));
-        }
+        let ToSend::Password(salt) = to_send else {
+            return Ok(());
+        };
         let Some(password) = &self.settings.password else {
             return Err(FeedFault::PasswordWanted);
         };
         if put_password(&self.settings.user, password, salt, out).is_err() {
             return Err(FeedFault::Memory);
         }
-        self.stand = Stand::Starting(Welcome::Asked);
         Ok(())
     }
 
-    // Takes a parameter's value in.
-    fn hear_parameter(&mut self, name: Seq<u8>, value: Seq<u8>) -> Result<(), FeedFault>
-        ensures { HearsMessage (ParameterStatus name value) self.old result self.new }
+    // Takes a message in, by its kind. The answer is what it makes the client send.
+    fn hear(&mut self, message: BackMessage) -> Result<ToSend, FeedFault>
+        ensures { IsHeard message self.old result self.new }
     {
-        if !hear_parameter(&mut self.stand, &name, &value)? {
+        match Kind::of(message) {
+            Kind::Aside(aside) => self.stand.hear_aside(aside),
+            Kind::Parameter { name, value } => self.hear_parameter(name, value),
+            Kind::Error(fields) => self.stand.hear_error(fields),
+            Kind::Ready(status) => self.hear_ready(status),
+            Kind::Key { process, secret } => self.hear_key(process, secret),
+            Kind::Auth(auth) => self.stand.hear_auth(auth),
+            Kind::Result(message) => self.stand.hear_result(self.alloc, message),
+        }
+    }
+
+    // Takes a parameter's value in.
+    fn hear_parameter(&mut self, name: Seq<u8>, value: Seq<u8>) -> Result<ToSend, FeedFault>
+        ensures { IsHeard (ParameterStatus name value) self.old result self.new }
+    {
+        if !self.stand.hear_parameter(&name, &value)? {
             return Err(FeedFault::Unexpected(b'S'));
         }
-        Ok(self.parameters.set(name.into_vec(), value)?)
+        self.parameters.set(name.into_vec(), value)?;
+        Ok(ToSend::Nothing)
     }
 
-    // Takes a message in that says no parameter's value and is no question.
-    fn hear_other(&mut self, message: BackMessage) -> Result<(), FeedFault>
-        requires value { says_value message ≡ false }
-        requires question { is_question message ≡ false }
-        ensures { HearsMessage message self.old result self.new }
+    // Takes a ReadyForQuery in. Room for the group that it settles is made before, so no other message needs it.
+    fn hear_ready(&mut self, status: Status) -> Result<ToSend, FeedFault>
+        ensures { IsHeard (Ready status) self.old result self.new }
     {
-        let news = News::of(&message);
-        if make_room(&mut self.settled, news).is_err() {
-            return Err(FeedFault::Memory);
-        }
-        match hear(self.alloc, &mut self.stand, message) {
-            Ok(Heard::Stays) => {
-                self.note(news);
-                Ok(())
+        self.settled.reserve(1)?;
+        match self.stand.hear_ready(self.alloc, status) {
+            Ok(ended) => {
+                if let Some(settled) = ended {
+                    self.settled.push_back_reserved(settled);
+                }
+                self.status = Some(status);
+                Ok(ToSend::Nothing)
             }
-            Ok(Heard::Settles(settled)) => {
-                self.settled.push_back_reserved(settled);
-                self.note(news);
-                Ok(())
-            }
-            Ok(Heard::Refused(fault)) => Err(fault),
-            Err(_) => Err(FeedFault::Memory),
+            Err(fault) => Err(fault),
         }
     }
 
-    // Notes what a message says of the session.
-    fn note(&mut self, news: News)
-        ensures place { Notes self.old self.new }
-        ensures knows { (m : BackMessage) → says_value m ≡ false → IsNews m news → Knows m self.old self.new }
+    // Takes a key in.
+    fn hear_key(&mut self, process: i32, secret: i32) -> Result<ToSend, FeedFault>
+        ensures { IsHeard (KeyData process secret) self.old result self.new }
     {
-        match news {
-            News::Nothing => {}
-            News::Status(status) => self.status = Some(status),
-            News::Key { process, secret } => self.key = Some((process, secret)),
+        if !self.stand.takes_key() {
+            return Err(FeedFault::Unexpected(b'K'));
         }
-    }
-}
-
-// Makes room for the group that ends with a ReadyForQuery, before that is heard: no other message needs it.
-fn make_room(settled: &mut VecDeque<Settled>, news: News) -> Result<(), AllocError>
-    ensures items { settled.new.items ≡ settled.old.items }
-    ensures room { OnOk result ((status : Status) → news ≡ News.Status status → length settled.new.items < deque_capacity settled.new) }
-{
-    match news {
-        News::Status(_) => settled.reserve(1),
-        _ => Ok(()),
+        self.key = Some((process, secret));
+        Ok(ToSend::Nothing)
     }
 }

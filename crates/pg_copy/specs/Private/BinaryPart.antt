@@ -81,14 +81,14 @@ part_at (Failed fault) columns limit bytes = Err (Faulty fault)
 -- ---- a look at the next part
 
 -- what stands after the head, where it is still to be read
-abbrev pub IsBehindHead : Bool → List ℕ → List ℕ → Type 0
-IsBehindHead true bytes rest = rest_of (head_at bytes) ≡ Ok rest
-IsBehindHead false bytes rest = bytes ≡ rest
+abbrev pub IsAfterHead : Bool → List ℕ → List ℕ → Type 0
+IsAfterHead true bytes rest = rest_of (head_at bytes) ≡ Ok rest
+IsAfterHead false bytes rest = bytes ≡ rest
 
 -- Where the row begins, or why the head in front of it isn't whole.
 abbrev pub StartsRow : Bool → List ℕ → ℕ → Result ℕ Stop → Type 0
 StartsRow in_head bytes start (Ok n) = (n ≤ length bytes)
-    × IsBehindHead in_head bytes (drop n bytes)
+    × IsAfterHead in_head bytes (drop n bytes)
     × ((((in_head ≡ false) ⊎ (0 < start)) × (n ≡ start))
     ⊎ ((in_head ≡ true) × (start ≡ 0) × (0 < n)))
 StartsRow in_head bytes start (Err stop) = (in_head ≡ true) × (start ≡ 0)
@@ -97,7 +97,7 @@ StartsRow in_head bytes start (Err stop) = (in_head ≡ true) × (start ≡ 0)
 -- How far the next part was looked over: where the row begins, and the walk over it.
 pub record IsLooked (in_head : Bool) (columns limit : ℕ) (bytes : List ℕ) (l : Look) : Type 0 where
   pub in_range : l.start ≤ length bytes
-  pub head : (in_head ≡ false) ⊎ (0 < l.start) → IsBehindHead in_head bytes (drop l.start bytes)
+  pub head : (in_head ≡ false) ⊎ (0 < l.start) → IsAfterHead in_head bytes (drop l.start bytes)
   pub fresh : in_head ≡ true → l.start ≡ 0 → l.walk.at ≡ 0
   pub none : in_head ≡ false → l.start ≡ 0
   pub walk : IsRowWalked columns limit (drop l.start bytes) l.walk
@@ -110,7 +110,7 @@ stage_of false = Rows
 -- What a look at the next part finds: a row, the trailer, or why there is neither.
 abbrev pub FindsPart : Bool → ℕ → ℕ → List ℕ → Result RowOrTrailer Stop → Look → Type 0
 FindsPart in_head columns limit bytes (Ok parts.Row) l = (0 < l.walk.at) × (l.walk.left ≡ 0)
-    × IsBehindHead in_head bytes (drop l.start bytes)
+    × IsAfterHead in_head bytes (drop l.start bytes)
 FindsPart in_head columns limit bytes (Ok parts.Trailer) l =
     part_at (stage_of in_head) columns limit bytes ≡ Ok ((None, Closed), [])
 FindsPart in_head columns limit bytes (Err stop) l = (part_at (stage_of in_head) columns limit bytes
@@ -146,15 +146,15 @@ in_extension None s = s
 in_extension (Some n) s = record s { kept = []; stage = Extension n }
 
 -- where a reader waits for the rest of a part: a head that is whole is taken off, and an extension
-abbrev pub behind_head : Result (List ℕ × List ℕ) NoPart → BinaryState → BinaryState → BinaryState
-behind_head (Ok h) stays s = record s { kept = h.1; stage = Rows }
-behind_head (Err stop) stays s = stays
+abbrev pub after_head : Result (List ℕ × List ℕ) NoPart → BinaryState → BinaryState → BinaryState
+after_head (Ok h) stays s = record s { kept = h.1; stage = Rows }
+after_head (Err stop) stays s = stays
 
 -- a reader that stands there and waits for more bytes
 abbrev pub waiting_at : BinaryStage → BinaryState → BinaryState
 waiting_at Head s =
-    behind_head (head_at s.kept) (in_extension (extension_left (fixed_at s.kept)) s) s
-waiting_at (Extension n) s = behind_head (bytes_at n s.kept) s s
+    after_head (head_at s.kept) (in_extension (extension_left (fixed_at s.kept)) s) s
+waiting_at (Extension n) s = after_head (bytes_at n s.kept) s s
 waiting_at Rows s = s
 waiting_at Closed s = s
 waiting_at (Failed fault) s = s

@@ -32,8 +32,8 @@ pub record IsPlain (b : ℕ) : Type 0 where
   pub no_letter : letter_for b ≡ None
 
 -- the walk after one byte more
-abbrev pub behind : Scan → ℕ → Scan
-behind s b =
+abbrev pub after : Scan → ℕ → Scan
+after s b =
     if s.escaped then record {
       at = s.at + 1;
       escaped = false;

@@ -1,7 +1,7 @@
 //! The kinds of the backend's messages, by their tags.
 
 ghost use Rattle.std.specs.Prelude.{◌≡◌, IfSome};
-ghost use Rattle.pg_message.specs.Private.BackReader.{back_byte, back_kind_of};
+ghost use Rattle.pg_message.specs.Private.BackReader.{back_reading, back_kind_of};
 
 /// What a tag stands for. Authentication requests share one.
 #[derive(Clone, Copy, Debug, PartialEq, Eq)]
@@ -32,7 +32,7 @@ pub enum BackKind {
 impl BackKind {
     pub fn of(byte: u8) -> Option<BackKind>
         ensures value { result ≡ back_kind_of byte }
-        ensures byte { IfSome result (λ kind. byte ≡ back_byte kind) }
+        ensures byte { IfSome result (λ kind. byte ≡ (back_reading kind).tag) }
     {
         match byte {
             b'R' => Some(BackKind::Auth),

@@ -1,8 +1,8 @@
 //! Reading the bodies of the backend's messages.
 
-ghost use Rattle.std.specs.Prelude.{◌≡◌};
 ghost use Rattle.pg_layout.specs.Private.Reader.{Gives};
-ghost use Rattle.pg_message.specs.Private.BackReader.{auth_at, back_message_of};
+ghost use Rattle.pg_message.specs.declared.backend.kind.BackKind.TheVariants.{Auth};
+ghost use Rattle.pg_message.specs.Private.BackReader.{back_reading};
 
 use super::kind::BackKind;
 use crate::message::BackMessage;
@@ -13,7 +13,7 @@ use std::alloc::Global;
 
 /// An authentication request, whose code says which.
 fn auth(alloc: Global, bytes: &[u8]) -> Result<BackMessage, BodyFault>
-    ensures { Gives (λ m. m) result (auth_at bytes.now) }
+    ensures { Gives (λ m. m) result ((back_reading Auth).message bytes.now) }
 {
     let (code, rest) = i32_at(bytes)?;
     match code {
@@ -31,9 +31,8 @@ fn auth(alloc: Global, bytes: &[u8]) -> Result<BackMessage, BodyFault>
 }
 
 /// The message of this kind and this body.
-#[tactic(auto, unfolding(crate::specs::Private::BackReader::back_message_of))]
 pub fn back_message(alloc: Global, kind: BackKind, body: &[u8]) -> Result<BackMessage, BodyFault>
-    ensures { Gives (λ m. m) result (back_message_of kind body.now) }
+    ensures { Gives (λ m. m) result ((back_reading kind).message body.now) }
 {
     match kind {
         BackKind::Auth => auth(alloc, body),

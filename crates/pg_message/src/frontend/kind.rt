@@ -1,7 +1,7 @@
 //! The kinds of the frontend's messages, by their tags.
 
 ghost use Rattle.std.specs.Prelude.{◌≡◌, IfSome};
-ghost use Rattle.pg_message.specs.Private.FrontReader.{front_byte, front_kind_of};
+ghost use Rattle.pg_message.specs.Private.FrontReader.{front_reading, front_kind_of};
 
 /// What a tag stands for.
 #[derive(Clone, Copy, Debug, PartialEq, Eq)]
@@ -24,7 +24,7 @@ pub enum FrontKind {
 impl FrontKind {
     pub fn of(byte: u8) -> Option<FrontKind>
         ensures value { result ≡ front_kind_of byte }
-        ensures byte { IfSome result (λ kind. byte ≡ front_byte kind) }
+        ensures byte { IfSome result (λ kind. byte ≡ (front_reading kind).tag) }
     {
         match byte {
             b'Q' => Some(FrontKind::Query),

@@ -1,7 +1,7 @@
 //! Reading the bodies of the frontend's messages.
 
 ghost use Rattle.pg_layout.specs.Private.Reader.{Gives, choice_at};
-ghost use Rattle.pg_message.specs.Private.FrontReader.{front_message_of, target_of_byte};
+ghost use Rattle.pg_message.specs.Private.FrontReader.{front_reading, target_of_byte};
 
 use super::kind::FrontKind;
 use crate::message::FrontMessage;
@@ -19,9 +19,8 @@ fn target_at(bytes: &[u8]) -> Result<(Target, &[u8]), BodyFault>
 }
 
 /// The message of this kind and this body.
-#[tactic(auto, unfolding(crate::specs::Private::FrontReader::front_message_of))]
 pub fn front_message(alloc: Global, kind: FrontKind, body: &[u8]) -> Result<FrontMessage, BodyFault>
-    ensures { Gives (λ m. m) result (front_message_of kind body.now) }
+    ensures { Gives (λ m. m) result ((front_reading kind).message body.now) }
 {
     match kind {
         FrontKind::Query => {

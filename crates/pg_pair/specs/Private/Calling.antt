@@ -4,13 +4,14 @@ use Rattle.std.specs.Vec.{vec_capacity, vec_len}
 use Rattle.std.specs.declared.vec.Vec.{Vec}
 use Rattle.pg_wire.specs.declared.session.Request.{Request}
 use Rattle.pg_client.specs.declared.fault.CallFault.{CallFault}
+use Rattle.pg_client.specs.Session.{request_made}
 use Rattle.pg_client.specs.Client.{ClientView, phase_of}
 use Rattle.pg_client.specs.Calls.{Accepts}
-use Rattle.pg_pair.specs.declared.event.Call.{Call}
-use Rattle.pg_pair.specs.declared.event.Call.TheVariants as call
+use Rattle.pg_client.specs.declared.call.Call.{Call}
+use Rattle.pg_client.specs.declared.call.Call.TheVariants as call
 use Rattle.pg_pair.specs.declared.pair.calling.Kept.{Kept}
 use Rattle.pg_pair.specs.declared.pair.calling.Kept.TheVariants as kept
-use Rattle.pg_pair.specs.Calling.{add_to_last, client_call, IsAllowedIn, RefusesCall, request_of}
+use Rattle.pg_pair.specs.Calling.{add_to_last, IsAllowedIn, RefusesCall}
 use Rattle.pg_pair.specs.Private.Chunks.{list_of}
 
 -- what is kept of a call
@@ -34,8 +35,8 @@ answer_with (Err f) k = Err (None, f)
 abbrev pub ClientAnswers : Call → ClientView → List ℕ
     → Result Kept (Option Request × CallFault) → ClientView → List ℕ → Type 0
 ClientAnswers c old before (Ok k) new after = IsAllowedIn c (phase_of old)
-    × Accepts (client_call c) old new before after × (k ≡ kept_of c)
-ClientAnswers c old before (Err refusal) new after = (refusal.0 ≡ request_of c)
+    × Accepts c old new before after × (k ≡ kept_of c)
+ClientAnswers c old before (Err refusal) new after = (refusal.0 ≡ request_made c)
     × RefusesCall old c refusal.1 × (new ≡ old) × (after ≡ before)
 
 -- The last request's chunks are taken out for one more of them alone.

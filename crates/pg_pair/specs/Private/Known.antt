@@ -3,7 +3,7 @@ use Rattle.std.specs.Prelude.{◌≡◌, ℕ, [], ◌∷◌, ◌++◌}
 use Rattle.pg_wire.specs.Backend.{backend}
 use Rattle.pg_wire.specs.Frontend.{frontend}
 use Rattle.pg_wire.specs.Laws.{OneSpelling, OnePacket, OneOutcome, FaultyBeginsNone, FaultyBeginsNoPacket}
-use Rattle.pg_client.specs.Session.{Call}
+use Rattle.pg_client.specs.declared.call.Call.{Call}
 use Rattle.pg_client.specs.Client.{ClientView}
 use Rattle.pg_client.specs.History.{Calls, History, happenings, IsHistoryOf}
 use Rattle.pg_client.specs.Facts.{Facts}

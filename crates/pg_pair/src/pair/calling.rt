@@ -10,11 +10,11 @@ ghost use Rattle.pg_pair.specs.Private.Chunks.{HasRoom, list_of};
 ghost use Rattle.pg_pair.specs.declared.event.Event.TheVariants as event;
 
 use crate::carry::Carry;
-use crate::event::{Applied, Call, PairFault};
+use crate::event::{Applied, PairFault};
 use crate::known::known;
 use crate::pair::Pair;
 use crate::pair::chunks::{add_chunk, make_chunk_room, put_last, take_last};
-use pg_client::{CallFault, Client, Settled};
+use pg_client::{Call, CallFault, Client, Settled};
 use pg_wire::{Request, Seq};
 use std::alloc::{AllocError, Global};
 
@@ -143,7 +143,7 @@ impl<C: Carry> Pair<C> {
     {
         known();
         let mut chunks = take_chunks(&call, &mut self.handed);
-        if self.places.reserve(1).is_err()
+        if self.fed_before.reserve(1).is_err()
             || make_room(&call, &mut chunks, &mut self.handed, &mut self.settled).is_err()
         {
             put_last(&mut self.handed, chunks);
@@ -151,7 +151,7 @@ impl<C: Carry> Pair<C> {
         }
         match call_client(&mut self.client, call, &mut self.to_backend.sent) {
             Ok(kept) => {
-                self.places.push_reserved(self.to_client.reached);
+                self.fed_before.push_reserved(self.to_client.reached);
                 put_chunks(self.alloc, &mut self.handed, chunks, kept);
                 Ok(Applied::Done)
             }

@@ -1,6 +1,6 @@
 -- Messages after the one that decides a request change neither its verdict nor its reply.
-use Rattle.std.proofs.Common.{◌≡◌, ℕ, zero, suc, List, [], ◌∷◌, ◌++◌, Option, Some, None, option_map, map, refl, ap, sym, ◌∙◌, append_assoc}
-use Rattle.std.proofs.lemmas.List.{map-append, append-nil}
+use Rattle.std.proofs.Common.{◌≡◌, ℕ, zero, suc, List, [], ◌∷◌, ◌++◌, Option, Some, None, option_map, map, refl, ap, sym, ◌∙◌}
+use Rattle.std.proofs.lemmas.List.{map-append}
 use Rattle.pg_wire.specs.message.BackMessage.TheVariants as back
 use Rattle.pg_wire.specs.value.ErrorField.{ErrorField}
 use Rattle.pg_wire.specs.message.FrontMessage.{FrontMessage}
@@ -8,18 +8,23 @@ use Rattle.pg_script.specs.declared.script.Answer.{Answer}
 use Rattle.pg_script.specs.declared.script.Load.{Load}
 use Rattle.pg_script.specs.declared.script.Load.TheVariants.{Accept, Refuse}
 use Rattle.pg_script.specs.declared.script.ScriptPart.{ScriptPart}
-use Rattle.pg_script.specs.Lists.{IsPrefix, Keeps}
+use Rattle.pg_script.specs.Lists.{IsPrefix}
 use Rattle.pg_script.specs.declared.meaning.InCopy.{InCopy}
 use Rattle.pg_script.specs.declared.meaning.InCopy.TheVariants as copy
 use Rattle.pg_script.specs.Copies.{CopyEnd, with_chunk, with_wait, accepted, refused, copy_end}
 use Rattle.pg_script.specs.Meaning.{in_copy}
 use Rattle.pg_script.specs.Replies.{Shape, Whole, Copies, shape, Verdict, verdict, verdict_of, at_copy_end, aside_message, parts_sent, after_copy, reply, reply_of}
+use Rattle.pg_script.proofs.Beginnings.{begins_after, begins_cons, begins_nil, begins_same}
 
-pub keeps_map : {A B : Type 0} (f : A → B) (o p : Option A) → Keeps o p → Keeps (option_map f o) (option_map f p)
+-- Where the first is Some, the second is the same.
+abbrev pub KeepsSome : {A : Type 0} → Option A → Option A → Type 0
+KeepsSome {A} o p = (x : A) → o ≡ Some x → p ≡ Some x
+
+pub keeps_map : {A B : Type 0} (f : A → B) (o p : Option A) → KeepsSome o p → KeepsSome (option_map f o) (option_map f p)
 keeps_map f None p h y e = cc
 keeps_map f (Some x) p h y e = ap (option_map f) (h x refl) ∙ e
 
-pub accepted_more : (tag : List ℕ) (ms more : List InCopy) → Keeps (accepted tag ms) (accepted tag (ms ++ more))
+pub accepted_more : (tag : List ℕ) (ms more : List InCopy) → KeepsSome (accepted tag ms) (accepted tag (ms ++ more))
 accepted_more tag [] more = λ e is. cc
 accepted_more tag (copy.Chunk bytes ∷ ms) more = keeps_map (with_chunk bytes) (accepted tag ms) (accepted tag (ms ++ more)) (accepted_more tag ms more)
 accepted_more tag (copy.Done ∷ ms) more = λ e is. is
@@ -28,7 +33,7 @@ accepted_more tag (copy.Strays ∷ ms) more = λ e is. is
 accepted_more tag (copy.Waits ∷ ms) more = keeps_map with_wait (accepted tag ms) (accepted tag (ms ++ more)) (accepted_more tag ms more)
 accepted_more tag (copy.Leaves ∷ ms) more = λ e is. is
 
-pub refused_more : (fields : List ErrorField) (n : ℕ) (ms more : List InCopy) → Keeps (refused fields n ms) (refused fields n (ms ++ more))
+pub refused_more : (fields : List ErrorField) (n : ℕ) (ms more : List InCopy) → KeepsSome (refused fields n ms) (refused fields n (ms ++ more))
 refused_more fields zero ms more = λ e is. is
 refused_more fields (suc n) [] more = λ e is. cc
 refused_more fields (suc n) (copy.Chunk bytes ∷ ms) more = keeps_map (with_chunk bytes) (refused fields n ms) (refused fields n (ms ++ more)) (refused_more fields n ms more)
@@ -39,45 +44,20 @@ refused_more fields (suc n) (copy.Waits ∷ ms) more = keeps_map with_wait (refu
 refused_more fields (suc n) (copy.Leaves ∷ ms) more = λ e is. is
 
 -- a copy that has ended stays ended
-pub copy_end_more : (load : Load) (ms more : List FrontMessage) → Keeps (copy_end load ms) (copy_end load (ms ++ more))
+pub copy_end_more : (load : Load) (ms more : List FrontMessage) → KeepsSome (copy_end load ms) (copy_end load (ms ++ more))
 copy_end_more (Accept tag) ms more = rw (map-append in_copy ms more) (accepted_more tag (map in_copy ms) (map in_copy more))
 copy_end_more (Refuse n fields) ms more = rw (map-append in_copy ms more) (refused_more fields n (map in_copy ms) (map in_copy more))
 
-verdict_of_more : (a : Answer) (s : Shape) (ms more : List FrontMessage) → Keeps (verdict_of a s ms) (verdict_of a s (ms ++ more))
+verdict_of_more : (a : Answer) (s : Shape) (ms more : List FrontMessage) → KeepsSome (verdict_of a s ms) (verdict_of a s (ms ++ more))
 verdict_of_more a Whole ms more = λ v is. is
 verdict_of_more a (Copies before head load after) ms more =
     keeps_map (at_copy_end a before) (copy_end load ms) (copy_end load (ms ++ more)) (copy_end_more load ms more)
 
 -- a verdict stands, whatever comes after it
-pub verdict_more : (a : Answer) (ms more : List FrontMessage) → Keeps (verdict a ms) (verdict a (ms ++ more))
+pub verdict_more : (a : Answer) (ms more : List FrontMessage) → KeepsSome (verdict a ms) (verdict a (ms ++ more))
 verdict_more a ms more = verdict_of_more a (shape a.parts) ms more
 
--- beginnings
-pub begins_nil : {A : Type 0} (xs : List A) → IsPrefix [] xs
-begins_nil xs = (xs, refl)
-
-pub begins_same : {A : Type 0} (xs : List A) → IsPrefix xs xs
-begins_same xs = ([], sym (append-nil xs))
-
-pub begins_append : {A : Type 0} (xs ys : List A) → IsPrefix xs (xs ++ ys)
-begins_append xs ys = (ys, refl)
-
-pub begins_after : {A : Type 0} (front xs ys : List A) → IsPrefix xs ys → IsPrefix (front ++ xs) (front ++ ys)
-begins_after front xs ys h = (h.0, ap (λ l. front ++ l) h.1 ∙ sym (append_assoc front xs h.0))
-
-pub begins_cons : {A : Type 0} (x : A) (xs ys : List A) → IsPrefix xs ys → IsPrefix (x ∷ xs) (x ∷ ys)
-begins_cons x xs ys h = (h.0, ap (λ l. x ∷ l) h.1)
-
-pub begins_trans : {A : Type 0} (xs ys zs : List A) → IsPrefix xs ys → IsPrefix ys zs → IsPrefix xs zs
-begins_trans xs ys zs h k = (h.0 ++ k.0, k.1 ∙ ap (λ l. l ++ k.0) h.1 ∙ append_assoc xs h.0 k.0)
-
-pub begins_more : {A : Type 0} (xs ys more : List A) → IsPrefix xs ys → IsPrefix xs (ys ++ more)
-begins_more xs ys more h = begins_trans xs ys (ys ++ more) h (begins_append ys more)
-
-pub begins_same_as : {A : Type 0} (xs xs' ys ys' : List A) → xs ≡ xs' → ys ≡ ys' → IsPrefix xs' ys' → IsPrefix xs ys
-begins_same_as xs xs' ys ys' e f h = (h.0, f ∙ h.1 ∙ ap (λ l. l ++ h.0) (sym e))
-
-after_copy_grows : (a : Answer) (after : List ScriptPart) (o p : Option CopyEnd) → Keeps o p → IsPrefix (after_copy a after o) (after_copy a after p)
+after_copy_grows : (a : Answer) (after : List ScriptPart) (o p : Option CopyEnd) → KeepsSome o p → IsPrefix (after_copy a after o) (after_copy a after p)
 after_copy_grows a after None p h = begins_nil (after_copy a after p)
 after_copy_grows a after (Some e) p h = rw (h e refl) (begins_same (after_copy a after (Some e)))
 

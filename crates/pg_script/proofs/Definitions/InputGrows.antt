@@ -1,8 +1,8 @@
 -- What is sent and logged for an input grows at its end alone.
-use Rattle.std.proofs.Common.{inl, inr, ℕ, Bool, true, false, List, [], ◌∷◌, ◌++◌, map, refl, ap, ◌∙◌}
+use Rattle.std.proofs.Common.{inl, inr, ℕ, Bool, true, false, List, [], ◌∷◌, ◌++◌, refl, ap, ◌∙◌}
 use Rattle.std.specs.Prelude.{if◌then◌else◌}
 use Rattle.std.specs.Str.{bytes_eq}
-use Rattle.std.proofs.lemmas.List.{append-nil, map-append}
+use Rattle.std.proofs.lemmas.List.{append-nil}
 use Rattle.pg_wire.specs.message.First.{First}
 use Rattle.pg_wire.specs.message.First.TheVariants as first
 use Rattle.pg_wire.specs.message.FrontMessage.{FrontMessage}
@@ -12,15 +12,12 @@ use Rattle.pg_script.specs.declared.script.Auth.{Auth}
 use Rattle.pg_script.specs.declared.script.Auth.TheVariants.{Trust, Cleartext, Md5}
 use Rattle.pg_script.specs.declared.script.Script.{Script}
 use Rattle.pg_script.specs.Lists.{IsPrefix}
-use Rattle.pg_script.specs.Opening.{No, Says, welcome, user_from, asked, Admission, Refused, Admitted, by_password, admission, admission_messages, sent_for}
+use Rattle.pg_script.specs.Opening.{No, Says, welcome, user_from, question_for, Admission, Refused, Admitted, by_password, admission, admission_messages, sent_for}
 use Rattle.pg_script.specs.OwnError.{wrong_password}
 use Rattle.pg_script.specs.Input.{Input, packets_log, admission_log, last_word, transcript, input_log}
 use Rattle.pg_script.specs.Laws.{IsExtendedBy, TranscriptGrows, LogGrows}
-use Rattle.pg_script.proofs.Definitions.DecidedStays.{begins_nil, begins_same, begins_after, begins_cons, begins_more, begins_same_as}
+use Rattle.pg_script.proofs.Beginnings.{begins_after, begins_cons, begins_map, begins_more, begins_nil, begins_same, begins_same_as}
 use Rattle.pg_script.proofs.Definitions.SessionGrows.{replies_grow, log_grows}
-
-begins_map : {A B : Type 0} (f : A → B) (xs ys : List A) → IsPrefix xs ys → IsPrefix (map f xs) (map f ys)
-begins_map f xs ys h = (map f h.0, ap (map f) h.1 ∙ map-append f xs h.0)
 
 -- more messages of a client whose password is awaited
 password_grows : (s : Script) (expected : List ℕ) (ms more : List FrontMessage)
@@ -54,7 +51,7 @@ messages_grow s (first.Ssl ∷ packets) ms more = let h = messages_grow s packet
 messages_grow s (first.Gss ∷ packets) ms more = let h = messages_grow s packets ms more in (begins_cons No _ _ h.0, h.1)
 messages_grow s (first.Cancel process secret ∷ packets) ms more = (begins_nil _, (messages_grow s packets ms more).1)
 messages_grow s (first.Startup pairs ∷ packets) ms more =
-    let h = admission_grows s s.auth (user_from [] pairs) ms more in (begins_map Says _ _ (begins_after (asked s.auth (user_from [] pairs)) _ _ h.0), h.1)
+    let h = admission_grows s s.auth (user_from [] pairs) ms more in (begins_map Says _ _ (begins_after (question_for s.auth (user_from [] pairs)) _ _ h.0), h.1)
 
 -- more packets
 packets_grow : (s : Script) (packets more : List First) (ms : List FrontMessage)
@@ -64,7 +61,7 @@ packets_grow s (first.Ssl ∷ packets) more ms = let h = packets_grow s packets 
 packets_grow s (first.Gss ∷ packets) more ms = let h = packets_grow s packets more ms in (begins_cons No _ _ h.0, h.1)
 packets_grow s (first.Cancel process secret ∷ packets) more ms = (begins_nil _, (packets_grow s packets more ms).1)
 packets_grow s (first.Startup pairs ∷ packets) more ms =
-    let h = admission_grows s s.auth (user_from [] pairs) [] ms in (begins_map Says _ _ (begins_after (asked s.auth (user_from [] pairs)) _ _ h.0), h.1)
+    let h = admission_grows s s.auth (user_from [] pairs) [] ms in (begins_map Says _ _ (begins_after (question_for s.auth (user_from [] pairs)) _ _ h.0), h.1)
 
 both_grow : (s : Script) (i j : Input) → IsExtendedBy i j → IsPrefix (sent_for s i.packets i.messages) (sent_for s j.packets j.messages) × IsPrefix (input_log s i) (input_log s j)
 both_grow s i j (f, inl h) = rw (h.0, h.1.1) (messages_grow s i.packets i.messages h.1.0)

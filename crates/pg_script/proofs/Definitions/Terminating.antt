@@ -20,7 +20,7 @@ use Rattle.pg_script.specs.Meaning.{in_copy, meaning}
 use Rattle.pg_script.specs.Replies.{Shape, Whole, Copies, shape, Verdict, verdict, verdict_of, at_copy_end, aside_message, parts_sent, after_copy, reply, reply_of}
 use Rattle.pg_script.specs.declared.meaning.Meaning.{Meaning}
 use Rattle.pg_script.specs.declared.meaning.Meaning.TheVariants.{Asks, Adds, Closes, Drops, Leaves, Strays}
-use Rattle.pg_script.specs.Session.{Exchange, exchange, Place, Between, Session, copy_place, begun, begin, read, cut, farewell, replies, decided, log_of}
+use Rattle.pg_script.specs.Session.{Exchange, exchange, Place, Between, Session, copy_place, from_exchange, from_request, from_message, session_past, farewell, replies, decided, log_of}
 use Rattle.pg_script.proofs.Definitions.SessionGrows.{no_farewell_after, no_farewell_copy}
 
 accepted_leaves : (tag : List ℕ) (ms : List InCopy) → accepted tag (ms ++ copy.Leaves ∷ []) ≡ accepted tag ms
@@ -75,13 +75,13 @@ pub record LeavesSame (s t : Session) : Type 0 where
 
 begun_leaves : (e f : Exchange) (o p : Option Verdict) (place place' : Place) (rest rest' : ℕ → Session)
     → e ≡ f → o ≡ p → farewell place ≡ farewell place' → ((n : ℕ) → LeavesSame (rest n) (rest' n))
-    → LeavesSame (begun e o place rest) (begun f p place' rest')
+    → LeavesSame (from_exchange e o place rest) (from_exchange f p place' rest')
 begun_leaves e f None p place place' rest rest' h k silent more = rw (← k, h) (record { exchanges = refl; silent = silent })
 begun_leaves e f (Some v) p place place' rest rest' h k silent more =
     let m = more v.taken in rw (← k, h) (record { exchanges = ap (λ l. f ∷ l) m.exchanges; silent = m.silent })
 
 begin_leaves : (answers : List Answer) (r : Request) (ms : List FrontMessage) (rest rest' : ℕ → Session)
-    → ((n : ℕ) → LeavesSame (rest n) (rest' n)) → LeavesSame (begin answers r (ms ++ leave) rest) (begin answers r ms rest')
+    → ((n : ℕ) → LeavesSame (rest n) (rest' n)) → LeavesSame (from_request answers r (ms ++ leave) rest) (from_request answers r ms rest')
 begin_leaves answers r ms rest rest' more =
     let a = answer_for answers r in
     begun_leaves (exchange r a (ms ++ leave)) (exchange r a ms) (verdict a (ms ++ leave)) (verdict a ms) (copy_place (map in_copy (ms ++ leave))) (copy_place (map in_copy ms)) rest rest'
@@ -90,7 +90,7 @@ begin_leaves answers r ms rest rest' more =
 
 read_leaves : (answers : List Answer) (k : Meaning) (steps : List Step) (ms : List FrontMessage) (rest rest' : ℕ → List Answer → List Step → Session)
     → ((n : ℕ) (a : List Answer) (s : List Step) → LeavesSame (rest n a s) (rest' n a s))
-    → LeavesSame (read answers k steps (ms ++ leave) rest) (read answers k steps ms rest')
+    → LeavesSame (from_message answers k steps (ms ++ leave) rest) (from_message answers k steps ms rest')
 read_leaves answers (Asks text) [] ms rest rest' more = begin_leaves answers (request.Query text) ms _ _ (λ n. more n (others answers) [])
 read_leaves answers (Asks text) (s ∷ ss) ms rest rest' more = record { exchanges = refl; silent = refl }
 read_leaves answers (Adds s) steps ms rest rest' more = more 0 answers (steps ++ s ∷ [])
@@ -99,7 +99,7 @@ read_leaves answers Drops steps ms rest rest' more = more 0 answers steps
 read_leaves answers Leaves steps ms rest rest' more = record { exchanges = refl; silent = refl }
 read_leaves answers Strays steps ms rest rest' more = record { exchanges = refl; silent = refl }
 
-cut_leaves : (n : ℕ) (answers : List Answer) (steps : List Step) (ms : List FrontMessage) → LeavesSame (cut n answers steps (ms ++ leave)) (cut n answers steps ms)
+cut_leaves : (n : ℕ) (answers : List Answer) (steps : List Step) (ms : List FrontMessage) → LeavesSame (session_past n answers steps (ms ++ leave)) (session_past n answers steps ms)
 cut_leaves zero answers steps [] = record { exchanges = refl; silent = sym (no_farewell_after steps) }
 cut_leaves (suc n) answers steps [] = record { exchanges = refl; silent = refl }
 cut_leaves zero answers steps (m ∷ ms) = read_leaves answers (meaning m) steps ms _ _ (λ n a s. cut_leaves n a s ms)

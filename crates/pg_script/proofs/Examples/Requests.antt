@@ -5,7 +5,6 @@ use Rattle.std.specs.List.{list_all}
 use Rattle.pg_wire.specs.message.BackMessage.{BackMessage}
 use Rattle.pg_wire.specs.message.BackMessage.TheVariants as back
 use Rattle.pg_wire.specs.value.ErrorField.{ErrorField}
-use Rattle.pg_wire.specs.value.CopyHead.{CopyHead}
 use Rattle.pg_wire.specs.value.Column.{Column}
 use Rattle.pg_wire.specs.message.First.TheVariants as first
 use Rattle.pg_wire.specs.message.FrontMessage.{FrontMessage}
@@ -31,15 +30,13 @@ use Rattle.pg_script.specs.Session.{Copying, session, replies, log_of}
 use Rattle.pg_script.specs.Opening.{No, Says, by_password, admission_messages}
 use Rattle.pg_script.specs.Input.{Input, transcript, output, input_phase, IsStray}
 use Rattle.pg_script.specs.declared.phase.BackPhase.TheVariants as phase
+use Rattle.pg_script.proofs.Examples.Copies.{bad, text_head}
 
 abbrev script : List Answer → Script
 script answers = record { auth = Trust; pairs = []; key = None; answers = answers }
 
 abbrev asking : Auth → Script
 asking auth = record { auth = auth; pairs = []; key = None; answers = [] }
-
-abbrev bad : List ErrorField
-bad = record { code = 67; value = codes "XX000" } ∷ record { code = 77; value = codes "bad" } ∷ []
 
 abbrev column : Column
 column = record { name = codes "n"; table_oid = 0; attribute = pos 0; type_oid = 25; size = negsuc 0; modifier = negsuc 0; format = pos 0 }
@@ -57,9 +54,6 @@ opening = refl
 parts_and_error : replies (record { before = []; parts = part.Command (codes "A") ∷ part.Command (codes "B") ∷ []; error = Some bad; status = Failed } ∷ []) (front.Query (codes "Q") ∷ [])
     ≡ back.CommandComplete (codes "A") ∷ back.CommandComplete (codes "B") ∷ back.ErrorResponse bad ∷ back.Ready Failed ∷ []
 parts_and_error = refl
-
-abbrev text_head : CopyHead
-text_head = record { binary = false; formats = pos 0 ∷ [] }
 
 abbrev refusing : List Answer
 refusing = record { before = []; parts = part.CopyIn text_head (Refuse 2 bad) ∷ []; error = None; status = Idle }

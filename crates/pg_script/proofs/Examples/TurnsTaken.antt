@@ -9,7 +9,8 @@ use Rattle.pg_wire.specs.declared.session.Request.TheVariants as request
 use Rattle.pg_wire.specs.declared.session.Step.TheVariants as step
 use Rattle.pg_script.specs.declared.script.Logged.{Logged}
 use Rattle.pg_script.specs.Session.{Between, Copying, Terminated, decided, log_of}
-use Rattle.pg_script.specs.Turns.{Turn, turn_messages, InTurn, turn_exchanges, turn_place, IsCopy, chunks_of, Took}
+use Rattle.pg_wire.specs.Turns.{Turn, turn_messages, IsCopy, chunks_of}
+use Rattle.pg_script.specs.Turns.{InTurn, turn_exchanges, turn_place, Took}
 use Rattle.pg_script.proofs.Examples.Copies.{text_head, bad, accepting, refusing, chunk, logged, failed, next_logged}
 
 -- a query for the copy, with these messages of it
@@ -80,7 +81,7 @@ handed = refl
 
 -- of a copy that failed, some chunks may have been taken
 took_some : Took (failed bad (codes "a" ∷ codes "a" ∷ [])) (chunks_of whole_copy.copies)
-took_some = record { begins = (codes "a" ∷ [], refl); all = λ e. absurd cc }
+took_some = record { first = refl; all = λ e. absurd cc }
 
 -- of one that is complete, no chunk may be missing
 took_less : Took (logged (whole.CopyIn text_head (codes "COPY 2") ∷ []) None (codes "a" ∷ [])) (codes "a" ∷ codes "b" ∷ []) → ⊥

@@ -88,7 +88,7 @@ parameters_plain : (types : Option (List ℕ)) → ArePlain (parameters_sent typ
 parameters_plain None = tt
 parameters_plain (Some types) = (refl, tt)
 
-end_plain : (end : ExecEnd) → aside_of (segment.end_sent end) ≡ None
+end_plain : (end : ExecEnd) → aside_of (segment.execute_end_sent end) ≡ None
 end_plain (ends.Complete tag) = refl
 end_plain ends.Empty = refl
 end_plain ends.Suspended = refl
@@ -263,7 +263,7 @@ any_end : (load : Load) → EndsSo load (Err [])
 any_end (Accept tag) = tt
 any_end (Refuse n fields) = tt
 
-not_ended : (a : Answer) (before : List ScriptPart) (o : Option CopyEnd) → option_map (at_copy_end a before) o ≡ None → o ≡ None
+pub not_ended : (a : Answer) (before : List ScriptPart) (o : Option CopyEnd) → option_map (at_copy_end a before) o ≡ None → o ≡ None
 not_ended a before None h = refl
 not_ended a before (Some e) h = cc
 

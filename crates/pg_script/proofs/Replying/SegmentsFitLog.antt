@@ -1,5 +1,5 @@
 -- The segments of what is sent in a session.
-use Rattle.std.proofs.Common.{◌≡◌, ℕ, zero, suc, List, [], ◌∷◌, ◌++◌, Option, Some, None, option_map, map, refl, ap, sym, ◌∙◌, append_assoc}
+use Rattle.std.proofs.Common.{◌≡◌, ℕ, zero, suc, List, [], ◌∷◌, ◌++◌, Option, Some, None, map, refl, ap, sym, ◌∙◌, append_assoc}
 use Rattle.std.specs.Prelude.{Result, Ok, Err}
 use Rattle.std.specs.List.{flat_map, AllByRecursion}
 use Rattle.pg_wire.specs.message.BackMessage.{BackMessage}
@@ -30,15 +30,15 @@ use Rattle.pg_script.specs.declared.meaning.Meaning.{Meaning}
 use Rattle.pg_script.specs.declared.meaning.Meaning.TheVariants.{Asks, Adds, Closes, Drops, Leaves, Strays}
 use Rattle.pg_script.specs.Fitting.{answer_for, others}
 use Rattle.pg_script.specs.Outcome.{parts_of}
-use Rattle.pg_script.specs.Copies.{CopyEnd, copy_end}
+use Rattle.pg_script.specs.Copies.{copy_end}
 use Rattle.pg_script.specs.Meaning.{in_copy, meaning}
 use Rattle.pg_script.specs.Replies.{Shape, Whole, Copies, shape, Verdict, verdict, verdict_of, at_copy_end, aside_message, parts_sent, error_sent, end_sent, after_end, reply, reply_of}
-use Rattle.pg_script.specs.Session.{Exchange, exchange, Place, Between, Grouping, Copying, Terminated, Stray, Session, only, place_after, copy_place, begun, begin, read, cut, farewell, said, decided}
-use Rattle.pg_script.specs.Opening.{welcome, pair_message, key_messages, asked}
+use Rattle.pg_script.specs.Session.{Exchange, exchange, Place, Between, Grouping, Copying, Terminated, Stray, Session, only, place_after, copy_place, from_exchange, from_request, from_message, session_past, farewell, all_sent, decided}
+use Rattle.pg_script.specs.Opening.{welcome, pair_message, key_messages, question_for}
 use Rattle.pg_script.specs.Laws.{FitEach, SegmentsFitLog, WelcomeIsSegment}
 use Rattle.pg_script.proofs.Definitions.DecidedStays.{map_some}
 use Rattle.pg_script.proofs.Definitions.SessionGrows.{no_farewell_copy, said_cons, said_open}
-use Rattle.pg_script.proofs.Replying.RepliesFit.{answer_fits, reply_fits}
+use Rattle.pg_script.proofs.Replying.RepliesFit.{answer_fits, not_ended, reply_fits}
 
 abbrev pub AreInner : List BackMessage → Type 0
 AreInner ms = AllByRecursion (λ m. status_of m ≡ None) ms
@@ -87,7 +87,7 @@ parameters_inner : (types : Option (List ℕ)) → AreInner (parameters_sent typ
 parameters_inner None = tt
 parameters_inner (Some types) = (refl, tt)
 
-end_inner : (end : ExecEnd) → status_of (segment.end_sent end) ≡ None
+end_inner : (end : ExecEnd) → status_of (segment.execute_end_sent end) ≡ None
 end_inner (ends.Complete tag) = refl
 end_inner ends.Empty = refl
 end_inner ends.Suspended = refl
@@ -119,10 +119,6 @@ after_segment : (a : Answer) (after : List ScriptPart) (end : Result (List ℕ) 
 after_segment a after (Ok tag) = segment_after (back.CommandComplete tag ∷ parts_sent after) (end_sent a.error a) (refl, parts_inner (parts_of after)) (end_segment a.error a)
 after_segment a after (Err fields) = end_segment (Some fields) a
 
-not_ended : (a : Answer) (before : List ScriptPart) (o : Option CopyEnd) → option_map (at_copy_end a before) o ≡ None → o ≡ None
-not_ended a before None h = refl
-not_ended a before (Some e) h = cc
-
 reply_of_segment : (a : Answer) (s : Shape) (ms : List FrontMessage) (v : Verdict) → verdict_of a s ms ≡ Some v → IsSegment (reply_of a s ms)
 reply_of_segment a Whole ms v is = segment_after (parts_sent a.parts) (end_sent a.error a) (parts_inner (parts_of a.parts)) (end_segment a.error a)
 reply_of_segment a (Copies before head load after) ms v is =
@@ -143,7 +139,7 @@ reply_inner a ms is = inner_append (map aside_message a.before) _ (inner_map asi
 -- ---- a session
 
 abbrev Agree : Session → Type 0
-Agree s = FitEach (decided s) (segments (said s)).whole
+Agree s = FitEach (decided s) (segments (all_sent s)).whole
 
 only_agrees : (place : Place) → Agree (only place)
 only_agrees Between = tt
@@ -158,24 +154,24 @@ begun_agrees : (e : Exchange) (o : Option Verdict) (place : Place) (rest : ℕ �
     → ((v : Verdict) → o ≡ Some v → IsSegment e.reply)
     → ((v : Verdict) → o ≡ Some v → Fits e.request e.reply v.outcome)
     → ((n : ℕ) → Agree (rest n))
-    → Agree (begun e o place rest)
+    → Agree (from_exchange e o place rest)
 begun_agrees e None place rest was silent inner whole fit more =
-    let none : (segments (said (record { exchanges = e ∷ []; place = place }))).whole ≡ [] =
+    let none : (segments (all_sent (record { exchanges = e ∷ []; place = place }))).whole ≡ [] =
     ap (λ (l : List BackMessage). (segments l).whole) (said_open e place silent) ∙ ap (λ (s : Segments). s.whole) (segments_inner e.reply (inner refl)) in
     rw (was, none) tt
 begun_agrees e (Some v) place rest was silent inner whole fit more =
-    let first : (segments (said (record { exchanges = e ∷ (rest v.taken).exchanges; place = (rest v.taken).place }))).whole ≡ e.reply ∷ (segments (said (rest v.taken))).whole =
-    ap (λ (l : List BackMessage). (segments l).whole) (said_cons e (rest v.taken)) ∙ ap (λ (s : Segments). s.whole) (segment_first e.reply (said (rest v.taken)) (whole v refl)) in
+    let first : (segments (all_sent (record { exchanges = e ∷ (rest v.taken).exchanges; place = (rest v.taken).place }))).whole ≡ e.reply ∷ (segments (all_sent (rest v.taken))).whole =
+    ap (λ (l : List BackMessage). (segments l).whole) (said_cons e (rest v.taken)) ∙ ap (λ (s : Segments). s.whole) (segment_first e.reply (all_sent (rest v.taken)) (whole v refl)) in
     rw (was, first) (fit v refl, more v.taken)
 
-begin_agrees : (answers : List Answer) (r : Request) (ms : List FrontMessage) (rest : ℕ → Session) → ((n : ℕ) → Agree (rest n)) → Agree (begin answers r ms rest)
+begin_agrees : (answers : List Answer) (r : Request) (ms : List FrontMessage) (rest : ℕ → Session) → ((n : ℕ) → Agree (rest n)) → Agree (from_request answers r ms rest)
 begin_agrees answers r ms rest more =
     let a = answer_for answers r in
     begun_agrees (exchange r a ms) (verdict a ms) (copy_place (map in_copy ms)) rest refl (no_farewell_copy (map in_copy ms)) (reply_inner a ms) (reply_segment a ms)
     (λ v is. reply_fits r a ms v (answer_fits answers r) is) more
 
 read_agrees : (answers : List Answer) (k : Meaning) (steps : List Step) (ms : List FrontMessage) (rest : ℕ → List Answer → List Step → Session)
-    → ((n : ℕ) (a : List Answer) (s : List Step) → Agree (rest n a s)) → Agree (read answers k steps ms rest)
+    → ((n : ℕ) (a : List Answer) (s : List Step) → Agree (rest n a s)) → Agree (from_message answers k steps ms rest)
 read_agrees answers (Asks text) [] ms rest more = begin_agrees answers (request.Query text) ms _ (λ n. more n (others answers) [])
 read_agrees answers (Asks text) (s ∷ ss) ms rest more = tt
 read_agrees answers (Adds s) steps ms rest more = more 0 answers (steps ++ s ∷ [])
@@ -184,7 +180,7 @@ read_agrees answers Drops steps ms rest more = more 0 answers steps
 read_agrees answers Leaves steps ms rest more = tt
 read_agrees answers Strays steps ms rest more = tt
 
-cut_agrees : (n : ℕ) (answers : List Answer) (steps : List Step) (ms : List FrontMessage) → Agree (cut n answers steps ms)
+cut_agrees : (n : ℕ) (answers : List Answer) (steps : List Step) (ms : List FrontMessage) → Agree (session_past n answers steps ms)
 cut_agrees n answers steps [] = only_agrees (place_after steps)
 cut_agrees zero answers steps (m ∷ ms) = read_agrees answers (meaning m) steps ms _ (λ n a s. cut_agrees n a s ms)
 cut_agrees (suc n) answers steps (m ∷ ms) = cut_agrees n answers steps ms
@@ -198,7 +194,7 @@ key_inner : (key : Option Key) → AreInner (key_messages key)
 key_inner None = tt
 key_inner (Some key) = (refl, tt)
 
-asked_inner : (auth : Auth) (user : List ℕ) → AreInner (asked auth user)
+asked_inner : (auth : Auth) (user : List ℕ) → AreInner (question_for auth user)
 asked_inner auth [] = tt
 asked_inner Trust (c ∷ cs) = tt
 asked_inner (Cleartext password) (c ∷ cs) = (refl, tt)
@@ -214,5 +210,5 @@ welcome_segment s = (
 
 pub welcome_is_segment : WelcomeIsSegment
 welcome_is_segment s user ms =
-    let first = asked s.auth user in
+    let first = question_for s.auth user in
     rw (← append_assoc first (welcome s) ms) (segment_first (first ++ welcome s) ms (segment_after first (welcome s) (asked_inner s.auth user) (welcome_segment s)))

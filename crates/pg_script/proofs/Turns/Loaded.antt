@@ -19,9 +19,11 @@ use Rattle.pg_script.specs.Copies.{CopyEnd, ended, with_chunk, accepted, refused
 use Rattle.pg_script.specs.Meaning.{in_copy}
 use Rattle.pg_script.specs.Replies.{Shape, Whole, Copies, after_part, shape, Verdict, verdict, verdict_of, at_copy_end}
 use Rattle.pg_script.specs.Session.{log_of}
-use Rattle.pg_script.specs.Turns.{Turn, InTurn, IsCopy, AreCopied, chunks_of, is_copied_in, TookEach}
+use Rattle.pg_wire.specs.Turns.{Turn, IsCopy, AreCopied, chunks_of}
+use Rattle.pg_script.specs.Turns.{InTurn, is_copied_in, TookEach}
 use Rattle.pg_script.specs.Laws.{TurnsLoaded}
-use Rattle.pg_script.proofs.Definitions.DecidedStays.{begins_nil, begins_cons, map_some}
+use Rattle.pg_script.proofs.Beginnings.{begins_cons, begins_nil, begins_take}
+use Rattle.pg_script.proofs.Definitions.DecidedStays.{map_some}
 use Rattle.pg_script.proofs.Turns.PartOfTurns.{turn_log, handled_log}
 
 -- ---- a copy
@@ -124,7 +126,7 @@ one_took answers t [] None is copy turns rest = rw is tt
 one_took answers t (u ∷ ts) None is copy turns rest = let some : IsSome {T = Verdict} None = rw is at turns.1 in absurd cc
 one_took answers t ts (Some v) is copy turns rest =
     let takes = verdict_takes (answer_for answers t.request) t.copies v copy is in
-    rw is (record { begins = takes.begins; all = takes.all }, rest)
+    rw is (record { first = begins_take v.loaded (chunks_of t.copies) takes.begins; all = takes.all }, rest)
 
 turn_tail : (answers : List Answer) (t : Turn) (ts : List Turn) → InTurn answers (t ∷ ts) → InTurn (others answers) ts
 turn_tail answers t [] h = tt

@@ -1,7 +1,7 @@
 -- What a client that takes turns has of a session that has handled a part of its messages.
-use Rattle.std.proofs.Common.{◌≡◌, suc, ◌≤◌, length, List, [], ◌∷◌, ◌++◌, Option, Some, None, map, refl, ap, sym, ◌∙◌, arith, IsSome, ◌⊎◌, inl, inr}
+use Rattle.std.proofs.Common.{◌≡◌, suc, ◌≤◌, length, List, [], ◌∷◌, ◌++◌, Option, Some, None, map, refl, ap, sym, ◌∙◌, arith, IsSome, inl, inr, true}
 use Rattle.std.specs.List.{flat_map}
-use Rattle.std.proofs.lemmas.List.{append-nil, length-append, map-append}
+use Rattle.std.proofs.lemmas.List.{append-nil, length-append}
 use Rattle.pg_wire.specs.message.FrontMessage.{FrontMessage}
 use Rattle.pg_wire.specs.message.FrontMessage.TheVariants as front
 use Rattle.pg_wire.specs.declared.session.Request.{Request}
@@ -13,18 +13,13 @@ use Rattle.pg_script.specs.declared.script.Logged.{Logged}
 use Rattle.pg_script.specs.Fitting.{answer_for, others}
 use Rattle.pg_script.specs.Lists.{IsPrefix}
 use Rattle.pg_script.specs.Replies.{Verdict, verdict}
-use Rattle.pg_script.specs.Session.{Exchange, Session, Between, cut, logged, decided, log_of, session}
-use Rattle.pg_script.specs.Turns.{Turn, turn_messages, AreCopies, InTurn, turn_exchanges}
+use Rattle.pg_script.specs.Session.{Exchange, Session, Between, session_past, logged, decided, log_of, session}
+use Rattle.pg_wire.specs.Turns.{Turn, turn_messages, is_copy, AreCopies}
+use Rattle.pg_script.specs.Turns.{InTurn, turn_exchanges}
 use Rattle.pg_script.specs.Laws.{AreFirstOf, TurnsLogged, TurnsGoOn, TurnsLeft}
-use Rattle.pg_script.proofs.Definitions.DecidedStays.{begins_nil, begins_cons, begins_trans, begins_append}
+use Rattle.pg_script.proofs.Beginnings.{all_back, all_front, begins_append, begins_cons, begins_length, begins_map, begins_nil, begins_trans, cut_places, empty_left, not_nil}
 use Rattle.pg_script.proofs.Definitions.SessionGrows.{log_grows}
 use Rattle.pg_script.proofs.Turns.TurnByTurn.{turn_read, request_read, cut_skips, verdict_within, some_value, meaning_step, turns_end}
-
-pub begins_map : {A B : Type 0} (f : A → B) (xs ys : List A) → IsPrefix xs ys → IsPrefix (map f xs) (map f ys)
-begins_map f xs ys h = (map f h.0, ap (map f) h.1 ∙ map-append f xs h.0)
-
-begins_length : {A : Type 0} (xs ys : List A) → IsPrefix xs ys → length xs ≤ length ys
-begins_length xs ys h = let e = ap length h.1 in omega (arith, length-append xs h.0)
 
 -- the log of the turns
 abbrev pub turn_log : List Answer → List Turn → List Logged
@@ -84,27 +79,9 @@ turns_go_on answers ts handled r turns h all =
 
 -- ---- what is left
 
--- where two cuts of one list stand to one another
-cut_places : {A : Type 0} (h left a b : List A) → h ++ left ≡ a ++ b
-    → ((h' : List A) × (h ≡ a ++ h') × (h' ++ left ≡ b)) ⊎ ((x : A) × (a' : List A) × (a ≡ h ++ x ∷ a'))
-cut_places [] left [] b e = inl ([], refl, e)
-cut_places [] left (x ∷ a) b e = inr (x, a, refl)
-cut_places (y ∷ h) left [] b e = inl (y ∷ h, refl, e)
-cut_places (y ∷ h) left (x ∷ a) b e =
-    let same : y ≡ x = cc in
-    let tails : h ++ left ≡ a ++ b = cc in
-    elim (cut_places h left a b tails) [
-      | inl p ↦ inl (p.0, (rw (same, p.1) refl), p.2)
-      | inr p ↦ inr (p.0, p.1, (rw (same, p.2) refl))
-    ]
-
-not_nil : {A : Type 0} (h : List A) (x : A) (more : List A) → [] ≡ h ++ x ∷ more → ⊥
-not_nil [] x more e = cc
-not_nil (y ∷ h) x more e = cc
-
 -- nothing is decided before a request is whole
 group_short : (answers : List Answer) (before steps : List Step) (h : List FrontMessage) (x : FrontMessage) (more : List FrontMessage)
-    → map step_message steps ++ front.Sync ∷ [] ≡ h ++ x ∷ more → decided (cut 0 answers before h) ≡ []
+    → map step_message steps ++ front.Sync ∷ [] ≡ h ++ x ∷ more → decided (session_past 0 answers before h) ≡ []
 group_short answers before steps [] x more e = refl
 group_short answers before [] (y ∷ h) x more e =
     let tails : [] ≡ h ++ x ∷ more = cc in absurd (not_nil h x more tails)
@@ -119,14 +96,6 @@ request_short answers (request.Query text) (y ∷ h) x more e =
     let tails : [] ≡ h ++ x ∷ more = cc in absurd (not_nil h x more tails)
 request_short answers (request.Group steps) h x more e = group_short answers [] steps h x more e
 
-copies_left : (xs ys : List FrontMessage) → AreCopies (xs ++ ys) → AreCopies ys
-copies_left [] ys h = h
-copies_left (x ∷ xs) ys h = copies_left xs ys h.1
-
-copies_first : (xs ys : List FrontMessage) → AreCopies (xs ++ ys) → AreCopies xs
-copies_first [] ys h = tt
-copies_first (x ∷ xs) ys h = (h.0, copies_first xs ys h.1)
-
 -- a request that is decided by these messages leaves the session between requests
 begun_left : (answers : List Answer) (r : Request) (h : List FrontMessage) (o : Option Verdict) → verdict (answer_for answers r) h ≡ o → AreCopies h
     → 1 ≤ length (log_of answers (request_messages r ++ h)) → (session answers (request_messages r ++ h)).place ≡ Between
@@ -134,17 +103,13 @@ begun_left answers r h None is copies one =
     let none : log_of answers (request_messages r ++ h) ≡ [] = rw (request_read answers r h, is) refl in
     absurd (let l : length (log_of answers (request_messages r ++ h)) ≡ 0 = ap length none in omega arith)
 begun_left answers r h (Some v) is copies one =
-    let skips : cut v.taken (others answers) [] (h ++ []) ≡ cut 0 (others answers) [] [] =
+    let skips : session_past v.taken (others answers) [] (h ++ []) ≡ session_past 0 (others answers) [] [] =
     cut_skips v.taken (others answers) h [] copies (verdict_within (answer_for answers r) h v is) in
-    ap (λ (s : Session). s.place) (request_read answers r h) ∙ rw is (ap (λ l. (cut v.taken (others answers) [] l).place) (sym (append-nil h)) ∙ ap (λ (s : Session). s.place) skips)
+    ap (λ (s : Session). s.place) (request_read answers r h) ∙ rw is (ap (λ l. (session_past v.taken (others answers) [] l).place) (sym (append-nil h)) ∙ ap (λ (s : Session). s.place) skips)
 
 record Idle (answers : List Answer) (handled left : List FrontMessage) : Type 0 where
   copies : AreCopies left
   place : (session answers handled).place ≡ Between
-
-empty_left : {A : Type 0} (h left : List A) → [] ≡ h ++ left → (h ≡ []) × (left ≡ [])
-empty_left [] left e = (refl, sym e)
-empty_left (x ∷ h) left e = cc
 
 log_after : (answers : List Answer) (t : Turn) (rest : List FrontMessage) (v : Verdict) → AreCopies t.copies → verdict (answer_for answers t.request) t.copies ≡ Some v
     → length (log_of answers (turn_messages t ++ rest)) ≡ suc (length (log_of (others answers) rest))
@@ -162,8 +127,8 @@ last_left answers t handled left copies e one =
           let all : AreCopies (p.0 ++ left) = rw p.2 copies in
           let log : 1 ≤ length (log_of answers (request_messages t.request ++ p.0)) = rw (← p.1) one in
           record {
-            copies = copies_left p.0 left all;
-            place = rw p.1 (begun_left answers t.request p.0 (verdict (answer_for answers t.request) p.0) refl (copies_first p.0 left all) log);
+            copies = all_back (λ m. is_copy m ≡ true) p.0 left all;
+            place = rw p.1 (begun_left answers t.request p.0 (verdict (answer_for answers t.request) p.0) refl (all_front (λ m. is_copy m ≡ true) p.0 left all) log);
           }
       | inr p ↦
           let none : log_of answers handled ≡ [] = request_short answers t.request handled p.0 p.1 p.2 in

@@ -25,8 +25,9 @@ use Rattle.pg_script.specs.Meaning.{in_copy, meaning}
 use Rattle.pg_script.specs.Replies.{Shape, Whole, Copies, shape, Verdict, verdict, verdict_of, at_copy_end, after_copy, parts_sent, aside_message, reply_of}
 use Rattle.pg_script.specs.Outcome.{whole_outcome}
 use Rattle.pg_wire.specs.message.BackMessage.TheVariants as back
-use Rattle.pg_script.specs.Session.{Exchange, exchange, Place, Terminated, Session, copy_place, begun, begin, cut}
-use Rattle.pg_script.specs.Turns.{Turn, turn_messages, is_copy, AreCopies, one_place}
+use Rattle.pg_script.specs.Session.{Exchange, exchange, Place, Terminated, Session, copy_place, from_exchange, from_request, session_past}
+use Rattle.pg_wire.specs.Turns.{Turn, turn_messages, is_copy, AreCopies}
+use Rattle.pg_script.specs.Turns.{one_place}
 use Rattle.pg_script.specs.Laws.{TurnsRead, TurnsEnd}
 use Rattle.pg_script.proofs.Definitions.DecidedStays.{verdict_more, reply_more, map_some}
 
@@ -44,20 +45,20 @@ meaning_step (step.Execute portal max_rows) = refl
 meaning_step (step.Close target name) = refl
 
 -- copy messages between requests are dropped
-pub cut_skips : (n : ℕ) (answers : List Answer) (xs ms : List FrontMessage) → AreCopies xs → n ≤ length xs → cut n answers [] (xs ++ ms) ≡ cut 0 answers [] ms
+pub cut_skips : (n : ℕ) (answers : List Answer) (xs ms : List FrontMessage) → AreCopies xs → n ≤ length xs → session_past n answers [] (xs ++ ms) ≡ session_past 0 answers [] ms
 cut_skips zero answers [] ms copies within = refl
 cut_skips (suc n) answers [] ms copies within = absurd (omega arith)
 cut_skips zero answers (x ∷ xs) ms copies within = rw (meaning_copy x copies.0) (cut_skips 0 answers xs ms copies.1 (omega arith))
 cut_skips (suc n) answers (x ∷ xs) ms copies within = cut_skips n answers xs ms copies.1 (omega arith)
 
 group_read : (answers : List Answer) (before steps : List Step) (ms : List FrontMessage)
-    → cut 0 answers before ((map step_message steps ++ front.Sync ∷ []) ++ ms) ≡ begin answers (request.Group (before ++ steps)) ms (λ n. cut n (others answers) [] ms)
+    → session_past 0 answers before ((map step_message steps ++ front.Sync ∷ []) ++ ms) ≡ from_request answers (request.Group (before ++ steps)) ms (λ n. session_past n (others answers) [] ms)
 group_read answers before [] ms = rw (append-nil before) refl
-group_read answers before (s ∷ ss) ms = rw (meaning_step s) (group_read answers (before ++ s ∷ []) ss ms ∙ ap (λ l. begin answers (request.Group l) ms (λ n. cut n (others answers) [] ms)) (append_assoc before (s ∷ []) ss))
+group_read answers before (s ∷ ss) ms = rw (meaning_step s) (group_read answers (before ++ s ∷ []) ss ms ∙ ap (λ l. from_request answers (request.Group l) ms (λ n. session_past n (others answers) [] ms)) (append_assoc before (s ∷ []) ss))
 
 -- the messages of a request are read as that request
 pub request_read : (answers : List Answer) (r : Request) (ms : List FrontMessage)
-    → cut 0 answers [] (request_messages r ++ ms) ≡ begin answers r ms (λ n. cut n (others answers) [] ms)
+    → session_past 0 answers [] (request_messages r ++ ms) ≡ from_request answers r ms (λ n. session_past n (others answers) [] ms)
 request_read answers (request.Query text) ms = refl
 request_read answers (request.Group steps) ms = group_read answers [] steps ms
 
@@ -120,31 +121,31 @@ verdict_within a ms v is = verdict_of_within a (shape a.parts) ms v is
 
 -- ---- a turn
 
-same_exchange : (r : Request) (o p : Option Verdict) (l k : List BackMessage) → o ≡ p → l ≡ k
+pub same_exchange : (r : Request) (o p : Option Verdict) (l k : List BackMessage) → o ≡ p → l ≡ k
     → ◌≡◌ {A = Exchange} (record { request = r; verdict = o; reply = l }) (record { request = r; verdict = p; reply = k })
 same_exchange r o p l k e f = rw (e, f) refl
 
 begun_some : (e f : Exchange) (o : Option Verdict) (v : Verdict) (place : Place) (rest : ℕ → Session) (s : Session)
     → o ≡ Some v → e ≡ f → rest v.taken ≡ s
-    → begun e o place rest ≡ record { exchanges = f ∷ s.exchanges; place = s.place }
+    → from_exchange e o place rest ≡ record { exchanges = f ∷ s.exchanges; place = s.place }
 begun_some e f o v place rest s is same then = rw (is, same, then) refl
 
 -- an exchange that is decided is followed by those of the next requests
 pub turn_read : (answers : List Answer) (t : Turn) (rest : List FrontMessage) (v : Verdict)
     → AreCopies t.copies → verdict (answer_for answers t.request) t.copies ≡ Some v
-    → cut 0 answers [] (turn_messages t ++ rest)
-    ≡ record { exchanges = exchange t.request (answer_for answers t.request) t.copies ∷ (cut 0 (others answers) [] rest).exchanges; place = (cut 0 (others answers) [] rest).place }
+    → session_past 0 answers [] (turn_messages t ++ rest)
+    ≡ record { exchanges = exchange t.request (answer_for answers t.request) t.copies ∷ (session_past 0 (others answers) [] rest).exchanges; place = (session_past 0 (others answers) [] rest).place }
 turn_read answers t rest v copies is =
     let a = answer_for answers t.request in
-    ap (λ l. cut 0 answers [] l) (append_assoc (request_messages t.request) t.copies rest)
+    ap (λ l. session_past 0 answers [] l) (append_assoc (request_messages t.request) t.copies rest)
     ∙ request_read answers t.request (t.copies ++ rest)
     ∙ begun_some (exchange t.request a (t.copies ++ rest)) (exchange t.request a t.copies) (verdict a (t.copies ++ rest)) v
-    (copy_place (map in_copy (t.copies ++ rest))) (λ n. cut n (others answers) [] (t.copies ++ rest)) (cut 0 (others answers) [] rest)
+    (copy_place (map in_copy (t.copies ++ rest))) (λ n. session_past n (others answers) [] (t.copies ++ rest)) (session_past 0 (others answers) [] rest)
     (verdict_more a t.copies rest v is)
     (same_exchange t.request _ _ _ _ (verdict_more a t.copies rest v is ∙ sym is) (reply_more a t.copies rest v is))
     (cut_skips v.taken (others answers) t.copies rest copies (verdict_within a t.copies v is))
 
-begun_none : (e f : Exchange) (o : Option Verdict) (place : Place) (rest : ℕ → Session) → o ≡ None → e ≡ f → begun e o place rest ≡ record { exchanges = f ∷ []; place = place }
+begun_none : (e f : Exchange) (o : Option Verdict) (place : Place) (rest : ℕ → Session) → o ≡ None → e ≡ f → from_exchange e o place rest ≡ record { exchanges = f ∷ []; place = place }
 begun_none e f o place rest is same = rw (is, same) refl
 
 pub some_value : {A : Type 0} (o : Option A) → IsSome o → (x : A) × (o ≡ Some x)
@@ -191,29 +192,29 @@ leaves_place (m ∷ ms) = leaves_place ms
 
 -- the last turn, where it isn't decided
 last_read : (answers : List Answer) (t : Turn) → verdict (answer_for answers t.request) t.copies ≡ None
-    → cut 0 answers [] (turn_messages t) ≡ record { exchanges = exchange t.request (answer_for answers t.request) t.copies ∷ []; place = copy_place (map in_copy t.copies) }
+    → session_past 0 answers [] (turn_messages t) ≡ record { exchanges = exchange t.request (answer_for answers t.request) t.copies ∷ []; place = copy_place (map in_copy t.copies) }
 last_read answers t is =
     let a = answer_for answers t.request in
     request_read answers t.request t.copies
-    ∙ begun_none (exchange t.request a t.copies) (exchange t.request a t.copies) (verdict a t.copies) (copy_place (map in_copy t.copies)) (λ n. cut n (others answers) [] t.copies) is refl
+    ∙ begun_none (exchange t.request a t.copies) (exchange t.request a t.copies) (verdict a t.copies) (copy_place (map in_copy t.copies)) (λ n. session_past n (others answers) [] t.copies) is refl
 
 last_end : (answers : List Answer) (t : Turn) → verdict (answer_for answers t.request) t.copies ≡ None
-    → cut 0 answers [] (turn_messages t ++ front.Terminate ∷ []) ≡ record { exchanges = exchange t.request (answer_for answers t.request) t.copies ∷ []; place = Terminated }
+    → session_past 0 answers [] (turn_messages t ++ front.Terminate ∷ []) ≡ record { exchanges = exchange t.request (answer_for answers t.request) t.copies ∷ []; place = Terminated }
 last_end answers t is =
     let a = answer_for answers t.request in
     let ms = t.copies ++ front.Terminate ∷ [] in
     let same : verdict a ms ≡ verdict a t.copies = leaves_verdict a (shape a.parts) t.copies in
-    ap (λ l. cut 0 answers [] l) (append_assoc (request_messages t.request) t.copies (front.Terminate ∷ []))
+    ap (λ l. session_past 0 answers [] l) (append_assoc (request_messages t.request) t.copies (front.Terminate ∷ []))
     ∙ request_read answers t.request ms
-    ∙ begun_none (exchange t.request a ms) (exchange t.request a t.copies) (verdict a ms) (copy_place (map in_copy ms)) (λ n. cut n (others answers) [] ms) (same ∙ is)
+    ∙ begun_none (exchange t.request a ms) (exchange t.request a t.copies) (verdict a ms) (copy_place (map in_copy ms)) (λ n. session_past n (others answers) [] ms) (same ∙ is)
     (same_exchange t.request _ _ _ _ same (ap (λ l. map aside_message a.before ++ l) (leaves_reply a (shape a.parts) t.copies)))
     ∙ ap (λ (p : Place). record { exchanges = exchange t.request a t.copies ∷ []; place = p }) (ap copy_place (map-append in_copy t.copies (front.Terminate ∷ [])) ∙ leaves_place (map in_copy t.copies))
 
 -- ---- turns
 
 one_read : (answers : List Answer) (t : Turn) (o : Option Verdict) → AreCopies t.copies → verdict (answer_for answers t.request) t.copies ≡ o
-    → cut 0 answers [] (turn_messages t ++ []) ≡ record { exchanges = exchange t.request (answer_for answers t.request) t.copies ∷ []; place = one_place o t.copies }
-one_read answers t None copies is = ap (λ l. cut 0 answers [] l) (append-nil (turn_messages t)) ∙ last_read answers t is
+    → session_past 0 answers [] (turn_messages t ++ []) ≡ record { exchanges = exchange t.request (answer_for answers t.request) t.copies ∷ []; place = one_place o t.copies }
+one_read answers t None copies is = ap (λ l. session_past 0 answers [] l) (append-nil (turn_messages t)) ∙ last_read answers t is
 one_read answers t (Some v) copies is = turn_read answers t [] v copies is
 
 pub turns_read : TurnsRead
@@ -225,15 +226,15 @@ turns_read answers (t ∷ u ∷ ts) h =
     ∙ ap (λ (s : Session). record { exchanges = exchange t.request (answer_for answers t.request) t.copies ∷ s.exchanges; place = s.place }) (turns_read (others answers) (u ∷ ts) h.2)
 
 one_end : (answers : List Answer) (t : Turn) (o : Option Verdict) → AreCopies t.copies → verdict (answer_for answers t.request) t.copies ≡ o
-    → cut 0 answers [] (turn_messages t ++ front.Terminate ∷ []) ≡ record { exchanges = exchange t.request (answer_for answers t.request) t.copies ∷ []; place = Terminated }
+    → session_past 0 answers [] (turn_messages t ++ front.Terminate ∷ []) ≡ record { exchanges = exchange t.request (answer_for answers t.request) t.copies ∷ []; place = Terminated }
 one_end answers t None copies is = last_end answers t is
 one_end answers t (Some v) copies is = turn_read answers t (front.Terminate ∷ []) v copies is
 
 pub turns_end : TurnsEnd
 turns_end answers [] h = refl
-turns_end answers (t ∷ []) h = ap (λ l. cut 0 answers [] (l ++ front.Terminate ∷ [])) (append-nil (turn_messages t)) ∙ one_end answers t _ h refl
+turns_end answers (t ∷ []) h = ap (λ l. session_past 0 answers [] (l ++ front.Terminate ∷ [])) (append-nil (turn_messages t)) ∙ one_end answers t _ h refl
 turns_end answers (t ∷ u ∷ ts) h =
     let v = some_value (verdict (answer_for answers t.request) t.copies) h.1 in
-    ap (λ l. cut 0 answers [] l) (append_assoc (turn_messages t) (flat_map turn_messages (u ∷ ts)) (front.Terminate ∷ []))
+    ap (λ l. session_past 0 answers [] l) (append_assoc (turn_messages t) (flat_map turn_messages (u ∷ ts)) (front.Terminate ∷ []))
     ∙ turn_read answers t (flat_map turn_messages (u ∷ ts) ++ front.Terminate ∷ []) v.0 h.0 v.1
     ∙ ap (λ (s : Session). record { exchanges = exchange t.request (answer_for answers t.request) t.copies ∷ s.exchanges; place = s.place }) (turns_end (others answers) (u ∷ ts) h.2)

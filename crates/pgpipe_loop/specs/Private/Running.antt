@@ -14,7 +14,7 @@ use Rattle.pgpipe_base.specs.declared.fault.ToolFault.{ToolFault}
 use Rattle.pgpipe_base.specs.declared.fault.ToolFault.TheVariants as fault
 use Rattle.pgpipe_loop.specs.Lines.{text_lines}
 use Rattle.pgpipe_loop.specs.declared.run_loop.Ran.{Ran}
-use Rattle.pgpipe_loop.specs.RunLoop.{Doing, Happened, ending_of, says_carrier_failed, is_carrier, left_to_happen, rows_between}
+use Rattle.pgpipe_loop.specs.RunLoop.{PlannedEvent, Happened, ending_of, says_carrier_failed, is_carrier, left_to_happen, rows_between}
 use Rattle.pgpipe_base.specs.Outbox.{Puts}
 
 -- how a sink may take
@@ -66,25 +66,25 @@ Prints carries takes failures e old (Err fault.Device) new =
 
 -- What has happened from this begin on has led here, with this left, and its lines are sent.
 pub record HasDone {C K : Type 0} (carries : Carrying C) (takes : Taking K) (failures : K → ℕ)
-    (start : K) (begun : PairView C) (all : List Doing) (at : At C K)
-    (left : List Doing) : Type 0 where
+    (start : K) (begun : PairView C) (all : List PlannedEvent) (at : At C K)
+    (left : List PlannedEvent) : Type 0 where
   pub rows : List Row
   pub happened : Happened carries begun all at.pair left rows at.failed
   pub sent : Sends {A = Unit {0}} takes failures start (text_lines rows) (Ok tt) at.sink
 
 -- What has happened led somewhere, and its lines are sent.
 pub record IsRefused {C K : Type 0} (carries : Carrying C) (takes : Taking K) (failures : K → ℕ)
-    (start : K) (begun : PairView C) (all : List Doing) (sink : K) : Type 0 where
+    (start : K) (begun : PairView C) (all : List PlannedEvent) (sink : K) : Type 0 where
   pub at : At C K
-  pub left : List Doing
+  pub left : List PlannedEvent
   pub stands : HasDone carries takes failures start begun all at left
   pub sink_is : sink ≡ at.sink
 
 -- The sink failed in the midst of the lines of what has happened.
-pub record IsBroken {C K : Type 0} (carries : Carrying C) (takes : Taking K) (failures : K → ℕ)
-    (start : K) (begun : PairView C) (all : List Doing) (sink : K) : Type 0 where
+pub record HasSinkFailed {C K : Type 0} (carries : Carrying C) (takes : Taking K) (failures : K → ℕ)
+    (start : K) (begun : PairView C) (all : List PlannedEvent) (sink : K) : Type 0 where
   pub pair : PairView C
-  pub left : List Doing
+  pub left : List PlannedEvent
   pub rows : List Row
   pub failed : Bool
   pub fault : LinkFault
@@ -93,25 +93,25 @@ pub record IsBroken {C K : Type 0} (carries : Carrying C) (takes : Taking K) (fa
 
 -- What a piece of work leaves: what is left to happen depends on its answer.
 abbrev pub WorkLeaves : {A C K : Type 0} → Carrying C → Taking K → (K → ℕ) → K → PairView C
-    → List Doing
-    → (A → List Doing) → Result A ToolFault → At C K → Type 0
+    → List PlannedEvent
+    → (A → List PlannedEvent) → Result A ToolFault → At C K → Type 0
 WorkLeaves carries takes failures start begun all left (Ok x) new =
     HasDone carries takes failures start begun all new (left x)
 WorkLeaves carries takes failures start begun all left (Err fault.Memory) new =
     IsRefused carries takes failures start begun all new.sink
 WorkLeaves carries takes failures start begun all left (Err fault.Device) new =
-    IsBroken carries takes failures start begun all new.sink
+    HasSinkFailed carries takes failures start begun all new.sink
 
 -- These happen next, and of them this is left, whatever has happened before and whatever is left after them.
-abbrev pub Does : {A C K : Type 0} → Carrying C → Taking K → (K → ℕ) → List Doing → (A → List Doing)
-    → At C K → Result A ToolFault → At C K → Type 0
+abbrev pub Does : {A C K : Type 0} → Carrying C → Taking K → (K → ℕ) → List PlannedEvent
+    → (A → List PlannedEvent) → At C K → Result A ToolFault → At C K → Type 0
 Does {A} {C} {K} carries takes failures next rest old result new =
-    (start : K) (begun : PairView C) (all left : List Doing)
+    (start : K) (begun : PairView C) (all left : List PlannedEvent)
     → HasDone carries takes failures start begun all old (next ++ left)
     → WorkLeaves carries takes failures start begun all (λ x. rest x ++ left) result new
 
 -- All of these happen next.
-abbrev pub DoesAll : {A C K : Type 0} → Carrying C → Taking K → (K → ℕ) → List Doing → At C K
+abbrev pub DoesAll : {A C K : Type 0} → Carrying C → Taking K → (K → ℕ) → List PlannedEvent → At C K
     → Result A ToolFault → At C K → Type 0
 DoesAll carries takes failures next old result new =
     Does carries takes failures next (λ x. []) old result new
@@ -137,7 +137,7 @@ Closes takes failures p sink (Err fault.Device) sink' = (fault : LinkFault)
 
 -- All has happened, and the sink was given its lines and the closing ones.
 pub record IsClosed {A C K : Type 0} (carries : Carrying C) (takes : Taking K) (failures : K → ℕ)
-    (start : K) (begun : PairView C) (all : List Doing) (failed : Bool)
+    (start : K) (begun : PairView C) (all : List PlannedEvent) (failed : Bool)
     (result : Result A LinkFault) (sink : K) : Type 0 where
   pub pair : PairView C
   pub rows : List Row
@@ -145,14 +145,14 @@ pub record IsClosed {A C K : Type 0} (carries : Carrying C) (takes : Taking K) (
   pub sent : Sends takes failures start (text_lines (rows ++ ending_of pair)) result sink
 
 -- what the whole work leaves
-abbrev pub EndsLoop : {C K : Type 0} → Carrying C → Taking K → (K → ℕ) → K → PairView C → List Doing
-    → Result Ran ToolFault → K → Type 0
+abbrev pub EndsLoop : {C K : Type 0} → Carrying C → Taking K → (K → ℕ) → K → PairView C
+    → List PlannedEvent → Result Ran ToolFault → K → Type 0
 EndsLoop carries takes failures start begun all (Ok r) sink =
     IsClosed {A = Unit {0}} carries takes failures start begun all (says_carrier_failed r) (Ok tt)
     sink
 EndsLoop carries takes failures start begun all (Err fault.Memory) sink =
     IsRefused carries takes failures start begun all sink
 EndsLoop carries takes failures start begun all (Err fault.Device) sink =
-    IsBroken carries takes failures start begun all sink
+    HasSinkFailed carries takes failures start begun all sink
     ⊎ ((failed : Bool) × (fault : LinkFault)
     × IsClosed {A = Unit {0}} carries takes failures start begun all failed (Err fault) sink)

@@ -25,7 +25,7 @@ use Rattle.pgpipe_show.specs.declared.decoding.Decoding.TheVariants as decoding
 use Rattle.pgpipe_show.specs.Messages.{lines}
 use Rattle.pgpipe_base.specs.Outbox.{most_collected, Puts, StaysWithin}
 use mathlib.Core.List.{IsPrefix}
-use Rattle.pgpipe_show.specs.Show.{limit, AreMessages, IsClientSide, AreShown, IsOpenFor, IsFaultyFor, AreShownBefore}
+use Rattle.pgpipe_show.specs.Show.{length_limit, AreMessages, IsClientSide, AreShown, IsOpenFor, IsFaultyFor, AreShownBefore}
 use Rattle.pgpipe_base.specs.Receiving.{most_receives}
 
 -- why the work stops where a decoder answers a fault
@@ -56,7 +56,7 @@ PutsLine takes failures collected sink text (Err _) collected' sink' = ⊥
 
 -- The decoder found no fault, and takes what may be taken.
 pub record IsSound (decoder : DecoderState) : Type 0 where
-  pub limited : decoder.limit ≡ limit
+  pub limited : decoder.limit ≡ length_limit
   pub no_fault : decoder.fault ≡ None
 
 -- Of these bytes the messages are put, but for those that begin the rest.
@@ -64,7 +64,7 @@ pub record HasPut {K M : Type 0} (takes : K → List ℕ → K → Type 0) (fail
     (d : Direction M) (collected : List ℕ) (sink : K) (bytes rest collected' : List ℕ)
     (sink' : K) : Type 0 where
   pub messages : List M
-  pub stream : IsStream d limit bytes messages rest
+  pub stream : IsStream d length_limit bytes messages rest
   pub put : Puts {A = Unit {0}} takes failures collected sink (lines d messages) (Ok tt) collected'
       sink'
   pub within : StaysWithin collected collected'
@@ -76,7 +76,7 @@ pub record Breaks {K M : Type 0} (takes : K → List ℕ → K → Type 0) (fail
   pub fault : LinkFault
   pub messages : List M
   pub rest : List ℕ
-  pub stream : IsStream d limit bytes messages rest
+  pub stream : IsStream d length_limit bytes messages rest
   pub put : Puts {A = Unit {0}} takes failures collected sink (lines d messages) (Err fault)
       collected' sink'
 
@@ -85,11 +85,11 @@ abbrev pub PutsMessages : {K M : Type 0} → (K → List ℕ → K → Type 0) �
     → List ℕ → K → List ℕ → Result DecoderState (Stop Shown) → List ℕ → K → Type 0
 PutsMessages takes failures d collected sink bytes (Ok new) collected' sink' = IsSound new
     × HasPut takes failures d collected sink bytes new.kept collected' sink'
-    × IsOpen d limit new.kept
+    × IsOpen d length_limit new.kept
 PutsMessages takes failures d collected sink bytes (Err (stop.Answer (shown.Fault f))) collected'
     sink' =
     (rest : List ℕ) × HasPut takes failures d collected sink bytes rest collected' sink'
-    × IsFaulty d limit rest f
+    × IsFaulty d length_limit rest f
 PutsMessages takes failures d collected sink bytes (Err stop.Memory) collected' sink' =
     (rest : List ℕ) × HasPut takes failures d collected sink bytes rest collected' sink'
 PutsMessages takes failures d collected sink bytes (Err stop.SinkFailed) collected' sink' =
@@ -164,11 +164,11 @@ IsSoundAt (decoding.Over size) = Unit {0}
 -- What is read now keeps the open rest of these bytes, and the text is the lines for the others.
 abbrev pub AreAt : List ℕ → List ℕ → Decoding → Type 0
 AreAt bytes text (decoding.Back d) = IsSound d × AreMessages backend bytes text d.kept
-    × IsOpen backend limit d.kept
+    × IsOpen backend length_limit d.kept
 AreAt bytes text (decoding.First s) = (s.ended ≡ false) × (s.fault ≡ None)
     × IsClientSide bytes text next.Packet s.kept × IsOpenPacket s.kept
 AreAt bytes text (decoding.Front d) = IsSound d × IsClientSide bytes text next.Message d.kept
-    × IsOpen frontend limit d.kept
+    × IsOpen frontend length_limit d.kept
 AreAt bytes text (decoding.Over size) = (rest : List ℕ) × IsClientSide bytes text next.Nothing rest
     × (size ≡ length rest)
 
@@ -191,8 +191,8 @@ pub record ArePut {K : Type 0} (takes : K → List ℕ → K → Type 0) (failur
   pub within : length collected ≤ most_collected
 
 -- The sink failed in the midst of the lines, and this text is no more than what was sent and what may be collected.
-pub record IsBroken {K : Type 0} (takes : K → List ℕ → K → Type 0) (failures : K → ℕ) (front : Bool)
-    (start : K) (bytes before collected : List ℕ) (sink : K) : Type 0 where
+pub record HasSinkFailed {K : Type 0} (takes : K → List ℕ → K → Type 0) (failures : K → ℕ)
+    (front : Bool) (start : K) (bytes before collected : List ℕ) (sink : K) : Type 0 where
   pub fault : LinkFault
   pub text : List ℕ
   pub n : Next
@@ -218,7 +218,7 @@ Stops takes failures front start bytes before (stop.Answer (shown.Fault f)) coll
 Stops takes failures front start bytes before stop.Memory collected sink = (n : Next)
     × (rest : List ℕ) × ArePut takes failures front start bytes before n rest collected sink
 Stops takes failures front start bytes before stop.SinkFailed collected sink =
-    IsBroken takes failures front start bytes before collected sink
+    HasSinkFailed takes failures front start bytes before collected sink
 Stops takes failures front start bytes before _ collected sink = (n : Next) × (rest : List ℕ)
     × ArePut takes failures front start bytes before n rest collected sink × IsOpenFor front n rest
 

@@ -1,7 +1,7 @@
 //! What calls put out, and how they are refused.
 
-use super::{Act, WELCOME, answered, behind, execute, query};
-use pg_client::{CallFault, Cause, Client, Phase};
+use super::{Act, WELCOME, after, answered, ask, ask_group, execute, query, start};
+use pg_client::{Call, CallFault, Cause, Client, Phase};
 use pg_wire::{EncodeFault, Request, Seq, Step, Target};
 use std::alloc::{AllocError, Global};
 use std::test::Fail;
@@ -12,28 +12,40 @@ pub fn has_put(shown: (Client, Vec<u8>), bytes: &[u8], phase: Phase) -> bool {
 }
 
 /// A client that is ready after these acts, and what it has put out since then.
-fn ready_behind(alloc: Global, last: Act<'_>) -> Result<(Client, Vec<u8>), Fail> {
-    behind(alloc, &[Act::Start, Act::Feed(&WELCOME), Act::Send, last])
+fn ready_after(alloc: Global, last: Act<'_>) -> Result<(Client, Vec<u8>), Fail> {
+    after(alloc, &[start(), Act::Feed(&WELCOME), Act::Send, last])
 }
 
 #[test]
 fn start_puts_the_startup_packet(rt: HostRuntime) -> Result<(), Fail> {
     let packet = b"\0\0\0\x10\0\x03\0\0user\0u\0\0";
-    assert!(rt; has_put(behind(rt.alloc(), &[Act::Start])?, packet, Phase::Starting));
+    assert!(rt; has_put(after(rt.alloc(), &[start()])?, packet, Phase::Starting));
     Ok(())
 }
 
 #[test]
 fn a_query_is_put_out(rt: HostRuntime) -> Result<(), Fail> {
     let bytes = b"Q\0\0\0\x0DSELECT 1\0";
-    assert!(rt; has_put(ready_behind(rt.alloc(), Act::Query)?, bytes, Phase::Busy));
+    assert!(rt;
+        has_put(
+            ready_after(rt.alloc(), ask(rt.alloc())?)?,
+            bytes,
+            Phase::Busy
+        )
+    );
     Ok(())
 }
 
 #[test]
 fn a_group_is_put_out(rt: HostRuntime) -> Result<(), Fail> {
     let bytes = b"E\0\0\0\x09\0\0\0\0\0S\0\0\0\x04";
-    assert!(rt; has_put(ready_behind(rt.alloc(), Act::Group)?, bytes, Phase::Busy));
+    assert!(rt;
+        has_put(
+            ready_after(rt.alloc(), ask_group(rt.alloc())?)?,
+            bytes,
+            Phase::Busy
+        )
+    );
     Ok(())
 }
 
@@ -42,7 +54,7 @@ fn terminate_ends_the_session(rt: HostRuntime) -> Result<(), Fail> {
     let closed = Phase::Closed(Cause::Terminated);
     assert!(rt;
         has_put(
-            ready_behind(rt.alloc(), Act::Terminate)?,
+            ready_after(rt.alloc(), Act::Call(Call::Terminate))?,
             b"X\0\0\0\x04",
             closed
         )
@@ -62,7 +74,14 @@ fn a_second_request_is_handed_back(rt: HostRuntime) -> Result<(), Fail> {
     let made = query(rt.alloc())?;
     let same = query(rt.alloc())?;
     let fault = CallFault::NotReady(Phase::Busy);
-    assert!(rt; refuses(ready_behind(rt.alloc(), Act::Query)?, made, same, fault));
+    assert!(rt;
+        refuses(
+            ready_after(rt.alloc(), ask(rt.alloc())?)?,
+            made,
+            same,
+            fault
+        )
+    );
     Ok(())
 }
 
@@ -81,7 +100,7 @@ fn what_has_no_spelling_is_handed_back(rt: HostRuntime) -> Result<(), Fail> {
     let made = unspelled(rt.alloc())?;
     let same = unspelled(rt.alloc())?;
     let fault = CallFault::Encode(EncodeFault::HasZero);
-    assert!(rt; refuses(ready_behind(rt.alloc(), Act::Send)?, made, same, fault));
+    assert!(rt; refuses(ready_after(rt.alloc(), Act::Send)?, made, same, fault));
     Ok(())
 }
 
@@ -94,12 +113,12 @@ pub fn settles(shown: (Client, Vec<u8>)) -> bool {
 #[test]
 fn a_group_settles(rt: HostRuntime) -> Result<(), Fail> {
     let acts = [
-        Act::Start,
+        start(),
         Act::Feed(&WELCOME),
-        Act::Group,
+        ask_group(rt.alloc())?,
         Act::Feed(b"s\0\0\0\x04Z\0\0\0\x05I"),
     ];
-    assert!(rt; settles(behind(rt.alloc(), &acts)?));
+    assert!(rt; settles(after(rt.alloc(), &acts)?));
     Ok(())
 }
 
@@ -112,7 +131,7 @@ fn has_no_key(shown: (Client, Vec<u8>)) -> bool {
 
 #[test]
 fn without_a_key_nothing_is_cancelled(rt: HostRuntime) -> Result<(), Fail> {
-    assert!(rt; has_no_key(ready_behind(rt.alloc(), Act::Send)?));
+    assert!(rt; has_no_key(ready_after(rt.alloc(), Act::Send)?));
     Ok(())
 }
 
@@ -123,14 +142,14 @@ fn introduced<'a>(
     last: Act<'a>,
 ) -> Result<(Client, Vec<u8>), Fail> {
     let acts = [
-        Act::Start,
+        start(),
         Act::Feed(&WELCOME[..9]),
         Act::Feed(messages),
         Act::Feed(&WELCOME[9..]),
         Act::Send,
         last,
     ];
-    behind(alloc, &acts)
+    after(alloc, &acts)
 }
 
 #[test]

@@ -1,6 +1,6 @@
 //! Bytes that are refused.
 
-use super::{ANSWER, Act, ERROR, WELCOME, behind};
+use super::{ANSWER, Act, ERROR, WELCOME, after, start};
 use pg_client::{Cause, Client, FeedFault, Phase};
 use pg_wire::{ErrorField, Seq, WireFault};
 use std::alloc::Global;
@@ -15,11 +15,11 @@ pub fn refuses(shown: (Client, Vec<u8>), bytes: &[u8], fault: FeedFault, cause: 
 }
 
 fn started(alloc: Global) -> Result<(Client, Vec<u8>), Fail> {
-    behind(alloc, &[Act::Start])
+    after(alloc, &[start()])
 }
 
 fn ready(alloc: Global) -> Result<(Client, Vec<u8>), Fail> {
-    behind(alloc, &[Act::Start, Act::Feed(&WELCOME)])
+    after(alloc, &[start(), Act::Feed(&WELCOME)])
 }
 
 fn no_fields(alloc: Global) -> Seq<ErrorField> {

@@ -2,7 +2,7 @@
 
 use super::calls::has_put;
 use super::faults::refuses;
-use super::{Act, WELCOME, perform_all};
+use super::{Act, WELCOME, ask, perform_all, start};
 use pg_client::{CallFault, Cause, Client, FeedFault, Phase, Settings};
 use pg_wire::{EncodeFault, Seq};
 use std::alloc::{AllocError, Global};
@@ -30,8 +30,8 @@ fn given(alloc: Global, password: &[u8]) -> Result<Client, AllocError> {
 fn started(alloc: Global, acts: &[Act<'_>]) -> Result<(Client, Vec<u8>), Fail> {
     let mut client = given(alloc, b"ab")?;
     let mut out = Vec::new(alloc);
-    perform_all(alloc, &mut client, &[Act::Start, Act::Send], &mut out)?;
-    perform_all(alloc, &mut client, acts, &mut out)?;
+    perform_all(&mut client, &[start(), Act::Send], &mut out)?;
+    perform_all(&mut client, acts, &mut out)?;
     Ok((client, out))
 }
 
@@ -70,7 +70,7 @@ fn a_session_follows(rt: HostRuntime) -> Result<(), Fail> {
         Act::Feed(&ASKED),
         Act::Send,
         Act::Feed(&WELCOME),
-        Act::Query,
+        ask(rt.alloc())?,
     ];
     let asked = started(rt.alloc(), &acts)?;
     assert!(rt; has_put(asked, b"Q\0\0\0\x0DSELECT 1\0", Phase::Busy));
@@ -86,7 +86,7 @@ fn a_second_question(rt: HostRuntime) -> Result<(), Fail> {
 }
 
 #[test]
-fn another_way_behind_a_question(rt: HostRuntime) -> Result<(), Fail> {
+fn another_way_after_a_question(rt: HostRuntime) -> Result<(), Fail> {
     let asked = started(rt.alloc(), &[Act::Feed(&ASKED)])?;
     let bytes = [0x52, 0, 0, 0, 8, 0, 0, 0, 0x0A];
     let fault = FeedFault::Unexpected(0x52);

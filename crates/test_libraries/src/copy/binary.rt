@@ -77,8 +77,8 @@ fn rows_stand_before_the_trailer(rt: HostRuntime) -> Result<(), Fail> {
 #[test]
 fn the_trailer_comes_last(rt: HostRuntime) -> Result<(), Fail> {
     let alloc = rt.alloc();
-    let behind = Some(BinaryFault::AfterTrailer);
-    assert!(rt; headed_gives(alloc, b"\xFF\xFF\0", b"", behind)?);
+    let after = Some(BinaryFault::AfterTrailer);
+    assert!(rt; headed_gives(alloc, b"\xFF\xFF\0", b"", after)?);
     let cut = Some(BinaryFault::Truncated);
     assert!(rt; headed_gives(alloc, b"\xFF", b"", cut)?);
     assert!(rt; headed_gives(alloc, b"\0\x01\0\0\0\x01a\0\x01\0", b"a\n", cut)?);
@@ -161,12 +161,12 @@ fn is_done_at_the_trailer(alloc: Global) -> bool {
     let pushed = [reader.push(&HEAD), reader.push(b"\xFF\xFF")];
     let before = reader.done();
     let none = reader.next();
-    let behind = reader.done() && !reader.ended();
+    let after = reader.done() && !reader.ended();
     let last = reader.finish();
     pushed == [Ok(()), Ok(())]
         && !before
         && none == Ok(None)
-        && behind
+        && after
         && last == Ok(None)
         && reader.ended()
 }
@@ -197,7 +197,7 @@ fn fails_for_good(alloc: Global) -> bool {
 }
 
 #[test]
-fn a_byte_behind_the_trailer_is_refused_for_good(rt: HostRuntime) {
+fn a_byte_after_the_trailer_is_refused_for_good(rt: HostRuntime) {
     assert!(rt; fails_for_good(rt.alloc()));
 }
 

@@ -130,20 +130,20 @@ fn stops_at_the_mark(alloc: Global) -> bool {
     let row = reader.next();
     let before = reader.done();
     let mark = reader.next();
-    let behind = reader.done();
+    let after = reader.done();
     let dropped = reader.push(b"d\n");
     let none = reader.next();
     pushed == Ok(())
         && is_row(&row)
         && !before
         && mark == Ok(None)
-        && behind
+        && after
         && dropped == Ok(())
         && none == Ok(None)
 }
 
 #[test]
-fn a_reader_is_done_behind_the_mark(rt: HostRuntime) {
+fn a_reader_is_done_after_the_mark(rt: HostRuntime) {
     assert!(rt; stops_at_the_mark(rt.alloc()));
 }
 

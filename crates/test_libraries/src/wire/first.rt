@@ -47,7 +47,7 @@ fn a_startup_may_have_no_parameter(rt: HostRuntime) {
 }
 
 #[test]
-fn what_comes_behind_the_startup_is_passed_on(rt: HostRuntime) -> Result<(), Fail> {
+fn what_comes_after_the_startup_is_passed_on(rt: HostRuntime) -> Result<(), Fail> {
     let mut first = FirstDecoder::new(rt.alloc());
     first.push(&[
         0, 0, 0, 8, 0x04, 0xD2, 0x16, 0x30, 0, 0, 0, 9, 0, 3, 0, 0, 0, b'S', 0,

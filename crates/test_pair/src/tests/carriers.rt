@@ -2,8 +2,8 @@
 
 use super::answers::{Reply, pair};
 use super::claims::Claim;
-use super::{ASKED, Act, carried_out, done, judge};
-use pg_pair::{Applied, Carry, CarryFault, Way};
+use super::{ASKED, asks, carried_out, happened, judge, start};
+use pg_pair::{Applied, Carry, CarryFault, Event, Way};
 use std::alloc::Global;
 use std::test::Fail;
 
@@ -64,12 +64,12 @@ fn with_flaw(flaw: Flaw, at: u64) -> Flawed {
 }
 
 // Whether this holds where the client asks, and all that waits goes to and fro.
-fn holds(alloc: Global, carrier: Flawed, claims: &[Claim<'_>]) -> Result<bool, Fail> {
-    let acts = [Act::Start, Act::Query(ASKED)];
+fn holds(alloc: Global, carrier: Flawed, claims: &[Claim<'_, '_>]) -> Result<bool, Fail> {
+    let events = [start(), asks(alloc, ASKED)?];
     judge(
         alloc,
         pair(alloc, &[Reply::Row], carrier)?,
-        carried_out(&acts, 4_096),
+        carried_out(&events, 4_096),
         claims,
     )
 }
@@ -84,7 +84,7 @@ fn fewer_bytes_break_nothing(rt: HostRuntime) -> Result<(), Fail> {
 }
 
 // The way that breaks at this call of the four that carry the row: the calls go to the backend and to the client in turn.
-fn broken_at(at: u64) -> [Claim<'static>; 2] {
+fn broken_at(at: u64) -> [Claim<'static, 'static>; 2] {
     let to_backend = at % 2 == 1;
     [Claim::Broken(to_backend, !to_backend), Claim::Settled(0)]
 }
@@ -107,14 +107,16 @@ fn a_failure_breaks_a_way(rt: HostRuntime) -> Result<(), Fail> {
 
 // Whether the delivery of the startup packet of 16 bytes is answered so with that flaw, and so many bytes of it come.
 fn answers(alloc: Global, flaw: Flaw, wanted: &Applied, reached: usize) -> Result<bool, Fail> {
+    let first = [start()];
+    let delivery = [Event::ToBackend(100)];
     let claims = [
-        Claim::Answer(&[Act::Deliver(Way::ToBackend, 100)], wanted),
+        Claim::Answer(&delivery, wanted),
         Claim::Reached(Way::ToBackend, reached),
     ];
     judge(
         alloc,
         pair(alloc, &[Reply::Row], with_flaw(flaw, 1))?,
-        done(&[Act::Start]),
+        happened(&first),
         &claims,
     )
 }

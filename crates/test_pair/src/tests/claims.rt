@@ -1,16 +1,17 @@
 //! What is so of a pair.
 
 use super::outside::settles_alike;
-use super::{Act, event, perform};
+use super::perform;
 use pg_backend::{BackPhase, Logged};
 use pg_client::{Loss, Phase, Settled};
 use pg_pair::{Applied, Carry, Event, Pair, Way};
 use pg_wire::Seq;
-use std::alloc::{AllocError, Global};
+use std::alloc::Global;
 use std::test::Fail;
 
+// It lends events, and what is wanted, each for as long as that is there.
 #[derive(Clone, Copy)]
-pub enum Claim<'a> {
+pub enum Claim<'a, 'b> {
     // Both ends are in these phases.
     Stand(Phase, BackPhase),
     // So many bytes were sent along the way.
@@ -22,21 +23,21 @@ pub enum Claim<'a> {
     // So many groups are settled, and they are, in order, the first of what the backend has answered.
     Settled(usize),
     // These groups are settled, which are all that the backend has answered.
-    Groups(&'a [Settled]),
+    Groups(&'b [Settled]),
     // The one group is settled with an error, or without one.
     Failed(bool),
-    // A client outside the pair, with these calls, settles the same of the same bytes.
-    Alike(&'a [Act<'a>]),
+    // A client outside the pair, with the calls of these events, settles the same of the same bytes.
+    Alike(&'a [Event]),
     // These chunks were handed over for the first request, and the backend took these of them; and each request was answered.
-    Loaded(&'a [&'a [u8]], &'a [&'a [u8]]),
+    Loaded(&'b [&'b [u8]], &'b [&'b [u8]]),
     // The client has said this of the break.
-    Lost(Option<&'a Loss>),
-    // Each of these acts is answered so.
-    Answer(&'a [Act<'a>], &'a Applied),
-    // Each of these acts does nothing.
-    Idle(&'a [Act<'a>]),
+    Lost(Option<&'b Loss>),
+    // Each of these events is answered so.
+    Answer(&'a [Event], &'b Applied),
+    // Each of these events does nothing.
+    Idle(&'a [Event]),
     // The list of these events runs to its end.
-    Runs(&'a [Act<'a>]),
+    Runs(&'a [Event]),
 }
 
 fn is_logged(group: &Settled, logged: &Logged) -> bool {
@@ -106,35 +107,25 @@ fn is_loaded<C: Carry>(pair: &Pair<C>, all: &[&[u8]], taken: &[&[u8]]) -> bool {
     pair.handed().len() == log.len() && handed(pair.handed(), all) && took(log, taken)
 }
 
-// Whether each of the acts is answered so.
-fn answer<C: Carry>(
-    alloc: Global,
-    pair: &mut Pair<C>,
-    acts: &[Act<'_>],
-    wanted: &Applied,
-) -> Result<bool, Fail> {
-    for act in acts {
-        if perform(alloc, pair, *act)? != *wanted {
+// Whether each of the events is answered so.
+fn answer<C: Carry>(pair: &mut Pair<C>, events: &[Event], wanted: &Applied) -> Result<bool, Fail> {
+    for event in events {
+        if perform(pair, event)? != *wanted {
             return Ok(false);
         }
     }
     Ok(true)
 }
 
-pub fn events(alloc: Global, acts: &[Act<'_>]) -> Result<Vec<Event>, AllocError> {
-    let mut events = Vec::new(alloc);
-    for act in acts {
-        events.push(event(alloc, *act)?)?;
+fn runs<C: Carry>(alloc: Global, pair: &mut Pair<C>, events: &[Event]) -> Result<bool, Fail> {
+    let mut list = Vec::new(alloc);
+    for event in events {
+        list.push(event.clone()?)?;
     }
-    Ok(events)
+    Ok(pair.run(list) == Ok(()))
 }
 
-fn runs<C: Carry>(alloc: Global, pair: &mut Pair<C>, acts: &[Act<'_>]) -> Result<bool, Fail> {
-    let events = events(alloc, acts)?;
-    Ok(pair.run(events) == Ok(()))
-}
-
-fn holds<C: Carry>(alloc: Global, pair: &mut Pair<C>, claim: Claim<'_>) -> Result<bool, Fail> {
+fn holds<C: Carry>(alloc: Global, pair: &mut Pair<C>, claim: Claim<'_, '_>) -> Result<bool, Fail> {
     match claim {
         Claim::Stand(client, backend) => Ok(stands(pair, client, backend)),
         Claim::Sent(way, count) => Ok(pair.sent(way).len() == count),
@@ -146,9 +137,9 @@ fn holds<C: Carry>(alloc: Global, pair: &mut Pair<C>, claim: Claim<'_>) -> Resul
         Claim::Alike(calls) => settles_alike(alloc, pair, calls),
         Claim::Loaded(all, taken) => Ok(is_loaded(pair, all, taken)),
         Claim::Lost(loss) => Ok(pair.loss() == loss),
-        Claim::Answer(acts, wanted) => answer(alloc, pair, acts, wanted),
-        Claim::Idle(acts) => answer(alloc, pair, acts, &Applied::Nothing),
-        Claim::Runs(acts) => runs(alloc, pair, acts),
+        Claim::Answer(events, wanted) => answer(pair, events, wanted),
+        Claim::Idle(events) => answer(pair, events, &Applied::Nothing),
+        Claim::Runs(events) => runs(alloc, pair, events),
     }
 }
 
@@ -156,7 +147,7 @@ fn holds<C: Carry>(alloc: Global, pair: &mut Pair<C>, claim: Claim<'_>) -> Resul
 pub fn hold<C: Carry>(
     alloc: Global,
     pair: &mut Pair<C>,
-    claims: &[Claim<'_>],
+    claims: &[Claim<'_, '_>],
 ) -> Result<bool, Fail> {
     for claim in claims {
         if !holds(alloc, pair, *claim)? {

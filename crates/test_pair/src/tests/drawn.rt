@@ -1,29 +1,27 @@
 //! What a caller draws from the contracts of a pair.
 
 use super::answers::{Reply, checked, settings};
-use super::claims::events;
-use super::{ASKED, Act};
+use super::{ASKED, asks, start};
 use crate::{answers_settled, deliver, play, settled_when_ready};
 use pg_backend::Auth;
-use pg_pair::{Direct, Pair, Way};
-use std::alloc::Global;
+use pg_pair::{Direct, Event, Pair, Way};
+use std::alloc::{AllocError, Global};
 use std::test::Fail;
 
 // A start and a query, whose answer of 59 bytes waits for the client.
-const ANSWERED: [Act<'static>; 7] = [
-    Act::Start,
-    Act::Deliver(Way::ToBackend, 16),
-    Act::Step,
-    Act::Deliver(Way::ToClient, 15),
-    Act::Query(ASKED),
-    Act::Deliver(Way::ToBackend, 14),
-    Act::Step,
-];
+fn answered(alloc: Global) -> Result<Vec<Event>, AllocError> {
+    let mut events = vec![in alloc; start(), Event::ToBackend(16), Event::Step]?;
+    events.push(Event::ToClient(15))?;
+    events.push(asks(alloc, ASKED)?)?;
+    events.push(Event::ToBackend(14))?;
+    events.push(Event::Step)?;
+    Ok(events)
+}
 
 fn played(alloc: Global) -> Result<Pair<Direct>, Fail> {
     let script = checked(alloc, Auth::Trust, &[Reply::Row])?;
     let settings = settings(alloc, None)?;
-    let (pair, ran) = play(alloc, settings, script, Direct, events(alloc, &ANSWERED)?);
+    let (pair, ran) = play(alloc, settings, script, Direct, answered(alloc)?);
     ran?;
     Ok(pair)
 }

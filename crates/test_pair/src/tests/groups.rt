@@ -2,10 +2,10 @@
 
 use super::answers::{Reply, columns, failure, group, pair, rows, text};
 use super::claims::Claim;
-use super::{Act, carried_out, judge};
+use super::{carried_out, judge, start};
 use pg_backend::BackPhase;
 use pg_client::{Phase, Settled};
-use pg_pair::Direct;
+use pg_pair::{Call, Direct, Event};
 use pg_wire::{ExecEnd, Fields, Outcome, Part, Seq, Status};
 use std::alloc::{AllocError, Global};
 use std::test::Fail;
@@ -60,20 +60,23 @@ fn broken_off(alloc: Global) -> Result<Settled, AllocError> {
     settled(alloc, parts, Some(error), Status::Failed)
 }
 
-const ASKS: [Act<'static>; 2] = [Act::Start, Act::Group];
+fn asks_group(alloc: Global) -> Result<Event, AllocError> {
+    Ok(Event::Call(Call::Request(group(alloc)?)))
+}
 
 // Whether this alone is settled where the client asks for the group and is answered so, in deliveries of at most so many bytes; and a
 // client outside the pair settles it, too.
 fn settles(alloc: Global, reply: Reply, cut: u32, wanted: &[Settled]) -> Result<bool, Fail> {
+    let asks = [start(), asks_group(alloc)?];
     let claims = [
         Claim::Groups(wanted),
-        Claim::Alike(&ASKS),
+        Claim::Alike(&asks),
         Claim::Stand(Phase::Ready, BackPhase::Ready),
     ];
     judge(
         alloc,
         pair(alloc, &[reply], Direct)?,
-        carried_out(&ASKS, cut),
+        carried_out(&asks, cut),
         &claims,
     )
 }

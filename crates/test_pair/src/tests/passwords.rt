@@ -4,10 +4,10 @@ ghost use Rattle.std.specs.Prelude.{◌≡◌, ◌≤◌, IfOk};
 
 use super::answers::{asking_pair, field, settings, text};
 use super::claims::Claim;
-use super::{ASKED, Act, Plan, carried_out, done, judge};
+use super::{ASKED, Plan, asks, carried_out, happened, judge, start};
 use pg_backend::{Auth, BackPhase};
 use pg_client::{Cause, FeedFault, Phase, Settings};
-use pg_pair::{Applied, Way};
+use pg_pair::{Applied, Event, Way};
 use pg_wire::{Fields, Seq};
 use std::alloc::{AllocError, Global};
 use std::test::Fail;
@@ -58,7 +58,7 @@ fn comes_to(
     question: Question,
     password: Option<&[u8]>,
     plan: Plan<'_>,
-    claims: &[Claim<'_>],
+    claims: &[Claim<'_, '_>],
 ) -> Result<bool, Fail> {
     let pair = asking_pair(alloc, auth(alloc, question)?, settings(alloc, password)?)?;
     judge(alloc, pair, plan, claims)
@@ -67,7 +67,7 @@ fn comes_to(
 // The client is let in, a byte at a time, and so are its query and the answer.
 #[test]
 fn the_right_password_lets_in(rt: HostRuntime) -> Result<(), Fail> {
-    let acts = [Act::Start, Act::Step, Act::Query(ASKED)];
+    let events = [start(), Event::Step, asks(rt.alloc(), ASKED)?];
     for question in [Question::Cleartext, Question::Md5] {
         let (asked, answered) = (question_length(question), answer_length(question));
         let claims = [
@@ -81,7 +81,7 @@ fn the_right_password_lets_in(rt: HostRuntime) -> Result<(), Fail> {
                 rt.alloc(),
                 question,
                 Some(SECRET),
-                carried_out(&acts, 1),
+                carried_out(&events, 1),
                 &claims
             )?
         );
@@ -91,7 +91,7 @@ fn the_right_password_lets_in(rt: HostRuntime) -> Result<(), Fail> {
 
 #[test]
 fn a_wrong_password_closes_both(rt: HostRuntime) -> Result<(), Fail> {
-    let acts = [Act::Start, Act::Step, Act::Query(ASKED)];
+    let events = [start(), Event::Step, asks(rt.alloc(), ASKED)?];
     for question in [Question::Cleartext, Question::Md5] {
         let claims = [
             Claim::Sent(Way::ToBackend, 16 + answer_length(question)),
@@ -104,7 +104,7 @@ fn a_wrong_password_closes_both(rt: HostRuntime) -> Result<(), Fail> {
                 rt.alloc(),
                 question,
                 Some(b"Secret"),
-                carried_out(&acts, 1),
+                carried_out(&events, 1),
                 &claims
             )?
         );
@@ -122,23 +122,33 @@ fn told(alloc: Global) -> Result<Fields, AllocError> {
     ]?))
 }
 
-// The question has reached the client, a byte at a time, and then these acts are done.
-fn asked<'a>(acts: &'a [Act<'a>]) -> Plan<'a> {
+// The question has reached the client, a byte at a time, and then these events happen.
+fn asked<'a>(events: &'a [Event]) -> Plan<'a> {
     Plan {
-        whole: &[Act::Start],
+        lets_in: true,
         cut: 1,
-        single: acts,
+        whole: &[],
+        single: events,
         last: &[],
     }
 }
 
 #[test]
 fn a_wrong_password_is_told(rt: HostRuntime) -> Result<(), Fail> {
-    let acts = [Act::Deliver(Way::ToBackend, 4_096), Act::Step];
+    let events = [Event::ToBackend(4_096), Event::Step];
     let wanted = Applied::Client(FeedFault::StartupError(told(rt.alloc())?));
-    let claims = [Claim::Answer(&[Act::Deliver(Way::ToClient, 4_096)], &wanted)];
+    let delivery = [Event::ToClient(4_096)];
+    let claims = [Claim::Answer(&delivery, &wanted)];
     for question in [Question::Cleartext, Question::Md5] {
-        assert!(rt; comes_to(rt.alloc(), question, Some(b"Secret"), asked(&acts), &claims)?);
+        assert!(rt;
+            comes_to(
+                rt.alloc(),
+                question,
+                Some(b"Secret"),
+                asked(&events),
+                &claims
+            )?
+        );
     }
     Ok(())
 }
@@ -146,7 +156,7 @@ fn a_wrong_password_is_told(rt: HostRuntime) -> Result<(), Fail> {
 // Nothing answers the question, and the backend waits.
 #[test]
 fn without_a_password_the_client_closes(rt: HostRuntime) -> Result<(), Fail> {
-    let acts = [Act::Start, Act::Step, Act::Query(ASKED)];
+    let events = [start(), Event::Step, asks(rt.alloc(), ASKED)?];
     for question in [Question::Cleartext, Question::Md5] {
         let claims = [
             Claim::Sent(Way::ToBackend, 16),
@@ -154,18 +164,19 @@ fn without_a_password_the_client_closes(rt: HostRuntime) -> Result<(), Fail> {
             Claim::Settled(0),
             Claim::Stand(Phase::Closed(Cause::PasswordWanted), BackPhase::Password),
         ];
-        assert!(rt; comes_to(rt.alloc(), question, None, carried_out(&acts, 1), &claims)?);
+        assert!(rt; comes_to(rt.alloc(), question, None, carried_out(&events, 1), &claims)?);
     }
     Ok(())
 }
 
 #[test]
 fn without_a_password_the_question_is_a_fault(rt: HostRuntime) -> Result<(), Fail> {
-    let acts = [Act::Start, Act::Deliver(Way::ToBackend, 4_096), Act::Step];
+    let events = [start(), Event::ToBackend(4_096), Event::Step];
     let wanted = Applied::Client(FeedFault::PasswordWanted);
-    let claims = [Claim::Answer(&[Act::Deliver(Way::ToClient, 4_096)], &wanted)];
+    let delivery = [Event::ToClient(4_096)];
+    let claims = [Claim::Answer(&delivery, &wanted)];
     for question in [Question::Cleartext, Question::Md5] {
-        assert!(rt; comes_to(rt.alloc(), question, None, done(&acts), &claims)?);
+        assert!(rt; comes_to(rt.alloc(), question, None, happened(&events), &claims)?);
     }
     Ok(())
 }
@@ -174,11 +185,7 @@ fn without_a_password_the_question_is_a_fault(rt: HostRuntime) -> Result<(), Fai
 #[test]
 fn broken_within_the_password(rt: HostRuntime) -> Result<(), Fail> {
     for most in 0..12 {
-        let acts = [
-            Act::Deliver(Way::ToBackend, most),
-            Act::Break(Way::ToBackend),
-            Act::Step,
-        ];
+        let events = [Event::ToBackend(most), Event::BreakToBackend, Event::Step];
         let claims = [
             Claim::Reached(Way::ToBackend, 16 + most as usize),
             Claim::Settled(0),
@@ -189,7 +196,7 @@ fn broken_within_the_password(rt: HostRuntime) -> Result<(), Fail> {
                 rt.alloc(),
                 Question::Cleartext,
                 Some(SECRET),
-                asked(&acts),
+                asked(&events),
                 &claims
             )?
         );
@@ -223,9 +230,9 @@ fn a_user_named_twice_is_refused_by_md5(rt: HostRuntime) -> Result<(), Fail> {
             auth(rt.alloc(), question)?,
             named_twice(rt.alloc())?,
         )?;
-        let acts = [Act::Start, Act::Step];
+        let events = [start(), Event::Step];
         let claims = [Claim::Stand(client, backend)];
-        assert!(rt; judge(rt.alloc(), pair, carried_out(&acts, 1), &claims)?);
+        assert!(rt; judge(rt.alloc(), pair, carried_out(&events, 1), &claims)?);
     }
     Ok(())
 }

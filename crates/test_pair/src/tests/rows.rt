@@ -2,15 +2,15 @@
 
 use super::answers::{Reply, columns, failure, fields, pair, rows, text};
 use super::claims::Claim;
-use super::{ASKED, Act, carried_out, done, judge, query};
+use super::{ASKED, asks, carried_out, happened, judge, query, start};
 use pg_backend::BackPhase;
 use pg_client::{Phase, Settled};
-use pg_pair::{Direct, Way};
+use pg_pair::{Direct, Event};
 use pg_wire::{Aside, Outcome, Part, Seq, Status};
 use std::alloc::{AllocError, Global};
 use std::test::Fail;
 
-const READY: Claim<'static> = Claim::Stand(Phase::Ready, BackPhase::Ready);
+const READY: Claim<'static, 'static> = Claim::Stand(Phase::Ready, BackPhase::Ready);
 
 fn command(alloc: Global, tag: &[u8]) -> Result<Part, AllocError> {
     Ok(Part::Command(text(alloc, tag)?))
@@ -46,16 +46,15 @@ fn row_group(alloc: Global) -> Result<Settled, AllocError> {
     })
 }
 
-const ASKS: [Act<'static>; 2] = [Act::Start, Act::Query(ASKED)];
-
 // Whether this alone is settled where the client asks and is answered so, in deliveries of at most so many bytes; and a client outside
 // the pair settles it, too.
 fn settles(alloc: Global, reply: Reply, cut: u32, wanted: &[Settled]) -> Result<bool, Fail> {
-    let claims = [Claim::Groups(wanted), Claim::Alike(&ASKS), READY];
+    let asked = [start(), asks(alloc, ASKED)?];
+    let claims = [Claim::Groups(wanted), Claim::Alike(&asked), READY];
     judge(
         alloc,
         pair(alloc, &[reply], Direct)?,
-        carried_out(&ASKS, cut),
+        carried_out(&asked, cut),
         &claims,
     )
 }
@@ -120,16 +119,14 @@ fn told_and_in_block(alloc: Global) -> Result<Vec<Settled>, AllocError> {
     Ok(vec![in alloc; first, in_block(alloc)?]?)
 }
 
-const ASKS_TWICE: [Act<'static>; 3] = [Act::Start, Act::Query(b"Q1"), Act::Query(b"Q2")];
-
 // Whether these are settled, where the client asks twice.
 fn settles_both(alloc: Global, wanted: &[Settled]) -> Result<bool, Fail> {
-    let pair = pair(alloc, &[Reply::Told, Reply::InBlock], Direct)?;
+    let asked = [start(), asks(alloc, b"Q1")?, asks(alloc, b"Q2")?];
     judge(
         alloc,
-        pair,
-        carried_out(&ASKS_TWICE, 4_096),
-        &[Claim::Groups(wanted), Claim::Alike(&ASKS_TWICE), READY],
+        pair(alloc, &[Reply::Told, Reply::InBlock], Direct)?,
+        carried_out(&asked, 4_096),
+        &[Claim::Groups(wanted), Claim::Alike(&asked), READY],
     )
 }
 
@@ -140,47 +137,41 @@ fn asides_settle_with_their_request(rt: HostRuntime) -> Result<(), Fail> {
     Ok(())
 }
 
-// All that waits goes there.
-const TO_BACKEND: Act<'static> = Act::Deliver(Way::ToBackend, u32::MAX);
+// All that waits goes to the backend, twice, with steps up to the one that does nothing, and then to the client.
+fn push_flow(events: &mut Vec<Event>) -> Result<(), AllocError> {
+    events.push(Event::ToBackend(u32::MAX))?;
+    events.push(Event::Step)?;
+    events.push(Event::Step)?;
+    events.push(Event::ToClient(u32::MAX))?;
+    events.push(Event::ToBackend(u32::MAX))?;
+    events.push(Event::Step)?;
+    events.push(Event::ToClient(u32::MAX))?;
+    Ok(())
+}
 
-const TO_CLIENT: Act<'static> = Act::Deliver(Way::ToClient, u32::MAX);
-
-// Start and a query, with a flow after each: twice all that waits to the backend, steps up to the one that does nothing, and all that
-// waits to the client.
-const ROW_EVENTS: [Act<'static>; 16] = [
-    Act::Start,
-    TO_BACKEND,
-    Act::Step,
-    Act::Step,
-    TO_CLIENT,
-    TO_BACKEND,
-    Act::Step,
-    TO_CLIENT,
-    Act::Query(ASKED),
-    TO_BACKEND,
-    Act::Step,
-    Act::Step,
-    TO_CLIENT,
-    TO_BACKEND,
-    Act::Step,
-    TO_CLIENT,
-];
-
-const NO_EVENTS: &'static [Act<'static>] = &[];
+// Start and a query, with a flow after each.
+fn row_events(alloc: Global) -> Result<Vec<Event>, AllocError> {
+    let mut events = vec![in alloc; start()]?;
+    push_flow(&mut events)?;
+    events.push(asks(alloc, ASKED)?)?;
+    push_flow(&mut events)?;
+    Ok(events)
+}
 
 // Whether the list of the row's events runs and settles these groups, and a list of none no more.
 fn runs(alloc: Global, wanted: &[Settled]) -> Result<bool, Fail> {
+    let events = row_events(alloc)?;
     let claims = [
-        Claim::Runs(&ROW_EVENTS),
+        Claim::Runs(events.as_slice()),
         Claim::Groups(wanted),
-        Claim::Runs(NO_EVENTS),
+        Claim::Runs(&[]),
         Claim::Settled(1),
         READY,
     ];
     judge(
         alloc,
         pair(alloc, &[Reply::Row], Direct)?,
-        done(&[]),
+        happened(&[]),
         &claims,
     )
 }

@@ -2,15 +2,15 @@
 
 use super::answers::{Reply, failure, field, head, pair, query, text, unnamed_group};
 use super::claims::Claim;
-use super::{Act, Plan, carried_out, judge};
+use super::{Plan, asks, carried_out, chunk, fail, judge, start};
 use pg_backend::BackPhase;
 use pg_client::{Phase, Settled};
-use pg_pair::{Direct, Way};
+use pg_pair::{Call, Direct, Event};
 use pg_wire::{Fields, Outcome, Part, Request, Seq, Status};
 use std::alloc::{AllocError, Global};
 use std::test::Fail;
 
-const READY: Claim<'static> = Claim::Stand(Phase::Ready, BackPhase::Ready);
+const READY: Claim<'static, 'static> = Claim::Stand(Phase::Ready, BackPhase::Ready);
 
 // Outside a transaction, with nothing said beside it.
 fn settled(alloc: Global, request: Request, parts: Vec<Part>, error: Option<Fields>) -> Settled {
@@ -36,37 +36,36 @@ fn holds(
     alloc: Global,
     replies: &[Reply],
     plan: Plan<'_>,
-    claims: &[Claim<'_>],
+    claims: &[Claim<'_, '_>],
 ) -> Result<bool, Fail> {
     judge(alloc, pair(alloc, replies, Direct)?, plan, claims)
 }
 
 // ---- a refused copy, whose other chunks are dropped before the next request
 
-const REFUSED: [Act<'static>; 10] = [
-    Act::Chunk(b"a"),
-    Act::Chunk(b"b"),
-    Act::Deliver(Way::ToBackend, 100),
-    Act::Step,
-    Act::Step,
-    Act::Chunk(b"c"),
-    Act::Chunk(b"d"),
-    Act::Chunk(b"e"),
-    Act::Done,
-    Act::Deliver(Way::ToClient, 1_000),
-];
+// Two chunks reach the backend, which refuses the second, and three more and the end don't.
+fn refused(alloc: Global) -> Result<Vec<Event>, AllocError> {
+    let mut events = vec![in alloc; chunk(alloc, b"a")?, chunk(alloc, b"b")?]?;
+    events.push(Event::ToBackend(100))?;
+    events.push(Event::Step)?;
+    events.push(Event::Step)?;
+    for byte in b"cde" {
+        events.push(chunk(alloc, &[*byte])?)?;
+    }
+    events.push(Event::Call(Call::Done))?;
+    events.push(Event::ToClient(1_000))?;
+    Ok(events)
+}
 
-const REFUSED_CALLS: [Act<'static>; 9] = [
-    Act::Start,
-    Act::Query(b"COPY"),
-    Act::Chunk(b"a"),
-    Act::Chunk(b"b"),
-    Act::Chunk(b"c"),
-    Act::Chunk(b"d"),
-    Act::Chunk(b"e"),
-    Act::Done,
-    Act::Query(b"NEXT"),
-];
+fn refused_calls(alloc: Global) -> Result<Vec<Event>, AllocError> {
+    let mut calls = vec![in alloc; start(), asks(alloc, b"COPY")?]?;
+    for byte in b"abcde" {
+        calls.push(chunk(alloc, &[*byte])?)?;
+    }
+    calls.push(Event::Call(Call::Done))?;
+    calls.push(asks(alloc, b"NEXT")?)?;
+    Ok(calls)
+}
 
 fn next(alloc: Global) -> Result<Settled, AllocError> {
     let parts = vec![in alloc; Part::Command(text(alloc, b"OK")?)]?;
@@ -79,23 +78,28 @@ fn refused_and_next(alloc: Global) -> Result<Vec<Settled>, AllocError> {
 }
 
 fn refuses(alloc: Global, cut: u32, wanted: &[Settled]) -> Result<bool, Fail> {
+    let whole = [asks(alloc, b"COPY")?];
+    let single = refused(alloc)?;
+    let last = [asks(alloc, b"NEXT")?];
+    let calls = refused_calls(alloc)?;
     let plan = Plan {
-        whole: &[Act::Start, Act::Query(b"COPY")],
+        lets_in: true,
         cut,
-        single: &REFUSED,
-        last: &[Act::Query(b"NEXT")],
+        whole: &whole,
+        single: single.as_slice(),
+        last: &last,
     };
     let claims = [
         Claim::Groups(wanted),
         Claim::Loaded(&[b"a", b"b", b"c", b"d", b"e"], &[b"a", b"b"]),
-        Claim::Alike(&REFUSED_CALLS),
+        Claim::Alike(calls.as_slice()),
         READY,
     ];
     holds(alloc, &[Reply::Refusing(2), Reply::Command], plan, &claims)
 }
 
 #[test]
-fn behind_a_refused_copy_chunks_are_dropped(rt: HostRuntime) -> Result<(), Fail> {
+fn after_a_refused_copy_chunks_are_dropped(rt: HostRuntime) -> Result<(), Fail> {
     let wanted = refused_and_next(rt.alloc())?;
     for cut in [4_096, 1] {
         assert!(rt; refuses(rt.alloc(), cut, wanted.as_slice())?);
@@ -123,36 +127,33 @@ fn done(alloc: Global) -> Result<Settled, AllocError> {
     Ok(settled(alloc, query(alloc, b"COPY")?, parts, None))
 }
 
-const FAILS: [Act<'static>; 4] = [
-    Act::Start,
-    Act::Query(b"COPY"),
-    Act::Chunk(b"a"),
-    Act::Fail(b"no"),
-];
-
-const ENDS: [Act<'static>; 4] = [Act::Start, Act::Query(b"COPY"), Act::Chunk(b"a"), Act::Done];
+// A copy of one chunk, which the client ends so.
+fn copied(alloc: Global, end: Event) -> Result<[Event; 4], AllocError> {
+    Ok([start(), asks(alloc, b"COPY")?, chunk(alloc, b"a")?, end])
+}
 
 // Whether such a copy of one chunk settles so.
-fn copies(
-    alloc: Global,
-    acts: &'static [Act<'static>],
-    cut: u32,
-    wanted: &[Settled],
-) -> Result<bool, Fail> {
+fn copies(alloc: Global, events: &[Event], cut: u32, wanted: &[Settled]) -> Result<bool, Fail> {
     let claims = [
         Claim::Groups(wanted),
         Claim::Loaded(&[b"a"], &[b"a"]),
-        Claim::Alike(acts),
+        Claim::Alike(events),
         READY,
     ];
-    holds(alloc, &[Reply::Accepting], carried_out(acts, cut), &claims)
+    holds(
+        alloc,
+        &[Reply::Accepting],
+        carried_out(events, cut),
+        &claims,
+    )
 }
 
 #[test]
 fn a_copy_fails(rt: HostRuntime) -> Result<(), Fail> {
     let wanted = [failed_copy(rt.alloc(), canceled(rt.alloc())?)?];
+    let events = copied(rt.alloc(), fail(rt.alloc(), b"no")?)?;
     for cut in [4_096, 1] {
-        assert!(rt; copies(rt.alloc(), &FAILS, cut, &wanted)?);
+        assert!(rt; copies(rt.alloc(), &events, cut, &wanted)?);
     }
     Ok(())
 }
@@ -160,8 +161,9 @@ fn a_copy_fails(rt: HostRuntime) -> Result<(), Fail> {
 #[test]
 fn a_copy_is_done(rt: HostRuntime) -> Result<(), Fail> {
     let wanted = [done(rt.alloc())?];
+    let events = copied(rt.alloc(), Event::Call(Call::Done))?;
     for cut in [4_096, 1] {
-        assert!(rt; copies(rt.alloc(), &ENDS, cut, &wanted)?);
+        assert!(rt; copies(rt.alloc(), &events, cut, &wanted)?);
     }
     Ok(())
 }
@@ -174,12 +176,11 @@ fn broken_off(alloc: Global) -> Result<Settled, AllocError> {
     Ok(settled(alloc, unnamed_group(alloc)?, parts, error))
 }
 
-const ASKS_GROUP: [Act<'static>; 2] = [Act::Start, Act::UnnamedGroup];
-
 fn breaks_off(alloc: Global, cut: u32, wanted: &[Settled]) -> Result<bool, Fail> {
-    let claims = [Claim::Groups(wanted), Claim::Alike(&ASKS_GROUP), READY];
+    let asked = [start(), Event::Call(Call::Request(unnamed_group(alloc)?))];
+    let claims = [Claim::Groups(wanted), Claim::Alike(&asked), READY];
     let replies = [Reply::FailingStep(Status::Idle)];
-    holds(alloc, &replies, carried_out(&ASKS_GROUP, cut), &claims)
+    holds(alloc, &replies, carried_out(&asked, cut), &claims)
 }
 
 #[test]

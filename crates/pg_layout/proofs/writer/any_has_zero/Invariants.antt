@@ -1,6 +1,6 @@
 use Rattle.std.proofs.Common.{◌≡◌, false, take}
-use Rattle.std.specs.List.{list_any}
+use Rattle.pg_layout.specs.Field.{listed}
 use Rattle.pg_layout.proofs.writer.any_has_zero.Given as goal
 
 abbrev pub invariant-loop-item : goal.invariant-loop-item
-invariant-loop-item g l = list_any g.T.Field.zero (take l.item-index l.items) ≡ false
+invariant-loop-item g l = (listed g.T.Field.layout (take l.item-index l.items)).has_zero ≡ false

@@ -1,8 +1,7 @@
-use Rattle.std.specs.List.{AllByRecursion}
 use Rattle.pg_message.proofs.Startups.{with_database}
 use Rattle.pg_message.proofs.frontend.startup.Goals as goal
 
 pub returns-in-Some : goal.returns-in-Some
 returns-in-Some c =
     let h = rw (c.any_has_no_name-no_name.ensures) at c.append_startup-in-Some.ensures in
-    rw (c.in-Some.is) (with_database ((Unit {0} × Unit {0}) × ((Unit {0} × Unit {0}) × AllByRecursion (λ _. Unit {0}) c.args.pairs.now)) c.args.user.now c.in-Some.name.now c.args.pairs.now c.args.buf.now.items c.append_startup-in-Some.result c.append_startup-in-Some.new.buf.items h)
+    rw (c.in-Some.is) (with_database c.args.user.now c.in-Some.name.now c.args.pairs.now c.args.buf.now.items c.append_startup-in-Some.result c.append_startup-in-Some.new.buf.items h)

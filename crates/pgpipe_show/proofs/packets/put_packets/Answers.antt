@@ -18,7 +18,7 @@ pub returns-in-Message : goal.returns-in-Message
 returns-in-Message g c =
     let i = c.loop-packet.invariant in
     record {
-      puts = at_last g.K.Sink.takes g.K.Sink.failures c.args.outbox.now c.args.sink.now c.args.first.now.kept c.loop-packet.first c.loop-packet.outbox c.loop-packet.sink i.0 i.1 i.2 c.in-Ok-Some.field-0 c.next.new.self c.in-Ok-Some.packet c.in-Ok-Some.field-0-is c.in-Ok-Some.ensures.call c.after-next.result c.put_packet.new.outbox c.put_packet.new.sink c.after-next.ensures (λ e. is_no_packet c.after-next.result c.in-Message.is e) c.in_ok-put_packet-in-Ok-Some.ensures;
+      puts = at_last g.K.Sink.takes g.K.Sink.failures c.args.outbox.now c.args.sink.now c.args.first.now.kept c.loop-packet.first c.loop-packet.outbox c.loop-packet.sink i.0 i.1 i.2 c.in-Ok-Some.field-0 c.next.new.self c.in-Ok-Some.packet c.in-Ok-Some.field-0-is c.in-Ok-Some.ensures.call c.after_packet-next.result c.put_packet.new.outbox c.put_packet.new.sink c.after_packet-next.ensures (λ e. is_no_packet c.after_packet-next.result c.in-Message.is e) c.in_ok-put_packet-in-Ok-Some.ensures;
       source = refl;
     }
 

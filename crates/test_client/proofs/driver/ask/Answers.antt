@@ -3,7 +3,7 @@ use Rattle.std.proofs.lemmas.Result.{err_from_is_err_and}
 use Rattle.std.specs.List.{concat}
 use Rattle.pg_client.specs.declared.phase.Phase.TheVariants as phase
 use Rattle.pg_client.specs.History.{IsHistoryOf, with_call, with_given}
-use Rattle.pg_client.specs.Session.{Ask}
+use Rattle.pg_client.specs.declared.call.Call.TheVariants as call
 use Rattle.test_client.proofs.Driving.{answered_after, drives_none, fails_after}
 use Rattle.test_client.proofs.Later.{open_between, taken_later}
 use Rattle.test_client.proofs.OwnGroup.{Laws, answered, takes, waits}
@@ -20,7 +20,7 @@ returns-in_err-request-clause-asks g c =
 
 pub settle-requires-clause-history : goal.settle-requires-clause-history
 settle-requires-clause-history g c =
-    (with_call c.args.client.now.settings (Ask c.args.request) c.requires.history, c.in_ok-request.ensures.history.history c.requires.history c.requires.is_its_own)
+    (with_call c.args.client.now.settings (call.Request c.args.request) c.requires.history, c.in_ok-request.ensures.history.history c.requires.history c.requires.is_its_own)
 
 pub settle-requires-clause-is_open : goal.settle-requires-clause-is_open
 settle-requires-clause-is_open g c = open_between c.request.new.self phase.Busy c.in_ok-request.ensures.ok.1 tt
@@ -28,13 +28,13 @@ settle-requires-clause-is_open g c = open_between c.request.new.self phase.Busy 
 pub returns-in_err-settle-clause-history : goal.returns-in_err-settle-clause-history
 returns-in_err-settle-clause-history g c =
     let asked = c.in_ok-request.ensures.history.history c.requires.history c.requires.is_its_own in
-    let later = c.in_err-settle.ensures.waits.later (with_call c.args.client.now.settings (Ask c.args.request) c.requires.history) asked in
+    let later = c.in_err-settle.ensures.waits.later (with_call c.args.client.now.settings (call.Request c.args.request) c.requires.history) asked in
     (later.history, later.is_its_own)
 
 pub returns-in_err-settle-clause-asks : goal.returns-in_err-settle-clause-asks
 returns-in_err-settle-clause-asks g c =
     let p = err_from_is_err_and c.from_residual-in_err-settle.result c.from_residual-in_err-settle.ensures.1 in
-    rw (p.1, p.2) (fails_after g.S.Source.gives {A = _} _ _ _ _ c.args.client.now.settings (Ask c.args.request) _ _ c.request.new.self _ _ _ c.in_ok-request.ensures.history.history c.in_err-settle.ensures.waits)
+    rw (p.1, p.2) (fails_after g.S.Source.gives {A = _} _ _ _ _ c.args.client.now.settings (call.Request c.args.request) _ _ c.request.new.self _ _ _ c.in_ok-request.ensures.history.history c.in_err-settle.ensures.waits)
 
 pub unwrap-requires : goal.unwrap-requires
 unwrap-requires g c =
@@ -54,6 +54,6 @@ returns g c =
       own = t.0;
       again = t.1;
       history = (t.1.history, t.1.is_its_own);
-      asks = answered_after g.S.Source.gives {A = _} _ _ _ _ _ c.args.client.now.settings (Ask c.args.request) _ _ _ c.request.new.self c.unwrap.result _ c.settle.new.client _ c.in_ok-request.ensures.history.history went
-          (λ h k. taken_later (with_call c.args.client.now.settings (Ask c.args.request) h) (concat went.pieces) c.settle.new.client c.take_settled.new.self c.unwrap.result carries k);
+      asks = answered_after g.S.Source.gives {A = _} _ _ _ _ _ c.args.client.now.settings (call.Request c.args.request) _ _ _ c.request.new.self c.unwrap.result _ c.settle.new.client _ c.in_ok-request.ensures.history.history went
+          (λ h k. taken_later (with_call c.args.client.now.settings (call.Request c.args.request) h) (concat went.pieces) c.settle.new.client c.take_settled.new.self c.unwrap.result carries k);
     }

@@ -1,6 +1,6 @@
 use Rattle.std.proofs.Common.{◌≡◌, sym, ◌∙◌, arith}
 use Rattle.std.proofs.lemmas.Grind.{common_steps}
-use Rattle.pg_backend.proofs.Handling.StepHandled.{step_done, refused_done, refused_is, had_memory}
+use Rattle.pg_backend.proofs.Handling.StepHandled.{step_done, refused_done, refused_is, memory_not_refused}
 use Rattle.pg_backend.proofs.backend.Backend.step.Goals as goal
 
 pub returns-then-is_refused-clause-history : goal.returns-then-is_refused-clause-history
@@ -15,4 +15,4 @@ pub returns-else-is_refused-clause-history : goal.returns-else-is_refused-clause
 returns-else-is_refused-clause-history c =
     let b = c.args.self.now in
     step_done b.script b.limit b.left b.log b.stage c.advance-answer.new.self c.args.out.now.items c.advance-answer.new.out.items c.advance-answer.result c.advance-answer.ensures.sound
-    (had_memory c.advance-answer.result (sym c.is_refused.ensures ∙ c.if-is_refused.false)) c.advance-answer.ensures.call
+    (memory_not_refused c.advance-answer.result (sym c.is_refused.ensures ∙ c.if-is_refused.false)) c.advance-answer.ensures.call

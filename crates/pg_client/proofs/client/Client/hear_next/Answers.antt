@@ -9,15 +9,15 @@ use Rattle.pg_client.specs.contracts.client.Client.{the_view}
 use Rattle.pg_client.proofs.Messages.{next_refused, next_faulty}
 use Rattle.pg_client.proofs.client.Client.hear_next.Goals as goal
 
-pub returns-in-Err-hear : goal.returns-in-Err-hear
-returns-in-Err-hear c =
+pub returns-in-Err-hear_and_send : goal.returns-in-Err-hear_and_send
+returns-in-Err-hear_and_send c =
     let v : ClientView = the_view c.self.inside in
     let mid : ClientView = the_view c.self-in-Ok-Some.inside in
     let call : Takes backend c.self.inside.decoder (Ok (Some c.in-Ok-Some.message)) c.next.new.self = subst (λ (o : Option BackMessage). Takes backend c.self.inside.decoder (Ok o) c.next.new.self) c.in-Ok-Some.field-0-is c.in-Ok-Some.ensures.call in
     let within : IsWithin backend c.self.inside.settings.limit c.in-Ok-Some.message = subst (λ (l : ℕ). IsWithin backend l c.in-Ok-Some.message) c.self.invariant.0 call.1 in
-    let h : HearsMessage c.in-Ok-Some.message (leaving v c.next.new.self.kept) (Err c.in-Err-hear.fault) mid = subst (HearsMessage c.in-Ok-Some.message (leaving v c.next.new.self.kept) (Err c.in-Err-hear.fault)) (sym c.self-in-Ok-Some.view_is) c.in-Err-hear.ensures.message in
-    subst (λ (x : ClientView). HearsNext x (Err c.in-Err-hear.fault) (record mid { closed = c.cause-self-inside.result }) c.args.out.now.items c.hear.new.out.items) c.self.view_is
-    (next_refused v c.next.new.self.kept c.in-Ok-Some.message c.in-Err-hear.fault mid c.cause-self-inside.result c.args.out.now.items c.hear.new.out.items within call.2 h c.cause-self-inside.ensures c.in-Err-hear.ensures.answer)
+    let h : HearsMessage c.in-Ok-Some.message (leaving v c.next.new.self.kept) (Err c.in-Err-hear_and_send.fault) mid = subst (HearsMessage c.in-Ok-Some.message (leaving v c.next.new.self.kept) (Err c.in-Err-hear_and_send.fault)) (sym c.self-in-Ok-Some.view_is) c.in-Err-hear_and_send.ensures.message in
+    subst (λ (x : ClientView). HearsNext x (Err c.in-Err-hear_and_send.fault) (record mid { closed = c.cause-self-inside.result }) c.args.out.now.items c.hear_and_send.new.out.items) c.self.view_is
+    (next_refused v c.next.new.self.kept c.in-Ok-Some.message c.in-Err-hear_and_send.fault mid c.cause-self-inside.result c.args.out.now.items c.hear_and_send.new.out.items within call.2 h c.cause-self-inside.ensures c.in-Err-hear_and_send.ensures.answer)
 
 pub returns-in-Err : goal.returns-in-Err
 returns-in-Err c =

@@ -2,14 +2,14 @@ use Rattle.std.proofs.Common.{◌≡◌, ℕ, ◌+◌, ◌-◌, true, false, ref
 use Rattle.pg_copy.specs.Private.Units.{IsScanned}
 use Rattle.std.proofs.lemmas.Bool.{ne_eqb}
 use Rattle.pg_copy.specs.Text.{newline}
-use Rattle.pg_copy.proofs.TextParts.{scanned-few, scanned-plain, scanned-run, scanned-behind}
+use Rattle.pg_copy.proofs.TextParts.{scanned-few, scanned-plain, scanned-run, scanned-after}
 use Rattle.pg_copy.proofs.scan.Scan.find_newline.Goals as goal
 
-pub behind-scan-requires-clause-few : goal.behind-scan-requires-clause-few
-behind-scan-requires-clause-few c = scanned-few c.args.bytes.now c.loop-scan.scan c.loop-scan.invariant
+pub after-scan-requires-clause-few : goal.after-scan-requires-clause-few
+after-scan-requires-clause-few c = scanned-few c.args.bytes.now c.loop-scan.scan c.loop-scan.invariant
 
 pub loop-scan-preserved-then-scan : goal.loop-scan-preserved-then-scan
-loop-scan-preserved-then-scan c = rw c.behind-scan.ensures (scanned-behind c.args.bytes.now c.loop-scan.scan _ c.loop-scan-test.true refl (λ e. absurd (clash (sym c.if-scan.true ∙ e))) c.loop-scan.invariant)
+loop-scan-preserved-then-scan c = rw c.after-scan.ensures (scanned-after c.args.bytes.now c.loop-scan.scan _ c.loop-scan-test.true refl (λ e. absurd (clash (sym c.if-scan.true ∙ e))) c.loop-scan.invariant)
   where
     clash : true ≡ false → ⊥
     clash e = cc
@@ -29,8 +29,8 @@ returns-then-byte-eq10-clause-found c = λ e.
     let h = c.loop-scan.invariant in
     record { in_range = c.loop-scan-test.true; none = h.newlines; closed = h.escaped ∙ c.if-scan.false; is = c.if-byte-eq10.true }
 
-pub behind-scan-requires-else-byte-eq10-clause-few : goal.behind-scan-requires-else-byte-eq10-clause-few
-behind-scan-requires-else-byte-eq10-clause-few c = scanned-few c.args.bytes.now c.loop-scan.scan c.loop-scan.invariant
+pub after-scan-requires-else-byte-eq10-clause-few : goal.after-scan-requires-else-byte-eq10-clause-few
+after-scan-requires-else-byte-eq10-clause-few c = scanned-few c.args.bytes.now c.loop-scan.scan c.loop-scan.invariant
 
 pub loop-scan-preserved : goal.loop-scan-preserved
-loop-scan-preserved c = rw c.behind-scan-else-byte-eq10.ensures (scanned-behind c.args.bytes.now c.loop-scan.scan _ c.loop-scan-test.true refl (λ e. ne_eqb _ newline c.if-byte-eq10.false) c.loop-scan.invariant)
+loop-scan-preserved c = rw c.after-scan-else-byte-eq10.ensures (scanned-after c.args.bytes.now c.loop-scan.scan _ c.loop-scan-test.true refl (λ e. ne_eqb _ newline c.if-byte-eq10.false) c.loop-scan.invariant)

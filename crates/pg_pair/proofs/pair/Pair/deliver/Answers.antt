@@ -1,6 +1,6 @@
 use Rattle.std.proofs.Common.{◌≡◌, ◌-◌, true, false, None, is_some, min, length, ap, sym, subst, ◌∙◌, arith}
 use Rattle.pg_pair.specs.Breaking.{is_shut}
-use Rattle.pg_pair.specs.Delivering.{begins, DeliversUnless}
+use Rattle.pg_pair.specs.Delivering.{no_piece, DeliversUnless}
 use Rattle.pg_pair.specs.View.{waiting_at}
 use Rattle.pg_pair.specs.Carrying.{longest_piece}
 use Rattle.pg_pair.proofs.Moving.{delivers_part, delivers_whole, goes_further, going_on, moved_within, no_answer}
@@ -8,7 +8,7 @@ use Rattle.pg_pair.proofs.pair.Pair.deliver.Goals as goal
 use Rattle.pg_pair.proofs.pair.Pair.deliver.Goals.{then-went-via-then-went, then-went-via-else-went+then-is_some, then-went-via-else-went+else-is_some+then-went-count}
 
 pub loop-way-init : goal.loop-way-init
-loop-way-init g c = record { goes = begins; going = going_on c.args.way c.args.self.now (sym c.is_shut.ensures ∙ c.if-is_shut.false); within = omega arith }
+loop-way-init g c = record { goes = no_piece; going = going_on c.args.way c.args.self.now (sym c.is_shut.ensures ∙ c.if-is_shut.false); within = omega arith }
 
 pub returns-then-count-eq0 : goal.returns-then-count-eq0
 returns-then-count-eq0 g c =
