@@ -29,17 +29,17 @@ opens_result (back.CopyOut head) = Some pending.CopyOut
 opens_result (back.CopyIn head) = Some pending.CopyIn
 opens_result _ = None
 
--- the answer to a Parse is one message
+-- What is open after the first message of the answer to a Parse: ParseComplete is the whole answer.
 abbrev pub ends_parse : BackMessage → Option Pending
 ends_parse ParseComplete = Some pending.Nothing
 ends_parse _ = None
 
--- and so is that to a Bind
+-- The same of a Bind: BindComplete is the whole answer.
 abbrev pub ends_bind : BackMessage → Option Pending
 ends_bind BindComplete = Some pending.Nothing
 ends_bind _ = None
 
--- and that to a Close
+-- The same of a Close: CloseComplete is the whole answer.
 abbrev pub ends_close : BackMessage → Option Pending
 ends_close CloseComplete = Some pending.Nothing
 ends_close _ = None
