@@ -1,17 +1,13 @@
 -- The fields of the messages and their readers.
-use Rattle.std.proofs.Common.{◌≡◌, ℕ, zero, suc, ◌^◌, ◌<◌, ◌≤◌, Bool, true, false, ◌||◌, cond, ltb, eqb, List, [], ◌∷◌, ◌++◌, length, take, drop, Option, Some, None, refl, sym, ap, subst, ◌∙◌, append_assoc, arith, inl, inr, length-append, lit<}
+use Rattle.std.proofs.Common.{◌≡◌, ℕ, zero, suc, ◌^◌, ◌<◌, ◌≤◌, Bool, true, false, cond, ltb, eqb, List, [], ◌∷◌, ◌++◌, length, take, drop, Option, Some, None, refl, sym, ap, subst, ◌∙◌, append_assoc, arith, inl, inr, length-append, lit<}
 use Rattle.std.specs.Prelude.{◌⊎◌}
-use Rattle.std.specs.List.{flat_map, list_any, AllByRecursion}
 use Rattle.std.specs.Int.{w16, w32, to_be_bytes}
-use Rattle.std.specs.Int.RustNames.{FitsSigned}
 use Rattle.std.proofs.lemmas.Bool.{ltb-false, le-ltb, or_parts, or_from, eqb-true, ne_eqb}
 use Rattle.std.proofs.lemmas.List.{take_at, drop_at, take-append-drop, length-take}
 use Rattle.pg_layout.specs.declared.value.Status.{Status}
 use Rattle.pg_layout.specs.declared.value.Status.TheVariants.{Idle, InBlock, Failed}
 use Rattle.pg_layout.specs.declared.value.Column.{Column}
-use Rattle.pg_layout.specs.declared.value.ErrorField.{ErrorField}
-use Rattle.pg_layout.specs.declared.value.CopyHead.{CopyHead}
-use Rattle.pg_layout.specs.Field.{Body, ◌⨾◌, int16, int32, oid, byte1, value_bytes, value, string, nonzero, contains_zero, exceeds_count, listed, counted, terminated}
+use Rattle.pg_layout.specs.Field.{Body, int16, byte1, value_bytes, value, string, nonzero, contains_zero, listed, counted, terminated}
 use Rattle.pg_layout.specs.Value.{column, error_field, copy_head, format_byte, status_byte}
 use Rattle.pg_layout.specs.Private.Reader.{◌>>=◌, pair_at, number_at, signed_at, nonzero_at, string_at, value_of_length, value_at, null_length, counted_at, ColumnParts, column_of_parts, column_at, after_zero, up_to_zero_at, terminated_at, error_field_at, choice_at, status_of_byte, binary_of_byte, copy_head_at, name_at, parameter_at}
 use Rattle.pg_layout.proofs.Layouts.{IsBytes, bind_some, some_is, Spelled, BeginsWith, Reads, rest_bytes, pair_of, pair_reads, mapped_reads, Uncounted, counted_reads, is_plain, oid_reads, int16_reads, int32_reads, text_reads, not_zero, guard_some}

@@ -1,14 +1,17 @@
 //! Fields that stand in lists: how each is judged, written and read.
 
-ghost use Rattle.std.specs.Prelude.{◌≡◌, ◌<◌, ◌^◌, ◌++◌, ℕ, List, length, Option, OnOk};
+ghost use Rattle.std.specs.Prelude.{◌≡◌, ◌<◌, ◌^◌, ◌++◌, ℕ, List, length, Option, OnOk, option_copied};
 ghost use Rattle.std.specs.Int.{w16, w32};
 ghost use Rattle.pg_layout.specs.Field.{Body, int16, oid, value};
 ghost use Rattle.pg_layout.specs.Value.{column, error_field, parameter};
 ghost use Rattle.pg_layout.specs.Private.Writer.{LeavesRoom};
+ghost use Rattle.pg_layout.specs.Private.Lent.{left_after};
 ghost use Rattle.pg_layout.specs.Private.Reader.{Gives, number_at, signed_at, value_at, column_at, error_field_at, parameter_at};
 
+use crate::after::{after_i32, after_name, after_text};
 use crate::appender::Appender;
 use crate::fault::BodyFault;
+use crate::lent::{lent_field_at, lent_value_at};
 use crate::reader::{copy_of, i16_at, i32_at, name_at, nonzero_at, text_at, u32_at};
 use crate::value::{Column, ErrorField};
 use crate::writer::{room_after_bytes, room_after_text, text_has_zero, write_text};
@@ -43,6 +46,10 @@ pub trait Field: Drop {
     where
         Self: Sized,
         ensures { Gives (λ x. (x.0, x.1.now)) result (reading bytes.now) };
+
+    /// The bytes after the field at their beginning, which isn't made; None where there is none.
+    fn after(bytes: &[u8]) -> Option<&[u8]>
+        ensures { option_copied result ≡ left_after (reading bytes.now) };
 }
 
 impl Field for i16 {
@@ -65,6 +72,13 @@ impl Field for i16 {
     fn read(_alloc: Global, bytes: &[u8]) -> Result<(i16, &[u8]), BodyFault> {
         i16_at(bytes)
     }
+
+    fn after(bytes: &[u8]) -> Option<&[u8]> {
+        match i16_at(bytes) {
+            Ok((_, rest)) => Some(rest),
+            Err(_) => None,
+        }
+    }
 }
 
 impl Field for u32 {
@@ -86,6 +100,13 @@ impl Field for u32 {
 
     fn read(_alloc: Global, bytes: &[u8]) -> Result<(u32, &[u8]), BodyFault> {
         u32_at(bytes)
+    }
+
+    fn after(bytes: &[u8]) -> Option<&[u8]> {
+        match u32_at(bytes) {
+            Ok((_, rest)) => Some(rest),
+            Err(_) => None,
+        }
     }
 }
 
@@ -129,6 +150,11 @@ impl Field for Option<Seq<u8>> {
         }
         let (bytes, rest) = rest.split_at(len as usize);
         Ok((Some(copy_of(alloc, bytes)?), rest))
+    }
+
+    fn after(bytes: &[u8]) -> Option<&[u8]> {
+        let (_, rest) = lent_value_at(bytes)?;
+        Some(rest)
     }
 }
 
@@ -175,6 +201,17 @@ impl Field for Column {
         };
         Ok((column, rest))
     }
+
+    #[tactic(auto, unfolding(crate::specs::Private::Reader::column_at))]
+    fn after(bytes: &[u8]) -> Option<&[u8]> {
+        let rest = after_text(bytes)?;
+        let rest = u32::after(rest)?;
+        let rest = i16::after(rest)?;
+        let rest = u32::after(rest)?;
+        let rest = i16::after(rest)?;
+        let rest = after_i32(rest)?;
+        i16::after(rest)
+    }
 }
 
 /// A parameter of a startup packet: its name, which isn't empty, and its value.
@@ -203,6 +240,11 @@ impl Field for (Seq<u8>, Seq<u8>) {
         let (value, rest) = text_at(alloc, rest)?;
         Ok(((name, value), rest))
     }
+
+    #[tactic(auto, unfolding(crate::specs::Private::Reader::parameter_at))]
+    fn after(bytes: &[u8]) -> Option<&[u8]> {
+        after_text(after_name(bytes)?)
+    }
 }
 
 impl Field for ErrorField {
@@ -228,5 +270,10 @@ impl Field for ErrorField {
         let (code, rest) = nonzero_at(bytes)?;
         let (value, rest) = text_at(alloc, rest)?;
         Ok((ErrorField { code, value }, rest))
+    }
+
+    fn after(bytes: &[u8]) -> Option<&[u8]> {
+        let (_, rest) = lent_field_at(bytes)?;
+        Some(rest)
     }
 }

@@ -4,17 +4,23 @@
 //! It is the lowest layer of `pg_wire`. Users name `pg_wire`, which passes on what they need of it.
 #![tactic(auto)]
 
+mod after;
 mod appender;
 mod fault;
 mod field;
+mod lent;
 mod part;
 mod reader;
 mod value;
 mod writer;
 
+pub use after::{
+    after_copy_head, after_counted, after_i32, after_status, after_terminated, after_text,
+};
 pub use appender::Appender;
 pub use fault::{BodyFault, EncodeFault};
 pub use field::Field;
+pub use lent::{FieldsView, LentFields, LentValues, RowView};
 pub use part::{
     BodyPart, Byte, Bytes, Counted, Int32, LONGEST, LONGEST_PACKET, Pair, Salt, Terminated, Text,
     append, append_packet,

@@ -1,6 +1,7 @@
 //! Reading at the beginning of a body: a value and the bytes after it.
 
-ghost use Rattle.std.specs.Prelude.{◌≡◌, ◌<◌, ◌==◌, if◌then◌else◌, length, position, Some, None, MatchOption, IfSome};
+ghost use Rattle.std.specs.Prelude.{◌≡◌, ◌<◌, ◌==◌, if◌then◌else◌, length, position, Some, None, MatchOption, IfSome, IsOkUnless};
+ghost use Rattle.pg_layout.specs.declared.fault.BodyFault.TheVariants.{Bad};
 ghost use Rattle.std.specs.Int.{w16, w32};
 ghost use Rattle.pg_layout.specs.Private.Reader.{Gives, name_at, number_at, signed_at, nonzero_at, string_at, counted_at, times_at, after_zero, terminated_at, choice_at, status_of_byte, binary_of_byte, copy_head_at};
 
@@ -12,7 +13,8 @@ use std::alloc::Global;
 
 /// Two bytes as a number, the highest first.
 pub fn u16_at(bytes: &[u8]) -> Result<(u16, &[u8]), BodyFault>
-    ensures { Gives (λ x. (x.0, x.1.now)) result (number_at w16 bytes.now) }
+    ensures read { Gives (λ x. (x.0, x.1.now)) result (number_at w16 bytes.now) }
+    ensures no_memory { IsOkUnless result Bad }
 {
     if bytes.len() < 2 {
         return Err(BodyFault::Bad);
@@ -23,7 +25,8 @@ pub fn u16_at(bytes: &[u8]) -> Result<(u16, &[u8]), BodyFault>
 
 /// Four bytes as a number, the highest first.
 pub fn u32_at(bytes: &[u8]) -> Result<(u32, &[u8]), BodyFault>
-    ensures { Gives (λ x. (x.0, x.1.now)) result (number_at w32 bytes.now) }
+    ensures read { Gives (λ x. (x.0, x.1.now)) result (number_at w32 bytes.now) }
+    ensures no_memory { IsOkUnless result Bad }
 {
     if bytes.len() < 4 {
         return Err(BodyFault::Bad);
@@ -37,7 +40,8 @@ pub fn u32_at(bytes: &[u8]) -> Result<(u32, &[u8]), BodyFault>
 
 /// An Int16.
 pub fn i16_at(bytes: &[u8]) -> Result<(i16, &[u8]), BodyFault>
-    ensures { Gives (λ x. (x.0, x.1.now)) result (signed_at w16 bytes.now) }
+    ensures read { Gives (λ x. (x.0, x.1.now)) result (signed_at w16 bytes.now) }
+    ensures no_memory { IsOkUnless result Bad }
 {
     let (n, rest) = u16_at(bytes)?;
     Ok((n.cast_signed(), rest))
@@ -45,7 +49,8 @@ pub fn i16_at(bytes: &[u8]) -> Result<(i16, &[u8]), BodyFault>
 
 /// An Int32.
 pub fn i32_at(bytes: &[u8]) -> Result<(i32, &[u8]), BodyFault>
-    ensures { Gives (λ x. (x.0, x.1.now)) result (signed_at w32 bytes.now) }
+    ensures read { Gives (λ x. (x.0, x.1.now)) result (signed_at w32 bytes.now) }
+    ensures no_memory { IsOkUnless result Bad }
 {
     let (n, rest) = u32_at(bytes)?;
     Ok((n.cast_signed(), rest))
@@ -53,7 +58,8 @@ pub fn i32_at(bytes: &[u8]) -> Result<(i32, &[u8]), BodyFault>
 
 /// A byte that isn't zero.
 pub fn nonzero_at(bytes: &[u8]) -> Result<(u8, &[u8]), BodyFault>
-    ensures { Gives (λ x. (x.0, x.1.now)) result (nonzero_at bytes.now) }
+    ensures read { Gives (λ x. (x.0, x.1.now)) result (nonzero_at bytes.now) }
+    ensures no_memory { IsOkUnless result Bad }
 {
     match bytes {
         [] | [0, ..] => Err(BodyFault::Bad),
@@ -61,7 +67,8 @@ pub fn nonzero_at(bytes: &[u8]) -> Result<(u8, &[u8]), BodyFault>
     }
 }
 
-fn zero_place(bytes: &[u8]) -> Option<usize>
+/// The place of the first zero byte.
+pub fn zero_place(bytes: &[u8]) -> Option<usize>
     ensures place { result ≡ position (λ b. b == 0) bytes.now }
     ensures within { IfSome result (λ i. i < length bytes.now) }
 {
@@ -123,7 +130,7 @@ pub fn counted<T: Field>(alloc: Global, bytes: &[u8]) -> Result<(Seq<T>, &[u8]),
 }
 
 /// What stands after a zero byte.
-fn after_zero(bytes: &[u8]) -> Option<&[u8]>
+pub fn after_zero(bytes: &[u8]) -> Option<&[u8]>
     ensures { MatchOption result (after_zero bytes.now ≡ None) (λ rest. after_zero bytes.now
         ≡ Some rest.now) }
 {
@@ -153,7 +160,8 @@ pub fn terminated<T: Field>(alloc: Global, bytes: &[u8]) -> Result<(Seq<T>, &[u8
 
 /// A transaction status, by its byte.
 pub fn status_at(bytes: &[u8]) -> Result<(Status, &[u8]), BodyFault>
-    ensures { Gives (λ x. (x.0, x.1.now)) result (choice_at status_of_byte bytes.now) }
+    ensures read { Gives (λ x. (x.0, x.1.now)) result (choice_at status_of_byte bytes.now) }
+    ensures no_memory { IsOkUnless result Bad }
 {
     match bytes {
         [b'I', rest @ ..] => Ok((Status::Idle, rest)),
@@ -163,8 +171,10 @@ pub fn status_at(bytes: &[u8]) -> Result<(Status, &[u8]), BodyFault>
     }
 }
 
-fn binary_at(bytes: &[u8]) -> Result<(bool, &[u8]), BodyFault>
-    ensures { Gives (λ x. (x.0, x.1.now)) result (choice_at binary_of_byte bytes.now) }
+/// The overall format of a copy, by its byte.
+pub fn binary_at(bytes: &[u8]) -> Result<(bool, &[u8]), BodyFault>
+    ensures read { Gives (λ x. (x.0, x.1.now)) result (choice_at binary_of_byte bytes.now) }
+    ensures no_memory { IsOkUnless result Bad }
 {
     match bytes {
         [0, rest @ ..] => Ok((false, rest)),
