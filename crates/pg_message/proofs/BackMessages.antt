@@ -1,5 +1,5 @@
 -- Reading a backend's body gives a message exactly where the body is that of a message with this tag.
-use Rattle.std.proofs.Common.{◌≡◌, ℕ, ◌^◌, ◌<◌, true, false, ◌||◌, eqb, List, [], ◌++◌, length, Some, None, refl, subst, inl, inr}
+use Rattle.std.proofs.Common.{◌≡◌, ℕ, ◌^◌, ◌<◌, true, false, ◌||◌, cond, eqb, List, [], ◌++◌, length, Option, Some, None, refl, sym, ap, subst, ◌∙◌, inl, inr}
 use Rattle.std.specs.Prelude.{ℤ, pos, is_some}
 use Rattle.std.specs.Ordering.{int_eq}
 use Rattle.std.proofs.lemmas.Bool.Decides.{Decides-int_eq}
@@ -14,11 +14,12 @@ use Rattle.pg_message.specs.declared.message.BackMessage.TheVariants.{AuthOk, Au
 use Rattle.pg_layout.specs.Field.{◌⨾◌, int32, byten}
 use Rattle.pg_message.specs.Backend.{backend, back_row, tag}
 use Rattle.pg_message.specs.Message.{IsTag, NoMessage, IsMessage}
-use Rattle.pg_message.specs.Private.BackReader.{back_reading, back_kind_of, auth_of_code}
-use Rattle.pg_layout.proofs.Layouts.{bind_some, some_is, Spelled, pair_reads, pair_last, reads_last, counted_reads, oid_reads, int32_reads, text_reads, nothing_reads, byten_reads}
+use Rattle.pg_message.specs.Private.BackReader.{back_reading, back_kind_of, auth_of_code, auth_message}
+use Rattle.pg_message.specs.Private.Reading.{ends}
+use Rattle.pg_layout.proofs.Layouts.{IsBytes, bind_some, some_is, Spelled, pair_reads, pair_last, reads_last, counted_reads, oid_reads, int32_reads, text_reads, nothing_reads, byten_reads}
 use Rattle.pg_layout.proofs.Fields.{value_reads, column_reads, status_reads, copy_head_reads, error_fields_reads, chosen}
 use Rattle.pg_message.proofs.Bodies.{IsSpelled, ended_some}
-use Rattle.pg_message.proofs.Tables.{IsRead, is_read, bare_is_read, found, body_spelled, IsTable}
+use Rattle.pg_message.proofs.Tables.{IsRead, is_read, bare_is_read, message_sound, found, body_spelled, IsTable}
 use Rattle.pg_message.proofs.Tables as tables
 
 -- ---- authentication requests
@@ -50,10 +51,14 @@ auth_made code rest m s e =
     of : (n o : BackMessage) → IsMessage backend 82 ((int32 code).bytes ++ rest) n → n ≡ o → IsMessage backend 82 ((int32 code).bytes ++ rest) o
     of n o found same = subst (IsMessage backend 82 ((int32 code).bytes ++ rest)) same found
 
+auth_left : (o : Option BackMessage) → ends (cond (is_some o) (Some []) None) ≡ is_some o
+auth_left None = refl
+auth_left (Some m) = refl
+
 -- ---- each kind
 
 each : (k : BackKind) → IsRead back_row (back_reading k)
-each kinds.Auth = record { reads = pair_last _ _ _ _ int32_reads byten_reads; whole = λ _. refl; made = λ a m s e. auth_made a.0 a.1 m s e; one = AuthOk; one_is = refl }
+each kinds.Auth = record { reads = pair_last _ _ _ _ int32_reads byten_reads; whole = λ _. refl; left_is = λ bytes. auth_left (auth_message bytes); made = λ a m s e. auth_made a.0 a.1 m s e; one = AuthOk; one_is = refl }
 each kinds.KeyData = is_read back_row 75 _ (λ (p : ℤ × ℤ). KeyData p.0 p.1) (λ _. refl) (λ _. refl) (reads_last _ _ (pair_reads _ _ _ _ int32_reads int32_reads)) (pos 0, pos 0)
 each kinds.ParameterStatus = is_read back_row 83 _ (λ (p : List ℕ × List ℕ). ParameterStatus p.0 p.1) (λ _. refl) (λ _. refl) (reads_last _ _ (pair_reads _ _ _ _ text_reads text_reads)) ([], [])
 each kinds.Ready = is_read back_row 90 _ Ready (λ _. refl) (λ _. refl) (reads_last _ _ status_reads) Idle
@@ -74,6 +79,9 @@ each kinds.CloseComplete = bare_is_read back_row 51 CloseComplete refl refl noth
 each kinds.NoData = bare_is_read back_row 110 NoData refl refl nothing_reads
 each kinds.PortalSuspended = bare_is_read back_row 115 PortalSuspended refl refl nothing_reads
 each kinds.CopyDone = bare_is_read back_row 99 CopyDone refl refl nothing_reads
+
+pub ends_is : (k : BackKind) (bytes : List ℕ) (left : Option (List ℕ)) → left ≡ (back_reading k).left bytes → ends left ≡ is_some ((back_reading k).message bytes)
+ends_is k bytes left e = ap ends e ∙ (each k).left_is bytes
 
 -- ---- each message
 
@@ -116,6 +124,9 @@ is_tag t k e = tables.is_tag table t k e
 
 pub no_tag : (t : ℕ) → back_kind_of t ≡ None → IsTag backend t → ⊥
 no_tag t e = tables.no_tag table t e
+
+pub read_some : (t : ℕ) (k : BackKind) (bytes : List ℕ) (m : BackMessage) → t ≡ (back_reading k).tag → IsBytes bytes → (back_reading k).message bytes ≡ Some m → IsMessage backend t bytes m
+read_some t k bytes m is fits e = subst (λ (b : ℕ). IsMessage backend b bytes m) (sym is) (message_sound back_row (back_reading k) (each k) bytes m fits e)
 
 pub read_none : (t : ℕ) (k : BackKind) (bytes : List ℕ) → t ≡ (back_reading k).tag → (back_reading k).message bytes ≡ None → NoMessage backend t bytes
 read_none t k bytes is none = tables.read_none table t k bytes is none

@@ -1,5 +1,5 @@
 -- Reading a frontend's body gives a message exactly where the body is that of a message with this tag.
-use Rattle.std.proofs.Common.{◌≡◌, ℕ, ◌^◌, ◌<◌, true, cond, eqb, List, [], length, Some, None, refl, sym, ap, ◌∙◌}
+use Rattle.std.proofs.Common.{◌≡◌, ℕ, ◌^◌, ◌<◌, true, cond, eqb, List, [], length, Option, Some, None, refl, sym, ap, ◌∙◌}
 use Rattle.std.specs.Prelude.{ℤ, pos, is_some}
 use Rattle.std.specs.Int.{w16}
 use Rattle.pg_message.specs.declared.frontend.kind.FrontKind.{FrontKind}
@@ -11,6 +11,7 @@ use Rattle.pg_message.specs.declared.message.FrontMessage.TheVariants.{Query, Pa
 use Rattle.pg_layout.specs.Field.{byte1, int16, counted}
 use Rattle.pg_message.specs.Frontend.{frontend, front_row, tag, target_byte}
 use Rattle.pg_layout.specs.Private.Reader.{choice_at, counted_at, signed_at}
+use Rattle.pg_message.specs.Private.Reading.{ends}
 use Rattle.pg_message.specs.Private.FrontReader.{BindParts, front_reading, front_kind_of, target_of_byte}
 use Rattle.pg_layout.proofs.Layouts.{bind_some, some_is, Reads, pair_reads, reads_last, counted_reads, oid_reads, int16_reads, int32_reads, text_reads, nothing_reads, byten_reads}
 use Rattle.pg_layout.proofs.Fields.{value_reads, choice_reads, try_next}
@@ -53,6 +54,9 @@ each kinds.Sync = bare_is_read front_row 83 Sync refl refl nothing_reads
 each kinds.Flush = bare_is_read front_row 72 Flush refl refl nothing_reads
 each kinds.Terminate = bare_is_read front_row 88 Terminate refl refl nothing_reads
 each kinds.CopyDone = bare_is_read front_row 99 CopyDone refl refl nothing_reads
+
+pub ends_is : (k : FrontKind) (bytes : List ℕ) (left : Option (List ℕ)) → left ≡ (front_reading k).left bytes → ends left ≡ is_some ((front_reading k).message bytes)
+ends_is k bytes left e = ap ends e ∙ (each k).left_is bytes
 
 -- ---- each message
 

@@ -1,15 +1,15 @@
 -- What holds of all messages of a direction, by its table of messages and the readings of its tags.
-use Rattle.std.proofs.Common.{◌≡◌, ℕ, ◌^◌, ◌<◌, true, false, cond, eqb, List, ◌++◌, length, Option, Some, None, Result, Ok, Err, refl, sym, ap, subst, ◌∙◌, arith}
+use Rattle.std.proofs.Common.{◌≡◌, ℕ, ◌^◌, ◌<◌, Bool, true, false, cond, eqb, List, ◌++◌, length, Option, Some, None, Result, Ok, Err, refl, sym, ap, subst, ◌∙◌, arith}
 use Rattle.std.specs.Prelude.{is_some, IfSome}
 use Rattle.std.proofs.lemmas.List.{append-nil}
 use Rattle.std.proofs.lemmas.Option.{none-some, same_Some}
 use Rattle.pg_layout.specs.declared.fault.BodyFault.{BodyFault}
 use Rattle.pg_layout.specs.declared.fault.BodyFault.TheVariants as faults
 use Rattle.pg_message.specs.Direction.{Row, listed_in, HasSpelling}
-use Rattle.pg_message.specs.Message.{IsTag, NoMessage, OneToOne, IsMessage, TellsTag, ReadsBody}
-use Rattle.pg_layout.specs.Private.Reader.{Gives}
-use Rattle.pg_message.specs.Private.Reading.{Reading, made_of_whole, reading, bare}
+use Rattle.pg_message.specs.Message.{IsTag, NoMessage, OneToOne, IsMessage, TellsTag, JudgesBody, ReadsBody}
+use Rattle.pg_message.specs.Private.Reading.{Reading, made_of_whole, reading, bare, ends, ReadsWhole}
 use Rattle.pg_layout.specs.Private.Reader.{nothing_at}
+use Rattle.pg_layout.specs.Private.Lent.{left_after}
 use Rattle.pg_layout.proofs.Layouts.{IsBytes, bind_some, some_is, Spelled, ReadsLast}
 use Rattle.pg_message.proofs.Bodies.{IsSpelled, spelled_parts, ended}
 
@@ -19,14 +19,24 @@ use Rattle.pg_message.proofs.Bodies.{IsSpelled, spelled_parts, ended}
 pub record IsRead {M : Type 0} (table : M → Row) (r : Reading M) : Type 0 where
   pub reads : ReadsLast r.spelled r.read
   pub whole : (bytes : List ℕ) → r.message bytes ≡ made_of_whole r.make (r.read bytes)
+  pub left_is : (bytes : List ℕ) → ends (r.left bytes) ≡ is_some (r.message bytes)
   pub made : (a : r.Parts) (m : M) → Spelled (r.spelled a) → r.make a ≡ Some m → IsMessage (listed_in table) r.tag (r.spelled a).bytes m
   pub one : M
   pub one_is : (table one).tag ≡ r.tag
+
+ends_where_read : {M A : Type 0} (make : A → M) (o : Option (A × List ℕ)) → ends (left_after o) ≡ is_some (made_of_whole (λ a. Some (make a)) o)
+ends_where_read make None = refl
+ends_where_read {M} {A} make (Some x) = by_end (eqb (length x.1) 0)
+  where
+    by_end : (b : Bool) → b ≡ is_some (cond b (Some (make x.0)) None)
+    by_end true = refl
+    by_end false = refl
 
 pub is_read : {M A : Type 0} (table : M → Row) (t : ℕ) (read : List ℕ → Option (A × List ℕ)) (make : A → M) → ((a : A) → (table (make a)).tag ≡ t) → ((a : A) → (table (make a)).has_reserved_code ≡ false) → ReadsLast (λ a. (table (make a)).body) read → A → IsRead table (reading table t read make)
 is_read {M} {A} table t read make tag_is not_reserved reads one = record {
   reads = reads;
   whole = λ _. refl;
+  left_is = λ bytes. ends_where_read make (read bytes);
   made = λ a m s e. subst (IsMessage (listed_in table) t (table (make a)).body.bytes) (some_is (make a) m e) (record {
     tag_is = tag_is a;
     body_is = refl;
@@ -43,7 +53,7 @@ pub bare_is_read : {M : Type 0} (table : M → Row) (t : ℕ) (m : M) → (table
 bare_is_read table t m tag_is not_reserved reads = is_read table t nothing_at (λ _. m) (λ _. tag_is) (λ _. not_reserved) reads tt
 
 -- what is read is a message with this tag and this body
-message_sound : {M : Type 0} (table : M → Row) (r : Reading M) → IsRead table r → (bytes : List ℕ) (m : M) → IsBytes bytes → r.message bytes ≡ Some m → IsMessage (listed_in table) r.tag bytes m
+pub message_sound : {M : Type 0} (table : M → Row) (r : Reading M) → IsRead table r → (bytes : List ℕ) (m : M) → IsBytes bytes → r.message bytes ≡ Some m → IsMessage (listed_in table) r.tag bytes m
 message_sound table r is bytes m fits e =
     let x = bind_some (r.read bytes) (λ (a : r.Parts × List ℕ). cond (eqb (length a.1) 0) (r.make a.0) None) m (sym (is.whole bytes) ∙ e) in
     let g = ended x.0.1 (r.make x.0.0) m x.2 in
@@ -100,7 +110,16 @@ module _ {M K : Type 0} {table : M → Row} {of : K → Reading M} {kind_of : �
   tells_tag t (Some k) e byte = is_tag t k byte
   tells_tag t None e byte = no_tag t (sym e)
 
-  pub reads_body : (t : ℕ) (k : K) (bytes : List ℕ) (r : Result M BodyFault) → t ≡ (of k).tag → IsBytes bytes → Gives (λ m. m) r ((of k).message bytes) → ReadsBody (listed_in table) t bytes r
+  pub judges_body : (t : ℕ) (k : K) (bytes : List ℕ) (b : Bool) → t ≡ (of k).tag → IsBytes bytes → b ≡ is_some ((of k).message bytes) → JudgesBody (listed_in table) t bytes b
+  judges_body t k bytes b same fits e = by_message (read_none t k bytes same) ((of k).message bytes) refl b e
+    where
+      by_message : ((of k).message bytes ≡ None → NoMessage (listed_in table) t bytes) → (o : Option M) → (of k).message bytes ≡ o → (b : Bool) → b ≡ is_some o → JudgesBody (listed_in table) t bytes b
+      by_message none (Some m) h true e = (m, subst (λ (u : ℕ). IsMessage (listed_in table) u bytes m) (sym same) (message_sound table (of k) (is.each k) bytes m fits h))
+      by_message none (Some m) h false e = absurd cc
+      by_message none None h true e = absurd cc
+      by_message none None h false e = none h
+
+  pub reads_body : (t : ℕ) (k : K) (bytes : List ℕ) (r : Result M BodyFault) → t ≡ (of k).tag → IsBytes bytes → ReadsWhole r ((of k).message bytes) → ReadsBody (listed_in table) t bytes r
   reads_body t k bytes (Ok m) same fits e = subst (λ (b : ℕ). IsMessage (listed_in table) b bytes m) (sym same) (message_sound table (of k) (is.each k) bytes m fits e)
-  reads_body t k bytes (Err faults.Bad) same fits e = read_none t k bytes same e
-  reads_body t k bytes (Err faults.Memory) same fits e = is_tag t k same
+  reads_body t k bytes (Err faults.Bad) same fits e = judges_body t k bytes false same fits (sym e)
+  reads_body t k bytes (Err faults.Memory) same fits e = judges_body t k bytes true same fits (sym e)

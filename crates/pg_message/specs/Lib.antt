@@ -3,6 +3,7 @@ pub mod Direction
 pub mod Backend
 pub mod Frontend
 pub mod Message
+pub mod Lent
 pub mod First
 pub mod Encoder
 -- Words of how bodies are read.

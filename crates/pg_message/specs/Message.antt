@@ -31,8 +31,14 @@ abbrev pub TellsTag : {M : Type 0} → Direction M → ℕ → Bool → Type 0
 TellsTag d t true = IsTag d t
 TellsTag d t false = IsTag d t → ⊥
 
--- Reading makes the message of this tag and this body, or says that there is none.
+-- Whether this is the body of a message with this tag.
+abbrev pub JudgesBody : {M : Type 0} → Direction M → ℕ → List ℕ → Bool → Type 0
+JudgesBody {M} d t bytes true = (m : M) × IsMessage d t bytes m
+JudgesBody d t bytes false = NoMessage d t bytes
+
+-- Reading makes the message of this tag and this body, or says that there is none. Memory is wanted
+-- only for what is a message.
 abbrev pub ReadsBody : {M : Type 0} → Direction M → ℕ → List ℕ → Result M BodyFault → Type 0
 ReadsBody d t bytes (Ok m) = IsMessage d t bytes m
 ReadsBody d t bytes (Err faults.Bad) = NoMessage d t bytes
-ReadsBody d t bytes (Err faults.Memory) = IsTag d t
+ReadsBody d t bytes (Err faults.Memory) = JudgesBody d t bytes true

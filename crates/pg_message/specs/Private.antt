@@ -2,3 +2,4 @@
 pub mod Reading
 pub mod BackReader
 pub mod FrontReader
+pub mod LentReader

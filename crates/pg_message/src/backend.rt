@@ -5,6 +5,7 @@
 //! names, in their order: Memory, for a buffer that could not grow, is answered only where there is no other. After a fault `buf` is
 //! as it was.
 
+mod judging;
 mod kind;
 mod reading;
 
@@ -12,9 +13,12 @@ ghost use Rattle.std.specs.Prelude.{◌≡◌};
 ghost use Rattle.pg_message.specs.declared.message.BackMessage.TheVariants.{AuthOther, ParameterStatus, RowDescription, DataRow, CommandComplete, ParameterDescription, ErrorResponse, NoticeResponse, Notification, CopyIn, CopyOut, CopyData};
 ghost use Rattle.pg_message.specs.Backend.{backend, tag, status_byte, format_byte, copy_head, is_reserved};
 ghost use Rattle.pg_message.specs.Encoder.{Appends, Encodes};
+ghost use Rattle.pg_message.specs.Private.BackReader.{back_reading};
+ghost use Rattle.pg_message.specs.Private.Reading.{ReadsWhole};
 
 use crate::direction::Message;
 use crate::message::BackMessage;
+use judging::is_back_message;
 use kind::BackKind;
 use pg_layout::{
     BodyFault, Byte, Bytes, Column, CopyHead, Counted, EncodeFault, ErrorField, Int32, Pair, Salt,
@@ -230,6 +234,23 @@ impl BackMessage {
     }
 }
 
+/// The message of this kind and this body. Want of memory is a fault of a message alone.
+fn read_whole(alloc: Global, kind: BackKind, body: &[u8]) -> Result<BackMessage, BodyFault>
+    ensures { ReadsWhole result ((back_reading kind).message body.now) }
+{
+    match back_message(alloc, kind, body) {
+        Ok(message) => Ok(message),
+        Err(BodyFault::Bad) => Err(BodyFault::Bad),
+        Err(BodyFault::Memory) => {
+            if is_back_message(kind, body) {
+                Err(BodyFault::Memory)
+            } else {
+                Err(BodyFault::Bad)
+            }
+        }
+    }
+}
+
 impl Message for BackMessage {
     ghost direction = { backend };
 
@@ -241,10 +262,17 @@ impl Message for BackMessage {
         encode(self, buf)
     }
 
+    fn is_message(tag: u8, body: &[u8]) -> bool {
+        match BackKind::of(tag) {
+            None => false,
+            Some(kind) => is_back_message(kind, body),
+        }
+    }
+
     fn of_body(alloc: Global, tag: u8, body: &[u8]) -> Result<BackMessage, BodyFault> {
         match BackKind::of(tag) {
             None => Err(BodyFault::Bad),
-            Some(kind) => back_message(alloc, kind, body),
+            Some(kind) => read_whole(alloc, kind, body),
         }
     }
 

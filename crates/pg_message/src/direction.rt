@@ -2,7 +2,7 @@
 
 ghost use Rattle.pg_message.specs.Direction.{Direction};
 ghost use Rattle.pg_message.specs.Encoder.{Encodes};
-ghost use Rattle.pg_message.specs.Message.{TellsTag, ReadsBody, OneToOne};
+ghost use Rattle.pg_message.specs.Message.{TellsTag, JudgesBody, ReadsBody, OneToOne};
 
 use pg_layout::{BodyFault, EncodeFault};
 use std::alloc::Global;
@@ -20,8 +20,12 @@ pub trait Message: Drop {
     fn encode(&self, buf: &mut Vec<u8>) -> Result<(), EncodeFault>
         ensures { Encodes direction self.now buf.old.items result buf.new.items };
 
-    /// The message of this tag and this body, all of the body. `Bad` where there is none, `Memory` where memory for it
-    /// was refused.
+    /// Whether this is the body, all of it, of a message with this tag. No message is made and no memory asked for.
+    fn is_message(tag: u8, body: &[u8]) -> bool
+        ensures { JudgesBody direction tag body.now result };
+
+    /// The message of this tag and this body, all of the body. `Bad` where there is none, `Memory` where there is one and
+    /// memory for it was refused.
     fn of_body(alloc: Global, tag: u8, body: &[u8]) -> Result<Self, BodyFault>
     where
         Self: Sized,

@@ -5,6 +5,7 @@
 //! marked F) to `buf`, and copies each byte once. A fault is the first that holds of those that a function names, in their order:
 //! Memory, for a buffer that could not grow, is answered only where there is no other. After a fault `buf` is as it was.
 
+mod judging;
 mod kind;
 mod reading;
 
@@ -15,9 +16,12 @@ ghost use Rattle.pg_message.specs.declared.message.First.TheVariants.{Startup, C
 ghost use Rattle.pg_message.specs.Frontend.{frontend, target_byte};
 ghost use Rattle.pg_message.specs.First.{has_no_name, startup_parameters};
 ghost use Rattle.pg_message.specs.Encoder.{Encodes, EncodesPacket, AppendsPacket};
+ghost use Rattle.pg_message.specs.Private.FrontReader.{front_reading};
+ghost use Rattle.pg_message.specs.Private.Reading.{ReadsWhole};
 
 use crate::direction::Message;
 use crate::message::{First, FrontMessage};
+use judging::is_front_message;
 use kind::FrontKind;
 use pg_layout::{
     BodyFault, BodyPart, Byte, Bytes, Counted, EncodeFault, Int32, Pair, Target, Terminated, Text,
@@ -273,6 +277,23 @@ pub fn encode(message: &FrontMessage, buf: &mut Vec<u8>) -> Result<(), EncodeFau
     }
 }
 
+/// The message of this kind and this body. Want of memory is a fault of a message alone.
+fn read_whole(alloc: Global, kind: FrontKind, body: &[u8]) -> Result<FrontMessage, BodyFault>
+    ensures { ReadsWhole result ((front_reading kind).message body.now) }
+{
+    match front_message(alloc, kind, body) {
+        Ok(message) => Ok(message),
+        Err(BodyFault::Bad) => Err(BodyFault::Bad),
+        Err(BodyFault::Memory) => {
+            if is_front_message(kind, body) {
+                Err(BodyFault::Memory)
+            } else {
+                Err(BodyFault::Bad)
+            }
+        }
+    }
+}
+
 impl Message for FrontMessage {
     ghost direction = { frontend };
 
@@ -284,10 +305,17 @@ impl Message for FrontMessage {
         encode(self, buf)
     }
 
+    fn is_message(tag: u8, body: &[u8]) -> bool {
+        match FrontKind::of(tag) {
+            None => false,
+            Some(kind) => is_front_message(kind, body),
+        }
+    }
+
     fn of_body(alloc: Global, tag: u8, body: &[u8]) -> Result<FrontMessage, BodyFault> {
         match FrontKind::of(tag) {
             None => Err(BodyFault::Bad),
-            Some(kind) => front_message(alloc, kind, body),
+            Some(kind) => read_whole(alloc, kind, body),
         }
     }
 

@@ -7,7 +7,10 @@
 pub mod backend;
 mod direction;
 pub mod frontend;
+mod judging;
+mod lent;
 mod message;
 
 pub use direction::Message;
+pub use lent::Lent;
 pub use message::{BackMessage, First, FrontMessage};

@@ -1,5 +1,5 @@
 -- Reading the body of a backend's message, after its tag.
-use Rattle.std.specs.Prelude.{ℕ, ℤ, pos, ◌==◌, if◌then◌else◌, List, [], ◌∷◌, length, Option, Some, None}
+use Rattle.std.specs.Prelude.{ℕ, ℤ, pos, ◌==◌, if◌then◌else◌, List, [], ◌∷◌, length, Option, Some, None, is_some}
 use Rattle.std.specs.Int.{w32}
 use Rattle.std.specs.Ordering.{int_eq}
 use Rattle.pg_message.specs.declared.backend.kind.BackKind.{BackKind}
@@ -9,7 +9,7 @@ use Rattle.pg_message.specs.declared.message.BackMessage.TheVariants.{AuthOk, Au
 use Rattle.pg_layout.specs.Field.{◌⨾◌, int32, byten}
 use Rattle.pg_layout.specs.Private.Reader.{pair_at, byten_at, number_at, signed_at, string_at, value_at, counted_at, column_at, terminated_at, error_field_at, choice_at, status_of_byte, copy_head_at}
 use Rattle.pg_message.specs.Backend.{back_row}
-use Rattle.pg_message.specs.Private.Reading.{Reading, reading_by, reading, bare, with_tag}
+use Rattle.pg_message.specs.Private.Reading.{Reading, made_of_whole, reading_by, reading, bare, with_tag}
 
 -- an authentication request, by its code and what stands after it
 abbrev pub auth_of_code : ℤ → List ℕ → Option BackMessage
@@ -19,10 +19,16 @@ auth_of_code code rest =
     else if int_eq code (pos 5) then (if length rest == 4 then Some (AuthMd5 rest) else None)
     else Some (AuthOther code rest)
 
+-- the authentication request of a body
+abbrev pub auth_message : List ℕ → Option BackMessage
+auth_message bytes = made_of_whole (λ (p : ℤ × List ℕ). auth_of_code p.0 p.1)
+    (pair_at (signed_at w32) byten_at bytes)
+
 -- each kind of message
 abbrev pub back_reading : BackKind → Reading BackMessage
 back_reading kinds.Auth = reading_by 82 (λ (p : ℤ × List ℕ). int32 p.0 ⨾ byten p.1)
     (pair_at (signed_at w32) byten_at) (λ p. auth_of_code p.0 p.1)
+    (λ bytes. if is_some (auth_message bytes) then Some [] else None)
 back_reading kinds.KeyData = reading back_row 75 (pair_at (signed_at w32) (signed_at w32))
     (λ (p : ℤ × ℤ). KeyData p.0 p.1)
 back_reading kinds.ParameterStatus = reading back_row 83 (pair_at string_at string_at)

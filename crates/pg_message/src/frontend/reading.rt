@@ -1,5 +1,7 @@
 //! Reading the bodies of the frontend's messages.
 
+ghost use Rattle.std.specs.Prelude.{IsOkUnless};
+ghost use Rattle.pg_layout.specs.declared.fault.BodyFault.TheVariants.{Bad};
 ghost use Rattle.pg_layout.specs.Private.Reader.{Gives, choice_at};
 ghost use Rattle.pg_message.specs.Private.FrontReader.{front_reading, target_of_byte};
 
@@ -8,8 +10,10 @@ use crate::message::FrontMessage;
 use pg_layout::{BodyFault, Target, copy_of, counted, ended, i32_at, text_at};
 use std::alloc::Global;
 
-fn target_at(bytes: &[u8]) -> Result<(Target, &[u8]), BodyFault>
-    ensures { Gives (λ x. (x.0, x.1.now)) result (choice_at target_of_byte bytes.now) }
+/// What a Describe or a Close names, by its byte.
+pub fn target_at(bytes: &[u8]) -> Result<(Target, &[u8]), BodyFault>
+    ensures read { Gives (λ x. (x.0, x.1.now)) result (choice_at target_of_byte bytes.now) }
+    ensures no_memory { IsOkUnless result Bad }
 {
     match bytes {
         [b'S', rest @ ..] => Ok((Target::Statement, rest)),

@@ -4,4 +4,4 @@ use Rattle.pg_message.proofs.FrontMessages.{table}
 use Rattle.pg_message.proofs.frontend.FrontMessageMessage.of_body.Goals as goal
 
 pub returns-in-Some : goal.returns-in-Some
-returns-in-Some c = reads_body table c.args.tag c.in-Some.kind c.args.body.now c.front_message.result c.in-Some.ensures.byte (λ i. omega (arith, c.type_inv.body i)) c.front_message.ensures
+returns-in-Some c = reads_body table c.args.tag c.in-Some.kind c.args.body.now c.read_whole.result c.in-Some.ensures.byte (λ i. omega (arith, c.type_inv.body i)) c.read_whole.ensures

@@ -1,0 +1,6 @@
+use Rattle.std.proofs.Common.{option_copied, ◌∙◌}
+use Rattle.pg_message.proofs.FrontMessages.{ends_is}
+use Rattle.pg_message.proofs.frontend.judging.is_front_message.Goals as goal
+
+pub returns : goal.returns
+returns c = c.is_end.ensures ∙ ends_is c.args.kind c.args.body.now (option_copied c.after_message.result) c.after_message.ensures
