@@ -7,7 +7,7 @@ ghost use Rattle.pgpipe_show.specs.Private.Showing.{is_front, unshown, AreAt, Is
 use crate::messages::{put_messages, take_messages};
 use crate::packets::{Next, put_packets};
 use crate::show::Shown;
-use pg_wire::{BackDecoder, FirstDecoder, FrontDecoder, LONGEST, Sink};
+use pg_wire::{BackMessage, Decoder, FirstDecoder, FrontDecoder, LONGEST, Sink};
 use pgpipe_base::Stop;
 use pgpipe_base::outbox::Outbox;
 use std::alloc::Global;
@@ -16,7 +16,7 @@ use std::alloc::Global;
 #[derive(Drop)]
 pub enum Decoding {
     /// The messages of a backend.
-    Back(BackDecoder),
+    Back(Decoder<BackMessage>),
     /// The first packets of a client.
     First(FirstDecoder),
     /// The messages of a client.
@@ -63,7 +63,7 @@ impl Decoding {
         if front {
             Decoding::First(FirstDecoder::new(alloc))
         } else {
-            Decoding::Back(BackDecoder::new(alloc, LONGEST))
+            Decoding::Back(Decoder::new(alloc, LONGEST))
         }
     }
 
