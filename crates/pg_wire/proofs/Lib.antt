@@ -1,4 +1,6 @@
 pub mod Rests
+pub mod Takings
+pub mod Lendings
 pub mod Streams
 pub mod Passwords
 pub mod Rows

@@ -2,6 +2,7 @@
 -- and what each call does.
 pub mod Stream
 pub mod Decoder
+pub mod BackDecoder
 pub mod First
 pub mod FirstDecoder
 pub mod Laws
@@ -18,10 +19,12 @@ pub use Rattle.pg_message.specs.Direction
 pub use Rattle.pg_message.specs.Backend
 pub use Rattle.pg_message.specs.Frontend
 pub use Rattle.pg_message.specs.Message
+pub use Rattle.pg_message.specs.Lent
 pub use Rattle.pg_message.specs.Encoder
 pub use Rattle.pg_link.specs.Link
 -- Their types.
 pub use Rattle.pg_layout.specs.declared.fault
 pub use Rattle.pg_layout.specs.declared.value
 pub use Rattle.pg_message.specs.declared.message
+pub use Rattle.pg_message.specs.declared.lent
 pub use Rattle.pg_link.specs.declared as link

@@ -12,12 +12,13 @@ ghost use Rattle.pg_message.specs.Frontend.{frontend};
 ghost use Rattle.pg_layout.specs.Private.Reader.{Gives};
 ghost use Rattle.pg_wire.specs.Private.FirstReader.{first_of, JudgesPacket, FindsPacket};
 
+use crate::buffer::drop_first;
 use crate::decoder::FrontDecoder;
 use crate::fault::WireFault;
+use bytes::BytesMut;
 use kind::FirstKind;
 use pg_layout::{BodyFault, LONGEST_PACKET, ended, i32_at, terminated};
 use pg_message::First;
-use pg_seq::Buffer;
 use std::alloc::Global;
 use std::marker::Model;
 
@@ -124,7 +125,7 @@ fn is_last(packet: &First) -> bool
 #[derive(Drop)]
 pub struct FirstDecoder {
     alloc: Global,
-    buffer: Buffer,
+    buffer: BytesMut,
     ended: bool,
     fault: Option<WireFault>,
 }
@@ -135,7 +136,7 @@ impl Model for FirstDecoder {
 
     ghost Value = { FirstState };
 
-    ghost view = { λ d. record { kept = d.buffer; ended = d.ended; fault = d.fault } };
+    ghost view = { λ d. record { kept = d.buffer.items; ended = d.ended; fault = d.fault } };
 
     ghost invariant = { λ d. IsLasting d.fault };
 }
@@ -148,7 +149,7 @@ impl FirstDecoder {
     {
         FirstDecoder {
             alloc,
-            buffer: Buffer::new(alloc),
+            buffer: BytesMut::new(alloc),
             ended: false,
             fault: None,
         }
@@ -171,7 +172,7 @@ impl FirstDecoder {
         if let Some(fault) = self.fault {
             return Err(fault);
         }
-        Ok(self.buffer.push(piece)?)
+        Ok(self.buffer.extend_from_slice(piece)?)
     }
 
     /// The next packet, or None where more bytes are to come or the last packet was given. A fault is found where no more
@@ -191,7 +192,7 @@ impl FirstDecoder {
         match find(self.alloc, self.buffer.as_slice()) {
             Ok(None) => Ok(None),
             Ok(Some((packet, len))) => {
-                self.buffer.take(len);
+                drop_first(&mut self.buffer, len);
                 self.ended = is_last(&packet);
                 Ok(Some(packet))
             }

@@ -9,21 +9,27 @@
 //! `pg_link`. What a user needs of these is passed on here.
 #![tactic(auto)]
 
+mod back;
+mod buffer;
 mod decoder;
 mod fault;
+mod find;
 mod first;
 pub mod laws;
+mod machine;
 mod password;
 mod session;
 
-pub use decoder::{BackDecoder, Decoder, FrontDecoder};
+pub use back::{BackDecoder, Cut};
+pub use decoder::{Decoder, FrontDecoder};
 pub use fault::WireFault;
 pub use first::FirstDecoder;
 pub use password::md5_answer;
 pub use pg_layout::{
-    BodyFault, Column, CopyHead, EncodeFault, ErrorField, Fields, LONGEST, Status, Target, Values,
+    BodyFault, Column, CopyHead, EncodeFault, ErrorField, Fields, FieldsView, LONGEST, LentFields,
+    LentValues, RowView, Status, Target, Values,
 };
 pub use pg_link::{LinkFault, Over, Sink, Source};
-pub use pg_message::{BackMessage, First, FrontMessage, Message, backend, frontend};
+pub use pg_message::{BackMessage, First, FrontMessage, Lent, Message, backend, frontend};
 pub use pg_seq::Seq;
 pub use session::{Aside, ExecEnd, Outcome, Part, Request, Step};

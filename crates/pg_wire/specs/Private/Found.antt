@@ -1,10 +1,16 @@
 -- What is found at the beginning of a rest.
-use Rattle.std.specs.Prelude.{ℕ, ◌≡◌, ◌<◌, ◌≤◌, ◌+◌, ◌++◌, List, length, drop, Option, Some, None, Result, Ok, Err}
+use Rattle.std.specs.Prelude.{ℕ, ◌≡◌, ◌<◌, ◌≤◌, ◌+◌, ◌++◌, false, List, length, take, drop, Option, Some, None, Result, Ok, Err}
 use Rattle.pg_wire.specs.declared.fault.WireFault.{WireFault}
 use Rattle.pg_wire.specs.declared.fault.WireFault.TheVariants as wire
-use Rattle.pg_wire.specs.declared.decoder.Judged.{Judged}
-use Rattle.pg_wire.specs.declared.decoder.Judged.TheVariants as judged
+use Rattle.pg_wire.specs.declared.find.Judged.{Judged}
+use Rattle.pg_wire.specs.declared.find.Judged.TheVariants as judged
+use Rattle.pg_wire.specs.declared.find.Found.{Found}
+use Rattle.pg_wire.specs.declared.find.Found.TheVariants as found
+use Rattle.pg_message.specs.declared.lent.Lent.{Lent}
+use Rattle.pg_message.specs.Backend.{backend}
 use Rattle.pg_message.specs.Direction.{Direction, spelling}
+use Rattle.pg_message.specs.Lent.{message_of, is_lent}
+use Rattle.pg_message.specs.Private.LentReader.{lent_bytes}
 use Rattle.pg_wire.specs.Stream.{IsWithin, IsWhole, IsFaulty, IsOpen}
 use Rattle.pg_wire.specs.Decoder.{WantsMemory}
 
@@ -18,10 +24,23 @@ abbrev pub Refuses : {M : Type 0} → Direction M → ℕ → List ℕ → WireF
 Refuses d limit rest wire.Memory = WantsMemory d limit rest
 Refuses d limit rest f = IsFaulty d limit rest f
 
+-- The message takes so many bytes at the beginning of the rest.
+abbrev pub IsFirst : {M : Type 0} → Direction M → ℕ → List ℕ → M → ℕ → Type 0
+IsFirst d limit rest m len = (len ≤ length rest) × IsWithin d limit m
+    × (rest ≡ spelling d m ++ drop len rest)
+
 -- the next message, and how many bytes it takes
 abbrev pub Finds : {M : Type 0} → Direction M → ℕ → List ℕ → Result (Option (M × ℕ)) WireFault
     → Type 0
 Finds d limit rest (Ok None) = IsOpen d limit rest × (length rest < limit + 1)
-Finds d limit rest (Ok (Some x)) = (x.1 ≤ length rest) × IsWithin d limit x.0
-    × (rest ≡ spelling d x.0 ++ drop x.1 rest)
+Finds d limit rest (Ok (Some x)) = IsFirst d limit rest x.0 x.1
 Finds d limit rest (Err f) = Refuses d limit rest f
+
+-- the same of a backend's messages, some of which are lent
+abbrev pub FindsLent : ℕ → List ℕ → Result Found WireFault → Type 0
+FindsLent limit rest (Ok found.Nothing) = IsOpen backend limit rest × (length rest < limit + 1)
+FindsLent limit rest (Ok (found.Lent len)) = (lent : Lent) × (5 ≤ len)
+    × (lent_bytes (take len rest) ≡ Some lent) × IsFirst backend limit rest (message_of lent) len
+FindsLent limit rest (Ok (found.Other m len)) = (is_lent m ≡ false)
+    × IsFirst backend limit rest m len
+FindsLent limit rest (Err f) = Refuses backend limit rest f

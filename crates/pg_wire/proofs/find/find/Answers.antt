@@ -1,6 +1,6 @@
 use Rattle.std.proofs.Common.{◌+◌, ◌-◌, arith}
 use Rattle.pg_wire.proofs.Rests.{message_found}
-use Rattle.pg_wire.proofs.decoder.find.Goals as goal
+use Rattle.pg_wire.proofs.find.find.Goals as goal
 
 pub returns-in-Ok : goal.returns-in-Ok
 returns-in-Ok g c =

@@ -1,0 +1,107 @@
+//! What stands at the beginning of a rest.
+
+ghost use Rattle.std.specs.Prelude.{◌≡◌, ◌<◌, length, MatchOption};
+ghost use Rattle.pg_message.specs.Direction.{IsLimit};
+ghost use Rattle.pg_wire.specs.Stream.{Head};
+ghost use Rattle.pg_wire.specs.Private.Found.{Judges, Finds, FindsLent};
+
+use crate::fault::WireFault;
+use pg_layout::BodyFault;
+use pg_message::{BackMessage, Lent, Message};
+use std::alloc::Global;
+
+/// What the head of a rest says.
+pub enum Judged {
+    Open,
+    Faulty(WireFault),
+    /// A message of this tag, with this length field, is all there.
+    Whole(u8, usize),
+}
+
+/// The tag and the length field, once five bytes are there.
+fn head(rest: &[u8]) -> Option<(u8, i32)>
+    ensures { MatchOption result (length rest.now < 5) (λ h. Head rest.now h.0 h.1) }
+{
+    match rest {
+        [tag, a, b, c, d, ..] => Some((*tag, i32::from_be_bytes([*a, *b, *c, *d]))),
+        _ => None,
+    }
+}
+
+fn judge<M: Message>(limit: u32, rest: &[u8]) -> Judged
+    requires { IsLimit limit }
+    ensures { Judges M.direction limit rest.now result }
+{
+    let Some((tag, len)) = head(rest) else {
+        return Judged::Open;
+    };
+    if !M::is_tag(tag) {
+        return Judged::Faulty(WireFault::UnknownTag(tag));
+    }
+    if len < 4 {
+        return Judged::Faulty(WireFault::ShortLength(len));
+    }
+    if len > limit as i32 {
+        return Judged::Faulty(WireFault::LongLength(len));
+    }
+    let len = len as usize;
+    if rest.len() <= len {
+        Judged::Open
+    } else {
+        Judged::Whole(tag, len)
+    }
+}
+
+/// The message at the beginning of a rest, and how many bytes it takes.
+pub fn find<M: Message>(
+    alloc: Global,
+    limit: u32,
+    rest: &[u8],
+) -> Result<Option<(M, usize)>, WireFault>
+    requires { IsLimit limit }
+    ensures { Finds M.direction limit rest.now result }
+{
+    match judge::<M>(limit, rest) {
+        Judged::Open => Ok(None),
+        Judged::Faulty(fault) => Err(fault),
+        Judged::Whole(tag, len) => match M::of_body(alloc, tag, &rest[5..len + 1]) {
+            Ok(message) => Ok(Some((message, len + 1))),
+            Err(BodyFault::Bad) => Err(WireFault::BadBody(tag)),
+            Err(BodyFault::Memory) => Err(WireFault::Memory),
+        },
+    }
+}
+
+/// What stands at the beginning of a rest, where some messages are lent.
+pub enum Found {
+    Nothing,
+    /// A message that is lent takes so many bytes.
+    Lent(usize),
+    /// Another message takes so many bytes.
+    Other(BackMessage, usize),
+}
+
+/// A backend's message at the beginning of a rest, which is judged in place if it is one that is lent.
+pub fn find_lent(alloc: Global, limit: u32, rest: &[u8]) -> Result<Found, WireFault>
+    requires { IsLimit limit }
+    ensures { FindsLent limit rest.now result }
+{
+    match judge::<BackMessage>(limit, rest) {
+        Judged::Open => Ok(Found::Nothing),
+        Judged::Faulty(fault) => Err(fault),
+        Judged::Whole(tag, len) => {
+            let body = &rest[5..len + 1];
+            if Lent::has_tag(tag) {
+                return match Lent::of_body(tag, body) {
+                    Some(_) => Ok(Found::Lent(len + 1)),
+                    None => Err(WireFault::BadBody(tag)),
+                };
+            }
+            match BackMessage::of_body(alloc, tag, body) {
+                Ok(message) => Ok(Found::Other(message, len + 1)),
+                Err(BodyFault::Bad) => Err(WireFault::BadBody(tag)),
+                Err(BodyFault::Memory) => Err(WireFault::Memory),
+            }
+        }
+    }
+}

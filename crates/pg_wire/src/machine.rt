@@ -1,0 +1,176 @@
+//! What the decoders of tagged messages have in common.
+
+ghost use Rattle.std.specs.Prelude.{◌≡◌, [], true, length};
+ghost use Rattle.pg_message.specs.Direction.{IsLimit};
+ghost use Rattle.pg_message.specs.Private.LentReader.{lent_bytes};
+ghost use Rattle.pg_wire.specs.Decoder.{Pushes, IsLasting, Takes};
+ghost use Rattle.pg_wire.specs.BackDecoder.{TakesLent};
+ghost use Rattle.pg_wire.specs.Private.Held.{LetsFront, back_state, IsHeldFront};
+
+use crate::back::Cut;
+use crate::buffer::drop_first;
+use crate::fault::WireFault;
+use crate::find::{Found, find, find_lent};
+use bytes::BytesMut;
+use pg_message::{BackMessage, Message};
+use std::alloc::Global;
+use std::marker::{Model, PhantomData};
+
+/// The bytes of one direction that were pushed and not given as messages, and before them those of the message that is still
+/// held, if one is.
+#[derive(Drop)]
+pub struct Stream<M: Message> {
+    alloc: Global,
+    buffer: BytesMut,
+    // so many bytes at the beginning of the buffer are a message that was given and is held until the next call
+    held: usize,
+    limit: u32,
+    fault: Option<WireFault>,
+    message: PhantomData<M>,
+}
+
+impl<M: Message> Model for Stream<M> {
+    ghost use Rattle.std.specs.Prelude.{◌≤◌, length, take, drop};
+    ghost use Rattle.pg_wire.specs.Decoder.{IsLasting};
+    ghost use Rattle.pg_wire.specs.Private.Held.{StreamState};
+
+    ghost Value = { StreamState };
+
+    ghost view = { λ s. record { front = take s.held s.buffer.items; rest = record { kept = drop s.held s.buffer.items; limit = s.limit; fault = s.fault } } };
+
+    ghost invariant = { λ s. (s.held ≤ length s.buffer.items) × (64 ≤ s.limit)
+        × (s.limit ≤ 1073741823) × IsLasting s.fault };
+}
+
+impl<M: Message> Stream<M> {
+    /// A stream of which these bytes are there already, and which answers this fault for good if there is one.
+    pub fn resume(
+        alloc: Global,
+        buffer: BytesMut,
+        limit: u32,
+        fault: Option<WireFault>,
+    ) -> Stream<M>
+        requires limit { IsLimit limit }
+        requires fault { IsLasting fault }
+        ensures front { result.front ≡ [] }
+        ensures rest { result.rest ≡ record { kept = buffer.items; limit = limit; fault = fault } }
+    {
+        Stream {
+            alloc,
+            buffer,
+            held: 0,
+            limit,
+            fault,
+            message: PhantomData,
+        }
+    }
+
+    /// How many bytes are kept.
+    pub fn kept(&self) -> usize
+        ensures { result ≡ length self.now.rest.kept }
+    {
+        self.buffer.len() - self.held
+    }
+
+    /// The bytes of the message that is still held.
+    pub fn front(&self) -> &[u8]
+        ensures { result.now ≡ self.now.front }
+    {
+        let (front, _) = self.buffer.as_slice().split_at(self.held);
+        front
+    }
+
+    /// The bytes that are kept.
+    fn rest(&self) -> &[u8]
+        ensures { result.now ≡ self.now.rest.kept }
+    {
+        let (_, rest) = self.buffer.as_slice().split_at(self.held);
+        rest
+    }
+
+    /// Ends the holding.
+    fn let_go(&mut self)
+        ensures front { self.new.front ≡ [] }
+        ensures rest { self.new.rest ≡ self.old.rest }
+    {
+        drop_first(&mut self.buffer, self.held);
+        self.held = 0;
+    }
+
+    /// Takes a piece, all of it or, where memory is refused, nothing.
+    pub fn push(&mut self, piece: &[u8]) -> Result<(), WireFault>
+        ensures call { Pushes self.old.rest piece.now result self.new.rest }
+        ensures front { LetsFront self.old.front result self.new.front }
+    {
+        if let Some(fault) = self.fault {
+            self.let_go();
+            return Err(fault);
+        }
+        self.buffer.extend_from_slice(piece)?;
+        self.let_go();
+        Ok(())
+    }
+
+    /// The next message, taken off.
+    pub fn next(&mut self) -> Result<Option<M>, WireFault>
+        ensures call { Takes M.direction self.old.rest result self.new.rest }
+        ensures front { LetsFront self.old.front result self.new.front }
+    {
+        if let Some(fault) = self.fault {
+            self.let_go();
+            return Err(fault);
+        }
+        match find(self.alloc, self.limit, self.rest()) {
+            Ok(None) => {
+                self.let_go();
+                Ok(None)
+            }
+            Ok(Some((message, len))) => {
+                self.let_go();
+                drop_first(&mut self.buffer, len);
+                Ok(Some(message))
+            }
+            Err(WireFault::Memory) => Err(WireFault::Memory),
+            Err(fault) => {
+                self.let_go();
+                self.fault = Some(fault);
+                Err(fault)
+            }
+        }
+    }
+}
+
+impl Stream<BackMessage> {
+    /// The next message of a backend: one that is lent stays in the buffer, and another is taken off.
+    pub fn next_lent(&mut self) -> Result<Cut, WireFault>
+        ensures call { TakesLent (back_state self.old) result (back_state self.new) }
+        ensures front { IsHeldFront self.old.front → IsHeldFront self.new.front }
+    {
+        if let Some(fault) = self.fault {
+            self.let_go();
+            return Err(fault);
+        }
+        match find_lent(self.alloc, self.limit, self.rest()) {
+            Ok(Found::Nothing) => {
+                self.let_go();
+                Ok(Cut::Nothing)
+            }
+            Ok(Found::Lent(size)) => {
+                self.let_go();
+                self.held = size;
+                Ok(Cut::Held)
+            }
+            Ok(Found::Other(message, size)) => {
+                self.let_go();
+                drop_first(&mut self.buffer, size);
+                Ok(Cut::Other(message))
+            }
+            Err(WireFault::Memory) => Err(WireFault::Memory),
+            Err(reason) => {
+                self.let_go();
+                self.fault = Some(reason);
+                Err(reason)
+            }
+        }
+    }
+}
