@@ -46,10 +46,10 @@ impl Model for Client {
 
     ghost Value = { ClientView };
 
-    ghost view = { λ c. record { settings = c.settings; kept = c.decoder.kept; stand = c.stand; settled = c.settled.items; status = c.status; parameters = c.parameters; key = c.key; closed = c.closed } };
+    ghost view = { λ c. record { settings = c.settings; kept = c.decoder.stream.kept; stand = c.stand; settled = c.settled.items; status = c.status; parameters = c.parameters; key = c.key; closed = c.closed } };
 
-    ghost invariant = { λ c. (c.decoder.limit ≡ c.settings.limit)
-        × (c.closed ≡ None → c.decoder.fault ≡ None) };
+    ghost invariant = { λ c. (c.decoder.stream.limit ≡ c.settings.limit)
+        × (c.closed ≡ None → c.decoder.stream.fault ≡ None) };
 }
 
 impl Client {

@@ -20,7 +20,7 @@ returns-then-is_err-clause-feeds c =
     let some : 0 < length c.args.piece.now = search rules in
     let refused : is_err c.push.result ≡ true = search rules in
     let v : ClientView = the_view c.self.inside in
-    subst (λ (bs : List ℕ). Feeds c.args.self.now c.args.piece.now (Err feeding.Memory) (record v { kept = bs; closed = Some cause.Memory }) c.args.out.now.items c.args.out.now.items) (sym (push_refused c.self.inside.decoder c.args.piece.now c.push.result c.push.new.self refused c.push.ensures.call))
+    subst (λ (bs : List ℕ). Feeds c.args.self.now c.args.piece.now (Err feeding.Memory) (record v { kept = bs; closed = Some cause.Memory }) c.args.out.now.items c.args.out.now.items) (sym (push_refused c.self.inside.decoder.stream c.args.piece.now c.push.result c.push.new.self.stream refused c.push.ensures.call))
     (feeds_starved v c.args.self.now c.self.view_is c.args.piece.now c.args.out.now.items (none_by_test c.self.inside.closed test) some)
 
 pub returns-clause-feeds : goal.returns-clause-feeds
@@ -30,5 +30,5 @@ returns-clause-feeds c =
     let taken : is_err c.push.result ≡ false = search rules in
     let v : ClientView = the_view c.self.inside in
     let h : HearsAll (record v { kept = v.kept ++ c.args.piece.now }) c.hear_all.result c.hear_all.new.self c.args.out.now.items c.hear_all.new.out.items =
-    subst (λ (bs : List ℕ). HearsAll (record v { kept = bs }) c.hear_all.result c.hear_all.new.self c.args.out.now.items c.hear_all.new.out.items) (pushed c.self.inside.decoder c.args.piece.now c.push.result c.push.new.self taken c.push.ensures.call) c.hear_all.ensures.all in
+    subst (λ (bs : List ℕ). HearsAll (record v { kept = bs }) c.hear_all.result c.hear_all.new.self c.args.out.now.items c.hear_all.new.out.items) (pushed c.self.inside.decoder.stream c.args.piece.now c.push.result c.push.new.self.stream taken c.push.ensures.call) c.hear_all.ensures.all in
     feeds_all v c.args.self.now c.self.view_is c.args.piece.now c.args.out.now.items (none_by_test c.self.inside.closed test) c.hear_all.result c.hear_all.new.self c.hear_all.new.out.items some h
