@@ -6,18 +6,33 @@ mod subject;
 mod trial;
 mod vector;
 
-use anyhow::{Context, Result, bail};
-use pg_wire::{BackDecoder, FirstDecoder, FrontDecoder};
+use anyhow::{Context, bail};
+use pg_wire::{BackDecoder, BackMessage, FirstDecoder, FrontDecoder};
 use std::alloc::Global;
+use std::fmt::Debug;
 use std::io;
 use std::io::{BufRead, BufReader, BufWriter, Write};
-use subject::Subject;
-use trial::{Flaw, judge};
+use subject::Lending;
+use trial::{Decoded, Flaw, judge};
 use vector::{Side, Vector};
 
+/// The reading of the bytes by a backend's decoder, which is the same where some of the messages are lent, or all that can be.
+fn judge_back(alloc: Global, bytes: &[u8]) -> Result<Decoded<BackMessage>, Flaw> {
+    let reading = judge::<BackDecoder>(alloc, bytes)?;
+    if judge::<Lending<true>>(alloc, bytes)? != reading
+        || judge::<Lending<false>>(alloc, bytes)? != reading
+    {
+        return Err(Flaw::Lent);
+    }
+    Ok(reading)
+}
+
 /// Writes what came of the bytes. Memory that was refused says nothing of them, and ends the run.
-fn write_verdict<D: Subject>(out: &mut impl Write, alloc: Global, bytes: &[u8]) -> Result<()> {
-    match judge::<D>(alloc, bytes) {
+fn write_verdict<M: Debug + Drop>(
+    out: &mut impl Write,
+    reading: Result<Decoded<M>, Flaw>,
+) -> anyhow::Result<()> {
+    match reading {
         Ok(reading) => writeln!(out, "{reading}")?,
         Err(Flaw::Memory) => bail!("{}", Flaw::Memory),
         Err(flaw) => writeln!(out, "flawed {flaw}")?,
@@ -25,7 +40,7 @@ fn write_verdict<D: Subject>(out: &mut impl Write, alloc: Global, bytes: &[u8]) 
     Ok(())
 }
 
-fn main(rt: HostRuntime) -> Result<()> {
+fn main(rt: HostRuntime) -> anyhow::Result<()> {
     let alloc = rt.alloc();
     let mut out = BufWriter::new(alloc, io::writer(&rt))?;
     for line in BufReader::new(alloc, rt.reader())?.lines(alloc) {
@@ -35,9 +50,9 @@ fn main(rt: HostRuntime) -> Result<()> {
             continue;
         };
         match side {
-            Side::Back => write_verdict::<BackDecoder>(&mut out, alloc, bytes.as_slice())?,
-            Side::Front => write_verdict::<FrontDecoder>(&mut out, alloc, bytes.as_slice())?,
-            Side::First => write_verdict::<FirstDecoder>(&mut out, alloc, bytes.as_slice())?,
+            Side::Back => write_verdict(&mut out, judge_back(alloc, bytes.as_slice()))?,
+            Side::Front => write_verdict(&mut out, judge::<FrontDecoder>(alloc, bytes.as_slice()))?,
+            Side::First => write_verdict(&mut out, judge::<FirstDecoder>(alloc, bytes.as_slice()))?,
         }
     }
     out.flush()?;

@@ -1,7 +1,10 @@
 //! What a vector is tried on: a decoder, and the encoder of what it gives.
 
-use pg_wire::{Decoder, EncodeFault, First, FirstDecoder, Message, WireFault, frontend};
-use std::alloc::Global;
+use pg_wire::{
+    BackDecoder, BackMessage, Cut, Decoder, EncodeFault, ErrorField, FieldsView, First,
+    FirstDecoder, Lent, Message, RowView, Seq, WireFault, backend, frontend,
+};
+use std::alloc::{AllocError, Global};
 use std::fmt::Debug;
 
 /// The greatest length field that the decoders of messages take.
@@ -71,5 +74,114 @@ impl Subject for FirstDecoder {
 
     fn encode(packet: &First, buf: &mut Vec<u8>) -> Result<(), EncodeFault> {
         frontend::encode_first(packet, buf)
+    }
+}
+
+impl Subject for BackDecoder {
+    type Item = BackMessage;
+
+    fn begin(alloc: Global) -> BackDecoder {
+        BackDecoder::new(alloc, LIMIT)
+    }
+
+    fn push(&mut self, piece: &[u8]) -> Result<(), WireFault> {
+        BackDecoder::push(self, piece)
+    }
+
+    fn next(&mut self) -> Result<Option<BackMessage>, WireFault> {
+        BackDecoder::next(self)
+    }
+
+    fn kept(&self) -> usize {
+        BackDecoder::kept(self)
+    }
+
+    fn encode(message: &BackMessage, buf: &mut Vec<u8>) -> Result<(), EncodeFault> {
+        backend::encode(message, buf)
+    }
+}
+
+/// The values of a row that is lent.
+fn values_of(alloc: Global, row: &RowView<'_>) -> Result<BackMessage, AllocError> {
+    let mut values = Seq::new(Vec::new(alloc));
+    for value in row.values() {
+        let value = match value {
+            None => None,
+            Some(bytes) => Some(Seq::from_slice(alloc, bytes)?),
+        };
+        values.push(value)?;
+    }
+    Ok(BackMessage::DataRow(values))
+}
+
+/// The fields of an error or a notice that is lent.
+fn fields_of(alloc: Global, lent: &FieldsView<'_>) -> Result<Seq<ErrorField>, AllocError> {
+    let mut fields = Seq::new(Vec::new(alloc));
+    for (code, text) in lent.fields() {
+        let value = Seq::from_slice(alloc, text)?;
+        fields.push(ErrorField { code, value })?;
+    }
+    Ok(fields)
+}
+
+/// What is lent, copied.
+fn copied(alloc: Global, lent: &Lent<'_>) -> Result<BackMessage, AllocError> {
+    match lent {
+        Lent::Row(row) => values_of(alloc, row),
+        Lent::Error(fields) => Ok(BackMessage::ErrorResponse(fields_of(alloc, fields)?)),
+        Lent::Notice(fields) => Ok(BackMessage::NoticeResponse(fields_of(alloc, fields)?)),
+    }
+}
+
+/// The next message, copied where it is lent. None is lent where the decoder says that it holds one and doesn't.
+fn next_copied(alloc: Global, decoder: &mut BackDecoder) -> Result<Option<BackMessage>, WireFault> {
+    match decoder.next_lent()? {
+        Cut::Nothing => Ok(None),
+        Cut::Other(message) => Ok(Some(message)),
+        Cut::Held => match decoder.held() {
+            None => Ok(None),
+            Some(lent) => Ok(Some(copied(alloc, &lent)?)),
+        },
+    }
+}
+
+/// A decoder whose rows, errors and notices are lent: all of them, or every other one.
+#[derive(Drop)]
+pub struct Lending<const ALL: bool> {
+    alloc: Global,
+    decoder: BackDecoder,
+    lends: bool,
+}
+
+impl<const ALL: bool> Subject for Lending<ALL> {
+    type Item = BackMessage;
+
+    fn begin(alloc: Global) -> Lending<ALL> {
+        Lending {
+            alloc,
+            decoder: BackDecoder::new(alloc, LIMIT),
+            lends: false,
+        }
+    }
+
+    fn push(&mut self, piece: &[u8]) -> Result<(), WireFault> {
+        self.decoder.push(piece)
+    }
+
+    fn next(&mut self) -> Result<Option<BackMessage>, WireFault> {
+        self.lends = ALL || !self.lends;
+        if self.lends {
+            next_copied(self.alloc, &mut self.decoder)
+        } else {
+            self.decoder.next()
+        }
+    }
+
+    fn kept(&self) -> usize {
+        self.decoder.kept()
+    }
+
+    fn encode(message: &BackMessage, buf: &mut Vec<u8>) -> Result<(), EncodeFault> {
+        backend::encode(message, buf)
     }
 }

@@ -55,6 +55,8 @@ pub enum Flaw {
     Unsteady(VectorCut),
     #[error("{0}: the reading is not that of one piece")]
     Differs(VectorCut),
+    #[error("the reading is another where messages are lent")]
+    Lent,
     #[error("the message is not encoded: {0}")]
     Unwritten(EncodeFault),
     #[error("the message is encoded as other bytes")]
