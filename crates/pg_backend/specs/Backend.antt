@@ -11,7 +11,7 @@ use Rattle.pg_backend.specs.declared.stage.ClosedBy.TheVariants as closed_by
 use Rattle.pg_backend.specs.declared.stage.BackStage.TheVariants as stage
 -- A backend's stage and its histories.
 pub use Rattle.pg_backend.specs.Stage.{BackendState, awaited_end, phase_of, had_memory, was_lost}
-pub use Rattle.pg_backend.specs.Stage.{phase_by, IsWaiting, HasFaultyRest, IsNextWhole, WantsMemory}
+pub use Rattle.pg_backend.specs.Stage.{phase_by, IsWaiting, HasFaultyRest, WantsMemory}
 pub use Rattle.pg_backend.specs.Stage.{IsSound, stored, lost_stage}
 pub use Rattle.pg_backend.specs.History.{History, IsHistoryOf, HasHandled, Carries, blank}
 pub use Rattle.pg_backend.specs.History.{unchanged, with_pushed, with_handled, with_message}

@@ -1,8 +1,7 @@
 -- The stage of a backend: at first packets, at messages, or closed.
-use Rattle.std.specs.Prelude.{ℕ, ℤ, ◌≡◌, Bool, true, false, List, ◌++◌, ◌⊎◌, None}
+use Rattle.std.specs.Prelude.{ℕ, ◌≡◌, Bool, true, false, List, ◌++◌, None}
 use Rattle.pg_wire.specs.declared.fault.WireFault.{WireFault}
-use Rattle.pg_wire.specs.Decoder as decoder
-use Rattle.pg_wire.specs.First.{IsWholePacket, IsFaultyPacket, IsOpenPacket}
+use Rattle.pg_wire.specs.First.{IsFaultyPacket, IsOpenPacket}
 use Rattle.pg_wire.specs.Frontend.{frontend}
 use Rattle.pg_wire.specs.Stream.{IsFaulty, IsOpen}
 use Rattle.pg_script.specs.declared.phase.BackPhase.{BackPhase}
@@ -74,17 +73,11 @@ HasFaultyRest (stage.First d) f = IsFaultyPacket d.kept f
 HasFaultyRest (stage.Open d a) f = IsFaulty frontend d.limit d.kept f
 HasFaultyRest (stage.Closed by) f = ⊥
 
--- All bytes of the next packet or message are there, by its length field.
-abbrev pub IsNextWhole : BackStage → Type 0
-IsNextWhole (stage.First d) = (c : ℤ) × (len : ℕ) × IsWholePacket d.kept c len
-IsNextWhole (stage.Open d a) = decoder.WantsMemory frontend d.limit d.kept
-IsNextWhole (stage.Closed by) = ⊥
-
--- Where a step may be refused memory: all bytes of the next packet or message are there, or the
--- rest is faulty. In a closed backend never.
+-- Where a step may be refused memory: the rest is not open, so a whole packet or message waits, or
+-- the rest is faulty. In a closed backend never.
 abbrev pub WantsMemory : BackStage → Type 0
 WantsMemory (stage.Closed by) = ⊥
-WantsMemory s = IsNextWhole s ⊎ (IsWaiting s → ⊥)
+WantsMemory s = IsWaiting s → ⊥
 
 -- While a backend is open, its decoder has found no fault and has the backend's limit; before the
 -- Startup more first packets may come.

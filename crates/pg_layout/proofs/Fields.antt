@@ -7,7 +7,7 @@ use Rattle.std.proofs.lemmas.List.{take_at, drop_at, take-append-drop, length-ta
 use Rattle.pg_layout.specs.declared.value.Status.{Status}
 use Rattle.pg_layout.specs.declared.value.Status.TheVariants.{Idle, InBlock, Failed}
 use Rattle.pg_layout.specs.declared.value.Column.{Column}
-use Rattle.pg_layout.specs.Field.{Body, int16, byte1, value_bytes, value, string, nonzero, contains_zero, listed, counted, terminated}
+use Rattle.pg_layout.specs.Field.{Body, int16, byte1, value, string, nonzero, contains_zero, listed, counted, terminated}
 use Rattle.pg_layout.specs.Value.{column, error_field, copy_head, format_byte, status_byte}
 use Rattle.pg_layout.specs.Private.Reader.{◌>>=◌, pair_at, number_at, signed_at, nonzero_at, string_at, value_of_length, value_at, null_length, counted_at, ColumnParts, column_of_parts, column_at, after_zero, up_to_zero_at, terminated_at, error_field_at, choice_at, status_of_byte, binary_of_byte, copy_head_at, name_at, parameter_at}
 use Rattle.pg_layout.proofs.Layouts.{IsBytes, bind_some, some_is, Spelled, BeginsWith, Reads, rest_bytes, pair_of, pair_reads, mapped_reads, Uncounted, counted_reads, is_plain, oid_reads, int16_reads, int32_reads, text_reads, not_zero, guard_some}
@@ -64,7 +64,7 @@ value_reads = record { sound = sound; again = again }
     sound bytes v rest fits e =
         let x = bind_some (number_at w32 bytes) (λ (n : ℕ × List ℕ). value_of_length n.0 n.1) (v, rest) e in
         let t = oid_reads.sound bytes x.0.0 x.0.1 fits x.1 in
-        record { parts = t.parts ∙ taken x.0.0 x.0.1 v rest x.2; spelled = is_plain (value_bytes v) (Unit {0}) tt }
+        record { parts = t.parts ∙ taken x.0.0 x.0.1 v rest x.2; spelled = record { no_zero = refl; countable = refl; of_type = tt } }
 
     again : (v : Option (List ℕ)) (rest : List ℕ) → Spelled (value v) → length (value v).bytes < 2 ^ 31 → value_at ((value v).bytes ++ rest) ≡ Some (v, rest)
     again None rest s short =

@@ -1,17 +1,19 @@
 -- What the body of a message is put together of (Frontend/Backend Protocol, "Message Data Types"): how each part is spelled, and
 -- what keeps it from having a spelling.
-use Rattle.std.specs.Prelude.{ℕ, ℤ, ◌≡◌, ◌<◌, ◌^◌, ◌==◌, Bool, false, ◌||◌, nat_lt, List, [], ◌∷◌, ◌++◌, length, Option, Some, None}
+use Rattle.std.specs.Prelude.{ℕ, ℤ, ◌≡◌, ◌<◌, ◌^◌, ◌==◌, Bool, true, false, ◌||◌, nat_lt, List, [], ◌∷◌, ◌++◌, length, Option, Some, None}
 use Rattle.std.specs.List.{flat_map, list_any, AllByRecursion}
 use Rattle.std.specs.Int.{w16, w32, to_be_bytes, cast_unsigned}
 use Rattle.std.specs.Int.RustNames.{FitsSigned}
 
 -- A body, or a part of one: its bytes; whether its numbers are of their types (as all numbers of a program are); whether a String
--- has a zero byte, or a byte is zero that may not be; and whether a list has more elements than its count can say.
+-- has a zero byte, or a byte is zero that may not be; whether a list has more elements than its count can say; and whether what is
+-- read of it holds a text or another list, for which memory is asked.
 pub record Body : Type 1 where
   pub bytes : List ℕ
   pub IsOfType : Type 0
   pub has_zero : Bool
   pub has_too_many : Bool
+  pub holds_list : Bool
 
 infixl 6 ◌⨾◌
 -- one part and then the other
@@ -21,6 +23,7 @@ a ⨾ b = record {
   IsOfType = a.IsOfType × b.IsOfType;
   has_zero = a.has_zero || b.has_zero;
   has_too_many = a.has_too_many || b.has_too_many;
+  holds_list = a.holds_list || b.holds_list;
 }
 
 -- ---- parts that nothing keeps from having a spelling, but a number that isn't of its type
@@ -32,6 +35,7 @@ plain bytes IsOfType = record {
   IsOfType = IsOfType;
   has_zero = false;
   has_too_many = false;
+  holds_list = false;
 }
 
 -- Int16: two bytes, the highest first
@@ -56,11 +60,11 @@ byte4 bytes = plain bytes (length bytes ≡ 4)
 
 -- Byten: bytes as they are, up to the end of the body
 abbrev pub byten : List ℕ → Body
-byten bytes = plain bytes (Unit {0})
+byten bytes = record (plain bytes (Unit {0})) { holds_list = true }
 
 -- no bytes
 abbrev pub nothing : Body
-nothing = byten []
+nothing = plain [] (Unit {0})
 
 -- the length of a value and its bytes; the length -1 is null
 abbrev pub value_bytes : Option (List ℕ) → List ℕ
@@ -69,7 +73,7 @@ value_bytes (Some bytes) = to_be_bytes w32 (length bytes) ++ bytes
 
 -- a value of a row or a parameter
 abbrev pub value : Option (List ℕ) → Body
-value v = plain (value_bytes v) (Unit {0})
+value v = byten (value_bytes v)
 
 -- ---- parts that may have no spelling
 
@@ -92,6 +96,7 @@ listed element xs = record {
   IsOfType = AllByRecursion (λ x. (element x).IsOfType) xs;
   has_zero = list_any (λ x. (element x).has_zero) xs;
   has_too_many = false;
+  holds_list = true;
 }
 
 -- more elements than a 16-bit count can say

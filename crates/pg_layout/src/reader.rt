@@ -195,7 +195,8 @@ pub fn copy_head_at(alloc: Global, bytes: &[u8]) -> Result<(CopyHead, &[u8]), Bo
 
 /// The message, if nothing is left after it.
 pub fn ended<M: Drop>(message: M, rest: &[u8]) -> Result<M, BodyFault>
-    ensures { Gives (λ m. m) result (if length rest.now == 0 then Some message else None) }
+    ensures read { Gives (λ m. m) result (if length rest.now == 0 then Some message else None) }
+    ensures no_memory { IsOkUnless result Bad }
 {
     if rest.is_empty() {
         Ok(message)

@@ -1,6 +1,6 @@
 -- What holds of all messages of a direction, by its table of messages and the readings of its tags.
 use Rattle.std.proofs.Common.{◌≡◌, ℕ, ◌^◌, ◌<◌, Bool, true, false, cond, eqb, List, ◌++◌, length, Option, Some, None, Result, Ok, Err, refl, sym, ap, subst, ◌∙◌, arith}
-use Rattle.std.specs.Prelude.{is_some, IfSome}
+use Rattle.std.specs.Prelude.{is_some, IfSome, IsSomeAnd}
 use Rattle.std.proofs.lemmas.List.{append-nil}
 use Rattle.std.proofs.lemmas.Option.{none-some, same_Some}
 use Rattle.pg_layout.specs.declared.fault.BodyFault.{BodyFault}
@@ -119,7 +119,11 @@ module _ {M K : Type 0} {table : M → Row} {of : K → Reading M} {kind_of : �
       by_message none None h true e = absurd cc
       by_message none None h false e = none h
 
-  pub reads_body : (t : ℕ) (k : K) (bytes : List ℕ) (r : Result M BodyFault) → t ≡ (of k).tag → IsBytes bytes → ReadsWhole r ((of k).message bytes) → ReadsBody (listed_in table) t bytes r
+  pub reads_body : (t : ℕ) (k : K) (bytes : List ℕ) (r : Result M BodyFault) → t ≡ (of k).tag → IsBytes bytes → ReadsWhole (listed_in table).holds_list r ((of k).message bytes) → ReadsBody (listed_in table) t bytes r
   reads_body t k bytes (Ok m) same fits e = subst (λ (b : ℕ). IsMessage (listed_in table) b bytes m) (sym same) (message_sound table (of k) (is.each k) bytes m fits e)
   reads_body t k bytes (Err faults.Bad) same fits e = judges_body t k bytes false same fits (sym e)
-  reads_body t k bytes (Err faults.Memory) same fits e = judges_body t k bytes true same fits (sym e)
+  reads_body t k bytes (Err faults.Memory) same fits e = by_message ((of k).message bytes) refl e
+    where
+      by_message : (o : Option M) → (of k).message bytes ≡ o → IsSomeAnd o (λ m. (listed_in table).holds_list m ≡ true) → ReadsBody (listed_in table) t bytes (Err faults.Memory)
+      by_message (Some m) h list = (m, subst (λ (u : ℕ). IsMessage (listed_in table) u bytes m) (sym same) (message_sound table (of k) (is.each k) bytes m fits h), list)
+      by_message None h list = absurd list

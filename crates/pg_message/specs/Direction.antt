@@ -6,7 +6,8 @@ pub use Rattle.pg_layout.specs.Field.{Body}
 pub use Rattle.pg_layout.specs.Part.{longest, tagged, fault_of}
 
 -- What the messages of a direction are made of: the first byte, what stands after the length field, whether the numbers
--- are of their types (as all numbers of a program are), and the tests that a message with a spelling doesn't meet.
+-- are of their types (as all numbers of a program are), the tests that a message with a spelling doesn't meet, and whether it holds
+-- a text or another list, for which memory is asked.
 pub record Direction (M : Type 0) : Type 1 where
   pub tag : M → ℕ
   pub body : M → List ℕ
@@ -14,6 +15,7 @@ pub record Direction (M : Type 0) : Type 1 where
   pub has_zero : M → Bool
   pub has_too_many : M → Bool
   pub has_reserved_code : M → Bool
+  pub holds_list : M → Bool
 
 -- the length field: it counts itself and the body
 abbrev pub length_field : {M : Type 0} → Direction M → M → ℕ
@@ -59,4 +61,5 @@ listed_in table = record {
   has_zero = λ m. (table m).body.has_zero;
   has_too_many = λ m. (table m).body.has_too_many;
   has_reserved_code = λ m. (table m).has_reserved_code;
+  holds_list = λ m. (table m).body.holds_list;
 }

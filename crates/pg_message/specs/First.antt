@@ -38,6 +38,10 @@ packet_length p = 8 + length (content p)
 abbrev pub packet : First → List ℕ
 packet p = packet_of (code p) (content p)
 
+-- whether a packet holds a text or another list, for which memory is asked
+abbrev pub packet_holds_list : First → Bool
+packet_holds_list p = (content_body p).holds_list
+
 -- ---- which packets have a spelling
 
 -- the name of a parameter is empty

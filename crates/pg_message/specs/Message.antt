@@ -37,8 +37,9 @@ JudgesBody {M} d t bytes true = (m : M) × IsMessage d t bytes m
 JudgesBody d t bytes false = NoMessage d t bytes
 
 -- Reading makes the message of this tag and this body, or says that there is none. Memory is wanted
--- only for what is a message.
+-- only for what is a message, and one that holds a text or another list.
 abbrev pub ReadsBody : {M : Type 0} → Direction M → ℕ → List ℕ → Result M BodyFault → Type 0
 ReadsBody d t bytes (Ok m) = IsMessage d t bytes m
 ReadsBody d t bytes (Err faults.Bad) = NoMessage d t bytes
-ReadsBody d t bytes (Err faults.Memory) = JudgesBody d t bytes true
+ReadsBody {M} d t bytes (Err faults.Memory) = (m : M) × IsMessage d t bytes m
+    × (d.holds_list m ≡ true)

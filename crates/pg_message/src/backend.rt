@@ -234,9 +234,9 @@ impl BackMessage {
     }
 }
 
-/// The message of this kind and this body. Want of memory is a fault of a message alone.
+/// The message of this kind and this body. Want of memory is a fault of a message alone, and one that holds a list.
 fn read_whole(alloc: Global, kind: BackKind, body: &[u8]) -> Result<BackMessage, BodyFault>
-    ensures { ReadsWhole result ((back_reading kind).message body.now) }
+    ensures { ReadsWhole backend.holds_list result ((back_reading kind).message body.now) }
 {
     match back_message(alloc, kind, body) {
         Ok(message) => Ok(message),

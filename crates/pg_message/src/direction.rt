@@ -24,8 +24,8 @@ pub trait Message: Drop {
     fn is_message(tag: u8, body: &[u8]) -> bool
         ensures { JudgesBody direction tag body.now result };
 
-    /// The message of this tag and this body, all of the body. `Bad` where there is none, `Memory` where there is one and
-    /// memory for it was refused.
+    /// The message of this tag and this body, all of the body. `Bad` where there is none, `Memory` where there is one,
+    /// which holds a text or another list, and memory for that was refused.
     fn of_body(alloc: Global, tag: u8, body: &[u8]) -> Result<Self, BodyFault>
     where
         Self: Sized,

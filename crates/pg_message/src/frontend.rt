@@ -277,9 +277,9 @@ pub fn encode(message: &FrontMessage, buf: &mut Vec<u8>) -> Result<(), EncodeFau
     }
 }
 
-/// The message of this kind and this body. Want of memory is a fault of a message alone.
+/// The message of this kind and this body. Want of memory is a fault of a message alone, and one that holds a list.
 fn read_whole(alloc: Global, kind: FrontKind, body: &[u8]) -> Result<FrontMessage, BodyFault>
-    ensures { ReadsWhole result ((front_reading kind).message body.now) }
+    ensures { ReadsWhole frontend.holds_list result ((front_reading kind).message body.now) }
 {
     match front_message(alloc, kind, body) {
         Ok(message) => Ok(message),

@@ -1,6 +1,6 @@
 -- First packets: what is read is a packet, and what the head of a rest says of it.
-use Rattle.std.proofs.Common.{◌≡◌, ℕ, zero, suc, ◌-◌, ◌^◌, ◌<◌, ◌≤◌, Bool, true, false, cond, eqb, ltb, List, [], ◌∷◌, ◌++◌, length, take, drop, Option, Some, None, Ok, refl, sym, ap, subst, ◌∙◌, append_assoc, arith, length-append, lit<}
-use Rattle.std.specs.Prelude.{ℤ, pos, negsuc, ◌<ℤ◌, ◌≤ℤ◌}
+use Rattle.std.proofs.Common.{◌≡◌, ℕ, zero, suc, ◌-◌, ◌^◌, ◌<◌, ◌≤◌, Bool, true, false, cond, eqb, ltb, List, [], ◌∷◌, ◌++◌, length, take, drop, Option, Some, None, Ok, Err, refl, sym, ap, subst, ◌∙◌, append_assoc, arith, length-append, lit<}
+use Rattle.std.specs.Prelude.{ℤ, pos, negsuc, ◌<ℤ◌, ◌≤ℤ◌, IsSomeAnd}
 use Rattle.std.specs.List.{flat_map, list_any, AllByRecursion}
 use Rattle.std.specs.Int.{w32, to_be_bytes, from_be_bytes, cast_signed, cast_unsigned}
 use Rattle.std.specs.Int.RustNames.{unsigned_abs as mag}
@@ -15,14 +15,15 @@ use Rattle.pg_wire.specs.declared.fault.WireFault.{WireFault}
 use Rattle.pg_wire.specs.declared.fault.WireFault.TheVariants as wire
 use Rattle.pg_layout.specs.declared.fault.BodyFault.{BodyFault}
 use Rattle.pg_layout.specs.declared.fault.BodyFault.TheVariants as body_faults
+use Rattle.pg_message.specs.Private.Reading.{ReadsWhole}
 use Rattle.pg_wire.specs.declared.first.kind.FirstKind.{FirstKind}
 use Rattle.pg_wire.specs.declared.first.kind.FirstKind.TheVariants as kinds
 use Rattle.pg_message.specs.declared.message.First.{First}
 use Rattle.pg_message.specs.declared.message.First.TheVariants as first
-use Rattle.pg_wire.specs.First.{parameter, code, content, packet_length, longest_packet, packet, has_no_name, packet_has_zero, packet_has_no_name, PacketIsOfType, IsPacket, is_last, EndsIn, IsBeginning, PacketHead, PacketCode, IsPacketCode, IsWholePacket, NoPacket, IsFaultyPacket, BeginsNoPacket, IsOpenPacket}
+use Rattle.pg_wire.specs.First.{parameter, code, content, packet_length, longest_packet, packet, packet_holds_list, has_no_name, packet_has_zero, packet_has_no_name, PacketIsOfType, IsPacket, is_last, EndsIn, IsBeginning, PacketHead, PacketCode, IsPacketCode, IsWholePacket, NoPacket, IsFaultyPacket, BeginsNoPacket, IsOpenPacket}
 use Rattle.pg_wire.specs.Laws.{ReadsNoFurther, OneBeginning, PacketsAgain}
-use Rattle.pg_layout.specs.Private.Reader.{Fails, pair_at, signed_at, terminated_at, parameter_at, whole}
-use Rattle.pg_wire.specs.FirstDecoder.{FirstState, PacketFaultHolds, HasBegun}
+use Rattle.pg_layout.specs.Private.Reader.{pair_at, signed_at, terminated_at, parameter_at, whole}
+use Rattle.pg_wire.specs.FirstDecoder.{FirstState, PacketFaultHolds, HasBegun, PacketWantsMemory}
 use Rattle.pg_wire.specs.Private.FirstReader.{first_code, first_kind_of, first_of, FindsPacket}
 use Rattle.pg_layout.proofs.Layouts.{IsBytes, IsBytes-take, wide32, bind_some, pair_reads, int32_reads}
 use Rattle.pg_layout.proofs.Fields.{parameters_reads}
@@ -325,6 +326,15 @@ packet_found rest k len n p fits w size e =
     eight rest (omega (arith, w.there, w.not_short)) ∙ ap (λ (u : List ℕ). (u ++ take 4 (drop 4 rest)) ++ drop 8 rest) length_bytes ∙ ap (λ (u : List ℕ). (to_be_bytes w32 (packet_length p) ++ u) ++ drop 8 rest) code_bytes ∙ ap (λ (u : List ℕ). head_bytes ++ u) back in
     (w.there, packet_from p found.spelled (omega (arith, w.not_long)), parts ∙ sym (append_assoc head_bytes (content p) (drop len rest)))
 
+pub packet_wanted : (rest : List ℕ) (k : FirstKind) (len n : ℕ) → IsBytes rest → IsWholePacket rest (pos (first_code k)) len → n ≡ len - 8 → IsSomeAnd (first_of k (take n (drop 8 rest))) (λ p. packet_holds_list p ≡ true) → PacketWantsMemory rest
+packet_wanted rest k len n fits whole size = by_packet (first_of k (take n (drop 8 rest))) refl
+  where
+    by_packet : (o : Option First) → first_of k (take n (drop 8 rest)) ≡ o → IsSomeAnd o (λ p. packet_holds_list p ≡ true) → PacketWantsMemory rest
+    by_packet (Some p) e holds =
+        let found = packet_found rest k len n p fits whole size e in
+        (p, drop len rest, found.1, holds, found.2)
+    by_packet None e holds = absurd holds
+
 pub packet_bad : (rest : List ℕ) (k : FirstKind) (len n : ℕ) → IsWholePacket rest (pos (first_code k)) len → n ≡ len - 8 → first_of k (take n (drop 8 rest)) ≡ None → IsFaultyPacket rest (wire.BadBody 0)
 packet_bad rest k len n w size none = (refl, pos (first_code k), len, w, no_packet)
   where
@@ -434,9 +444,14 @@ judged_whole rest k (pos n) z v w same head same_c code_there is low high there 
 }
 judged_whole rest k (negsuc n) z v w same head same_c code_there is low high there = absurd (omega (arith, ints))
 
-pub is_none : {Y : Type 0} (f : BodyFault) (o : Option Y) → f ≡ body_faults.Bad → Fails f o → o ≡ None
-is_none body_faults.Memory o e h = absurd cc
-is_none body_faults.Bad o e h = h
+pub no_packet : (f : BodyFault) (o : Option First) → f ≡ body_faults.Bad → ReadsWhole packet_holds_list (Err f) o → o ≡ None
+no_packet body_faults.Memory o e h = absurd cc
+no_packet body_faults.Bad None e h = refl
+no_packet body_faults.Bad (Some p) e h = absurd cc
+
+pub a_packet : (f : BodyFault) (o : Option First) → f ≡ body_faults.Memory → ReadsWhole packet_holds_list (Err f) o → IsSomeAnd o (λ p. packet_holds_list p ≡ true)
+a_packet body_faults.Memory o e h = h
+a_packet body_faults.Bad o e h = absurd cc
 
 -- ---- for the decoder
 

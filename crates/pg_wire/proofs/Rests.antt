@@ -1,5 +1,5 @@
 -- What the head of a rest says of it.
-use Rattle.std.proofs.Common.{◌≡◌, ℕ, ◌+◌, ◌-◌, ◌^◌, ◌<◌, ◌≤◌, List, [], ◌∷◌, ◌++◌, length, take, drop, refl, sym, ap, subst, ◌∙◌, append_assoc, arith, length-append}
+use Rattle.std.proofs.Common.{◌≡◌, ℕ, ◌+◌, ◌-◌, ◌^◌, ◌<◌, ◌≤◌, List, [], ◌∷◌, ◌++◌, length, take, drop, Err, refl, sym, ap, subst, ◌∙◌, append_assoc, arith, length-append}
 use Rattle.std.specs.Prelude.{ℤ, pos, negsuc, ◌<ℤ◌, ◌≤ℤ◌, slice_index}
 use Rattle.std.specs.Int.{w32, to_be_bytes, from_be_bytes, cast_signed, cast_unsigned}
 use Rattle.std.proofs.lemmas.Int.{ints, of_z-to_z, to_z_pos}
@@ -10,7 +10,10 @@ use Rattle.pg_wire.specs.declared.fault.WireFault.{WireFault}
 use Rattle.pg_wire.specs.declared.fault.WireFault.TheVariants as wire
 use Rattle.pg_message.specs.Direction.{Direction, spelling, length_field, longest}
 use Rattle.pg_wire.specs.Stream.{IsWithin, Head, IsTag, IsWhole, NoMessage, IsFaulty, BeginsNoMessage, IsOpen}
-use Rattle.pg_message.specs.Message.{IsMessage}
+use Rattle.pg_layout.specs.declared.fault.BodyFault.{BodyFault}
+use Rattle.pg_layout.specs.declared.fault.BodyFault.TheVariants as body_faults
+use Rattle.pg_message.specs.Message.{IsMessage, ReadsBody}
+use Rattle.pg_wire.specs.Decoder.{WantsMemory}
 use Rattle.pg_layout.proofs.Layouts.{IsBytes, IsBytes-take, wide32}
 use Rattle.pg_message.proofs.Bodies.{spelled_parts, spelled_from}
 
@@ -174,6 +177,12 @@ message_found d limit rest t len n m small fits whole size found =
     )
 
 -- ---- for the code that judges a head
+
+pub message_wanted : {M : Type 0} (d : Direction M) (limit : ℕ) (rest : List ℕ) (t len n : ℕ) (f : BodyFault) → limit ≤ longest → IsBytes rest → IsWhole d limit rest t len → n ≡ len - 4 → f ≡ body_faults.Memory → ReadsBody d t (take n (drop 5 rest)) (Err f) → WantsMemory d limit rest
+message_wanted d limit rest t len n body_faults.Memory small fits whole size e wanted =
+    let found = message_found d limit rest t len n wanted.0 small fits whole size wanted.1 in
+    (wanted.0, drop (len + 1) rest, found.0, wanted.2, found.1)
+message_wanted d limit rest t len n body_faults.Bad small fits whole size e wanted = absurd cc
 
 pub signed_same : (rest : List ℕ) (t : ℕ) (z : ℤ) → IsBytes rest → Head rest t z → cast_signed w32 (cast_unsigned w32 z) ≡ z
 signed_same rest t z fits head =

@@ -1,9 +1,9 @@
 -- A decoder as its callers see it, what its calls do, and what it was given and has given.
-use Rattle.std.specs.Prelude.{ℕ, ◌≡◌, ◌<◌, ◌+◌, ◌++◌, ◌∷◌, [], ◌⊎◌, List, length, Option, Some, None, Result, Ok, Err}
+use Rattle.std.specs.Prelude.{ℕ, ◌≡◌, ◌<◌, ◌+◌, ◌++◌, ◌∷◌, [], ◌⊎◌, true, List, length, Option, Some, None, Result, Ok, Err}
 use Rattle.pg_wire.specs.declared.fault.WireFault.{WireFault}
 use Rattle.pg_wire.specs.declared.fault.WireFault.TheVariants as wire
 use Rattle.pg_message.specs.Direction.{Direction, spelling}
-use Rattle.pg_wire.specs.Stream.{IsWithin, IsStream, IsWhole, IsFaulty, IsOpen}
+use Rattle.pg_wire.specs.Stream.{IsWithin, IsStream, IsFaulty, IsOpen}
 
 -- the bytes that were pushed and not yet given as messages, the greatest length field that is
 -- taken, and the fault that was found, if any
@@ -38,9 +38,11 @@ Pushes old piece (Ok x) new = (old.fault ≡ None) × (new ≡ record old { kept
 Pushes old piece (Err wire.Memory) new = (old.fault ≡ None) × (0 < length piece) × (new ≡ old)
 Pushes old piece (Err f) new = (old.fault ≡ Some f) × (new ≡ old)
 
--- All bytes of the next message are there, by its length field. Only there `next` asks for memory.
+-- The rest begins with a message that holds a text or another list. Only there `next` asks for
+-- memory.
 abbrev pub WantsMemory : {M : Type 0} → Direction M → ℕ → List ℕ → Type 0
-WantsMemory d limit rest = (t : ℕ) × (len : ℕ) × IsWhole d limit rest t len
+WantsMemory {M} d limit rest = (m : M) × (more : List ℕ) × IsWithin d limit m
+    × (d.holds_list m ≡ true) × (rest ≡ spelling d m ++ more)
 
 -- What `next` answers: the first message of the rest, which is dropped from it; None where the rest
 -- is open; a fault exactly where the rest has it, then and for good. Memory leaves the decoder as

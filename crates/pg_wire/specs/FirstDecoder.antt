@@ -1,10 +1,10 @@
 -- A decoder of first packets as its callers see it, what its calls do, and what it was given and
 -- has given.
-use Rattle.std.specs.Prelude.{ℕ, ℤ, ◌≡◌, ◌<◌, ◌++◌, ◌∷◌, [], ◌⊎◌, Bool, true, false, List, length, Option, Some, None, Result, Ok, Err}
+use Rattle.std.specs.Prelude.{ℕ, ◌≡◌, ◌<◌, ◌++◌, ◌∷◌, [], ◌⊎◌, Bool, true, false, List, length, Option, Some, None, Result, Ok, Err}
 use Rattle.pg_wire.specs.declared.fault.WireFault.{WireFault}
 use Rattle.pg_wire.specs.declared.fault.WireFault.TheVariants as wire
 use Rattle.pg_message.specs.declared.message.First.{First}
-use Rattle.pg_wire.specs.First.{IsPacket, packet, is_last, IsBeginning, longest_packet, IsWholePacket, IsFaultyPacket, IsOpenPacket}
+use Rattle.pg_wire.specs.First.{IsPacket, packet, packet_holds_list, is_last, IsBeginning, longest_packet, IsFaultyPacket, IsOpenPacket}
 
 -- the bytes that were pushed and not yet given as packets, whether a Startup or a Cancel was given,
 -- and the fault that was found, if any
@@ -38,16 +38,21 @@ abbrev pub NoMorePackets : Bool → List ℕ → Type 0
 NoMorePackets true rest = Unit {0}
 NoMorePackets false rest = IsOpenPacket rest × (length rest < longest_packet)
 
+-- The rest begins with a packet that holds a list, as a Startup does. Only there `next` asks for
+-- memory.
+abbrev pub PacketWantsMemory : List ℕ → Type 0
+PacketWantsMemory rest = (p : First) × (more : List ℕ) × IsPacket p × (packet_holds_list p ≡ true)
+    × (rest ≡ packet p ++ more)
+
 -- What `next` answers: the first packet of the rest, which is dropped from it; None as
--- NoMorePackets says; a fault exactly where the rest has it; Memory only where all bytes of the
--- packet are there.
+-- NoMorePackets says; a fault exactly where the rest has it. Memory leaves the decoder as it was.
 abbrev pub FirstTakes : FirstState → Result (Option First) WireFault → FirstState → Type 0
 FirstTakes old (Ok None) new = (old.fault ≡ None) × (new ≡ old) × NoMorePackets old.ended old.kept
 FirstTakes old (Ok (Some p)) new = (old.fault ≡ None) × (old.ended ≡ false) × IsPacket p
     × (old.kept ≡ packet p ++ new.kept)
     × (new ≡ record old { kept = new.kept; ended = is_last p })
 FirstTakes old (Err wire.Memory) new = (old.fault ≡ None) × (old.ended ≡ false) × (new ≡ old)
-    × (c : ℤ) × (len : ℕ) × IsWholePacket old.kept c len
+    × PacketWantsMemory old.kept
 FirstTakes old (Err f) new = ((old.fault ≡ Some f) × (new ≡ old))
     ⊎ ((old.fault ≡ None) × (old.ended ≡ false) × (new ≡ record old { fault = Some f })
     × IsFaultyPacket old.kept f)

@@ -80,7 +80,8 @@ impl BackDecoder {
     }
 
     /// The next message, or None where more bytes are to come. A fault is found where no more messages stand before it, and
-    /// is then answered for good. Memory is answered only for a message that is whole, and leaves the decoder unchanged.
+    /// is then answered for good. Memory is answered only for a message that is whole and holds a text or another list, and leaves
+    /// the decoder unchanged.
     pub fn next(&mut self) -> Result<Option<BackMessage>, WireFault>
         ensures call { Takes backend self.old.stream result self.new.stream }
         ensures held { LetsGo self.old.held result self.new.held }

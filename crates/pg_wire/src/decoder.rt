@@ -76,7 +76,8 @@ impl<M: Message> Decoder<M> {
     }
 
     /// The next message, or None where more bytes are to come. A fault is found where no more messages stand before it, and
-    /// is then answered for good. Memory is answered only for a message that is whole, and leaves the decoder unchanged.
+    /// is then answered for good. Memory is answered only for a message that is whole and holds a text or another list, and leaves
+    /// the decoder unchanged.
     pub fn next(&mut self) -> Result<Option<M>, WireFault>
         ensures call { Takes M.direction self.old result self.new }
         ensures taken { (pushed : List ℕ) (given : List M)

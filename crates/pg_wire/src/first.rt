@@ -2,8 +2,10 @@
 
 mod kind;
 
-ghost use Rattle.std.specs.Prelude.{◌≡◌, ◌<◌, ◌≤◌, ◌++◌, [], List, ℕ, length, None, Some, OnOk, MatchOption, true, false};
+ghost use Rattle.std.specs.Prelude.{◌≡◌, ◌<◌, ◌≤◌, ◌++◌, [], List, ℕ, length, None, Some, OnOk, MatchOption, is_some, true, false};
 ghost use Rattle.pg_message.specs.declared.message.First.{First};
+ghost use Rattle.pg_message.specs.First.{packet_holds_list};
+ghost use Rattle.pg_message.specs.Private.Reading.{AsksFor, ReadsWhole};
 ghost use Rattle.pg_wire.specs.First.{PacketHead, PacketCode, is_last};
 ghost use Rattle.pg_wire.specs.FirstDecoder.{HasBegun, FirstPushes, FirstTakes, packets_after};
 ghost use Rattle.pg_wire.specs.Decoder.{HasTaken};
@@ -17,8 +19,9 @@ use crate::decoder::FrontDecoder;
 use crate::fault::WireFault;
 use bytes::BytesMut;
 use kind::FirstKind;
-use pg_layout::{BodyFault, LONGEST_PACKET, ended, i32_at, terminated};
+use pg_layout::{BodyFault, LONGEST_PACKET, after_terminated, ended, i32_at, terminated};
 use pg_message::First;
+use pg_seq::Seq;
 use std::alloc::Global;
 use std::marker::Model;
 
@@ -76,9 +79,10 @@ fn judge(rest: &[u8]) -> JudgedPacket
     }
 }
 
-/// The packet of this kind with this content, all of it.
+/// The packet of this kind with this content, all of it. Memory is asked for where it holds a list.
 fn packet(alloc: Global, kind: FirstKind, content: &[u8]) -> Result<First, BodyFault>
-    ensures { Gives (λ p. p) result (first_of kind content.now) }
+    ensures read { Gives (λ p. p) result (first_of kind content.now) }
+    ensures memory { AsksFor packet_holds_list result (first_of kind content.now) }
 {
     match kind {
         FirstKind::Startup => {
@@ -95,6 +99,37 @@ fn packet(alloc: Global, kind: FirstKind, content: &[u8]) -> Result<First, BodyF
     }
 }
 
+/// Whether this is the content of a packet of this kind. No packet is made, and no memory is asked for.
+fn is_packet(kind: FirstKind, content: &[u8]) -> bool
+    ensures { result ≡ is_some (first_of kind content.now) }
+{
+    match kind {
+        FirstKind::Startup => match after_terminated::<(Seq<u8>, Seq<u8>)>(content) {
+            Some(rest) => rest.is_empty(),
+            None => false,
+        },
+        FirstKind::Cancel => content.len() == 8,
+        FirstKind::Ssl | FirstKind::Gss => content.is_empty(),
+    }
+}
+
+/// The packet of this kind with this content. Want of memory is a fault of a packet alone, and one that holds a list.
+fn read_whole(alloc: Global, kind: FirstKind, content: &[u8]) -> Result<First, BodyFault>
+    ensures { ReadsWhole packet_holds_list result (first_of kind content.now) }
+{
+    match packet(alloc, kind, content) {
+        Ok(packet) => Ok(packet),
+        Err(BodyFault::Bad) => Err(BodyFault::Bad),
+        Err(BodyFault::Memory) => {
+            if is_packet(kind, content) {
+                Err(BodyFault::Memory)
+            } else {
+                Err(BodyFault::Bad)
+            }
+        }
+    }
+}
+
 /// The packet at the beginning of a rest, and how many bytes it takes.
 fn find(alloc: Global, rest: &[u8]) -> Result<Option<(First, usize)>, WireFault>
     ensures { FindsPacket rest.now result }
@@ -102,7 +137,7 @@ fn find(alloc: Global, rest: &[u8]) -> Result<Option<(First, usize)>, WireFault>
     match judge(rest) {
         JudgedPacket::Open => Ok(None),
         JudgedPacket::Faulty(fault) => Err(fault),
-        JudgedPacket::Whole(kind, len) => match packet(alloc, kind, &rest[8..len]) {
+        JudgedPacket::Whole(kind, len) => match read_whole(alloc, kind, &rest[8..len]) {
             Ok(packet) => Ok(Some((packet, len))),
             Err(BodyFault::Bad) => Err(WireFault::BadBody(0)),
             Err(BodyFault::Memory) => Err(WireFault::Memory),
@@ -176,7 +211,7 @@ impl FirstDecoder {
     }
 
     /// The next packet, or None where more bytes are to come or the last packet was given. A fault is found where no more
-    /// packets stand before it, and is then answered for good. Memory is answered only for a packet that is whole, and leaves
+    /// packets stand before it, and is then answered for good. Memory is answered only for a Startup that is whole, and leaves
     /// the decoder unchanged.
     pub fn next(&mut self) -> Result<Option<First>, WireFault>
         ensures call { FirstTakes self.old result self.new }

@@ -1,5 +1,5 @@
 -- What one packet or one message does to a backend.
-use Rattle.std.proofs.Common.{◌≡◌, ◌≢◌, ◌⊎◌, inl, inr, ℕ, Bool, true, List, ◌++◌, Option, Some, None, refl, ap, sym, ◌∙◌}
+use Rattle.std.proofs.Common.{◌≡◌, ◌≢◌, ◌⊎◌, inl, inr, ℕ, Bool, true, List, ◌++◌, Option, Some, None, refl, ap, subst, sym, ◌∙◌}
 use Rattle.std.specs.Prelude.{Result, Ok, Err}
 use Rattle.pg_wire.specs.declared.fault.WireFault.{WireFault}
 use Rattle.pg_wire.specs.declared.fault.WireFault.TheVariants as wire
@@ -7,7 +7,7 @@ use Rattle.pg_wire.specs.message.First.{First}
 use Rattle.pg_wire.specs.message.FrontMessage.{FrontMessage}
 use Rattle.pg_wire.specs.Decoder.{DecoderState}
 use Rattle.pg_wire.specs.Decoder as decoder
-use Rattle.pg_wire.specs.FirstDecoder.{FirstState, FirstTakes}
+use Rattle.pg_wire.specs.FirstDecoder.{FirstState, FirstTakes, PacketWantsMemory}
 use Rattle.pg_wire.specs.Frontend.{frontend}
 use Rattle.pg_backend.specs.declared.fault.BackendFault.{BackendFault}
 use Rattle.pg_backend.specs.declared.fault.BackendFault.TheVariants as faults
@@ -17,9 +17,9 @@ use Rattle.pg_backend.specs.declared.stage.Next.{Next}
 use Rattle.pg_backend.specs.declared.stage.Next.TheVariants as next
 use Rattle.pg_backend.specs.declared.stage.BackStage.{BackStage}
 use Rattle.pg_backend.specs.declared.stage.BackStage.TheVariants as stage
-use Rattle.pg_backend.specs.Stage.{BackendState, IsNextWhole, IsWaiting, HasFaultyRest, WantsMemory}
+use Rattle.pg_backend.specs.Stage.{BackendState, IsWaiting, HasFaultyRest, WantsMemory}
 use Rattle.pg_backend.specs.Private.Moves.{Move, move}
-use Rattle.pg_backend.specs.Private.Advancing.{Effect, applied, stage_of, message_effect, stray_tag, packet_effect, Begun, Taken, HasNext, TakesEffect, Sends, Advances, BreaksOff, Hands}
+use Rattle.pg_backend.specs.Private.Advancing.{Effect, applied, stage_of, message_effect, stray_tag, packet_effect, Begun, Taken, HasNext, TakesEffect, Sends, Advances, AdvancesUnlessClosed, BreaksOff, Hands}
 use Rattle.pg_backend.proofs.Machine.Effects.{says}
 
 -- ---- a fault of the decoder
@@ -27,12 +27,19 @@ use Rattle.pg_backend.proofs.Machine.Effects.{says}
 differs : (f : Option WireFault) (g : WireFault) → f ≡ None → f ≡ Some g → ⊥
 differs f g is e = cc
 
+-- a packet or a message that waits is no open rest
+first_wants : (d : FirstState) → PacketWantsMemory d.kept → WantsMemory (stage.First d)
+first_wants d wants waiting = waiting.no_packet wants.0 wants.1 wants.2 wants.4
+
+open_wants : (d : DecoderState) (a : Awaits) → decoder.WantsMemory frontend d.limit d.kept → WantsMemory (stage.Open d a)
+open_wants d a wants waiting = waiting.no_message wants.0 wants.1 wants.2 wants.4
+
 -- The decoder wants memory for what is there, or the rest is faulty.
 abbrev Reason : BackStage → WireFault → Type 0
-Reason s f = ((f ≡ wire.Memory) × IsNextWhole s) ⊎ ((f ≢ wire.Memory) × HasFaultyRest s f)
+Reason s f = ((f ≡ wire.Memory) × WantsMemory s) ⊎ ((f ≢ wire.Memory) × HasFaultyRest s f)
 
 first_reason : (d d' : FirstState) (f : WireFault) → d.fault ≡ None → FirstTakes d (Err f) d' → Reason (stage.First d) f
-first_reason d d' wire.Memory none h = inl (refl, (h.3, h.4, h.5))
+first_reason d d' wire.Memory none h = inl (refl, first_wants d h.3)
 first_reason d d' (wire.UnknownTag t) none (inl h) = absurd (differs d.fault _ none h.0)
 first_reason d d' (wire.UnknownTag t) none (inr h) = inr (λ e. cc, h.3)
 first_reason d d' (wire.ShortLength n) none (inl h) = absurd (differs d.fault _ none h.0)
@@ -45,7 +52,7 @@ first_reason d d' (wire.BadBody t) none (inl h) = absurd (differs d.fault _ none
 first_reason d d' (wire.BadBody t) none (inr h) = inr (λ e. cc, h.3)
 
 open_reason : (d d' : DecoderState) (a : Awaits) (f : WireFault) → d.fault ≡ None → decoder.Takes frontend d (Err f) d' → Reason (stage.Open d a) f
-open_reason d d' a wire.Memory none h = inl (refl, h.2)
+open_reason d d' a wire.Memory none h = inl (refl, open_wants d a h.2)
 open_reason d d' a (wire.UnknownTag t) none (inl h) = absurd (differs d.fault _ none h.0)
 open_reason d d' a (wire.UnknownTag t) none (inr h) = inr (λ e. cc, h.2)
 open_reason d d' a (wire.ShortLength n) none (inl h) = absurd (differs d.fault _ none h.0)
@@ -63,10 +70,10 @@ not_waiting (stage.Open d a) f h w = w.no_fault f h
 not_waiting (stage.Closed e) f h w = w
 
 wanted : (s : BackStage) (f : WireFault) → Reason s f → WantsMemory s
-wanted (stage.First d) f (inl h) = inl h.1
-wanted (stage.First d) f (inr h) = inr (not_waiting (stage.First d) f h.1)
-wanted (stage.Open d a) f (inl h) = inl h.1
-wanted (stage.Open d a) f (inr h) = inr (not_waiting (stage.Open d a) f h.1)
+wanted (stage.First d) f (inl h) = h.1
+wanted (stage.First d) f (inr h) = not_waiting (stage.First d) f h.1
+wanted (stage.Open d a) f (inl h) = h.1
+wanted (stage.Open d a) f (inr h) = not_waiting (stage.Open d a) f h.1
 wanted (stage.Closed e) f (inl h) = h.1
 wanted (stage.Closed e) f (inr h) = h.1
 
@@ -133,3 +140,12 @@ pub took_packet : (b : BackendState) (d d' : FirstState) (p : First) (w : Backen
     → FirstTakes d (Ok (Some p)) d' → Begun d d' p → r ≡ Ok x → TakesEffect (packet_effect b d' p) b before r w after
     → Advances (record b { stage = stage.First d }) before (Ok true) w after
 took_packet b d d' p w r x before after takes begun ok done = let h = rw ok at done in (packet_effect b d' p, (p, d', takes, begun, refl, refl), h.0, h.1)
+
+-- ---- a step of an open backend
+
+pub unless_closed : (s old : BackendState) (before : List ℕ) (r : Result Bool BackendFault) (new : BackendState) (after : List ℕ) → s ≡ old → Advances s before r new after → AdvancesUnlessClosed old before r new after
+unless_closed s old before (Ok x) new after e h = subst (λ (b : BackendState). Advances b before (Ok x) new after) e h
+unless_closed s old before (Err (faults.Unexpected t)) new after e h = subst (λ (b : BackendState). Advances b before (Err (faults.Unexpected t)) new after) e h
+unless_closed s old before (Err (faults.Wire f)) new after e h = subst (λ (b : BackendState). Advances b before (Err (faults.Wire f)) new after) e h
+unless_closed s old before (Err faults.Memory) new after e h = subst (λ (b : BackendState). Advances b before (Err faults.Memory) new after) e h
+unless_closed s old before (Err faults.Closed) new after e h = absurd h

@@ -1,6 +1,6 @@
 -- How the body of a message is read: the tag says what stands in it, and what was read makes the
 -- message.
-use Rattle.std.specs.Prelude.{ℕ, ◌≡◌, ◌==◌, if◌then◌else◌, Bool, true, false, List, [], ◌∷◌, length, Option, Some, None, is_some, Result, Ok, Err}
+use Rattle.std.specs.Prelude.{ℕ, ◌≡◌, ◌==◌, if◌then◌else◌, Bool, true, false, List, [], ◌∷◌, length, Option, Some, None, is_some, IfSome, IsSomeAnd, Result, Ok, Err}
 use Rattle.pg_layout.specs.declared.fault.BodyFault.{BodyFault}
 use Rattle.pg_layout.specs.declared.fault.BodyFault.TheVariants as faults
 use Rattle.pg_layout.specs.Field.{Body}
@@ -58,8 +58,15 @@ abbrev pub ends : Option (List ℕ) → Bool
 ends None = false
 ends (Some rest) = length rest == 0
 
--- What reading a body returned, by the message that there is: Memory only where there is one.
-abbrev pub ReadsWhole : {M : Type 0} → Result M BodyFault → Option M → Type 0
-ReadsWhole (Ok m) message = message ≡ Some m
-ReadsWhole (Err faults.Bad) message = is_some message ≡ false
-ReadsWhole (Err faults.Memory) message = is_some message ≡ true
+-- Where memory was refused, the message that there is, if there is one, holds a list.
+abbrev pub AsksFor : {M : Type 0} → (M → Bool) → Result M BodyFault → Option M → Type 0
+AsksFor holds_list (Ok m) message = Unit {0}
+AsksFor holds_list (Err faults.Bad) message = Unit {0}
+AsksFor holds_list (Err faults.Memory) message = IfSome message (λ m. holds_list m ≡ true)
+
+-- What reading a body returned, by the message that there is: Memory only where there is one that
+-- holds a list.
+abbrev pub ReadsWhole : {M : Type 0} → (M → Bool) → Result M BodyFault → Option M → Type 0
+ReadsWhole holds_list (Ok m) message = message ≡ Some m
+ReadsWhole holds_list (Err faults.Bad) message = is_some message ≡ false
+ReadsWhole holds_list (Err faults.Memory) message = IsSomeAnd message (λ m. holds_list m ≡ true)

@@ -2,7 +2,9 @@
 
 ghost use Rattle.pg_layout.specs.Private.Reader.{Gives};
 ghost use Rattle.pg_message.specs.declared.backend.kind.BackKind.TheVariants.{Auth};
+ghost use Rattle.pg_message.specs.Backend.{backend};
 ghost use Rattle.pg_message.specs.Private.BackReader.{back_reading};
+ghost use Rattle.pg_message.specs.Private.Reading.{AsksFor};
 
 use super::kind::BackKind;
 use crate::message::BackMessage;
@@ -13,7 +15,8 @@ use std::alloc::Global;
 
 /// An authentication request, whose code says which.
 fn auth(alloc: Global, bytes: &[u8]) -> Result<BackMessage, BodyFault>
-    ensures { Gives (λ m. m) result ((back_reading Auth).message bytes.now) }
+    ensures read { Gives (λ m. m) result ((back_reading Auth).message bytes.now) }
+    ensures memory { AsksFor backend.holds_list result ((back_reading Auth).message bytes.now) }
 {
     let (code, rest) = i32_at(bytes)?;
     match code {
@@ -30,9 +33,10 @@ fn auth(alloc: Global, bytes: &[u8]) -> Result<BackMessage, BodyFault>
     }
 }
 
-/// The message of this kind and this body.
+/// The message of this kind and this body. Memory is asked for where it holds a list.
 pub fn back_message(alloc: Global, kind: BackKind, body: &[u8]) -> Result<BackMessage, BodyFault>
-    ensures { Gives (λ m. m) result ((back_reading kind).message body.now) }
+    ensures read { Gives (λ m. m) result ((back_reading kind).message body.now) }
+    ensures memory { AsksFor backend.holds_list result ((back_reading kind).message body.now) }
 {
     match kind {
         BackKind::Auth => auth(alloc, body),

@@ -3,7 +3,9 @@
 ghost use Rattle.std.specs.Prelude.{IsOkUnless};
 ghost use Rattle.pg_layout.specs.declared.fault.BodyFault.TheVariants.{Bad};
 ghost use Rattle.pg_layout.specs.Private.Reader.{Gives, choice_at};
+ghost use Rattle.pg_message.specs.Frontend.{frontend};
 ghost use Rattle.pg_message.specs.Private.FrontReader.{front_reading, target_of_byte};
+ghost use Rattle.pg_message.specs.Private.Reading.{AsksFor};
 
 use super::kind::FrontKind;
 use crate::message::FrontMessage;
@@ -22,9 +24,10 @@ pub fn target_at(bytes: &[u8]) -> Result<(Target, &[u8]), BodyFault>
     }
 }
 
-/// The message of this kind and this body.
+/// The message of this kind and this body. Memory is asked for where it holds a list.
 pub fn front_message(alloc: Global, kind: FrontKind, body: &[u8]) -> Result<FrontMessage, BodyFault>
-    ensures { Gives (λ m. m) result ((front_reading kind).message body.now) }
+    ensures read { Gives (λ m. m) result ((front_reading kind).message body.now) }
+    ensures memory { AsksFor frontend.holds_list result ((front_reading kind).message body.now) }
 {
     match kind {
         FrontKind::Query => {

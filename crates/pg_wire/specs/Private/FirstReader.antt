@@ -11,6 +11,7 @@ use Rattle.pg_wire.specs.declared.first.JudgedPacket.TheVariants as judged
 use Rattle.pg_message.specs.declared.message.First.{First}
 use Rattle.pg_message.specs.declared.message.First.TheVariants as first
 use Rattle.pg_wire.specs.First.{IsPacket, packet, longest_packet, IsWholePacket, IsFaultyPacket, IsOpenPacket}
+use Rattle.pg_wire.specs.FirstDecoder.{PacketWantsMemory}
 use Rattle.pg_layout.specs.Private.Reader.{pair_at, signed_at, terminated_at, parameter_at, whole}
 
 -- the code of each kind of packet
@@ -46,5 +47,5 @@ abbrev pub FindsPacket : List ℕ → Result (Option (First × ℕ)) WireFault �
 FindsPacket rest (Ok None) = IsOpenPacket rest × (length rest < longest_packet)
 FindsPacket rest (Ok (Some x)) = (x.1 ≤ length rest) × IsPacket x.0
     × (rest ≡ packet x.0 ++ drop x.1 rest)
-FindsPacket rest (Err wire.Memory) = (c : ℤ) × (len : ℕ) × IsWholePacket rest c len
+FindsPacket rest (Err wire.Memory) = PacketWantsMemory rest
 FindsPacket rest (Err f) = IsFaultyPacket rest f
