@@ -1,9 +1,3 @@
-pub mod Steps
-pub mod Places
-pub mod Collecting
-pub mod Sound
-pub mod Complete
-pub mod Outcomes
 pub mod Greeting
 pub mod Said
 pub mod OneMessage

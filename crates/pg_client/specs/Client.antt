@@ -4,13 +4,10 @@ use Rattle.pg_wire.specs.message.BackMessage.{BackMessage}
 use Rattle.pg_wire.specs.message.BackMessage.TheVariants.{KeyData, ParameterStatus}
 use Rattle.pg_wire.specs.value.Status.{Status}
 use Rattle.pg_wire.specs.declared.session.Request.{Request}
-use Rattle.pg_client.specs.declared.segment.CopyAnswer.{CopyAnswer}
-use Rattle.pg_client.specs.declared.segment.CopyAnswer.TheVariants.{Awaited}
-use Rattle.pg_client.specs.declared.segment.begun.Open.TheVariants as begun
-use Rattle.pg_client.specs.Segment.{Stage, Within, Failed}
-use Rattle.pg_client.specs.declared.segment.pending.Pending.{Pending}
-use Rattle.pg_client.specs.declared.segment.pending.Pending.TheVariants as pending
-use Rattle.pg_client.specs.declared.segment.place.Place.{Place}
+use Rattle.pg_segment.specs.declared.segment.CopyAnswer.{CopyAnswer}
+use Rattle.pg_segment.specs.declared.segment.CopyAnswer.TheVariants.{Awaited}
+use Rattle.pg_segment.specs.declared.segment.begun.Open.TheVariants as begun
+use Rattle.pg_segment.specs.Segment.{Stage, Within, stage_failed}
 use Rattle.pg_client.specs.declared.stand.Stand.{Stand}
 use Rattle.pg_client.specs.declared.stand.Stand.TheVariants as stands
 use Rattle.pg_client.specs.declared.settled.Settled.{Settled}
@@ -56,15 +53,6 @@ copying_phase _ = phase.Busy
 abbrev pub busy_phase_of : Stage → CopyAnswer → Phase
 busy_phase_of (Within (begun.CopyIn head)) answer = copying_phase answer
 busy_phase_of _ answer = phase.Busy
-
--- the same by what is open
-abbrev pub open_phase : Pending → CopyAnswer → Phase
-open_phase pending.CopyIn answer = copying_phase answer
-open_phase _ answer = phase.Busy
-
--- the phase at a place in a segment
-abbrev pub phase_at : Place → Phase
-phase_at p = open_phase p.pending p.answer
 
 -- The phase of a client that stands there and isn't closed.
 abbrev pub stand_phase : Stand → Phase
@@ -126,11 +114,6 @@ key_said _ = None
 abbrev pub unsettled_of : Stand → Option Request
 unsettled_of (stands.Busy segment) = Some segment.request
 unsettled_of _ = None
-
--- Whether an ErrorResponse came in a segment at this stage.
-abbrev pub stage_failed : Stage → Bool
-stage_failed (Within o) = false
-stage_failed (Failed fields) = true
 
 -- Whether an ErrorResponse came for the outstanding request of a client that stands there.
 abbrev pub has_failed : Stand → Bool

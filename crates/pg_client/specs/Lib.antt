@@ -14,11 +14,14 @@ pub mod Turns
 pub mod Spelled
 pub mod Answering
 pub mod Driving
--- How the client goes on from message to message. A history is told in these words; the law
--- facts_of_a_run says what they mean in those above.
+-- How the client goes on from message to message. A history is told in these words, and in those of
+-- Segment; the law facts_of_a_run says what they mean in those above.
 pub mod Startup
-pub mod Segment
-pub mod Place
 pub mod Stand
 -- Words of private functions, which no public contract cites.
 pub mod Private
+-- What pg_segment defines and the contracts here speak of. Who uses pg_client names it through
+-- these lines.
+pub use Rattle.pg_segment.specs.Segment
+-- Its types.
+pub use Rattle.pg_segment.specs.declared.segment

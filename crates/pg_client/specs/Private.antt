@@ -1,6 +1,5 @@
 -- Words of private functions. No public contract cites them.
 pub mod Hearing
-pub mod Collecting
 pub mod Sending
 pub mod Calling
 pub mod Feeding

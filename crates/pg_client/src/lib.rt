@@ -4,16 +4,16 @@
 //! server's bytes in any pieces, and [`Client::take_settled`] gives each request with its outcome once its ReadyForQuery has
 //! come. What holds of a client, for every list of calls and every list of bytes, is said of its histories (`IsHistoryOf`): each
 //! call carries them on, and the functions of [`laws`] say what they mean.
+//!
+//! How the segment of one request is read stands in `pg_segment`. What a user needs of it is passed on here, in the contracts alone.
 #![tactic(auto)]
 
 mod call;
 mod client;
 mod fault;
-mod kind;
 pub mod laws;
 mod parameters;
 mod phase;
-mod segment;
 mod sending;
 mod settings;
 mod settled;

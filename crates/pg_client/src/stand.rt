@@ -8,15 +8,15 @@ ghost use Rattle.pg_wire.specs.declared.session.Aside.TheVariants as aside;
 ghost use Rattle.pg_client.specs.Client.{has_failed, stand_phase, unsettled_of};
 ghost use Rattle.pg_client.specs.Stand.{hear, Rejected, Leads};
 ghost use Rattle.pg_client.specs.Private.Calling.{with_answer, with_request};
-ghost use Rattle.pg_client.specs.Private.Hearing.{auth_message, HearsReady, fault_at, HearsAs, HearsAuth, HearsParameter, IsResult, IsSentFor, may_end_at, tag_of_aside};
+ghost use Rattle.pg_segment.specs.Kind.{auth_message, IsResult};
+ghost use Rattle.pg_client.specs.Private.Hearing.{HearsReady, fault_at, HearsAs, HearsAuth, HearsParameter, IsSentFor, may_end_at, tag_of_aside};
 ghost use Rattle.pg_client.specs.declared.fault.FeedFault.TheVariants as feeding;
 
 use crate::fault::FeedFault;
-use crate::kind::Auth;
 use crate::phase::Phase;
-use crate::segment::{CopyAnswer, Segment};
 use crate::settled::{Loss, Settled};
 use crate::startup::{ToSend, Welcome};
+use pg_segment::{Auth, CopyAnswer, Segment};
 use pg_wire::{Aside, BackMessage, Fields, Request, Seq, Status};
 use std::alloc::{AllocError, Global};
 use std::mem;
@@ -40,7 +40,8 @@ impl Stand {
             Stand::New => Phase::New,
             Stand::Starting(_) => Phase::Starting,
             Stand::Idle(_) => Phase::Ready,
-            Stand::Busy(segment) => segment.phase(),
+            Stand::Busy(segment) if segment.awaits_data() => Phase::CopyingIn,
+            Stand::Busy(_) => Phase::Busy,
         }
     }
 
@@ -69,9 +70,8 @@ impl Stand {
         match self {
             Stand::Busy(segment) => {
                 let seen_error = segment.has_failed();
-                let Segment { request, .. } = segment;
                 Loss {
-                    unsettled: Some(request),
+                    unsettled: Some(segment.into_request()),
                     seen_error,
                 }
             }
@@ -172,7 +172,10 @@ impl Stand {
             return Err(FeedFault::Unexpected(b'Z'));
         }
         match mem::replace(self, Stand::Idle(Seq::new(Vec::new(alloc)))) {
-            Stand::Busy(segment) => Ok(Some(segment.settle(status))),
+            Stand::Busy(segment) => {
+                let (request, outcome) = segment.settle(status);
+                Ok(Some(Settled { request, outcome }))
+            }
             _ => Ok(None),
         }
     }

@@ -6,9 +6,9 @@ use Rattle.std.proofs.Math.Logic.{∥∥₁_elim}
 use mathlib.Core.Bool.{Bool-set}
 use Rattle.pg_client.specs.declared.fault.FeedFault.{FeedFault}
 use Rattle.pg_client.specs.declared.phase.Cause.{Cause}
-use Rattle.pg_client.specs.declared.segment.CopyAnswer.{CopyAnswer}
-use Rattle.pg_client.specs.declared.segment.CopyAnswer.TheVariants as copy
-use Rattle.pg_client.specs.declared.segment.begun.Open.TheVariants as begun
+use Rattle.pg_client.specs.segment.CopyAnswer.{CopyAnswer}
+use Rattle.pg_client.specs.segment.CopyAnswer.TheVariants as copy
+use Rattle.pg_client.specs.segment.begun.Open.TheVariants as begun
 use Rattle.pg_client.specs.Segment.{Stage, Within}
 use Rattle.pg_client.specs.declared.stand.Stand.{Stand}
 use Rattle.pg_client.specs.declared.stand.Stand.TheVariants as stands

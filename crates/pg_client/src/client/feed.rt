@@ -7,10 +7,10 @@ ghost use Rattle.pg_client.specs.Private.Feeding.{HearsAll, HearsMessage, HearsN
 
 use crate::client::Client;
 use crate::fault::FeedFault;
-use crate::kind::Kind;
 use crate::phase::Cause;
 use crate::sending::put_password;
 use crate::startup::ToSend;
+use pg_segment::Kind;
 use pg_wire::{BackMessage, Seq, Status};
 
 impl Client {

@@ -1,7 +1,7 @@
 use Rattle.std.proofs.Common.{sym, subst}
 use Rattle.pg_wire.specs.message.BackMessage.{BackMessage}
 use Rattle.pg_client.specs.Private.Feeding.{IsHeard}
-use Rattle.pg_client.specs.Private.Hearing.{IsResult}
+use Rattle.pg_segment.specs.Kind.{IsResult}
 use Rattle.pg_client.specs.contracts.client.Client.{the_view}
 use Rattle.pg_client.proofs.Messages.{aside_heard, error_heard, auth_heard, result_heard}
 use Rattle.pg_client.proofs.client.Client.hear.Goals as goal

@@ -1,0 +1,23 @@
+//! Why a segment doesn't take a message in.
+
+ghost use Rattle.std.specs.Prelude.{◌≡◌};
+ghost use Rattle.pg_segment.specs.declared.fault.ReadFault.TheVariants.{Memory};
+
+use std::alloc::AllocError;
+
+/// Why a segment doesn't take a message in.
+#[derive(Clone, Copy, Debug, PartialEq, Eq)]
+pub enum ReadFault {
+    /// The message, which has this tag, may not stand there.
+    Unexpected(u8),
+    /// Memory was refused.
+    Memory,
+}
+
+impl From<AllocError> for ReadFault {
+    ghost from_gives = { λ _ e. e ≡ Memory };
+
+    fn from(_e: AllocError) -> ReadFault {
+        ReadFault::Memory
+    }
+}
