@@ -1,0 +1,100 @@
+//! Does one work on the stream of a backend that stands on standard input, in pieces of so many bytes, and prints how many bytes the values of
+//! its rows have: to be timed (`bench/wire`). The words are the work and the number of bytes of a piece.
+#![tactic(auto)]
+
+use anyhow::{Context, bail};
+use pg_wire::{BackDecoder, BackMessage, Cut, LONGEST, Lent, RowView};
+use std::alloc::Global;
+use std::env;
+use std::io::Read;
+
+/// How many bytes the values of a row have; 0 of any other message.
+fn size_of(message: &BackMessage) -> u64 {
+    let mut size = 0u64;
+    if let BackMessage::DataRow(values) = message {
+        for value in values.iter() {
+            if let Some(value) = value {
+                size = size.wrapping_add(value.len() as u64);
+            }
+        }
+    }
+    size
+}
+
+/// The same of a row that is lent.
+fn size_of_lent(row: &RowView<'_>) -> u64 {
+    let mut size = 0u64;
+    for value in row.values() {
+        if let Some(value) = value {
+            size = size.wrapping_add(value.len() as u64);
+        }
+    }
+    size
+}
+
+/// Takes the messages that are whole, each owned.
+fn take_owned(decoder: &mut BackDecoder) -> anyhow::Result<u64> {
+    let mut size = 0u64;
+    for _ in 0..u64::MAX {
+        let Some(message) = decoder.next()? else {
+            break;
+        };
+        size = size.wrapping_add(size_of(&message));
+    }
+    Ok(size)
+}
+
+/// Takes the messages that are whole, the rows lent.
+fn take_lent(decoder: &mut BackDecoder) -> anyhow::Result<u64> {
+    let mut size = 0u64;
+    for _ in 0..u64::MAX {
+        match decoder.next_lent()? {
+            Cut::Nothing => break,
+            Cut::Held => {
+                if let Some(Lent::Row(row)) = decoder.held() {
+                    size = size.wrapping_add(size_of_lent(&row));
+                }
+            }
+            Cut::Other(_) => {}
+        }
+    }
+    Ok(size)
+}
+
+/// Decodes the stream, by owned messages or by rows that are lent.
+fn decode(alloc: Global, stream: &[u8], piece: usize, is_lent: bool) -> anyhow::Result<u64> {
+    if piece == 0 {
+        bail!("a piece has a byte at least");
+    }
+    let mut decoder = BackDecoder::new(alloc, LONGEST);
+    let mut size = 0u64;
+    for bytes in stream.chunks(piece) {
+        decoder.push(bytes)?;
+        let more = if is_lent {
+            take_lent(&mut decoder)?
+        } else {
+            take_owned(&mut decoder)?
+        };
+        size = size.wrapping_add(more);
+    }
+    Ok(size)
+}
+
+fn main(rt: HostRuntime) -> anyhow::Result<()> {
+    let alloc = rt.alloc();
+    let words: Vec<String> = env::args(&rt)?.collect(alloc)?;
+    let [_, work, piece] = words.as_slice() else {
+        bail!("the words are a work and the bytes of a piece");
+    };
+    let piece: usize = piece.parse().context("no number of bytes")?;
+    let mut stream = Vec::new(alloc);
+    rt.reader().read_to_end(&mut stream)?;
+    let size = match work.as_str() {
+        "read" => stream.len() as u64,
+        "owned" => decode(alloc, stream.as_slice(), piece, false)?,
+        "lent" => decode(alloc, stream.as_slice(), piece, true)?,
+        other => bail!("no work: {other}"),
+    };
+    println!(rt; "{size}")?;
+    Ok(())
+}
