@@ -1,3 +1,5 @@
+//! Rows, errors and notices that a decoder lends.
+
 use pg_wire::{BackDecoder, BackMessage, Cut, Lent, Status, WireFault};
 use std::test::Fail;
 
@@ -75,11 +77,20 @@ fn another_message_is_given(rt: HostRuntime) -> Result<(), Fail> {
     Ok(())
 }
 
-/// Whether the decoder lends a row now, and how many values that has.
-fn values_held(decoder: &BackDecoder) -> Option<usize> {
-    match decoder.held()? {
-        Lent::Row(row) => Some(row.values().count()),
-        _ => None,
+/// Whether the decoder lends a row of two values now.
+fn lends_two_values(decoder: &BackDecoder) -> bool {
+    let Some(Lent::Row(row)) = decoder.held() else {
+        return false;
+    };
+    let mut values = row.values();
+    values.next().is_some() && values.next().is_some() && values.next().is_none()
+}
+
+/// Whether this is an error of two fields.
+fn is_error(message: &BackMessage) -> bool {
+    match message {
+        BackMessage::ErrorResponse(fields) => fields.len() == 2,
+        _ => false,
     }
 }
 
@@ -91,7 +102,7 @@ fn a_row_comes_byte_by_byte(rt: HostRuntime) -> Result<(), Fail> {
         decoder.push(&[*byte])?;
     }
     assert!(rt; matches!(decoder.next_lent(), Ok(Cut::Held)));
-    assert_eq!(rt; values_held(&decoder), Some(2));
+    assert!(rt; lends_two_values(&decoder));
     Ok(())
 }
 
@@ -104,17 +115,19 @@ fn each_call_ends_the_lending(rt: HostRuntime) -> Result<(), Fail> {
     decoder.push(&ROW)?;
     decoder.push(&READY[..3])?;
     assert!(rt; matches!(decoder.next_lent(), Ok(Cut::Held)));
-    assert_eq!(rt; values_held(&decoder), Some(2));
+    assert!(rt; lends_two_values(&decoder));
     assert_eq!(rt; decoder.kept(), 50);
-    assert!(rt;
-        matches!(decoder.next(), Ok(Some(BackMessage::ErrorResponse(fields))) if fields.len() == 2)
-    );
+    let Some(error) = decoder.next()? else {
+        assert!(rt; false, "no error");
+        return Ok(());
+    };
+    assert!(rt; is_error(&error));
     assert!(rt; decoder.held().is_none());
     assert!(rt; matches!(decoder.next_lent(), Ok(Cut::Held)));
     decoder.push(&[])?;
     assert!(rt; decoder.held().is_none());
     assert!(rt; matches!(decoder.next_lent(), Ok(Cut::Held)));
-    assert_eq!(rt; values_held(&decoder), Some(2));
+    assert!(rt; lends_two_values(&decoder));
     assert!(rt; matches!(decoder.next_lent(), Ok(Cut::Nothing)));
     assert!(rt; decoder.held().is_none());
     decoder.push(&READY[3..])?;
