@@ -1,4 +1,4 @@
 pub mod Layouts
 pub mod Fields
 pub mod Loops
-pub mod Views
+pub mod Passed

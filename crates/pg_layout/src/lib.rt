@@ -20,10 +20,12 @@ pub use after::{
 pub use appender::Appender;
 pub use fault::{BodyFault, EncodeFault};
 pub use field::Field;
-pub use lent::{FieldsView, LentFields, LentValues, RowView};
+pub use lent::{lent_field_at, lent_value_at};
 pub use part::{
     BodyPart, Byte, Bytes, Counted, Int32, LONGEST, LONGEST_PACKET, Pair, Salt, Terminated, Text,
     append, append_packet,
 };
-pub use reader::{copy_head_at, copy_of, counted, ended, i32_at, status_at, terminated, text_at};
+pub use reader::{
+    copy_head_at, copy_of, counted, ended, i32_at, status_at, terminated, text_at, u16_at,
+};
 pub use value::{Column, CopyHead, ErrorField, Fields, Status, Target, Values};

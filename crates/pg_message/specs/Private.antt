@@ -2,4 +2,5 @@
 pub mod Reading
 pub mod BackReader
 pub mod FrontReader
+pub mod View
 pub mod LentReader

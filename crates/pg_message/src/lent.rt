@@ -3,7 +3,7 @@
 ghost use Rattle.std.specs.Prelude.{◌≡◌, Some, IsSome};
 ghost use Rattle.pg_message.specs.Private.LentReader.{has_lent, lent_body};
 
-use pg_layout::{FieldsView, RowView};
+use crate::view::{FieldsView, RowView};
 
 /// A message that a decoder lends: nothing of it is copied.
 #[derive(Drop)]

@@ -26,10 +26,12 @@ pub use fault::WireFault;
 pub use first::FirstDecoder;
 pub use password::md5_answer;
 pub use pg_layout::{
-    BodyFault, Column, CopyHead, EncodeFault, ErrorField, Fields, FieldsView, LONGEST, LentFields,
-    LentValues, RowView, Status, Target, Values,
+    BodyFault, Column, CopyHead, EncodeFault, ErrorField, Fields, LONGEST, Status, Target, Values,
 };
 pub use pg_link::{LinkFault, Over, Sink, Source};
-pub use pg_message::{BackMessage, First, FrontMessage, Lent, Message, backend, frontend};
+pub use pg_message::{
+    BackMessage, FieldsView, First, FrontMessage, Lent, LentFields, LentValues, Message, RowView,
+    backend, frontend,
+};
 pub use pg_seq::Seq;
 pub use session::{Aside, ExecEnd, Outcome, Part, Request, Step};

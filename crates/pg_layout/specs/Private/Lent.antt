@@ -1,9 +1,8 @@
--- Reading in place: what is left after a value, and the values and fields that are still to come.
-use Rattle.std.specs.Prelude.{ℕ, zero, suc, List, [], ◌∷◌, length, Option}
-use Rattle.std.specs.Option.{option_map, option_map_or}
+-- Reading in place: what is left after a value, and a field as it is lent.
+use Rattle.std.specs.Prelude.{ℕ, List, Option}
+use Rattle.std.specs.Option.{option_map}
 use Rattle.std.specs.Borrow.{Bor}
 use Rattle.pg_layout.specs.declared.value.ErrorField.{ErrorField}
-use Rattle.pg_layout.specs.Private.Reader.{value_at, counted_at, terminated_at, error_field_at, whole}
 
 -- the bytes that are left after what was read
 abbrev pub left_after : {A : Type 0} → Option (A × List ℕ) → Option (List ℕ)
@@ -12,26 +11,3 @@ left_after read = option_map (λ x. x.1) read
 -- a field of an error or a notice, by its code and its text as they are lent
 abbrev pub lent_field : ℕ × Bor (List ℕ) → ErrorField
 lent_field f = record { code = f.0; value = f.1.now }
-
--- the values that are still to come: so many, or fewer where the bytes have no more
-unfoldable pub values_left : ℕ → List ℕ → List (Option (List ℕ))
-values_left zero bytes = []
-values_left (suc n) bytes = option_map_or (λ x. x.0 ∷ values_left n x.1) (value_at bytes) []
-
--- the fields that are still to come, at most so many: they end where the bytes begin none
-unfoldable pub fields_within : ℕ → List ℕ → List ErrorField
-fields_within zero bytes = []
-fields_within (suc n) bytes = option_map_or (λ x. x.0 ∷ fields_within n x.1)
-    (error_field_at bytes) []
-
--- the fields that are still to come: each has a byte at least, so these are all
-abbrev pub fields_left : List ℕ → List ErrorField
-fields_left bytes = fields_within (length bytes) bytes
-
--- the values of a row, by its body
-abbrev pub row_of : List ℕ → Option (List (Option (List ℕ)))
-row_of body = whole (λ values. values) (counted_at value_at body)
-
--- the fields of an error or a notice, by its body
-abbrev pub fields_of : List ℕ → Option (List ErrorField)
-fields_of body = whole (λ fields. fields) (terminated_at error_field_at body)

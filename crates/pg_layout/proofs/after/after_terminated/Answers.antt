@@ -1,7 +1,7 @@
 use Rattle.std.proofs.Common.{length}
 use Rattle.pg_layout.specs.Private.Reader.{up_to_zero_at, terminated_at}
 use Rattle.pg_layout.specs.Private.Lent.{left_after}
-use Rattle.pg_layout.proofs.Views.{zero_one_passed, zero_cut_off, zero_passed, no_zero_passed}
+use Rattle.pg_layout.proofs.Passed.{zero_one_passed, zero_cut_off, zero_passed, no_zero_passed}
 use Rattle.pg_layout.proofs.after.after_terminated.Goals as goal
 
 pub returns-in-Some : goal.returns-in-Some

@@ -1,6 +1,6 @@
 use Rattle.pg_layout.specs.Private.Reader.{times_at}
 use Rattle.pg_layout.specs.Private.Lent.{left_after}
-use Rattle.pg_layout.proofs.Views.{one_passed, cut_off, all_passed}
+use Rattle.pg_layout.proofs.Passed.{one_passed, cut_off, all_passed}
 use Rattle.pg_layout.proofs.after.after_times.Goals as goal
 
 pub returns-in_err-rest : goal.returns-in_err-rest
