@@ -1,10 +1,5 @@
 pub mod Lists
 pub mod Files
-pub mod Words
-pub mod Refusals
-pub mod Numbers
-pub mod FieldLists
-pub mod RowsRead
 pub mod CallLines
 pub mod ScriptLines
 pub mod Rows

@@ -13,8 +13,8 @@ use Rattle.pg_backend.specs.script.ScriptPart.TheVariants as part
 use Rattle.pg_client.specs.declared.call.Call.TheVariants as call
 use Rattle.pg_pair.specs.declared.event.Event.TheVariants as event
 use Rattle.hex.proofs.OnLiterals.{hex_on_literals}
-use Rattle.pgpipe_files.specs.Arguments.{number_of, numbers_of, texts_of}
-use Rattle.pgpipe_files.specs.Lines.{in_the_end, with_rows}
+use Rattle.pgpipe_lines.specs.Arguments.{numbers_of, texts_of}
+use Rattle.pgpipe_lines.specs.Lines.{in_the_end, with_rows}
 use Rattle.pgpipe_files.specs.CallsFile.{CallsSaid, Happens, calls_line, calls_said, no_calls}
 use Rattle.pgpipe_files.specs.AnswerFile.{answer_line, text_column}
 use Rattle.pgpipe_files.specs.ScriptFile.{auth_of, no_script, script_line, script_said}
@@ -64,16 +64,6 @@ open_group = refl
 pub start_in_a_group : calls (row (codes "group" ∷ []) ∷ row (codes "start" ∷ []) ∷ []) ≡ Err 2
 unfolding with_rows calls_line
 start_in_a_group = refl
-
--- toback with the greatest number, and with one above
-pub greatest : number_of (row (codes "4294967295" ∷ [])) ≡ Some 4294967295
-greatest = refl
-
-pub above : number_of (row (codes "4294967296" ∷ [])) ≡ None
-above = refl
-
-pub with_plus : number_of (row (codes "+1" ∷ [])) ≡ None
-with_plus = refl
 
 -- ---- SCRIPT
 

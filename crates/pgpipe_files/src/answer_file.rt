@@ -2,13 +2,11 @@
 
 ghost use Rattle.std.specs.Prelude.{◌≡◌, option_map};
 ghost use Rattle.pgpipe_files.specs.AnswerFile.{answer_line, begins_part, begins_alone, described, end_of, load_of, new_answer, part_line, says_before, text_column, text_columns, with_part, whole_answer};
-ghost use Rattle.pgpipe_files.specs.Private.Reads.{ReadsAs, Leaves};
+ghost use Rattle.pgpipe_lines.specs.Reads.{ReadsAs, Leaves};
 
-use crate::arguments::Arguments;
-use crate::fault::Refusal;
-use crate::verb::{AnswerVerb, EndWay, LoadWay};
 use pg_backend::{Answer, Load, ScriptPart};
 use pg_wire::{Aside, Column, ExecEnd, Seq, Status};
+use pgpipe_lines::{AnswerVerb, Arguments, EndWay, LoadWay, Refusal};
 use std::alloc::Global;
 
 /// An answer of which lines are read.

@@ -2,21 +2,19 @@
 
 ghost use Rattle.std.specs.Prelude.{◌≡◌, ◌<◌, ℕ, ◌+◌, length, Some, Ok, Err, IfOk, OnOk, OnErr, IsSome};
 ghost use Rattle.std.specs.Option.{option_copied};
-ghost use Rattle.pgpipe_files.specs.declared.fault.LineFault.TheVariants.{Line};
+ghost use Rattle.pgpipe_lines.specs.declared.fault.LineFault.TheVariants.{Line};
 ghost use Rattle.pgpipe_files.specs.CallsFile.{Happens, call_line, asks_for_event, calls_line, calls_of, calls_said, if_before_start, in_group, in_no_group, line_said, no_calls, path, with_line, what_is_said};
-ghost use Rattle.pgpipe_files.specs.Arguments.{nothing_of};
+ghost use Rattle.pgpipe_lines.specs.Arguments.{nothing_of};
 ghost use Rattle.pgpipe_files.specs.Filling.{chunk_lines, filled, files, next_file};
 ghost use Rattle.pgpipe_files.specs.Private.Files.{file_place, path_of};
-ghost use Rattle.pgpipe_files.specs.Private.Reads.{ReadsFileAs, ReadsAs, GivesText, Leaves};
+ghost use Rattle.pgpipe_files.specs.Private.Reads.{ReadsFileAs, GivesText};
+ghost use Rattle.pgpipe_lines.specs.Reads.{ReadsAs, Leaves};
 
-use crate::arguments::Arguments;
-use crate::fault::{LineFault, Refusal};
-use crate::lines::{TakesLines, take_lines};
 use crate::steps::step_of;
-use crate::verb::{CallVerb, StepVerb};
 use pg_client::Settings;
 use pg_pair::{Call, Event};
 use pg_wire::{LONGEST, Request, Seq, Step};
+use pgpipe_lines::{Arguments, CallVerb, LineFault, Refusal, StepVerb, TakesLines, take_lines};
 use std::alloc::{AllocError, Global};
 use std::marker::Model;
 use std::{mem, str};

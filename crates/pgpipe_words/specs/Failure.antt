@@ -10,8 +10,8 @@ use Rattle.pgpipe_convert.specs.declared.convert.Converted.{Converted}
 use Rattle.pgpipe_convert.specs.declared.convert.Converted.TheVariants as converted
 use Rattle.pg_backend.specs.fault.ScriptFault.{ScriptFault}
 use Rattle.pg_backend.specs.fault.ScriptFault.TheVariants as check
-use Rattle.pgpipe_files.specs.declared.fault.LineFault.{LineFault}
-use Rattle.pgpipe_files.specs.declared.fault.LineFault.TheVariants as line
+use Rattle.pgpipe_files.specs.fault.LineFault.{LineFault}
+use Rattle.pgpipe_files.specs.fault.LineFault.TheVariants as line
 use Rattle.pgpipe_loop.specs.declared.run_loop.Ran.{Ran}
 use Rattle.pgpipe_loop.specs.declared.run_loop.Ran.TheVariants as ran
 use Rattle.pgpipe_show.specs.declared.show.Shown.{Shown}

@@ -2,8 +2,8 @@
 use Rattle.std.specs.Prelude.{ℕ, ◌≡◌, ◌⊎◌, List, Some, None, Result, Ok, Err}
 use Rattle.pg_backend.specs.script.Script.{Script}
 use Rattle.pgpipe_files.specs.declared.calls_file.Calls.{Calls}
-use Rattle.pgpipe_files.specs.declared.fault.LineFault.{LineFault}
-use Rattle.pgpipe_files.specs.declared.fault.LineFault.TheVariants.{Line}
+use Rattle.pgpipe_files.specs.fault.LineFault.{LineFault}
+use Rattle.pgpipe_files.specs.fault.LineFault.TheVariants.{Line}
 use Rattle.pgpipe_files.specs.CallsFile.{calls_of, what_is_said}
 use Rattle.pgpipe_files.specs.ScriptFile.{script_of}
 use Rattle.pgpipe_files.specs.Filling.{next_file, filled}
