@@ -1,12 +1,15 @@
 //! Where bytes come from and go to: a [`Source`] gives them, a [`Sink`] takes them, and [`Over`] makes a source of a reader and a
-//! sink of a writer.
+//! sink of a writer. A [`Patient`] reader or writer makes what was interrupted again.
 #![tactic(auto)]
 
-ghost use Rattle.std.specs.Prelude.{◌≡◌, ◌<◌, ◌≤◌, ℕ, List, [], length, Ok, IfOk};
+ghost use Rattle.std.specs.Prelude.{◌≡◌, ◌<◌, ◌≤◌, ◌↔◌, ℕ, List, [], length, Some, Ok, IfOk, IsNone};
 ghost use Rattle.std.specs.Io.KnownBytes.{Appends, Consumes, IsAtEnd};
 ghost use Rattle.pg_link.specs.Link.{Counts, HasRisen, passed_on};
 
-use std::io::{Read, Write};
+mod patient;
+
+pub use patient::{PATIENCE, Patient};
+use std::io::{self, ErrorKind, Read, Write};
 use std::marker::Model;
 use thiserror::Error;
 
@@ -53,19 +56,22 @@ pub trait Sink {
 }
 
 /// Makes a source of a reader and a sink of a writer: one read for each `receive`, one write for each `send`. Each
-/// error is a fault, and so is a write that takes nothing of a piece that isn't empty.
+/// error is a fault, also an interruption ([`Patient`] tries again), and so is a write that takes nothing of a piece that isn't empty.
 #[derive(Debug, Drop)]
 pub struct Over<T> {
     inner: T,
-    failures: u64,
+    failures: Failures,
 }
 
 impl<T> Model for Over<T> {
+    ghost use Rattle.std.specs.Prelude.{◌≡◌, ◌↔◌, IsNone};
     ghost use Rattle.pg_link.specs.Link.{Counted};
 
     ghost Value = { Counted T };
 
-    ghost view = { λ o. record { inner = o.inner; failures = o.failures } };
+    ghost view = { λ o. record { inner = o.inner; failures = o.failures.count } };
+
+    ghost invariant = { λ o. (o.failures.count ≡ 0) ↔ IsNone o.failures.last };
 }
 
 impl<T> Over<T> {
@@ -73,7 +79,13 @@ impl<T> Over<T> {
     pub fn new(inner: T) -> Over<T>
         ensures { result ≡ record { inner = inner; failures = 0 } }
     {
-        Over { inner, failures: 0 }
+        Over {
+            inner,
+            failures: Failures {
+                count: 0,
+                last: None,
+            },
+        }
     }
 
     /// The reader or writer.
@@ -95,17 +107,41 @@ impl<T> Over<T> {
     pub fn failures(&self) -> u64
         ensures { result ≡ self.now.failures }
     {
-        self.failures
+        self.failures.count
+    }
+
+    /// What the device said last: the error of the last call that failed, [`ErrorKind::WriteZero`] where that was a write that
+    /// took nothing, and None where no call has failed.
+    pub fn last_error(&self) -> Option<&io::Error>
+        ensures { (self.now.failures ≡ 0) ↔ IsNone result }
+    {
+        self.failures.last.as_ref()
     }
 
     // Counts a failure.
-    fn fail(&mut self) -> LinkFault
+    fn fail(&mut self, error: io::Error) -> LinkFault
         ensures inner { self.new.inner ≡ self.old.inner }
         ensures counted { HasRisen self.old.failures self.new.failures }
     {
-        let Over { failures, .. } = self;
-        *failures = failures.saturating_add(1);
+        self.failures.add(error);
         LinkFault
+    }
+}
+
+// How many calls have failed, and the error of the last of them.
+#[derive(Debug, Drop)]
+struct Failures {
+    count: u64,
+    last: Option<io::Error>,
+}
+
+impl Failures {
+    fn add(&mut self, error: io::Error)
+        ensures counted { HasRisen self.old.count self.new.count }
+        ensures last { self.new.last ≡ Some error }
+    {
+        self.count = self.count.saturating_add(1);
+        self.last = Some(error);
     }
 }
 
@@ -119,7 +155,7 @@ impl<R: Read> Source for Over<R> {
     fn receive(&mut self, into: &mut [u8]) -> Result<usize, LinkFault> {
         match self.inner.read(into) {
             Ok(n) => Ok(n),
-            Err(_) => Err(self.fail()),
+            Err(error) => Err(self.fail(error)),
         }
     }
 }
@@ -132,7 +168,8 @@ impl<W: Write> Sink for Over<W> {
     fn send(&mut self, piece: &[u8]) -> Result<usize, LinkFault> {
         match self.inner.write(piece) {
             Ok(n) if n > 0 || piece.is_empty() => Ok(n),
-            _ => Err(self.fail()),
+            Ok(_) => Err(self.fail(io::Error::from(ErrorKind::WriteZero))),
+            Err(error) => Err(self.fail(error)),
         }
     }
 }

@@ -28,7 +28,7 @@ pub use password::md5_answer;
 pub use pg_layout::{
     BodyFault, Column, CopyHead, EncodeFault, ErrorField, Fields, LONGEST, Status, Target, Values,
 };
-pub use pg_link::{LinkFault, Over, Sink, Source};
+pub use pg_link::{LinkFault, Over, PATIENCE, Patient, Sink, Source};
 pub use pg_message::{
     BackMessage, FieldsView, First, FrontMessage, Lent, LentFields, LentValues, Message, RowView,
     backend, frontend,

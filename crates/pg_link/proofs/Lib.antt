@@ -1,0 +1,2 @@
+-- Lemmas, by the subject.
+pub mod Patience
