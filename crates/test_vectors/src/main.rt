@@ -16,14 +16,23 @@ use subject::Lending;
 use trial::{Decoded, Flaw, judge};
 use vector::{Side, Vector};
 
+/// The bytes have this reading too where all messages that can be are lent, or every other one.
+fn check_lent<const ALL: bool>(
+    alloc: Global,
+    bytes: &[u8],
+    reading: &Decoded<BackMessage>,
+) -> Result<(), Flaw> {
+    if judge::<Lending<ALL>>(alloc, bytes)? != *reading {
+        return Err(Flaw::Lent);
+    }
+    Ok(())
+}
+
 /// The reading of the bytes by a backend's decoder, which is the same where some of the messages are lent, or all that can be.
 fn judge_back(alloc: Global, bytes: &[u8]) -> Result<Decoded<BackMessage>, Flaw> {
     let reading = judge::<BackDecoder>(alloc, bytes)?;
-    if judge::<Lending<true>>(alloc, bytes)? != reading
-        || judge::<Lending<false>>(alloc, bytes)? != reading
-    {
-        return Err(Flaw::Lent);
-    }
+    check_lent::<true>(alloc, bytes, &reading)?;
+    check_lent::<false>(alloc, bytes, &reading)?;
     Ok(reading)
 }
 

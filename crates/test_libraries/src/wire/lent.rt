@@ -1,5 +1,6 @@
 //! Rows, errors and notices that a decoder lends.
 
+use crate::values::equal;
 use pg_wire::{BackDecoder, BackMessage, Cut, Lent, Status, WireFault};
 use std::test::Fail;
 
@@ -18,18 +19,18 @@ fn a_row_is_lent(rt: HostRuntime) -> Result<(), Fail> {
     let mut decoder = BackDecoder::new(rt.alloc(), 64);
     decoder.push(&ROW)?;
     assert!(rt; decoder.held().is_none());
-    assert!(rt; matches!(decoder.next_lent(), Ok(Cut::Held)));
-    assert_eq!(rt; decoder.kept(), 0);
+    equal(&rt, decoder.next_lent(), Ok(Cut::Held));
+    equal(&rt, decoder.kept(), 0);
     let Some(Lent::Row(row)) = decoder.held() else {
         assert!(rt; false, "no row");
         return Ok(());
     };
     let mut values = row.values();
-    assert!(rt; matches!(values.next(), Some(None)));
+    equal(&rt, values.next(), Some(None));
     assert!(rt; matches!(values.next(), Some(Some(text)) if text.is_empty()));
     assert!(rt; values.next().is_none());
     assert!(rt; values.next().is_none());
-    assert_eq!(rt; row.values().count(), 2);
+    equal(&rt, row.values().count(), 2);
     Ok(())
 }
 
@@ -37,7 +38,7 @@ fn a_row_is_lent(rt: HostRuntime) -> Result<(), Fail> {
 fn an_error_is_lent(rt: HostRuntime) -> Result<(), Fail> {
     let mut decoder = BackDecoder::new(rt.alloc(), 64);
     decoder.push(&ERROR)?;
-    assert!(rt; matches!(decoder.next_lent(), Ok(Cut::Held)));
+    equal(&rt, decoder.next_lent(), Ok(Cut::Held));
     let Some(Lent::Error(error)) = decoder.held() else {
         assert!(rt; false, "no error");
         return Ok(());
@@ -53,7 +54,7 @@ fn an_error_is_lent(rt: HostRuntime) -> Result<(), Fail> {
 fn a_notice_without_fields_is_lent(rt: HostRuntime) -> Result<(), Fail> {
     let mut decoder = BackDecoder::new(rt.alloc(), 64);
     decoder.push(&[0x4E, 0, 0, 0, 5, 0])?;
-    assert!(rt; matches!(decoder.next_lent(), Ok(Cut::Held)));
+    equal(&rt, decoder.next_lent(), Ok(Cut::Held));
     let Some(Lent::Notice(notice)) = decoder.held() else {
         assert!(rt; false, "no notice");
         return Ok(());
@@ -66,14 +67,13 @@ fn a_notice_without_fields_is_lent(rt: HostRuntime) -> Result<(), Fail> {
 fn another_message_is_given(rt: HostRuntime) -> Result<(), Fail> {
     let mut decoder = BackDecoder::new(rt.alloc(), 64);
     decoder.push(&READY)?;
-    assert!(rt;
-        matches!(
-            decoder.next_lent(),
-            Ok(Cut::Other(BackMessage::Ready(Status::Idle)))
-        )
+    equal(
+        &rt,
+        decoder.next_lent(),
+        Ok(Cut::Other(BackMessage::Ready(Status::Idle))),
     );
     assert!(rt; decoder.held().is_none());
-    assert!(rt; matches!(decoder.next_lent(), Ok(Cut::Nothing)));
+    equal(&rt, decoder.next_lent(), Ok(Cut::Nothing));
     Ok(())
 }
 
@@ -98,10 +98,10 @@ fn is_error(message: &BackMessage) -> bool {
 fn a_row_comes_byte_by_byte(rt: HostRuntime) -> Result<(), Fail> {
     let mut decoder = BackDecoder::new(rt.alloc(), 64);
     for byte in &ROW {
-        assert!(rt; matches!(decoder.next_lent(), Ok(Cut::Nothing)));
+        equal(&rt, decoder.next_lent(), Ok(Cut::Nothing));
         decoder.push(&[*byte])?;
     }
-    assert!(rt; matches!(decoder.next_lent(), Ok(Cut::Held)));
+    equal(&rt, decoder.next_lent(), Ok(Cut::Held));
     assert!(rt; lends_two_values(&decoder));
     Ok(())
 }
@@ -114,25 +114,29 @@ fn each_call_ends_the_lending(rt: HostRuntime) -> Result<(), Fail> {
     decoder.push(&ROW)?;
     decoder.push(&ROW)?;
     decoder.push(&READY[..3])?;
-    assert!(rt; matches!(decoder.next_lent(), Ok(Cut::Held)));
+    equal(&rt, decoder.next_lent(), Ok(Cut::Held));
     assert!(rt; lends_two_values(&decoder));
-    assert_eq!(rt; decoder.kept(), 50);
+    equal(&rt, decoder.kept(), 50);
     let Some(error) = decoder.next()? else {
         assert!(rt; false, "no error");
         return Ok(());
     };
     assert!(rt; is_error(&error));
     assert!(rt; decoder.held().is_none());
-    assert!(rt; matches!(decoder.next_lent(), Ok(Cut::Held)));
+    equal(&rt, decoder.next_lent(), Ok(Cut::Held));
     decoder.push(&[])?;
     assert!(rt; decoder.held().is_none());
-    assert!(rt; matches!(decoder.next_lent(), Ok(Cut::Held)));
+    equal(&rt, decoder.next_lent(), Ok(Cut::Held));
     assert!(rt; lends_two_values(&decoder));
-    assert!(rt; matches!(decoder.next_lent(), Ok(Cut::Nothing)));
+    equal(&rt, decoder.next_lent(), Ok(Cut::Nothing));
     assert!(rt; decoder.held().is_none());
     decoder.push(&READY[3..])?;
-    assert!(rt; matches!(decoder.next(), Ok(Some(BackMessage::Ready(Status::Idle)))));
-    assert_eq!(rt; decoder.kept(), 0);
+    equal(
+        &rt,
+        decoder.next(),
+        Ok(Some(BackMessage::Ready(Status::Idle))),
+    );
+    equal(&rt, decoder.kept(), 0);
     Ok(())
 }
 
@@ -141,11 +145,11 @@ fn a_row_that_is_none_is_a_fault(rt: HostRuntime) -> Result<(), Fail> {
     let mut decoder = BackDecoder::new(rt.alloc(), 64);
     decoder.push(&ROW)?;
     decoder.push(&[0x44, 0, 0, 0, 7, 0, 0, 0])?;
-    assert!(rt; matches!(decoder.next_lent(), Ok(Cut::Held)));
-    assert!(rt; matches!(decoder.next_lent(), Err(WireFault::BadBody(68))));
+    equal(&rt, decoder.next_lent(), Ok(Cut::Held));
+    equal(&rt, decoder.next_lent(), Err(WireFault::BadBody(68)));
     assert!(rt; decoder.held().is_none());
-    assert!(rt; matches!(decoder.next(), Err(WireFault::BadBody(68))));
-    assert!(rt; matches!(decoder.push(&[]), Err(WireFault::BadBody(68))));
-    assert_eq!(rt; decoder.kept(), 8);
+    equal(&rt, decoder.next(), Err(WireFault::BadBody(68)));
+    equal(&rt, decoder.push(&[]), Err(WireFault::BadBody(68)));
+    equal(&rt, decoder.kept(), 8);
     Ok(())
 }
