@@ -2,7 +2,7 @@ mod password;
 mod places;
 mod psql;
 
-use crate::values::{equal, text};
+use crate::values::text;
 use pg_backend::{
     Answer, Auth, BackPhase, Backend, BackendFault, Load, Script, ScriptFault, ScriptPart,
 };
@@ -104,11 +104,11 @@ fn a_connection_is_opened(rt: HostRuntime) -> Result<(), Fail> {
     let mut backend = begin(alloc, silent(alloc))?;
     let mut out = Vec::new(alloc);
     backend.push(&OPENING)?;
-    equal(&rt, backend.step(&mut out), Ok(true));
-    equal(&rt, backend.step(&mut out), Ok(true));
+    assert_eq!(rt; backend.step(&mut out), Ok(true));
+    assert_eq!(rt; backend.step(&mut out), Ok(true));
     let welcome = b"NR\0\0\0\x08\0\0\0\0Z\0\0\0\x05I";
-    equal(&rt, out.as_slice(), welcome.as_slice());
-    equal(&rt, backend.phase(), BackPhase::Ready);
+    assert_eq!(rt; out.as_slice(), welcome.as_slice());
+    assert_eq!(rt; backend.phase(), BackPhase::Ready);
     Ok(())
 }
 
@@ -182,18 +182,18 @@ fn single_inputs_are_answered(rt: HostRuntime) -> Result<(), Fail> {
 fn faults_are_told(rt: HostRuntime) -> Result<(), Fail> {
     let alloc = rt.alloc();
     let wire = format!(in alloc; "{}", BackendFault::Wire(WireFault::UnknownTag(33)))?;
-    equal(&rt, wire.as_str(), "K1 Wire W1 UnknownTag 33");
+    assert_eq!(rt; wire.as_str(), "K1 Wire W1 UnknownTag 33");
     let stray = format!(in alloc; "{}", BackendFault::Unexpected(80))?;
-    equal(&rt, stray.as_str(), "K4 Unexpected 80");
+    assert_eq!(rt; stray.as_str(), "K4 Unexpected 80");
     let memory = format!(in alloc; "{}", BackendFault::Memory)?;
-    equal(&rt, memory.as_str(), "K2 Memory");
+    assert_eq!(rt; memory.as_str(), "K2 Memory");
     let copies = format!(in alloc; "{}", ScriptFault::Copies)?;
-    equal(&rt, copies.as_str(), "S1 Copies");
+    assert_eq!(rt; copies.as_str(), "S1 Copies");
     let zero = ScriptPart::Command(text(alloc, b"\0")?);
     let script = Script {
         answers: Seq::new(vec![in alloc; answer(alloc, zero)?]?),
         ..silent(alloc)
     };
-    equal(&rt, script.check(alloc), Err(ScriptFault::Encode));
+    assert_eq!(rt; script.check(alloc), Err(ScriptFault::Encode));
     Ok(())
 }

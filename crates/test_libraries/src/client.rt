@@ -114,11 +114,6 @@ fn after(alloc: Global, acts: &[Act<'_>]) -> Result<(Client, Vec<u8>), Fail> {
     Ok((client, out))
 }
 
-/// Whether this is the next group that the client gives.
-fn takes(client: &mut Client, settled: &Option<Settled>) -> bool {
-    client.take_settled() == *settled
-}
-
 /// Whether the client, with what it has put out, gives just this group, and shows this status and phase.
 fn gives(
     shown: (Client, Vec<u8>),
@@ -127,7 +122,7 @@ fn gives(
     phase: Phase,
 ) -> bool {
     let mut client = shown.0;
-    let first = takes(&mut client, &settled) && takes(&mut client, &None);
+    let first = client.take_settled() == settled && client.take_settled().is_none();
     first && client.status() == status && client.phase() == phase
 }
 
@@ -239,11 +234,6 @@ fn a_notice_stays_for_the_next_group(rt: HostRuntime) -> Result<(), Fail> {
     Ok(())
 }
 
-/// Whether a client whose connection is gone tells this loss.
-fn hands_back(client: &mut Client, loss: &Loss) -> bool {
-    client.lost() == *loss
-}
-
 /// Whether the client, when its connection is gone, hands this request back once, and settles nothing.
 fn loses(shown: (Client, Vec<u8>), unsettled: Request, seen_error: bool) -> bool {
     let mut client = shown.0;
@@ -255,8 +245,8 @@ fn loses(shown: (Client, Vec<u8>), unsettled: Request, seen_error: bool) -> bool
         unsettled: None,
         seen_error: false,
     };
-    let lost = hands_back(&mut client, &first) && hands_back(&mut client, &again);
-    lost && takes(&mut client, &None) && client.phase() == Phase::Closed(Cause::Lost)
+    let lost = client.lost() == first && client.lost() == again;
+    lost && client.take_settled().is_none() && client.phase() == Phase::Closed(Cause::Lost)
 }
 
 #[test]

@@ -4,25 +4,6 @@ ghost use Rattle.std.specs.Prelude.{◌≡◌, IfOk};
 
 use pg_wire::{Aside, Column, CopyHead, ErrorField, Fields, Request, Seq, Values};
 use std::alloc::{AllocError, Global};
-use std::fmt::{Debug, Display};
-use std::process::Abort;
-
-/// Ends the test where the two differ, and prints them. In a test each `assert_eq!` is proved once more, with all that the test holds;
-/// here it is proved once.
-pub fn equal<T: PartialEq + Debug + Drop>(rt: &impl Abort, left: T, right: T) {
-    assert_eq!(rt; left, right);
-}
-
-/// Ends the test where the fault says another text.
-pub fn says(
-    rt: &impl Abort,
-    alloc: Global,
-    fault: impl Display + Drop,
-    text: &str,
-) -> Result<(), AllocError> {
-    equal(rt, fault.to_string(alloc)?.as_str(), text);
-    Ok(())
-}
 
 /// These bytes, as a list of a message or a script.
 pub fn text(alloc: Global, bytes: &[u8]) -> Result<Seq<u8>, AllocError>

@@ -4,7 +4,6 @@ mod lent;
 mod link;
 mod password;
 
-use crate::values::{equal, says};
 use pg_wire::{
     BackDecoder, BackMessage, Column, EncodeFault, FrontMessage, Seq, Status, WireFault, backend,
     laws,
@@ -23,37 +22,36 @@ fn first_of(alloc: Global, bytes: &[u8]) -> Result<Option<BackMessage>, WireFaul
 fn a_message_comes_with_its_last_byte(rt: HostRuntime) -> Result<(), Fail> {
     let mut decoder = BackDecoder::new(rt.alloc(), 64);
     for byte in &[0x5A, 0, 0, 0, 5, 0x49] {
-        equal(&rt, decoder.next(), Ok(None));
+        assert!(rt; matches!(decoder.next(), Ok(None)));
         decoder.push(&[*byte])?;
     }
-    equal(&rt, decoder.kept(), 6);
-    equal(
-        &rt,
-        decoder.next(),
-        Ok(Some(BackMessage::Ready(Status::Idle))),
-    );
-    equal(&rt, decoder.kept(), 0);
+    assert_eq!(rt; decoder.kept(), 6);
+    assert!(rt; matches!(decoder.next(), Ok(Some(BackMessage::Ready(Status::Idle)))));
+    assert_eq!(rt; decoder.kept(), 0);
     Ok(())
 }
 
 #[test]
 fn heads_are_judged(rt: HostRuntime) {
     let alloc = rt.alloc();
-    equal(&rt, first_of(alloc, &[0x21, 0, 0, 0]), Ok(None));
-    equal(
-        &rt,
-        first_of(alloc, &[0x21, 0, 0, 0, 4]),
-        Err(WireFault::UnknownTag(33)),
+    assert!(rt; matches!(first_of(alloc, &[0x21, 0, 0, 0]), Ok(None)));
+    assert!(rt;
+        matches!(
+            first_of(alloc, &[0x21, 0, 0, 0, 4]),
+            Err(WireFault::UnknownTag(33))
+        )
     );
-    equal(
-        &rt,
-        first_of(alloc, &[0x5A, 0, 0, 0, 3]),
-        Err(WireFault::ShortLength(3)),
+    assert!(rt;
+        matches!(
+            first_of(alloc, &[0x5A, 0, 0, 0, 3]),
+            Err(WireFault::ShortLength(3))
+        )
     );
-    equal(
-        &rt,
-        first_of(alloc, &[0x44, 0, 0, 0, 65]),
-        Err(WireFault::LongLength(65)),
+    assert!(rt;
+        matches!(
+            first_of(alloc, &[0x44, 0, 0, 0, 65]),
+            Err(WireFault::LongLength(65))
+        )
     );
 }
 
@@ -64,37 +62,26 @@ fn bodies_are_judged(rt: HostRuntime) {
     let byte_after = [0x5A, 0, 0, 0, 6, 0x49, 0x49];
     let no_zero_byte = [0x43, 0, 0, 0, 6, 0x4F, 0x4B];
     let below_null = [0x44, 0, 0, 0, 10, 0, 1, 0xFF, 0xFF, 0xFF, 0xFE];
-    equal(
-        &rt,
-        first_of(alloc, &unknown_status),
-        Err(WireFault::BadBody(90)),
+    assert!(rt;
+        matches!(
+            first_of(alloc, &unknown_status),
+            Err(WireFault::BadBody(90))
+        )
     );
-    equal(
-        &rt,
-        first_of(alloc, &byte_after),
-        Err(WireFault::BadBody(90)),
-    );
-    equal(
-        &rt,
-        first_of(alloc, &no_zero_byte),
-        Err(WireFault::BadBody(67)),
-    );
-    equal(
-        &rt,
-        first_of(alloc, &below_null),
-        Err(WireFault::BadBody(68)),
-    );
+    assert!(rt; matches!(first_of(alloc, &byte_after), Err(WireFault::BadBody(90))));
+    assert!(rt; matches!(first_of(alloc, &no_zero_byte), Err(WireFault::BadBody(67))));
+    assert!(rt; matches!(first_of(alloc, &below_null), Err(WireFault::BadBody(68))));
 }
 
 #[test]
 fn a_fault_stays(rt: HostRuntime) -> Result<(), Fail> {
     let mut decoder = BackDecoder::new(rt.alloc(), 64);
     decoder.push(&[0x49, 0, 0, 0, 4, 0x5A, 0, 0, 0, 3])?;
-    equal(&rt, decoder.next(), Ok(Some(BackMessage::EmptyQuery)));
-    equal(&rt, decoder.next(), Err(WireFault::ShortLength(3)));
-    equal(&rt, decoder.push(&[1]), Err(WireFault::ShortLength(3)));
-    equal(&rt, decoder.next(), Err(WireFault::ShortLength(3)));
-    equal(&rt, decoder.kept(), 5);
+    assert!(rt; matches!(decoder.next(), Ok(Some(BackMessage::EmptyQuery))));
+    assert!(rt; matches!(decoder.next(), Err(WireFault::ShortLength(3))));
+    assert!(rt; matches!(decoder.push(&[1]), Err(WireFault::ShortLength(3))));
+    assert!(rt; matches!(decoder.next(), Err(WireFault::ShortLength(3))));
+    assert_eq!(rt; decoder.kept(), 5);
     Ok(())
 }
 
@@ -107,7 +94,7 @@ fn null_is_not_the_empty_text(rt: HostRuntime) {
         assert!(rt; false, "no row");
         return;
     };
-    equal(&rt, values.len(), 2);
+    assert_eq!(rt; values.len(), 2);
     assert!(rt; matches!(values.get(0), Some(None)));
     assert!(rt; matches!(values.get(1), Some(Some(text)) if text.is_empty()));
 }
@@ -124,7 +111,7 @@ fn a_column_is_read_and_written(rt: HostRuntime) -> Result<(), Fail> {
     };
     let mut written = Vec::new(rt.alloc());
     backend::encode(&message, &mut written)?;
-    equal(&rt, written.as_slice(), bytes.as_slice());
+    assert_eq!(rt; written.as_slice(), bytes.as_slice());
     let name = Seq::from_slice(rt.alloc(), b"n")?;
     let column = Column {
         name,
@@ -137,7 +124,7 @@ fn a_column_is_read_and_written(rt: HostRuntime) -> Result<(), Fail> {
     };
     let mut columns = Seq::new(Vec::new(rt.alloc()));
     columns.push(column)?;
-    equal(&rt, message, BackMessage::RowDescription(columns));
+    assert_eq!(rt; message, BackMessage::RowDescription(columns));
     Ok(())
 }
 
@@ -146,19 +133,16 @@ fn a_refused_message_leaves_the_buffer(rt: HostRuntime) -> Result<(), Fail> {
     let mut buf = Vec::new(rt.alloc());
     buf.push(7)?;
     let tag = BackMessage::CommandComplete(Seq::from_slice(rt.alloc(), b"a\0")?);
-    equal(
-        &rt,
-        backend::encode(&tag, &mut buf),
-        Err(EncodeFault::HasZero),
-    );
+    assert!(rt; matches!(backend::encode(&tag, &mut buf), Err(EncodeFault::HasZero)));
     let rest = Seq::new(Vec::new(rt.alloc()));
     let request = BackMessage::AuthOther { code: 3, rest };
-    equal(
-        &rt,
-        backend::encode(&request, &mut buf),
-        Err(EncodeFault::ReservedCode),
+    assert!(rt;
+        matches!(
+            backend::encode(&request, &mut buf),
+            Err(EncodeFault::ReservedCode)
+        )
     );
-    equal(&rt, buf.as_slice(), [7].as_slice());
+    assert_eq!(rt; buf.as_slice(), [7].as_slice());
     Ok(())
 }
 
@@ -166,11 +150,11 @@ fn a_refused_message_leaves_the_buffer(rt: HostRuntime) -> Result<(), Fail> {
 fn a_fault_says_its_code_and_numbers(rt: HostRuntime) -> Result<(), Fail> {
     let alloc = rt.alloc();
     let fault = WireFault::BadBody(90);
-    says(&rt, alloc, fault, "W4 BadBody 90")?;
+    assert_eq!(rt; format!(in alloc; "{fault}")?.as_str(), "W4 BadBody 90");
     let fault = WireFault::ShortLength(-1);
-    says(&rt, alloc, fault, "W2 ShortLength -1")?;
+    assert_eq!(rt; format!(in alloc; "{fault}")?.as_str(), "W2 ShortLength -1");
     let fault = EncodeFault::TooLong;
-    says(&rt, alloc, fault, "E4 TooLong")?;
+    assert_eq!(rt; format!(in alloc; "{fault}")?.as_str(), "E4 TooLong");
     Ok(())
 }
 

@@ -1,7 +1,7 @@
 //! Clients that are asked for a password.
 
 use super::{begin, run, silent};
-use crate::values::{equal, text};
+use crate::values::text;
 use pg_backend::{Auth, BackPhase, Backend, BackendFault, Script};
 use pg_wire::WireFault;
 use std::alloc::{AllocError, Global};
@@ -47,9 +47,9 @@ fn asking(rt: &impl Abort, alloc: Global, auth: Auth, question: &[u8]) -> Result
     let mut backend = begin(alloc, script)?;
     let mut out = Vec::new(alloc);
     backend.push(STARTUP)?;
-    equal(rt, backend.step(&mut out), Ok(true));
-    equal(rt, out.as_slice(), question);
-    equal(rt, backend.phase(), BackPhase::Password);
+    assert_eq!(rt; backend.step(&mut out), Ok(true));
+    assert_eq!(rt; out.as_slice(), question);
+    assert_eq!(rt; backend.phase(), BackPhase::Password);
     Ok(backend)
 }
 
@@ -64,8 +64,8 @@ fn check_case(
     let mut out = Vec::new(alloc);
     backend.push(case.input)?;
     assert!(rt; backend.step(&mut out) == case.answer);
-    equal(rt, out.as_slice(), case.said);
-    equal(rt, backend.phase(), case.phase);
+    assert_eq!(rt; out.as_slice(), case.said);
+    assert_eq!(rt; backend.phase(), case.phase);
     assert!(rt; backend.log().is_empty());
     Ok(())
 }
@@ -160,15 +160,11 @@ fn a_client_that_is_let_in_is_answered(rt: HostRuntime) -> Result<(), Fail> {
     backend.push(b"p\0\0\0\x07ab\0Q\0\0\0\x0DSELECT 1\0")?;
     run(&mut backend, &mut out)?;
     assert!(rt; out.as_slice().starts_with(WELCOME));
-    equal(&rt, backend.log().len(), 1);
-    equal(&rt, backend.phase(), BackPhase::Ready);
+    assert_eq!(rt; backend.log().len(), 1);
+    assert_eq!(rt; backend.phase(), BackPhase::Ready);
     // a password is no message of the session
     backend.push(b"p\0\0\0\x07ab\0")?;
-    equal(
-        &rt,
-        backend.step(&mut out),
-        Err(BackendFault::Unexpected(b'p')),
-    );
+    assert_eq!(rt; backend.step(&mut out), Err(BackendFault::Unexpected(b'p')));
     Ok(())
 }
 
@@ -178,9 +174,9 @@ fn a_client_that_is_refused_stays_out(rt: HostRuntime) -> Result<(), Fail> {
     let mut backend = asking(&rt, alloc, cleartext(alloc)?, b"R\0\0\0\x08\0\0\0\x03")?;
     let mut out = Vec::new(alloc);
     backend.push(b"p\0\0\0\x06a\0p\0\0\0\x07ab\0")?;
-    equal(&rt, backend.step(&mut out), Ok(true));
-    equal(&rt, backend.step(&mut out), Err(BackendFault::Closed));
-    equal(&rt, out.as_slice(), WRONG);
-    equal(&rt, backend.push(b"Q"), Err(BackendFault::Closed));
+    assert_eq!(rt; backend.step(&mut out), Ok(true));
+    assert_eq!(rt; backend.step(&mut out), Err(BackendFault::Closed));
+    assert_eq!(rt; out.as_slice(), WRONG);
+    assert_eq!(rt; backend.push(b"Q"), Err(BackendFault::Closed));
     Ok(())
 }

@@ -1,7 +1,6 @@
 //! Messages that come where a backend waits for others.
 
 use super::{OPENING, answer, begin, copy_in, opened, run, silent};
-use crate::values::equal;
 use pg_backend::{BackPhase, Backend, BackendFault, Script};
 use pg_wire::{Seq, WireFault};
 use std::alloc::Global;
@@ -39,19 +38,19 @@ fn check_step(
     let mut out = Vec::new(alloc);
     backend.push(input)?;
     assert!(rt; backend.step(&mut out) == answered);
-    equal(rt, out.as_slice(), said);
-    equal(rt, backend.phase(), phase);
+    assert_eq!(rt; out.as_slice(), said);
+    assert_eq!(rt; backend.phase(), phase);
     Ok(())
 }
 
 #[test]
 fn a_query_ends_a_copy(rt: HostRuntime) -> Result<(), Fail> {
     let mut backend = copying(rt.alloc())?;
-    equal(&rt, backend.phase(), BackPhase::CopyIn);
+    assert_eq!(rt; backend.phase(), BackPhase::CopyIn);
     let said = b"E\0\0\0\x36SERROR\0VERROR\0C08P01\0Munexpected message in COPY\0\0Z\0\0\0\x05I";
     let ready = BackPhase::Ready;
     check_step(&rt, rt.alloc(), &mut backend, QUERY, said, Ok(true), ready)?;
-    equal(&rt, backend.log().len(), 1);
+    assert_eq!(rt; backend.log().len(), 1);
     Ok(())
 }
 
@@ -74,13 +73,9 @@ fn a_faulty_stream_closes_for_good(rt: HostRuntime) -> Result<(), Fail> {
     let mut out = Vec::new(rt.alloc());
     backend.push(b"!\0\0\0\x04")?;
     let unknown = WireFault::UnknownTag(33);
-    equal(
-        &rt,
-        backend.step(&mut out),
-        Err(BackendFault::Wire(unknown)),
-    );
+    assert_eq!(rt; backend.step(&mut out), Err(BackendFault::Wire(unknown)));
     let said = out.len();
-    equal(&rt, backend.step(&mut out), Err(BackendFault::Closed));
-    equal(&rt, out.len(), said);
+    assert_eq!(rt; backend.step(&mut out), Err(BackendFault::Closed));
+    assert_eq!(rt; out.len(), said);
     Ok(())
 }

@@ -6,16 +6,11 @@ use pg_wire::{ErrorField, Seq, WireFault};
 use std::alloc::Global;
 use std::test::Fail;
 
-/// Whether the client refuses these bytes so.
-fn feed_gives(client: &mut Client, bytes: &[u8], out: &mut Vec<u8>, fault: FeedFault) -> bool {
-    client.feed(bytes, out) == Err(fault)
-}
-
 /// Whether the client refuses these bytes with this fault, and is closed then for good.
 pub fn refuses(shown: (Client, Vec<u8>), bytes: &[u8], fault: FeedFault, cause: Cause) -> bool {
     let (mut client, mut out) = shown;
-    let first = feed_gives(&mut client, bytes, &mut out, fault);
-    let again = feed_gives(&mut client, bytes, &mut out, FeedFault::Closed);
+    let first = client.feed(bytes, &mut out) == Err(fault);
+    let again = client.feed(bytes, &mut out) == Err(FeedFault::Closed);
     first && again && client.phase() == Phase::Closed(cause)
 }
 

@@ -1,7 +1,7 @@
 //! Binary files.
 
 use super::{is_row, write_file};
-use crate::values::{equal, text};
+use crate::values::text;
 use pg_copy::{
     BinaryFault, BinaryReader, Row, RowFault, Seq, write_binary_head, write_binary_row,
     write_binary_trailer,
@@ -216,7 +216,7 @@ fn files_are_written(rt: HostRuntime) -> Result<(), Fail> {
     write_binary_trailer(&mut file)?;
     let rest = b"\0\x02\0\0\0\x011\xFF\xFF\xFF\xFF\xFF\xFF";
     let wanted = [HEAD.as_slice(), rest.as_slice()].concat(alloc)?;
-    equal(&rt, file, wanted);
+    assert_eq!(rt; file, wanted);
     Ok(())
 }
 
@@ -224,10 +224,6 @@ fn files_are_written(rt: HostRuntime) -> Result<(), Fail> {
 fn a_row_without_a_field_is_refused(rt: HostRuntime) {
     let mut file = Vec::new(rt.alloc());
     let none: Row = Seq::new(Vec::new(rt.alloc()));
-    equal(
-        &rt,
-        write_binary_row(&none, &mut file),
-        Err(RowFault::Width(0)),
-    );
+    assert_eq!(rt; write_binary_row(&none, &mut file), Err(RowFault::Width(0)));
     assert!(rt; file.is_empty());
 }

@@ -1,49 +1,76 @@
 //! What faults say.
 
-use crate::values::says;
 use pg_copy::{BinaryFault, RowFault, TextFault};
 use std::test::Fail;
 
 #[test]
 fn faults_of_text_have_their_texts(rt: HostRuntime) -> Result<(), Fail> {
     let alloc = rt.alloc();
-    says(&rt, alloc, TextFault::RawReturn, "T1 RawReturn")?;
-    says(&rt, alloc, TextFault::LoneBackslash, "T2 LoneBackslash")?;
-    says(&rt, alloc, TextFault::Columns(2), "T3 Columns 2")?;
-    says(&rt, alloc, TextFault::Memory, "T4 Memory")?;
+    assert_eq!(rt;
+        TextFault::RawReturn.to_string(alloc)?.as_str(),
+        "T1 RawReturn"
+    );
+    assert_eq!(rt;
+        TextFault::LoneBackslash.to_string(alloc)?.as_str(),
+        "T2 LoneBackslash"
+    );
+    assert_eq!(rt;
+        TextFault::Columns(2).to_string(alloc)?.as_str(),
+        "T3 Columns 2"
+    );
+    assert_eq!(rt; TextFault::Memory.to_string(alloc)?.as_str(), "T4 Memory");
     Ok(())
 }
 
 #[test]
 fn faults_of_heads_have_their_texts(rt: HostRuntime) -> Result<(), Fail> {
     let alloc = rt.alloc();
-    says(&rt, alloc, BinaryFault::Signature, "B1 Signature")?;
-    says(&rt, alloc, BinaryFault::Flags(65_536), "B2 Flags 65536")?;
-    says(&rt, alloc, BinaryFault::Extension(-1), "B3 Extension -1")?;
+    assert_eq!(rt;
+        BinaryFault::Signature.to_string(alloc)?.as_str(),
+        "B1 Signature"
+    );
+    assert_eq!(rt;
+        BinaryFault::Flags(65_536).to_string(alloc)?.as_str(),
+        "B2 Flags 65536"
+    );
+    assert_eq!(rt;
+        BinaryFault::Extension(-1).to_string(alloc)?.as_str(),
+        "B3 Extension -1"
+    );
     Ok(())
 }
 
 #[test]
 fn faults_of_binary_rows_have_their_texts(rt: HostRuntime) -> Result<(), Fail> {
     let alloc = rt.alloc();
-    says(&rt, alloc, BinaryFault::FieldCount(2), "B4 FieldCount 2")?;
-    says(
-        &rt,
-        alloc,
-        BinaryFault::FieldLength(-2),
-        "B5 FieldLength -2",
-    )?;
-    says(&rt, alloc, BinaryFault::Truncated, "B6 Truncated")?;
-    says(&rt, alloc, BinaryFault::AfterTrailer, "B7 AfterTrailer")?;
-    says(&rt, alloc, BinaryFault::Memory, "B8 Memory")?;
+    assert_eq!(rt;
+        BinaryFault::FieldCount(2).to_string(alloc)?.as_str(),
+        "B4 FieldCount 2"
+    );
+    assert_eq!(rt;
+        BinaryFault::FieldLength(-2).to_string(alloc)?.as_str(),
+        "B5 FieldLength -2"
+    );
+    assert_eq!(rt;
+        BinaryFault::Truncated.to_string(alloc)?.as_str(),
+        "B6 Truncated"
+    );
+    assert_eq!(rt;
+        BinaryFault::AfterTrailer.to_string(alloc)?.as_str(),
+        "B7 AfterTrailer"
+    );
+    assert_eq!(rt; BinaryFault::Memory.to_string(alloc)?.as_str(), "B8 Memory");
     Ok(())
 }
 
 #[test]
 fn faults_of_rows_have_their_texts(rt: HostRuntime) -> Result<(), Fail> {
     let alloc = rt.alloc();
-    says(&rt, alloc, RowFault::Width(0), "R1 Width 0")?;
-    says(&rt, alloc, RowFault::FieldLong, "R2 FieldLong")?;
-    says(&rt, alloc, RowFault::Memory, "R3 Memory")?;
+    assert_eq!(rt; RowFault::Width(0).to_string(alloc)?.as_str(), "R1 Width 0");
+    assert_eq!(rt;
+        RowFault::FieldLong.to_string(alloc)?.as_str(),
+        "R2 FieldLong"
+    );
+    assert_eq!(rt; RowFault::Memory.to_string(alloc)?.as_str(), "R3 Memory");
     Ok(())
 }

@@ -3,7 +3,7 @@
 ghost use Rattle.std.specs.Prelude.{◌<◌, ◌≤◌};
 
 use super::{is_row, write_file};
-use crate::values::{equal, text};
+use crate::values::text;
 use pg_copy::{Row, RowFault, Seq, TextFault, TextReader, write_text_field, write_text_row};
 use std::alloc::{AllocError, Global};
 use std::test::Fail;
@@ -176,13 +176,9 @@ fn rows_are_written(rt: HostRuntime) -> Result<(), Fail> {
     let alloc = rt.alloc();
     let mut lines = Vec::new(alloc);
     write_text_row(&row(alloc)?, &mut lines)?;
-    equal(&rt, lines.as_slice(), b"a\\tb\t\\N\t\t\\\\N\n".as_slice());
+    assert_eq!(rt; lines.as_slice(), b"a\\tb\t\\N\t\t\\\\N\n".as_slice());
     let none: Row = Seq::new(Vec::new(alloc));
-    equal(
-        &rt,
-        write_text_row(&none, &mut lines),
-        Err(RowFault::Width(0)),
-    );
+    assert_eq!(rt; write_text_row(&none, &mut lines), Err(RowFault::Width(0)));
     Ok(())
 }
 
@@ -191,6 +187,6 @@ fn fields_are_written_one_by_one(rt: HostRuntime) -> Result<(), Fail> {
     let mut line = Vec::new(rt.alloc());
     write_text_field(None, &mut line)?;
     write_text_field(Some(b"a\tb\\"), &mut line)?;
-    equal(&rt, line.as_slice(), b"\\Na\\tb\\\\".as_slice());
+    assert_eq!(rt; line.as_slice(), b"\\Na\\tb\\\\".as_slice());
     Ok(())
 }

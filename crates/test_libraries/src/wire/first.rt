@@ -1,4 +1,3 @@
-use crate::values::equal;
 use pg_wire::{First, FirstDecoder, FrontMessage, WireFault};
 use std::alloc::Global;
 use std::test::Fail;
@@ -15,27 +14,26 @@ fn packets_are_judged(rt: HostRuntime) {
     let alloc = rt.alloc();
     let no_version = [0, 0, 0, 8, 0, 2, 0, 0];
     let byte_after = [0, 0, 0, 9, 0x04, 0xD2, 0x16, 0x2F, 0];
-    equal(
-        &rt,
-        first_of(alloc, &[0, 0, 0, 7]),
-        Err(WireFault::ShortLength(7)),
+    assert!(rt;
+        matches!(
+            first_of(alloc, &[0, 0, 0, 7]),
+            Err(WireFault::ShortLength(7))
+        )
     );
-    equal(
-        &rt,
-        first_of(alloc, &[0, 0, 0x27, 0x11]),
-        Err(WireFault::LongLength(10_001)),
+    assert!(rt;
+        matches!(
+            first_of(alloc, &[0, 0, 0x27, 0x11]),
+            Err(WireFault::LongLength(10_001))
+        )
     );
-    equal(
-        &rt,
-        first_of(alloc, &no_version),
-        Err(WireFault::BadFirst(131_072)),
+    assert!(rt;
+        matches!(
+            first_of(alloc, &no_version),
+            Err(WireFault::BadFirst(131_072))
+        )
     );
-    equal(
-        &rt,
-        first_of(alloc, &byte_after),
-        Err(WireFault::BadBody(0)),
-    );
-    equal(&rt, first_of(alloc, &byte_after[..7]), Ok(None));
+    assert!(rt; matches!(first_of(alloc, &byte_after), Err(WireFault::BadBody(0))));
+    assert!(rt; matches!(first_of(alloc, &byte_after[..7]), Ok(None)));
 }
 
 #[test]
@@ -54,13 +52,13 @@ fn what_comes_after_the_startup_is_passed_on(rt: HostRuntime) -> Result<(), Fail
     first.push(&[
         0, 0, 0, 8, 0x04, 0xD2, 0x16, 0x30, 0, 0, 0, 9, 0, 3, 0, 0, 0, b'S', 0,
     ])?;
-    equal(&rt, first.next(), Ok(Some(First::Gss)));
+    assert!(rt; matches!(first.next(), Ok(Some(First::Gss))));
     assert!(rt; matches!(first.next(), Ok(Some(First::Startup(_)))));
-    equal(&rt, first.next(), Ok(None));
+    assert!(rt; matches!(first.next(), Ok(None)));
     first.push(&[0, 0, 4])?;
-    equal(&rt, first.kept(), 5);
+    assert_eq!(rt; first.kept(), 5);
     let mut front = first.into_front(64);
-    equal(&rt, front.next(), Ok(Some(FrontMessage::Sync)));
+    assert!(rt; matches!(front.next(), Ok(Some(FrontMessage::Sync))));
     Ok(())
 }
 
@@ -68,10 +66,10 @@ fn what_comes_after_the_startup_is_passed_on(rt: HostRuntime) -> Result<(), Fail
 fn a_fault_is_passed_on(rt: HostRuntime) -> Result<(), Fail> {
     let mut first = FirstDecoder::new(rt.alloc());
     first.push(&[0, 0, 0, 7])?;
-    equal(&rt, first.next(), Err(WireFault::ShortLength(7)));
-    equal(&rt, first.push(&[1]), Err(WireFault::ShortLength(7)));
+    assert!(rt; matches!(first.next(), Err(WireFault::ShortLength(7))));
+    assert!(rt; matches!(first.push(&[1]), Err(WireFault::ShortLength(7))));
     let mut front = first.into_front(64);
-    equal(&rt, front.next(), Err(WireFault::ShortLength(7)));
-    equal(&rt, front.push(&[1]), Err(WireFault::ShortLength(7)));
+    assert!(rt; matches!(front.next(), Err(WireFault::ShortLength(7))));
+    assert!(rt; matches!(front.push(&[1]), Err(WireFault::ShortLength(7))));
     Ok(())
 }

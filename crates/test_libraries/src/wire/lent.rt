@@ -1,6 +1,5 @@
 //! Rows, errors and notices that a decoder lends.
 
-use crate::values::equal;
 use pg_wire::{BackDecoder, BackMessage, Cut, Lent, Status, WireFault};
 use std::test::Fail;
 
@@ -19,18 +18,18 @@ fn a_row_is_lent(rt: HostRuntime) -> Result<(), Fail> {
     let mut decoder = BackDecoder::new(rt.alloc(), 64);
     decoder.push(&ROW)?;
     assert!(rt; decoder.held().is_none());
-    equal(&rt, decoder.next_lent(), Ok(Cut::Held));
-    equal(&rt, decoder.kept(), 0);
+    assert!(rt; matches!(decoder.next_lent(), Ok(Cut::Held)));
+    assert_eq!(rt; decoder.kept(), 0);
     let Some(Lent::Row(row)) = decoder.held() else {
         assert!(rt; false, "no row");
         return Ok(());
     };
     let mut values = row.values();
-    equal(&rt, values.next(), Some(None));
+    assert!(rt; matches!(values.next(), Some(None)));
     assert!(rt; matches!(values.next(), Some(Some(text)) if text.is_empty()));
     assert!(rt; values.next().is_none());
     assert!(rt; values.next().is_none());
-    equal(&rt, row.values().count(), 2);
+    assert_eq!(rt; row.values().count(), 2);
     Ok(())
 }
 
@@ -38,7 +37,7 @@ fn a_row_is_lent(rt: HostRuntime) -> Result<(), Fail> {
 fn an_error_is_lent(rt: HostRuntime) -> Result<(), Fail> {
     let mut decoder = BackDecoder::new(rt.alloc(), 64);
     decoder.push(&ERROR)?;
-    equal(&rt, decoder.next_lent(), Ok(Cut::Held));
+    assert!(rt; matches!(decoder.next_lent(), Ok(Cut::Held)));
     let Some(Lent::Error(error)) = decoder.held() else {
         assert!(rt; false, "no error");
         return Ok(());
@@ -54,7 +53,7 @@ fn an_error_is_lent(rt: HostRuntime) -> Result<(), Fail> {
 fn a_notice_without_fields_is_lent(rt: HostRuntime) -> Result<(), Fail> {
     let mut decoder = BackDecoder::new(rt.alloc(), 64);
     decoder.push(&[0x4E, 0, 0, 0, 5, 0])?;
-    equal(&rt, decoder.next_lent(), Ok(Cut::Held));
+    assert!(rt; matches!(decoder.next_lent(), Ok(Cut::Held)));
     let Some(Lent::Notice(notice)) = decoder.held() else {
         assert!(rt; false, "no notice");
         return Ok(());
@@ -67,13 +66,14 @@ fn a_notice_without_fields_is_lent(rt: HostRuntime) -> Result<(), Fail> {
 fn another_message_is_given(rt: HostRuntime) -> Result<(), Fail> {
     let mut decoder = BackDecoder::new(rt.alloc(), 64);
     decoder.push(&READY)?;
-    equal(
-        &rt,
-        decoder.next_lent(),
-        Ok(Cut::Other(BackMessage::Ready(Status::Idle))),
+    assert!(rt;
+        matches!(
+            decoder.next_lent(),
+            Ok(Cut::Other(BackMessage::Ready(Status::Idle)))
+        )
     );
     assert!(rt; decoder.held().is_none());
-    equal(&rt, decoder.next_lent(), Ok(Cut::Nothing));
+    assert!(rt; matches!(decoder.next_lent(), Ok(Cut::Nothing)));
     Ok(())
 }
 
@@ -98,10 +98,10 @@ fn is_error(message: &BackMessage) -> bool {
 fn a_row_comes_byte_by_byte(rt: HostRuntime) -> Result<(), Fail> {
     let mut decoder = BackDecoder::new(rt.alloc(), 64);
     for byte in &ROW {
-        equal(&rt, decoder.next_lent(), Ok(Cut::Nothing));
+        assert!(rt; matches!(decoder.next_lent(), Ok(Cut::Nothing)));
         decoder.push(&[*byte])?;
     }
-    equal(&rt, decoder.next_lent(), Ok(Cut::Held));
+    assert!(rt; matches!(decoder.next_lent(), Ok(Cut::Held)));
     assert!(rt; lends_two_values(&decoder));
     Ok(())
 }
@@ -114,29 +114,25 @@ fn each_call_ends_the_lending(rt: HostRuntime) -> Result<(), Fail> {
     decoder.push(&ROW)?;
     decoder.push(&ROW)?;
     decoder.push(&READY[..3])?;
-    equal(&rt, decoder.next_lent(), Ok(Cut::Held));
+    assert!(rt; matches!(decoder.next_lent(), Ok(Cut::Held)));
     assert!(rt; lends_two_values(&decoder));
-    equal(&rt, decoder.kept(), 50);
+    assert_eq!(rt; decoder.kept(), 50);
     let Some(error) = decoder.next()? else {
         assert!(rt; false, "no error");
         return Ok(());
     };
     assert!(rt; is_error(&error));
     assert!(rt; decoder.held().is_none());
-    equal(&rt, decoder.next_lent(), Ok(Cut::Held));
+    assert!(rt; matches!(decoder.next_lent(), Ok(Cut::Held)));
     decoder.push(&[])?;
     assert!(rt; decoder.held().is_none());
-    equal(&rt, decoder.next_lent(), Ok(Cut::Held));
+    assert!(rt; matches!(decoder.next_lent(), Ok(Cut::Held)));
     assert!(rt; lends_two_values(&decoder));
-    equal(&rt, decoder.next_lent(), Ok(Cut::Nothing));
+    assert!(rt; matches!(decoder.next_lent(), Ok(Cut::Nothing)));
     assert!(rt; decoder.held().is_none());
     decoder.push(&READY[3..])?;
-    equal(
-        &rt,
-        decoder.next(),
-        Ok(Some(BackMessage::Ready(Status::Idle))),
-    );
-    equal(&rt, decoder.kept(), 0);
+    assert!(rt; matches!(decoder.next(), Ok(Some(BackMessage::Ready(Status::Idle)))));
+    assert_eq!(rt; decoder.kept(), 0);
     Ok(())
 }
 
@@ -145,11 +141,11 @@ fn a_row_that_is_none_is_a_fault(rt: HostRuntime) -> Result<(), Fail> {
     let mut decoder = BackDecoder::new(rt.alloc(), 64);
     decoder.push(&ROW)?;
     decoder.push(&[0x44, 0, 0, 0, 7, 0, 0, 0])?;
-    equal(&rt, decoder.next_lent(), Ok(Cut::Held));
-    equal(&rt, decoder.next_lent(), Err(WireFault::BadBody(68)));
+    assert!(rt; matches!(decoder.next_lent(), Ok(Cut::Held)));
+    assert!(rt; matches!(decoder.next_lent(), Err(WireFault::BadBody(68))));
     assert!(rt; decoder.held().is_none());
-    equal(&rt, decoder.next(), Err(WireFault::BadBody(68)));
-    equal(&rt, decoder.push(&[]), Err(WireFault::BadBody(68)));
-    equal(&rt, decoder.kept(), 8);
+    assert!(rt; matches!(decoder.next(), Err(WireFault::BadBody(68))));
+    assert!(rt; matches!(decoder.push(&[]), Err(WireFault::BadBody(68))));
+    assert_eq!(rt; decoder.kept(), 8);
     Ok(())
 }

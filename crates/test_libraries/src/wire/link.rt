@@ -1,4 +1,3 @@
-use crate::values::{equal, says};
 use pg_wire::{LinkFault, Over, PATIENCE, Patient, Sink, Source};
 use std::io;
 use std::io::{ErrorKind, Read, Write};
@@ -81,98 +80,97 @@ fn said<T>(link: &Over<T>) -> Option<ErrorKind> {
 fn a_read_fails_in_the_middle(rt: HostRuntime) {
     let mut source = failing_at(2);
     let mut into = [0u8; 4];
-    equal(&rt, source.receive(&mut into), Ok(1));
-    equal(&rt, said(&source), None);
-    equal(&rt, source.receive(&mut into), Err(LinkFault));
-    equal(&rt, source.failures(), 1);
-    equal(&rt, source.receive(&mut into), Ok(1));
-    equal(&rt, into[0], 3);
-    equal(&rt, source.failures(), 1);
+    assert_eq!(rt; source.receive(&mut into), Ok(1));
+    assert_eq!(rt; said(&source), None);
+    assert_eq!(rt; source.receive(&mut into), Err(LinkFault));
+    assert_eq!(rt; source.failures(), 1);
+    assert_eq!(rt; source.receive(&mut into), Ok(1));
+    assert_eq!(rt; into[0], 3);
+    assert_eq!(rt; source.failures(), 1);
     // what was said stays until another call fails
-    equal(&rt, said(&source), Some(ErrorKind::BrokenPipe));
-    equal(&rt, source.into_inner().calls, 3);
+    assert_eq!(rt; said(&source), Some(ErrorKind::BrokenPipe));
+    assert_eq!(rt; source.into_inner().calls, 3);
 }
 
 #[test]
 fn a_write_fails_in_the_middle(rt: HostRuntime) {
     let mut sink = failing_at(2);
-    equal(&rt, sink.send(b"ab"), Ok(1));
-    equal(&rt, sink.send(b"b"), Err(LinkFault));
-    equal(&rt, said(&sink), Some(ErrorKind::BrokenPipe));
-    equal(&rt, sink.send(b"b"), Ok(1));
+    assert_eq!(rt; sink.send(b"ab"), Ok(1));
+    assert_eq!(rt; sink.send(b"b"), Err(LinkFault));
+    assert_eq!(rt; said(&sink), Some(ErrorKind::BrokenPipe));
+    assert_eq!(rt; sink.send(b"b"), Ok(1));
     // a write that takes nothing is a failure, but of an empty piece
-    equal(&rt, sink.send(b""), Ok(0));
-    equal(&rt, sink.send(b"c"), Err(LinkFault));
-    equal(&rt, sink.failures(), 2);
-    equal(&rt, said(&sink), Some(ErrorKind::WriteZero));
-    equal(&rt, sink.get_ref().calls, 5);
+    assert_eq!(rt; sink.send(b""), Ok(0));
+    assert_eq!(rt; sink.send(b"c"), Err(LinkFault));
+    assert_eq!(rt; sink.failures(), 2);
+    assert_eq!(rt; said(&sink), Some(ErrorKind::WriteZero));
+    assert_eq!(rt; sink.get_ref().calls, 5);
 }
 
 #[test]
 fn an_interrupted_read_is_a_failure_without_patience(rt: HostRuntime) {
     let mut source = Over::new(interrupted(2, 2).into_inner());
     let mut into = [0u8; 4];
-    equal(&rt, source.receive(&mut into), Ok(1));
-    equal(&rt, source.receive(&mut into), Err(LinkFault));
-    equal(&rt, said(&source), Some(ErrorKind::Interrupted));
-    equal(&rt, source.get_ref().calls, 2);
+    assert_eq!(rt; source.receive(&mut into), Ok(1));
+    assert_eq!(rt; source.receive(&mut into), Err(LinkFault));
+    assert_eq!(rt; said(&source), Some(ErrorKind::Interrupted));
+    assert_eq!(rt; source.get_ref().calls, 2);
 }
 
 #[test]
 fn an_interrupted_read_is_made_again(rt: HostRuntime) {
     let mut source = Over::new(interrupted(2, 2));
     let mut into = [0u8; 4];
-    equal(&rt, source.receive(&mut into), Ok(1));
-    equal(&rt, source.receive(&mut into), Ok(1));
-    equal(&rt, into[0], 3);
-    equal(&rt, source.failures(), 0);
-    equal(&rt, said(&source), None);
-    equal(&rt, source.get_ref().get_ref().calls, 3);
+    assert_eq!(rt; source.receive(&mut into), Ok(1));
+    assert_eq!(rt; source.receive(&mut into), Ok(1));
+    assert_eq!(rt; into[0], 3);
+    assert_eq!(rt; source.failures(), 0);
+    assert_eq!(rt; said(&source), None);
+    assert_eq!(rt; source.get_ref().get_ref().calls, 3);
 }
 
 #[test]
 fn an_interrupted_write_is_made_again(rt: HostRuntime) {
     let mut sink = Over::new(interrupted(1, 2));
-    equal(&rt, sink.send(b"ab"), Ok(1));
-    equal(&rt, sink.failures(), 0);
-    equal(&rt, said(&sink), None);
-    equal(&rt, sink.into_inner().into_inner().calls, 3);
+    assert_eq!(rt; sink.send(b"ab"), Ok(1));
+    assert_eq!(rt; sink.failures(), 0);
+    assert_eq!(rt; said(&sink), None);
+    assert_eq!(rt; sink.into_inner().into_inner().calls, 3);
 }
 
 #[test]
 fn patience_ends(rt: HostRuntime) {
     let mut link = Over::new(interrupted(1, u8::MAX));
     let mut into = [0u8; 4];
-    equal(&rt, link.receive(&mut into), Err(LinkFault));
-    equal(&rt, u32::from(link.get_ref().get_ref().calls), PATIENCE + 1);
-    equal(&rt, said(&link), Some(ErrorKind::Interrupted));
+    assert_eq!(rt; link.receive(&mut into), Err(LinkFault));
+    assert_eq!(rt; u32::from(link.get_ref().get_ref().calls), PATIENCE + 1);
+    assert_eq!(rt; said(&link), Some(ErrorKind::Interrupted));
     // the next call has as much of it
-    equal(&rt, link.send(b"a"), Err(LinkFault));
-    equal(
-        &rt,
+    assert_eq!(rt; link.send(b"a"), Err(LinkFault));
+    assert_eq!(rt;
         u32::from(link.get_ref().get_ref().calls),
-        2 * (PATIENCE + 1),
+        2 * (PATIENCE + 1)
     );
-    equal(&rt, link.failures(), 2);
+    assert_eq!(rt; link.failures(), 2);
 }
 
 #[test]
 fn patience_lasts_until_the_last_try(rt: HostRuntime) {
     let mut source = Over::new(interrupted(1, 64));
     let mut into = [0u8; 4];
-    equal(&rt, source.receive(&mut into), Ok(1));
-    equal(&rt, into[0], 65);
-    equal(&rt, source.failures(), 0);
+    assert_eq!(rt; source.receive(&mut into), Ok(1));
+    assert_eq!(rt; into[0], 65);
+    assert_eq!(rt; source.failures(), 0);
 }
 
 #[test]
 fn another_error_is_not_tried_again(rt: HostRuntime) {
     let mut link = Over::new(Patient::new(failing_at(1).into_inner()));
     let mut into = [0u8; 4];
-    equal(&rt, link.receive(&mut into), Err(LinkFault));
-    equal(&rt, said(&link), Some(ErrorKind::BrokenPipe));
-    equal(&rt, link.get_ref().get_ref().calls, 1);
-    equal(&rt, link.send(b"a"), Ok(1));
+    assert_eq!(rt; link.receive(&mut into), Err(LinkFault));
+    assert_eq!(rt; said(&link), Some(ErrorKind::BrokenPipe));
+    assert_eq!(rt; link.get_ref().get_ref().calls, 1);
+    assert_eq!(rt; link.send(b"a"), Ok(1));
 }
 
 #[test]
@@ -180,10 +178,13 @@ fn a_slice_is_received_whole(rt: HostRuntime) -> Result<(), Fail> {
     let bytes: &[u8] = b"abc";
     let mut source = Over::new(bytes);
     let mut into = [0u8; 2];
-    equal(&rt, source.receive(&mut into), Ok(2));
-    equal(&rt, &into, b"ab");
-    equal(&rt, source.receive(&mut into), Ok(1));
-    equal(&rt, source.receive(&mut into), Ok(0));
-    says(&rt, rt.alloc(), LinkFault, "the link failed")?;
+    assert_eq!(rt; source.receive(&mut into), Ok(2));
+    assert_eq!(rt; &into, b"ab");
+    assert_eq!(rt; source.receive(&mut into), Ok(1));
+    assert_eq!(rt; source.receive(&mut into), Ok(0));
+    assert_eq!(rt;
+        LinkFault.to_string(rt.alloc())?.as_str(),
+        "the link failed"
+    );
     Ok(())
 }

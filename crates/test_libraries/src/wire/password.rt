@@ -1,4 +1,3 @@
-use crate::values::equal;
 use pg_wire::{frontend, md5_answer};
 use std::test::Fail;
 
@@ -7,7 +6,7 @@ use std::test::Fail;
 #[test]
 fn an_answer_is_salted(rt: HostRuntime) {
     let answer = md5_answer(b"c", b"ab", [1, 2, 3, 4]);
-    equal(&rt, &answer, b"md596838e208aad1ff8fc396693d03e488d");
+    assert_eq!(rt; &answer, b"md596838e208aad1ff8fc396693d03e488d");
     let answer = md5_answer(b"c", b"ab", [1, 2, 3, 5]);
     assert!(rt; answer != *b"md596838e208aad1ff8fc396693d03e488d");
 }
@@ -15,15 +14,15 @@ fn an_answer_is_salted(rt: HostRuntime) {
 #[test]
 fn a_user_or_a_password_may_be_empty(rt: HostRuntime) {
     let answer = md5_answer(b"", b"secret", [0; 4]);
-    equal(&rt, &answer, b"md554a02e14194c8a1db31bdc2e97f212fc");
+    assert_eq!(rt; &answer, b"md554a02e14194c8a1db31bdc2e97f212fc");
     let answer = md5_answer(b"postgres", b"", [0xFF, 0xFE, 0, 0x80]);
-    equal(&rt, &answer, b"md5807e3bb042e224718cea10889007bf64");
+    assert_eq!(rt; &answer, b"md5807e3bb042e224718cea10889007bf64");
 }
 
 #[test]
 fn a_password_may_be_longer_than_a_block(rt: HostRuntime) {
     let answer = md5_answer(b"ann", &[b'a'; 70], [0x93, 0x2C, 0xB1, 0x7E]);
-    equal(&rt, &answer, b"md547320af15dab51a9371f08ae8c90f451");
+    assert_eq!(rt; &answer, b"md547320af15dab51a9371f08ae8c90f451");
 }
 
 #[test]
@@ -31,6 +30,6 @@ fn an_answer_is_the_text_of_a_message(rt: HostRuntime) -> Result<(), Fail> {
     let mut buf = Vec::new(rt.alloc());
     frontend::password_message(&md5_answer(b"c", b"ab", [1, 2, 3, 4]), &mut buf)?;
     let written = b"p\0\0\0\x28md596838e208aad1ff8fc396693d03e488d\0";
-    equal(&rt, buf.as_slice(), written.as_slice());
+    assert_eq!(rt; buf.as_slice(), written.as_slice());
     Ok(())
 }
