@@ -2,9 +2,10 @@
 #![tactic(auto)]
 
 mod buffer;
+mod compared;
+mod lent;
 
-ghost use Rattle.std.specs.Prelude.{◌≡◌, ◌↔◌, [], ◌∷◌, ◌++◌, length, slice_get, IsTrue, IfOk, IfErr, OnOk, OnErr};
-ghost use Rattle.std.specs.Cmp.Lexicographic.{pointwise, lists_equiv, lists_per};
+ghost use Rattle.std.specs.Prelude.{◌≡◌, ◌↔◌, [], ◌∷◌, ◌++◌, length, slice_get, IsTrue, IfOk, IfErr, IsOk, OnOk, OnErr};
 ghost use Rattle.std.specs.Fmt.{debug_list};
 ghost use Rattle.std.specs.Iterator.Runs.{EveryRun, ItemsAre, ItemsMapTo};
 ghost use Rattle.std.specs.List.{AllZip};
@@ -15,6 +16,7 @@ ghost use Rattle.std.specs.declared.alloc.Global.{Global};
 
 pub use buffer::Buffer;
 use std::alloc::{AllocError, AllocFailed, Global};
+use std::default::{Emptied, MadeWith};
 use std::marker::Model;
 use std::{fmt, slice, vec};
 
@@ -114,21 +116,6 @@ impl<T: Clone> Clone for Seq<T> {
     }
 }
 
-/// Two lists are equal where they are of one length and their elements are equal, place by place.
-impl<T: PartialEq> PartialEq for Seq<T> {
-    ghost eq = { pointwise T.eq };
-
-    ghost laws = { lists_per T.laws };
-
-    fn eq(&self, other: &Self) -> bool {
-        self.as_slice() == other.as_slice()
-    }
-}
-
-impl<T: Eq> Eq for Seq<T> {
-    ghost laws = { lists_equiv T.Eq.laws };
-}
-
 /// `{:?}` writes the elements as it does those of a slice, as `[1, 2]`.
 impl<T: fmt::Debug> fmt::Debug for Seq<T> {
     ghost debug_output = { debug_list T.debug_output };
@@ -147,6 +134,36 @@ impl<T> From<Vec<T>> for Seq<T> {
     }
 }
 
+/// The same as `Seq::into_vec`.
+impl<T> From<Seq<T>> for Vec<T> {
+    ghost from_gives = { λ list items. items.items ≡ list };
+
+    fn from(list: Seq<T>) -> Self {
+        list.into_vec()
+    }
+}
+
+/// An empty list on the same heap, as `mem::try_take` leaves in a list's place. It takes no memory, so it never fails.
+impl<T> Emptied for Seq<T> {
+    ghost is_emptied = { λ list. list ≡ [] };
+
+    fn emptied(like: &Self) -> Result<Self, AllocError>
+        ensures empty { IfOk result (λ list. list ≡ []) }
+        ensures succeeds { IsOk result }
+    {
+        Ok(Seq::new(Vec::new(*like.items.allocator())))
+    }
+}
+
+/// An empty list, as `or_default` puts into a map. It stands for Rust's `Default`, where a list has no allocator. It takes no memory.
+impl<T> MadeWith<Global> for Seq<T> {
+    ghost is_made_with = { λ list. list ≡ [] };
+
+    fn made_with(alloc: Global) -> Self {
+        Seq::new(Vec::new(alloc))
+    }
+}
+
 /// Collects the items in their order. It fails only where memory runs out.
 impl<T: Drop> FromIterator<T> for Seq<T> {
     type Alloc = Global;
@@ -155,6 +172,15 @@ impl<T: Drop> FromIterator<T> for Seq<T> {
 
     fn from_iter<I: IntoIterator<Item = T>>(alloc: Global, iter: I) -> Result<Self, AllocError> {
         Ok(Seq::new(Vec::from_iter(alloc, iter)?))
+    }
+}
+
+/// Adds the items at the end, in their order. Where memory runs out, those that came before are added.
+impl<T: Drop> Extend<T> for Seq<T> {
+    ghost extend_gives = { λ list items longer. longer ≡ list ++ items };
+
+    fn extend<I: IntoIterator<Item = T>>(&mut self, iter: I) -> Result<(), AllocError> {
+        self.items.extend(iter)
     }
 }
 
