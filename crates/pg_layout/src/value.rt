@@ -1,6 +1,6 @@
 //! The values that messages carry.
 
-use pg_seq::Seq;
+use pg_seq::{ByElement, DebugElement, Seq};
 
 /// The transaction status of ReadyForQuery ("Message Formats", ReadyForQuery).
 #[derive(Clone, Copy, Debug, PartialEq, Eq)]
@@ -41,6 +41,10 @@ pub struct Column {
     pub format: i16,
 }
 
+impl DebugElement for Column {
+    type Form = ByElement;
+}
+
 /// The values of a row. None is null.
 pub type Values = Seq<Option<Seq<u8>>>;
 
@@ -51,6 +55,10 @@ pub struct ErrorField {
     pub code: u8,
     /// The field's text, without a zero byte.
     pub value: Seq<u8>,
+}
+
+impl DebugElement for ErrorField {
+    type Form = ByElement;
 }
 
 /// The fields of an error or a notice. There may be none.

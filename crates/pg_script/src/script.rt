@@ -1,5 +1,6 @@
 //! What a backend is told to answer, and what it says of the requests that it answered.
 
+use pg_seq::{ByElement, DebugElement};
 use pg_wire::{Aside, Column, CopyHead, ExecEnd, Fields, Outcome, Request, Seq, Status, Values};
 
 /// The key with which a client may ask to cancel ("Canceling Requests in Progress").
@@ -97,6 +98,10 @@ pub enum ScriptPart {
     Shut,
 }
 
+impl DebugElement for ScriptPart {
+    type Form = ByElement;
+}
+
 /// The answer to one request. It fits a Query where its parts are results; it fits a group where part i answers step i, and
 /// there are as many parts as steps, or an error and not more parts than steps.
 #[derive(Clone, Debug, PartialEq, Eq, Drop)]
@@ -109,6 +114,10 @@ pub struct Answer {
     pub error: Option<Fields>,
     /// The transaction status after it.
     pub status: Status,
+}
+
+impl DebugElement for Answer {
+    type Form = ByElement;
 }
 
 /// What a backend answers: request number k gets answer number k.

@@ -4,9 +4,9 @@
 mod buffer;
 mod compared;
 mod lent;
+mod show;
 
 ghost use Rattle.std.specs.Prelude.{◌≡◌, ◌↔◌, [], ◌∷◌, ◌++◌, length, slice_get, IsTrue, IfOk, IfErr, IsOk, OnOk, OnErr};
-ghost use Rattle.std.specs.Fmt.{debug_list};
 ghost use Rattle.std.specs.Iterator.Runs.{EveryRun, ItemsAre, ItemsMapTo};
 ghost use Rattle.std.specs.List.{AllZip};
 ghost use Rattle.std.specs.Option.{option_copied};
@@ -15,10 +15,11 @@ ghost use Rattle.std.specs.Vec.Iter.{into_iter_items, into_iter_steps};
 ghost use Rattle.std.specs.declared.alloc.Global.{Global};
 
 pub use buffer::Buffer;
+pub use show::{AsText, ByElement, DebugElement, DebugForm};
 use std::alloc::{AllocError, AllocFailed, Global};
 use std::default::{Emptied, MadeWith};
 use std::marker::Model;
-use std::{fmt, slice, vec};
+use std::{slice, vec};
 
 /// A list on the heap. A clause sees the list of its elements and no capacity, so two are equal where their elements are.
 #[derive(Drop)]
@@ -113,15 +114,6 @@ impl<T: Clone> Clone for Seq<T> {
 
     fn clone(&self) -> Result<Self, AllocError> {
         Ok(Seq::new(Vec::from_clones(*self.items.allocator(), self.as_slice())?))
-    }
-}
-
-/// `{:?}` writes the elements as it does those of a slice, as `[1, 2]`.
-impl<T: fmt::Debug> fmt::Debug for Seq<T> {
-    ghost debug_output = { debug_list T.debug_output };
-
-    fn fmt<W: fmt::Write>(&self, f: &mut fmt::Formatter<W>) -> fmt::Result {
-        fmt::Debug::fmt(&self.as_slice(), f)
     }
 }
 

@@ -1,7 +1,7 @@
 //! What a session is made of, for either end: requests, and how they end.
 
 use pg_layout::{Column, CopyHead, Fields, Status, Target, Values};
-use pg_seq::Seq;
+use pg_seq::{ByElement, DebugElement, Seq};
 
 /// A step of an extended query ("Extended Query"). Its texts hold no zero byte, and its lists have at most 65,535 elements: else a
 /// client refuses the request (C3).
@@ -52,6 +52,10 @@ pub enum Step {
     },
 }
 
+impl DebugElement for Step {
+    type Form = ByElement;
+}
+
 /// What a client asks for. A ReadyForQuery ends the answer to each.
 #[derive(Clone, Debug, PartialEq, Eq, Drop)]
 pub enum Request {
@@ -83,6 +87,10 @@ pub enum Aside {
         /// The payload that the notifying process passed.
         payload: Seq<u8>,
     },
+}
+
+impl DebugElement for Aside {
+    type Form = ByElement;
 }
 
 /// How the run of a portal ended.
@@ -148,6 +156,10 @@ pub enum Part {
     },
     /// A Close was done.
     Shut,
+}
+
+impl DebugElement for Part {
+    type Form = ByElement;
 }
 
 /// How a request ended.

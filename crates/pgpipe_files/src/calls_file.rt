@@ -13,6 +13,7 @@ ghost use Rattle.pgpipe_lines.specs.Reads.{ReadsAs, Leaves};
 use crate::steps::step_of;
 use pg_client::Settings;
 use pg_pair::{Call, Event};
+use pg_seq::{ByElement, DebugElement};
 use pg_wire::{LONGEST, Request, Seq, Step};
 use pgpipe_lines::{Arguments, CallVerb, LineFault, Refusal, StepVerb, TakesLines, take_lines};
 use std::alloc::{AllocError, Global};
@@ -32,6 +33,10 @@ pub enum CallLine {
     Flow,
     /// The bytes of the file of this path are to be handed over, in chunks.
     File(String),
+}
+
+impl DebugElement for CallLine {
+    type Form = ByElement;
 }
 
 /// What CALLS asks for: the client's settings, and what is to happen.

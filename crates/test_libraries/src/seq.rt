@@ -33,7 +33,25 @@ fn takes_a_vec(rt: HostRuntime) -> Result<(), Fail> {
     let list: Seq<u8> = vec![in rt.alloc(); 1, 2]?.into();
     assert_eq!(rt; list, Seq::new(vec![in rt.alloc(); 1, 2]?));
     assert!(rt; list != Seq::from_slice(rt.alloc(), &[1, 3])?);
-    assert_eq!(rt; format!(in rt.alloc(); "{list:?}")?.as_str(), "[1, 2]");
+    Ok(())
+}
+
+#[test]
+fn is_written_by_its_elements(rt: HostRuntime) -> Result<(), Fail> {
+    let text = Seq::from_slice(rt.alloc(), b"ab\0\x01'\"\\\n\xff")?;
+    assert_eq!(rt;
+        format!(in rt.alloc(); "{text:?}")?.as_str(),
+        r#"b"ab\x00\x01\'\"\\\n\xff""#
+    );
+    let none: Seq<u8> = Seq::new(Vec::new(rt.alloc()));
+    assert_eq!(rt; format!(in rt.alloc(); "{none:?}")?.as_str(), r#"b"""#);
+    let numbers = Seq::from_slice(rt.alloc(), &[1u32, 2])?;
+    assert_eq!(rt; format!(in rt.alloc(); "{numbers:?}")?.as_str(), "[1, 2]");
+    let row = Seq::new(vec![in rt.alloc(); Some(text), None]?);
+    assert_eq!(rt;
+        format!(in rt.alloc(); "{row:?}")?.as_str(),
+        r#"[Some(b"ab\x00\x01\'\"\\\n\xff"), None]"#
+    );
     Ok(())
 }
 
