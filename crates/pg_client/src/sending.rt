@@ -103,7 +103,7 @@ fn put_step(step: &Step, out: &mut Vec<u8>) -> Result<(), EncodeFault>
             portal.as_slice(),
             statement.as_slice(),
             formats.as_slice(),
-            values.as_slice(),
+            values,
             result_formats.as_slice(),
             out,
         ),

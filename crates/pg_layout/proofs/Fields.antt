@@ -37,7 +37,7 @@ pub chosen : {A : Type 0} (b : Bool) (x y z : A) → cond b x y ≡ z → ((b �
 chosen true x y z e = inl (refl, e)
 chosen false x y z e = inr (refl, e)
 
-taken : (n : ℕ) (bytes : List ℕ) (v : Option (List ℕ)) (rest : List ℕ) → value_of_length n bytes ≡ Some (v, rest) → to_be_bytes w32 n ++ bytes ≡ (value v).bytes ++ rest
+pub taken : (n : ℕ) (bytes : List ℕ) (v : Option (List ℕ)) (rest : List ℕ) → value_of_length n bytes ≡ Some (v, rest) → to_be_bytes w32 n ++ bytes ≡ (value v).bytes ++ rest
 taken n bytes v rest e =
     let null : Option (Option (List ℕ) × List ℕ) = Some (None, bytes) in
     let full : Option (List ℕ) × List ℕ = (Some (take n bytes), drop n bytes) in

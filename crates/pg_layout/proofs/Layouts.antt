@@ -176,7 +176,7 @@ mapped_reads {A} {B} la lb ra to from form fa = record { sound = sound; again = 
 abbrev pub Uncounted : {A : Type 0} → (A → Body) → Type 0
 Uncounted {A} l = (a : A) → (l a).has_too_many ≡ false
 
-times_sound : {A : Type 0} (l : A → Body) (read : List ℕ → Option (A × List ℕ)) → Reads l read → (n : ℕ) (bytes : List ℕ) (xs : List A) (rest : List ℕ) → IsBytes bytes → times_at read n bytes ≡ Some (xs, rest) → BeginsWith (listed l) bytes xs rest × (length xs ≡ n)
+pub times_sound : {A : Type 0} (l : A → Body) (read : List ℕ → Option (A × List ℕ)) → Reads l read → (n : ℕ) (bytes : List ℕ) (xs : List A) (rest : List ℕ) → IsBytes bytes → times_at read n bytes ≡ Some (xs, rest) → BeginsWith (listed l) bytes xs rest × (length xs ≡ n)
 unfolding times_at
 times_sound {A} l read f zero bytes xs rest fits e =
     let made : List A × List ℕ = ([], bytes) in
@@ -198,7 +198,7 @@ times_sound {A} l read f (suc n) bytes xs rest fits e =
       ap suc u.1,
     )
 
-times_again : {A : Type 0} (l : A → Body) (read : List ℕ → Option (A × List ℕ)) → Uncounted l → Reads l read → (xs : List A) (rest : List ℕ) → Spelled (listed l xs) → length (listed l xs).bytes < 2 ^ 31 → times_at read (length xs) ((listed l xs).bytes ++ rest) ≡ Some (xs, rest)
+pub times_again : {A : Type 0} (l : A → Body) (read : List ℕ → Option (A × List ℕ)) → Uncounted l → Reads l read → (xs : List A) (rest : List ℕ) → Spelled (listed l xs) → length (listed l xs).bytes < 2 ^ 31 → times_at read (length xs) ((listed l xs).bytes ++ rest) ≡ Some (xs, rest)
 unfolding times_at
 times_again l read uncounted f [] rest s short = refl
 times_again {A} l read uncounted f (x ∷ xs) rest s short =

@@ -5,7 +5,7 @@ ghost use Rattle.std.specs.Int.{w32};
 ghost use Rattle.pg_layout.specs.Private.Reader.{choice_at, copy_head_at, counted_at, name_at, signed_at, status_of_byte, string_at, terminated_at, times_at};
 ghost use Rattle.pg_layout.specs.Private.Lent.{left_after};
 
-use crate::field::Field;
+use crate::field::ReadField;
 use crate::reader::{after_zero, binary_at, i32_at, status_at, u16_at, zero_place};
 
 /// The bytes after an Int32.
@@ -50,7 +50,7 @@ pub fn after_status(bytes: &[u8]) -> Option<&[u8]>
 }
 
 /// The bytes after so many fields.
-fn after_times<T: Field>(count: u16, bytes: &[u8]) -> Option<&[u8]>
+fn after_times<T: ReadField>(count: u16, bytes: &[u8]) -> Option<&[u8]>
     ensures { option_copied result ≡ left_after (times_at T.reading count bytes.now) }
 {
     let mut rest = bytes;
@@ -62,7 +62,7 @@ fn after_times<T: Field>(count: u16, bytes: &[u8]) -> Option<&[u8]>
 
 /// The bytes after a list that stands after its count.
 #[tactic(auto, unfolding(crate::specs::Private::Reader::counted_at))]
-pub fn after_counted<T: Field>(bytes: &[u8]) -> Option<&[u8]>
+pub fn after_counted<T: ReadField>(bytes: &[u8]) -> Option<&[u8]>
     ensures { option_copied result ≡ left_after (counted_at T.reading bytes.now) }
 {
     match u16_at(bytes) {
@@ -73,7 +73,7 @@ pub fn after_counted<T: Field>(bytes: &[u8]) -> Option<&[u8]>
 
 /// The bytes after a list and the zero byte that closes it.
 #[tactic(auto, unfolding(crate::specs::Private::Reader::terminated_at))]
-pub fn after_terminated<T: Field>(bytes: &[u8]) -> Option<&[u8]>
+pub fn after_terminated<T: ReadField>(bytes: &[u8]) -> Option<&[u8]>
     ensures { option_copied result ≡ left_after (terminated_at T.reading bytes.now) }
 {
     let mut rest = bytes;

@@ -2,6 +2,7 @@
 
 ghost use Rattle.std.specs.Prelude.{◌≡◌};
 ghost use Rattle.pg_layout.specs.declared.fault.BodyFault.TheVariants.{Memory};
+ghost use Rattle.pg_layout.specs.declared.fault.EncodeFault.TheVariants as encode;
 
 use std::alloc::{AllocError, AllocFailed};
 use thiserror::Error;
@@ -28,6 +29,22 @@ pub enum EncodeFault {
     /// The buffer could not grow.
     #[error("E5 Memory")]
     Memory,
+}
+
+impl From<AllocError> for EncodeFault {
+    ghost from_gives = { λ _ e. e ≡ encode.Memory };
+
+    fn from(_e: AllocError) -> EncodeFault {
+        EncodeFault::Memory
+    }
+}
+
+impl<T: Drop> From<AllocFailed<T>> for EncodeFault {
+    ghost from_gives = { λ _ e. e ≡ encode.Memory };
+
+    fn from(_e: AllocFailed<T>) -> EncodeFault {
+        EncodeFault::Memory
+    }
 }
 
 /// Why no message was made of a body.

@@ -18,13 +18,10 @@ use crate::writer::{room_after_bytes, room_after_text, text_has_zero, write_text
 use pg_seq::Seq;
 use std::alloc::{AllocError, Global};
 
-/// A field of a message that may stand many times.
+/// A field of a message that may stand many times, as it is written.
 pub trait Field: Drop {
     // the field as it is spelled
     ghost layout: { Self → Body };
-
-    // how reading goes: the value and the bytes after it
-    ghost reading: { List ℕ → Option (Self × List ℕ) };
 
     /// Whether a String of the field has a zero byte.
     fn has_zero(&self) -> bool
@@ -40,6 +37,12 @@ pub trait Field: Drop {
         ensures before { out.new.before ≡ out.old.before }
         ensures added { OnOk result (out.new.added ≡ out.old.added ++ (layout self.now).bytes) }
         ensures of_type { OnOk result (layout self.now).IsOfType };
+}
+
+/// A field of a message that may stand many times, as it is read.
+pub trait ReadField: Drop {
+    // how reading goes: the value and the bytes after it
+    ghost reading: { List ℕ → Option (Self × List ℕ) };
 
     /// The field at the beginning of the bytes, and the bytes after it.
     fn read(alloc: Global, bytes: &[u8]) -> Result<(Self, &[u8]), BodyFault>
@@ -55,8 +58,6 @@ pub trait Field: Drop {
 impl Field for i16 {
     ghost layout = { int16 };
 
-    ghost reading = { signed_at w16 };
-
     fn has_zero(&self) -> bool {
         false
     }
@@ -68,6 +69,10 @@ impl Field for i16 {
     fn write(&self, out: &mut Appender) -> Result<(), AllocError> {
         out.put(&self.to_be_bytes())
     }
+}
+
+impl ReadField for i16 {
+    ghost reading = { signed_at w16 };
 
     fn read(_alloc: Global, bytes: &[u8]) -> Result<(i16, &[u8]), BodyFault> {
         i16_at(bytes)
@@ -84,8 +89,6 @@ impl Field for i16 {
 impl Field for u32 {
     ghost layout = { oid };
 
-    ghost reading = { number_at w32 };
-
     fn has_zero(&self) -> bool {
         false
     }
@@ -97,6 +100,10 @@ impl Field for u32 {
     fn write(&self, out: &mut Appender) -> Result<(), AllocError> {
         out.put(&self.to_be_bytes())
     }
+}
+
+impl ReadField for u32 {
+    ghost reading = { number_at w32 };
 
     fn read(_alloc: Global, bytes: &[u8]) -> Result<(u32, &[u8]), BodyFault> {
         u32_at(bytes)
@@ -112,8 +119,6 @@ impl Field for u32 {
 
 impl Field for Option<Seq<u8>> {
     ghost layout = { value };
-
-    ghost reading = { value_at };
 
     fn has_zero(&self) -> bool {
         false
@@ -137,6 +142,10 @@ impl Field for Option<Seq<u8>> {
             }
         }
     }
+}
+
+impl ReadField for Option<Seq<u8>> {
+    ghost reading = { value_at };
 
     #[tactic(auto, unfolding(crate::specs::Private::Reader::value_at))]
     fn read(alloc: Global, bytes: &[u8]) -> Result<(Option<Seq<u8>>, &[u8]), BodyFault> {
@@ -158,10 +167,35 @@ impl Field for Option<Seq<u8>> {
     }
 }
 
+/// A value that is lent.
+impl Field for Option<&[u8]> {
+    ghost layout = { λ v. value (option_copied v) };
+
+    fn has_zero(&self) -> bool {
+        false
+    }
+
+    fn room_after(&self, room: u32) -> Option<u32> {
+        let room = room.checked_sub(4)?;
+        match self {
+            None => Some(room),
+            Some(bytes) => room_after_bytes(bytes, room),
+        }
+    }
+
+    fn write(&self, out: &mut Appender) -> Result<(), AllocError> {
+        match self {
+            None => out.put(&[255, 255, 255, 255]),
+            Some(bytes) => {
+                out.put(&(bytes.len() as u32).to_be_bytes())?;
+                out.put(bytes)
+            }
+        }
+    }
+}
+
 impl Field for Column {
     ghost layout = { column };
-
-    ghost reading = { column_at };
 
     fn has_zero(&self) -> bool {
         text_has_zero(self.name.as_slice())
@@ -180,6 +214,10 @@ impl Field for Column {
         out.put(&self.modifier.to_be_bytes())?;
         out.put(&self.format.to_be_bytes())
     }
+}
+
+impl ReadField for Column {
+    ghost reading = { column_at };
 
     #[tactic(auto, unfolding(crate::specs::Private::Reader::column_at))]
     fn read(alloc: Global, bytes: &[u8]) -> Result<(Column, &[u8]), BodyFault> {
@@ -218,8 +256,6 @@ impl Field for Column {
 impl Field for (Seq<u8>, Seq<u8>) {
     ghost layout = { parameter };
 
-    ghost reading = { parameter_at };
-
     fn has_zero(&self) -> bool {
         text_has_zero(self.0.as_slice()) || text_has_zero(self.1.as_slice())
     }
@@ -233,6 +269,10 @@ impl Field for (Seq<u8>, Seq<u8>) {
         write_text(self.0.as_slice(), out)?;
         write_text(self.1.as_slice(), out)
     }
+}
+
+impl ReadField for (Seq<u8>, Seq<u8>) {
+    ghost reading = { parameter_at };
 
     #[tactic(auto, unfolding(crate::specs::Private::Reader::parameter_at))]
     fn read(alloc: Global, bytes: &[u8]) -> Result<((Seq<u8>, Seq<u8>), &[u8]), BodyFault> {
@@ -250,8 +290,6 @@ impl Field for (Seq<u8>, Seq<u8>) {
 impl Field for ErrorField {
     ghost layout = { error_field };
 
-    ghost reading = { error_field_at };
-
     fn has_zero(&self) -> bool {
         self.code == 0 || text_has_zero(self.value.as_slice())
     }
@@ -264,6 +302,10 @@ impl Field for ErrorField {
         out.put(&[self.code])?;
         write_text(self.value.as_slice(), out)
     }
+}
+
+impl ReadField for ErrorField {
+    ghost reading = { error_field_at };
 
     #[tactic(auto, unfolding(crate::specs::Private::Reader::error_field_at))]
     fn read(alloc: Global, bytes: &[u8]) -> Result<(ErrorField, &[u8]), BodyFault> {

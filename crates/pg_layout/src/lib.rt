@@ -19,7 +19,7 @@ pub use after::{
 };
 pub use appender::Appender;
 pub use fault::{BodyFault, EncodeFault};
-pub use field::Field;
+pub use field::{Field, ReadField};
 pub use lent::{lent_field_at, lent_value_at};
 pub use part::{
     BodyPart, Byte, Bytes, Counted, Int32, LONGEST, LONGEST_PACKET, Pair, Salt, Terminated, Text,
@@ -28,4 +28,5 @@ pub use part::{
 pub use reader::{
     copy_head_at, copy_of, counted, ended, i32_at, status_at, terminated, text_at, u16_at,
 };
-pub use value::{Column, CopyHead, ErrorField, Fields, Status, Target, Values};
+pub use writer::text_has_zero;
+pub use value::{Column, CopyHead, ErrorField, Fields, Status, Target};

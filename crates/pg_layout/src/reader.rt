@@ -6,7 +6,7 @@ ghost use Rattle.std.specs.Int.{w16, w32};
 ghost use Rattle.pg_layout.specs.Private.Reader.{Gives, name_at, number_at, signed_at, nonzero_at, string_at, counted_at, times_at, after_zero, terminated_at, choice_at, status_of_byte, binary_of_byte, copy_head_at};
 
 use crate::fault::BodyFault;
-use crate::field::Field;
+use crate::field::ReadField;
 use crate::value::{CopyHead, Status};
 use pg_seq::Seq;
 use std::alloc::Global;
@@ -106,7 +106,7 @@ pub fn copy_of(alloc: Global, bytes: &[u8]) -> Result<Seq<u8>, BodyFault>
 }
 
 /// So many fields, one after the other.
-fn times<T: Field>(alloc: Global, count: u16, bytes: &[u8]) -> Result<(Seq<T>, &[u8]), BodyFault>
+fn times<T: ReadField>(alloc: Global, count: u16, bytes: &[u8]) -> Result<(Seq<T>, &[u8]), BodyFault>
     ensures { Gives (λ x. (x.0, x.1.now)) result (times_at T.reading count bytes.now) }
 {
     // a field has at least one byte, so a count that passes the bytes gets no more room than they need
@@ -122,7 +122,7 @@ fn times<T: Field>(alloc: Global, count: u16, bytes: &[u8]) -> Result<(Seq<T>, &
 
 /// A list after its count.
 #[tactic(auto, unfolding(crate::specs::Private::Reader::counted_at))]
-pub fn counted<T: Field>(alloc: Global, bytes: &[u8]) -> Result<(Seq<T>, &[u8]), BodyFault>
+pub fn counted<T: ReadField>(alloc: Global, bytes: &[u8]) -> Result<(Seq<T>, &[u8]), BodyFault>
     ensures { Gives (λ x. (x.0, x.1.now)) result (counted_at T.reading bytes.now) }
 {
     let (count, rest) = u16_at(bytes)?;
@@ -142,7 +142,7 @@ pub fn after_zero(bytes: &[u8]) -> Option<&[u8]>
 
 /// A list up to a zero byte.
 #[tactic(auto, unfolding(crate::specs::Private::Reader::terminated_at))]
-pub fn terminated<T: Field>(alloc: Global, bytes: &[u8]) -> Result<(Seq<T>, &[u8]), BodyFault>
+pub fn terminated<T: ReadField>(alloc: Global, bytes: &[u8]) -> Result<(Seq<T>, &[u8]), BodyFault>
     ensures { Gives (λ x. (x.0, x.1.now)) result (terminated_at T.reading bytes.now) }
 {
     let mut items: Vec<T> = Vec::new(alloc);

@@ -45,9 +45,6 @@ impl DebugElement for Column {
     type Form = ByElement;
 }
 
-/// The values of a row. None is null.
-pub type Values = Seq<Option<Seq<u8>>>;
-
 /// A field of an error or a notice ("Error and Notice Message Fields").
 #[derive(Clone, Debug, PartialEq, Eq, Drop)]
 pub struct ErrorField {

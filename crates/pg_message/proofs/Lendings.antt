@@ -8,7 +8,7 @@ use Rattle.pg_message.specs.declared.message.BackMessage.{BackMessage}
 use Rattle.pg_message.specs.declared.message.BackMessage.TheVariants.{DataRow, ErrorResponse, NoticeResponse}
 use Rattle.pg_layout.specs.declared.value.ErrorField.{ErrorField}
 use Rattle.pg_layout.specs.Private.Reader.{value_at, counted_at, error_field_at, terminated_at, whole}
-use Rattle.pg_message.specs.Private.View.{row_of, fields_of}
+use Rattle.pg_values.specs.Private.View.{row_of, fields_of}
 use Rattle.pg_layout.proofs.Layouts.{IsBytes}
 use Rattle.pg_layout.proofs.Fields.{chosen}
 use Rattle.pg_message.specs.Backend.{tag}

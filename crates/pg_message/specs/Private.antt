@@ -2,5 +2,4 @@
 pub mod Reading
 pub mod BackReader
 pub mod FrontReader
-pub mod View
 pub mod LentReader

@@ -24,7 +24,7 @@ use pg_layout::{
     BodyFault, Byte, Bytes, Column, CopyHead, Counted, EncodeFault, ErrorField, Int32, Pair, Salt,
     Status, Terminated, Text, append,
 };
-use pg_seq::Seq;
+use pg_values::{CountedValues, ValueList};
 use reading::back_message;
 use std::alloc::Global;
 
@@ -84,11 +84,11 @@ pub fn row_description(columns: &[Column], buf: &mut Vec<u8>) -> Result<(), Enco
     append(b'T', &Counted(columns), buf)
 }
 
-/// Appends a DataRow of these values. Its faults are TooMany, TooLong and Memory.
-pub fn data_row(values: &[Option<Seq<u8>>], buf: &mut Vec<u8>) -> Result<(), EncodeFault>
-    ensures { Encodes backend (DataRow values.now) buf.old.items result buf.new.items }
+/// Appends a DataRow of these values, owned or lent. Its faults are TooMany, TooLong and Memory.
+pub fn data_row<V: ValueList>(values: V, buf: &mut Vec<u8>) -> Result<(), EncodeFault>
+    ensures { Encodes backend (DataRow (V.values values)) buf.old.items result buf.new.items }
 {
-    append(b'D', &Counted(values), buf)
+    append(b'D', &CountedValues(values), buf)
 }
 
 /// Appends a CommandComplete with this tag. Its faults are HasZero, TooLong and Memory.
@@ -177,7 +177,7 @@ pub fn encode(message: &BackMessage, buf: &mut Vec<u8>) -> Result<(), EncodeFaul
         }
         BackMessage::Ready(status) => append(b'Z', &Byte(status_byte(*status)), buf),
         BackMessage::RowDescription(columns) => row_description(columns.as_slice(), buf),
-        BackMessage::DataRow(values) => data_row(values.as_slice(), buf),
+        BackMessage::DataRow(values) => data_row(values, buf),
         BackMessage::CommandComplete(tag) => command_complete(tag.as_slice(), buf),
         BackMessage::EmptyQuery => append(b'I', &Bytes(&[]), buf),
         BackMessage::ParseComplete => append(b'1', &Bytes(&[]), buf),

@@ -13,7 +13,7 @@ ghost use Rattle.std.specs.Prelude.{◌≡◌, false, option_copied};
 ghost use Rattle.pg_message.specs.declared.message.FrontMessage.TheVariants.{Query, Parse, Bind, Describe, Close, Execute, Sync, Flush, Terminate, CopyData, CopyDone, CopyFail, Password};
 ghost use Rattle.std.specs.List.{list_any};
 ghost use Rattle.pg_message.specs.declared.message.First.TheVariants.{Startup, Cancel, Ssl, Gss};
-ghost use Rattle.pg_message.specs.Frontend.{frontend, target_byte};
+ghost use Rattle.pg_message.specs.Frontend.{frontend, tag, target_byte};
 ghost use Rattle.pg_message.specs.First.{has_no_name, startup_parameters};
 ghost use Rattle.pg_message.specs.Encoder.{Encodes, EncodesPacket, AppendsPacket};
 ghost use Rattle.pg_message.specs.Private.FrontReader.{front_reading};
@@ -28,6 +28,7 @@ use pg_layout::{
     append, append_packet,
 };
 use pg_seq::Seq;
+use pg_values::{CountedValues, ValueList};
 use reading::front_message;
 use std::alloc::Global;
 
@@ -151,22 +152,22 @@ pub fn parse(name: &[u8], text: &[u8], types: &[u32], buf: &mut Vec<u8>) -> Resu
     )
 }
 
-/// Appends a Bind that makes a portal of a statement (empty names for the unnamed ones). The format codes are none, one for
-/// all, or one each. Its faults are HasZero, TooMany, TooLong and Memory.
-pub fn bind(
+/// Appends a Bind that makes a portal of a statement (empty names for the unnamed ones). The values are owned or lent. The format
+/// codes are none, one for all, or one each. Its faults are HasZero, TooMany, TooLong and Memory.
+pub fn bind<V: ValueList>(
     portal: &[u8],
     statement: &[u8],
     formats: &[i16],
-    values: &[Option<Seq<u8>>],
+    values: V,
     result_formats: &[i16],
     buf: &mut Vec<u8>,
 ) -> Result<(), EncodeFault>
     ensures { Encodes frontend
-        (Bind portal.now statement.now formats.now values.now result_formats.now) buf.old.items
-        result buf.new.items }
+        (Bind portal.now statement.now formats.now (V.values values) result_formats.now)
+        buf.old.items result buf.new.items }
 {
     let names = Pair(Text(portal), Text(statement));
-    let given = Pair(Pair(names, Counted(formats)), Counted(values));
+    let given = Pair(Pair(names, Counted(formats)), CountedValues(values));
     append(b'B', &Pair(given, Counted(result_formats)), buf)
 }
 
@@ -260,7 +261,7 @@ pub fn encode(message: &FrontMessage, buf: &mut Vec<u8>) -> Result<(), EncodeFau
             portal.as_slice(),
             statement.as_slice(),
             formats.as_slice(),
-            values.as_slice(),
+            values,
             result_formats.as_slice(),
             buf,
         ),
@@ -274,6 +275,29 @@ pub fn encode(message: &FrontMessage, buf: &mut Vec<u8>) -> Result<(), EncodeFau
         FrontMessage::CopyDone => copy_done(buf),
         FrontMessage::CopyFail(reason) => copy_fail(reason.as_slice(), buf),
         FrontMessage::Password(password) => password_message(password.as_slice(), buf),
+    }
+}
+
+impl FrontMessage {
+    /// The message's tag, which is the first byte of its spelling.
+    pub fn tag(&self) -> u8
+        ensures { result ≡ tag self.now }
+    {
+        match self {
+            FrontMessage::Query(_) => b'Q',
+            FrontMessage::Parse { .. } => b'P',
+            FrontMessage::Bind { .. } => b'B',
+            FrontMessage::Describe { .. } => b'D',
+            FrontMessage::Close { .. } => b'C',
+            FrontMessage::Execute { .. } => b'E',
+            FrontMessage::Sync => b'S',
+            FrontMessage::Flush => b'H',
+            FrontMessage::Terminate => b'X',
+            FrontMessage::CopyData(_) => b'd',
+            FrontMessage::CopyDone => b'c',
+            FrontMessage::CopyFail(_) => b'f',
+            FrontMessage::Password(_) => b'p',
+        }
     }
 }
 

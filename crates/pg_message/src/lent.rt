@@ -3,7 +3,7 @@
 ghost use Rattle.std.specs.Prelude.{◌≡◌, Some, IsSome};
 ghost use Rattle.pg_message.specs.Private.LentReader.{has_lent, lent_body};
 
-use crate::view::{FieldsView, RowView};
+use pg_values::{FieldsView, RowView};
 
 /// A message that a decoder lends: nothing of it is copied.
 #[derive(Drop)]

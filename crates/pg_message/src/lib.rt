@@ -10,9 +10,7 @@ pub mod frontend;
 mod judging;
 mod lent;
 mod message;
-mod view;
 
 pub use direction::Message;
 pub use lent::Lent;
 pub use message::{BackMessage, First, FrontMessage};
-pub use view::{FieldsView, LentFields, LentValues, RowView};

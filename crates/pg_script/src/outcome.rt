@@ -8,31 +8,12 @@ use crate::script::{Answer, Load, ScriptPart};
 use pg_wire::{Aside, ExecEnd, Fields, Outcome, Part, Seq, Values};
 use std::alloc::{AllocError, Global};
 
-fn copy_of_value(value: &Option<Seq<u8>>) -> Result<Option<Seq<u8>>, AllocError>
-    ensures { IfOk result (λ copy. copy ≡ value.now) }
-{
-    match value {
-        None => Ok(None),
-        Some(bytes) => Ok(Some(bytes.clone()?)),
-    }
-}
-
-fn copy_of_row(alloc: Global, row: &[Option<Seq<u8>>]) -> Result<Values, AllocError>
-    ensures { IfOk result (λ copy. copy ≡ row.now) }
-{
-    let mut copy = Seq::new(Vec::new(alloc));
-    for value in row {
-        copy.push(copy_of_value(value)?)?;
-    }
-    Ok(copy)
-}
-
 fn copy_of_rows(alloc: Global, rows: &[Values]) -> Result<Seq<Values>, AllocError>
     ensures { IfOk result (λ copy. copy ≡ rows.now) }
 {
     let mut copy = Seq::new(Vec::new(alloc));
     for row in rows {
-        copy.push(copy_of_row(alloc, row.as_slice())?)?;
+        copy.push(row.clone()?)?;
     }
     Ok(copy)
 }

@@ -64,7 +64,7 @@ impl Tell for Values {
     ghost messages = { λ row. DataRow row ∷ [] };
 
     fn tell(&self, out: &mut Vec<u8>) -> Result<(), EncodeFault> {
-        data_row(self.as_slice(), out)
+        data_row(self, out)
     }
 }
 

@@ -60,6 +60,21 @@ impl BackDecoder {
         }
     }
 
+    /// The greatest length field of a message that it takes, as `new` was told.
+    pub fn limit(&self) -> u32
+        ensures { result ≡ self.now.stream.limit }
+    {
+        self.stream.limit()
+    }
+
+    /// The bytes that are kept: what was pushed after the messages that were given. A reader of what follows in the stream goes on with
+    /// them, where the connection changes what it speaks. It takes no memory.
+    pub fn into_rest(self) -> BytesMut
+        ensures { result.items ≡ self.stream.kept }
+    {
+        self.stream.into_rest()
+    }
+
     /// How many bytes are kept: those that were pushed and have not been given as messages.
     pub fn kept(&self) -> usize
         ensures { result ≡ length self.now.stream.kept }

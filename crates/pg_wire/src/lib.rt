@@ -26,12 +26,13 @@ pub use fault::WireFault;
 pub use first::FirstDecoder;
 pub use password::md5_answer;
 pub use pg_layout::{
-    BodyFault, Column, CopyHead, EncodeFault, ErrorField, Fields, LONGEST, Status, Target, Values,
+    BodyFault, Column, CopyHead, EncodeFault, ErrorField, Fields, LONGEST, LONGEST_PACKET, Status,
+    Target,
 };
 pub use pg_link::{LinkFault, Over, PATIENCE, Patient, Sink, Source};
 pub use pg_message::{
-    BackMessage, FieldsView, First, FrontMessage, Lent, LentFields, LentValues, Message, RowView,
-    backend, frontend,
+    BackMessage, First, FrontMessage, Lent, Message, backend, frontend,
 };
 pub use pg_seq::Seq;
+pub use pg_values::{FieldsView, LentFields, LentValues, RowView, ValueList, Values};
 pub use session::{Aside, ExecEnd, Outcome, Part, Request, Step};

@@ -1,6 +1,6 @@
 //! What the decoders of tagged messages have in common.
 
-ghost use Rattle.std.specs.Prelude.{◌≡◌, [], true, length};
+ghost use Rattle.std.specs.Prelude.{◌≡◌, ◌≤◌, [], true, drop, length};
 ghost use Rattle.pg_message.specs.Direction.{IsLimit};
 ghost use Rattle.pg_message.specs.Private.LentReader.{lent_bytes};
 ghost use Rattle.pg_wire.specs.Decoder.{Pushes, IsLasting, Takes};
@@ -88,13 +88,44 @@ impl<M: Message> Stream<M> {
         rest
     }
 
+    /// Ends the holding, and takes so many bytes off what is kept.
+    fn take_off(&mut self, count: usize)
+        requires { count ≤ length self.old.rest.kept }
+        ensures front { self.new.front ≡ [] }
+        ensures rest { self.new.rest ≡ record self.old.rest { kept = drop count self.old.rest.kept } }
+    {
+        let left = self.kept() - count;
+        let len = self.buffer.len();
+        drop_first(&mut self.buffer, len - left);
+        self.held = 0;
+    }
+
     /// Ends the holding.
     fn let_go(&mut self)
         ensures front { self.new.front ≡ [] }
         ensures rest { self.new.rest ≡ self.old.rest }
     {
-        drop_first(&mut self.buffer, self.held);
-        self.held = 0;
+        if self.held > 0 {
+            self.take_off(0);
+        }
+    }
+
+    /// The limit of a message's length field.
+    pub fn limit(&self) -> u32
+        ensures { result ≡ self.now.rest.limit }
+    {
+        self.limit
+    }
+
+    /// The bytes that are kept.
+    pub fn into_rest(self) -> BytesMut
+        ensures { result.items ≡ self.rest.kept }
+    {
+        let Stream {
+            mut buffer, held, ..
+        } = self;
+        drop_first(&mut buffer, held);
+        buffer
     }
 
     /// Takes a piece, all of it or, where memory is refused, nothing.
@@ -126,8 +157,7 @@ impl<M: Message> Stream<M> {
                 Ok(None)
             }
             Ok(Some((message, len))) => {
-                self.let_go();
-                drop_first(&mut self.buffer, len);
+                self.take_off(len);
                 Ok(Some(message))
             }
             Err(WireFault::Memory) => Err(WireFault::Memory),
@@ -161,8 +191,7 @@ impl Stream<BackMessage> {
                 Ok(Cut::Held)
             }
             Ok(Found::Other(message, size)) => {
-                self.let_go();
-                drop_first(&mut self.buffer, size);
+                self.take_off(size);
                 Ok(Cut::Other(message))
             }
             Err(WireFault::Memory) => Err(WireFault::Memory),

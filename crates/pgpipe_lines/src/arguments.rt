@@ -120,10 +120,21 @@ impl Arguments {
     }
 
     /// The fields that are left: values, of which any may be null.
-    pub fn values(self) -> Result<Values, Refusal>
+    pub fn values(mut self) -> Result<Values, Refusal>
         ensures { ReadsAs result (Some self) }
     {
-        Ok(self.fields.collect(self.alloc)?)
+        let mut values = Values::new(self.alloc);
+        'values: while let Some(field) = self.fields.next() {
+            let value = match &field {
+                None => None,
+                Some(text) => Some(text.as_slice()),
+            };
+            // values that no message could hold are more than this program takes
+            if values.push(value).is_err() {
+                return Err(Refusal::Memory);
+            }
+        }
+        Ok(values)
     }
 
     /// The fields that are left: those of an error or a notice, each a code of one byte and a value.

@@ -1,4 +1,4 @@
-//! Tests of this repository's libraries, by their public interface alone, and the values that tests are written with.
+//! Tests of the client and of the scripted backend, by their public interface alone, and the values that tests are written with.
 //!
 //! They stand in a crate of their own, so that no library is proved once more for the sake of its tests.
 #![tactic(auto)]
@@ -7,10 +7,4 @@
 mod backend;
 #[cfg(test)]
 mod client;
-#[cfg(test)]
-mod copy;
-#[cfg(test)]
-mod seq;
 pub mod values;
-#[cfg(test)]
-mod wire;

@@ -47,12 +47,12 @@ pub fn columns(alloc: Global, name: &[u8]) -> Result<Seq<Column>, AllocError> {
 
 /// A row of a value.
 pub fn row(alloc: Global, value: &[u8]) -> Result<Values, AllocError> {
-    Ok(Seq::new(vec![in alloc; Some(text(alloc, value)?)]?))
+    Values::from_slice(alloc, &[Some(value)]).map_err(|_| AllocError)
 }
 
 /// A row of a value and a null.
 pub fn row_and_null(alloc: Global, value: &[u8]) -> Result<Values, AllocError> {
-    Ok(Seq::new(vec![in alloc; Some(text(alloc, value)?), None]?))
+    Values::from_slice(alloc, &[Some(value), None]).map_err(|_| AllocError)
 }
 
 /// The head of a copy with as many formats of 0 as columns.

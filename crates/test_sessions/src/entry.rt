@@ -5,7 +5,7 @@ ghost use Rattle.test_sessions.specs.Entry.{server_bytes};
 
 use hex::FromHexError;
 use pg_client::Call;
-use pg_wire::{Request, Seq, Step, Target, Values};
+use pg_wire::{EncodeFault, Request, Seq, Step, Target, Values};
 use std::alloc::{AllocError, AllocFailed, Global};
 use thiserror::Error;
 
@@ -49,6 +49,12 @@ pub enum EntryFault {
 impl From<AllocError> for EntryFault {
     fn from(_e: AllocError) -> EntryFault {
         EntryFault::Memory
+    }
+}
+
+impl From<EncodeFault> for EntryFault {
+    fn from(_e: EncodeFault) -> EntryFault {
+        EntryFault::NoValue
     }
 }
 
@@ -103,16 +109,17 @@ fn formats_of(alloc: Global, text: &str) -> Result<Seq<i16>, EntryFault> {
 }
 
 fn values_of(alloc: Global, text: &str) -> Result<Values, EntryFault> {
-    let mut values = Vec::new(alloc);
+    let mut values = Values::new(alloc);
     for value in text.split(',') {
         if value == "null" {
             values.push(None)?;
         } else if !text.is_empty() {
             let digits = value.strip_prefix("=").ok_or(EntryFault::NoValue)?;
-            values.push(Some(Seq::new(bytes_of(alloc, digits)?)))?;
+            let bytes = bytes_of(alloc, digits)?;
+            values.push(Some(bytes.as_slice()))?;
         }
     }
-    Ok(Seq::new(values))
+    Ok(values)
 }
 
 fn target_of(text: &str) -> Result<Target, EntryFault> {

@@ -32,13 +32,13 @@ fn print_line(text: &[u8], out: &mut impl Write) -> io::Result<()> {
 
 fn print_row(values: &Values, out: &mut impl Write) -> io::Result<()> {
     let mut first = true;
-    for value in values {
+    for value in values.iter() {
         if !first {
             out.write_all(b"|")?;
         }
         first = false;
         if let Some(bytes) = value {
-            out.write_all(bytes.as_slice())?;
+            out.write_all(bytes)?;
         }
     }
     out.write_all(b"\n")

@@ -46,12 +46,12 @@ fn write_columns(columns: &Seq<Column>, out: &mut impl Write) -> io::Result<()> 
 fn write_row(values: &Values, out: &mut impl Write) -> io::Result<()> {
     out.write_all(b"row ")?;
     let mut mark = b"".as_slice();
-    for value in values {
+    for value in values.iter() {
         out.write_all(mark)?;
         match value {
             Some(bytes) => {
                 out.write_all(b"=")?;
-                out.write_all(bytes.as_slice())?;
+                out.write_all(bytes)?;
             }
             None => out.write_all(b"null")?,
         }

@@ -2,7 +2,7 @@
 
 use pg_wire::{
     BackDecoder, BackMessage, Cut, Decoder, EncodeFault, ErrorField, FieldsView, First,
-    FirstDecoder, Lent, Message, RowView, Seq, WireFault, backend, frontend,
+    FirstDecoder, Lent, Message, RowView, Seq, Values, WireFault, backend, frontend,
 };
 use std::alloc::{AllocError, Global};
 use std::fmt::Debug;
@@ -103,15 +103,10 @@ impl Subject for BackDecoder {
 
 /// The values of a row that is lent.
 fn values_of(alloc: Global, row: &RowView<'_>) -> Result<BackMessage, AllocError> {
-    let mut values = Seq::new(Vec::new(alloc));
-    for value in row.values() {
-        let value = match value {
-            None => None,
-            Some(bytes) => Some(Seq::from_slice(alloc, bytes)?),
-        };
-        values.push(value)?;
+    match Values::of_row(alloc, row) {
+        Ok(values) => Ok(BackMessage::DataRow(values)),
+        Err(_) => Err(AllocError),
     }
-    Ok(BackMessage::DataRow(values))
 }
 
 /// The fields of an error or a notice that is lent.

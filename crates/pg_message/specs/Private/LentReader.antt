@@ -6,7 +6,7 @@ use Rattle.pg_message.specs.declared.lent.Lent.TheVariants.{Row, Error, Notice}
 use Rattle.pg_message.specs.Backend.{backend}
 use Rattle.pg_message.specs.Message.{IsMessage, NoMessage}
 use Rattle.pg_message.specs.Lent.{message_of}
-use Rattle.pg_message.specs.Private.View.{row_of, fields_of}
+use Rattle.pg_values.specs.Private.View.{row_of, fields_of}
 
 -- the tags of the messages that are lent
 abbrev pub has_lent : ℕ → Bool

@@ -11,6 +11,7 @@ use crate::message::BackMessage;
 use pg_layout::{
     BodyFault, copy_head_at, copy_of, counted, ended, i32_at, status_at, terminated, text_at,
 };
+use pg_values::values_at;
 use std::alloc::Global;
 
 /// An authentication request, whose code says which.
@@ -59,7 +60,7 @@ pub fn back_message(alloc: Global, kind: BackKind, body: &[u8]) -> Result<BackMe
             ended(BackMessage::RowDescription(columns), rest)
         }
         BackKind::DataRow => {
-            let (values, rest) = counted(alloc, body)?;
+            let (values, rest) = values_at(alloc, body)?;
             ended(BackMessage::DataRow(values), rest)
         }
         BackKind::CommandComplete => {

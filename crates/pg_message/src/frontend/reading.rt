@@ -10,6 +10,7 @@ ghost use Rattle.pg_message.specs.Private.Reading.{AsksFor};
 use super::kind::FrontKind;
 use crate::message::FrontMessage;
 use pg_layout::{BodyFault, Target, copy_of, counted, ended, i32_at, text_at};
+use pg_values::values_at;
 use std::alloc::Global;
 
 /// What a Describe or a Close names, by its byte.
@@ -44,7 +45,7 @@ pub fn front_message(alloc: Global, kind: FrontKind, body: &[u8]) -> Result<Fron
             let (portal, rest) = text_at(alloc, body)?;
             let (statement, rest) = text_at(alloc, rest)?;
             let (formats, rest) = counted(alloc, rest)?;
-            let (values, rest) = counted(alloc, rest)?;
+            let (values, rest) = values_at(alloc, rest)?;
             let (result_formats, rest) = counted(alloc, rest)?;
             let message = FrontMessage::Bind {
                 portal,

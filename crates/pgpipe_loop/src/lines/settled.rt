@@ -7,7 +7,8 @@ ghost use Rattle.pgpipe_loop.specs.Private.Lines.{with_row, with_rows};
 use super::buffer::{LineBuffer, PutsLine, PutsLines};
 use super::lists::{put_all_lines, put_each_field, put_each_line};
 use super::short::{
-    put_error_line, put_head, put_list_line, put_request_line, put_text_line, put_word_line,
+    put_error_line, put_head, put_list_line, put_request_line, put_text_line, put_values,
+    put_word_line,
 };
 use pg_client::Settled;
 use pg_wire::{Aside, Column, CopyHead, ExecEnd, Fields, Part, Seq, Status, Values};
@@ -34,7 +35,9 @@ impl PutsLine for Values {
     ghost line_row = { value_row };
 
     fn put_line(&self, lines: &mut LineBuffer) -> Result<(), AllocError> {
-        put_list_line(b"row", self.as_slice(), lines)
+        lines.put_text(b"row")?;
+        put_values(self, lines)?;
+        lines.end()
     }
 }
 

@@ -7,19 +7,17 @@ ghost use Rattle.pgpipe_loop.specs.Private.Lines.{with_fields, with_row};
 
 use super::buffer::{LineBuffer, PutsField};
 use super::lists::put_each_field;
-use pg_wire::{Column, CopyHead, ErrorField, Request, Seq};
+use pg_wire::{Column, CopyHead, ErrorField, Request, Seq, Values};
 use std::alloc::AllocError;
 
-/// A value of a row, which may be null.
-impl PutsField for Option<Seq<u8>> {
-    ghost field = { λ value. value };
-
-    fn put_field(&self, lines: &mut LineBuffer) -> Result<(), AllocError> {
-        match self {
-            None => lines.put(None),
-            Some(text) => lines.put_text(text.as_slice()),
-        }
+/// Puts the values of a row, of which any may be null.
+pub fn put_values(values: &Values, lines: &mut LineBuffer) -> Result<(), AllocError>
+    ensures { OnOk result (lines.new ≡ with_fields lines.old values.now) }
+{
+    'values: for value in values.iter() {
+        lines.put(value)?;
     }
+    Ok(())
 }
 
 /// A chunk of a copy.

@@ -126,7 +126,7 @@ pub fn columns(alloc: Global) -> Result<Seq<Column>, AllocError> {
 }
 
 fn row_values(alloc: Global) -> Result<Values, AllocError> {
-    Ok(Seq::new(vec![in alloc; Some(text(alloc, b"1")?)]?))
+    Values::from_slice(alloc, &[Some(b"1")]).map_err(|_| AllocError)
 }
 
 pub fn rows(alloc: Global) -> Result<Seq<Values>, AllocError> {

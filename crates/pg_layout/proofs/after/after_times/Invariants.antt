@@ -5,4 +5,4 @@ use Rattle.pg_layout.proofs.after.after_times.Given as goal
 
 -- what is left after the fields that are to come is what is left after all
 abbrev pub invariant-loop : goal.invariant-loop
-invariant-loop g l = left_after (times_at g.T.Field.reading (l.count - l.counter) l.rest) ≡ left_after (times_at g.T.Field.reading l.count l.bytes)
+invariant-loop g l = left_after (times_at g.T.ReadField.reading (l.count - l.counter) l.rest) ≡ left_after (times_at g.T.ReadField.reading l.count l.bytes)

@@ -5,4 +5,4 @@ use Rattle.pg_layout.proofs.reader.terminated.Given as goal
 
 -- the items so far, and what is read after them, are what is read in all
 abbrev pub invariant-loop : goal.invariant-loop
-invariant-loop g l = with_first l.items.items (up_to_zero_at g.T.Field.reading (length l.bytes - l.counter) l.rest) ≡ up_to_zero_at g.T.Field.reading (length l.bytes) l.bytes
+invariant-loop g l = with_first l.items.items (up_to_zero_at g.T.ReadField.reading (length l.bytes - l.counter) l.rest) ≡ up_to_zero_at g.T.ReadField.reading (length l.bytes) l.bytes

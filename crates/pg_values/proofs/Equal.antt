@@ -1,0 +1,72 @@
+-- Blocks with the same places and the same bytes hold the same values, and no others do.
+use Rattle.std.proofs.Common.{◌≡◌, ℕ, zero, suc, Bool, true, false, ◌&&◌, List, [], ◌∷◌, length, Option, Some, None, refl, sym, ap, ◌∙◌}
+use Rattle.std.specs.Prelude.{nat_eq}
+use Rattle.std.specs.Option.{option_eq}
+use Rattle.std.specs.Cmp.Lexicographic.{pointwise, same_text, lists_equiv, options_equiv, nat_list_eq_equiv}
+use Rattle.pg_values.specs.Private.View.{values_left}
+use Rattle.pg_values.specs.Private.Block.{IsBlock, spelled}
+use Rattle.pg_values.proofs.Blocks.{count_is}
+
+abbrev pub equal_values : List (Option (List ℕ)) → List (Option (List ℕ)) → Bool
+equal_values = pointwise (option_eq (pointwise nat_eq))
+
+both : (p q : Bool) → (p && q) ≡ true → (p ≡ true) × (q ≡ true)
+both true q e = (refl, e)
+both false q e = absurd cc
+
+same_value : (x y : Option (List ℕ)) → option_eq (pointwise nat_eq) x y ≡ true → x ≡ y
+same_value None None e = refl
+same_value (Some x) (Some y) e = ap (λ (v : List ℕ). Some v) (same_text x y (sym e))
+same_value None (Some y) e = absurd cc
+same_value (Some x) None e = absurd cc
+
+pub same_values : (xs ys : List (Option (List ℕ))) → equal_values xs ys ≡ true → xs ≡ ys
+same_values [] [] e = refl
+same_values (x ∷ xs) (y ∷ ys) e =
+    let parts = both (option_eq (pointwise nat_eq) x y) (equal_values xs ys) e in
+    ap (λ (v : Option (List ℕ)). v ∷ xs) (same_value x y parts.0) ∙ ap (λ (vs : List (Option (List ℕ))). y ∷ vs) (same_values xs ys parts.1)
+same_values [] (y ∷ ys) e = absurd cc
+same_values (x ∷ xs) [] e = absurd cc
+
+pub one_truth : (p q : Bool) → (p ≡ true → q ≡ true) → (q ≡ true → p ≡ true) → p ≡ q
+one_truth true q to from = sym (to refl)
+one_truth false true to from = from refl
+one_truth false false to from = refl
+
+refl_values : (xs : List (Option (List ℕ))) → equal_values xs xs ≡ true
+refl_values xs = (lists_equiv (options_equiv nat_list_eq_equiv)).refl xs
+
+refl_bytes : (xs : List ℕ) → pointwise nat_eq xs xs ≡ true
+refl_bytes xs = nat_list_eq_equiv.refl xs
+
+and_true : (p q : Bool) → p ≡ true → q ≡ true → (p && q) ≡ true
+and_true true q e f = f
+and_true false q e f = e
+
+module _ (places block places' block' : List ℕ) (b : IsBlock places block) (b' : IsBlock places' block') where
+  abbrev vs : List (Option (List ℕ))
+  vs = values_left (length places) block
+
+  abbrev ws : List (Option (List ℕ))
+  ws = values_left (length places') block'
+
+  -- two blocks with as many values are compared as their bytes are
+  pub compared : length places ≡ length places' → pointwise nat_eq block block' ≡ equal_values vs ws
+  compared len = one_truth (pointwise nat_eq block block') (equal_values vs ws) to from
+    where
+      to : pointwise nat_eq block block' ≡ true → equal_values vs ws ≡ true
+      to e =
+          let same : vs ≡ ws = ap (λ (n : ℕ). values_left n block) len ∙ ap (values_left (length places')) (same_text block block' (sym e)) in
+          ap (equal_values vs) (sym same) ∙ refl_values vs
+
+      from : equal_values vs ws ≡ true → pointwise nat_eq block block' ≡ true
+      from e =
+          let same : block ≡ block' = sym b.whole ∙ ap spelled (same_values vs ws e) ∙ b'.whole in
+          ap (pointwise nat_eq block) (sym same) ∙ refl_bytes block
+
+  -- those with more or fewer aren't equal
+  pub apart : (length places ≡ length places' → ⊥) → false ≡ equal_values vs ws
+  apart other = one_truth false (equal_values vs ws) (λ e. absurd (differ e)) (λ e. absurd (other (sym (count_is places block b) ∙ ap length (same_values vs ws e) ∙ count_is places' block' b')))
+    where
+      differ : false ≡ true → ⊥
+      differ e = cc

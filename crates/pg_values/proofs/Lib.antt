@@ -1,0 +1,4 @@
+pub mod Views
+pub mod Blocks
+pub mod Equal
+pub mod Lists

@@ -1,0 +1,14 @@
+//! The values of rows and parameters: lent by the body of the message that they stand in, or kept in one block of memory; and the
+//! fields of errors and notices, lent.
+//!
+//! It stands between `pg_layout` and `pg_message`. Users name `pg_wire`, which passes on what they need of it.
+#![tactic(auto)]
+
+mod part;
+mod places;
+mod values;
+mod view;
+
+pub use part::{CountedValues, ValueList};
+pub use values::{Values, values_at};
+pub use view::{FieldsView, LentFields, LentValues, RowView};
