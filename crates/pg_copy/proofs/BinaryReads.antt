@@ -119,10 +119,10 @@ takes_cond : {A : Type 0} (least : ℕ) (t : Bool) (x y : Result (A × List ℕ)
 takes_cond least true x y bytes h k = h
 takes_cond least false x y bytes h k = k
 
-takes_none : {A : Type 0} (a : A) (bytes : List ℕ) → TakesAtLeast 0 (Ok (a, bytes)) bytes
+pub takes_none : {A : Type 0} (a : A) (bytes : List ℕ) → TakesAtLeast 0 (Ok (a, bytes)) bytes
 takes_none a bytes = (0, omega arith, omega arith, refl)
 
-bytes_take : (n : ℕ) (bytes : List ℕ) → TakesAtLeast 0 (bytes_at n bytes) bytes
+pub bytes_take : (n : ℕ) (bytes : List ℕ) → TakesAtLeast 0 (bytes_at n bytes) bytes
 bytes_take n bytes = elim (cases_lt (length bytes) n) [
   | inl lt ↦ rw (lt-ltb (length bytes) n lt) tt
   | inr le ↦ rw (le-ltb (length bytes) n le) (n, omega arith, le, refl)
@@ -140,7 +140,7 @@ number_takes w bytes = elim (cases_lt (length bytes) (byte_len w)) [
   | inr le ↦ rw (le-ltb (length bytes) (byte_len w) le) (byte_len w, omega arith, le, refl)
 ]
 
-less : {A : Type 0} (m n : ℕ) (r : Result (A × List ℕ) NoPart) (bytes : List ℕ) → m ≤ n → TakesAtLeast n r bytes → TakesAtLeast m r bytes
+pub less : {A : Type 0} (m n : ℕ) (r : Result (A × List ℕ) NoPart) (bytes : List ℕ) → m ≤ n → TakesAtLeast n r bytes → TakesAtLeast m r bytes
 less m n (Ok x) bytes le h = (h.0, omega (arith, h.1), h.2, h.3)
 less m n (Err stop) bytes le h = tt
 

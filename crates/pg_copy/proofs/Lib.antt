@@ -13,5 +13,6 @@ pub mod BinaryReads
 pub mod BinaryHeads
 pub mod BinaryLoop
 pub mod BinaryHistory
+pub mod BinaryFewer
 pub mod BinaryPushes
 pub mod BinaryWalk

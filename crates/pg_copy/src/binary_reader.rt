@@ -1,6 +1,6 @@
 //! Reading a binary file that comes in pieces.
 
-ghost use Rattle.std.specs.Prelude.{◌≡◌, ◌++◌, ◌≤◌, ◌<◌, ◌↔◌, ◌⊎◌, ℕ, List, Ok, Err, [], true, false, IsTrue, OnOk};
+ghost use Rattle.std.specs.Prelude.{◌≡◌, ◌++◌, ◌≤◌, ◌<◌, ◌↔◌, ◌⊎◌, ℕ, List, length, Ok, Err, [], true, false, IsTrue, OnOk};
 ghost use Rattle.pg_copy.specs.declared.fault.BinaryFault.{BinaryFault};
 ghost use Rattle.pg_copy.specs.declared.fault.BinaryFault.TheVariants.{Memory};
 ghost use Rattle.pg_copy.specs.declared.binary_reader.BinaryStage.TheVariants.{Head, Extension, Rows, Closed, Failed};
@@ -127,8 +127,8 @@ impl BinaryReader {
 
     /// The next row, or None where no whole row waits or the trailer was read. A fault is found where no more rows stand before
     /// it, and is then answered for good. Memory is answered only where a row waits, and leaves the reader unchanged. Where it
-    /// answers None, at most 18 bytes of a head are kept, and none of its extension (PostgreSQL documentation, page COPY,
-    /// "Binary Format").
+    /// answers None, at most 18 bytes of a head are kept, and none of its extension. Where it gives a row, fewer bytes are kept, so
+    /// that a loop over the rows comes to its end (PostgreSQL documentation, page COPY, "Binary Format").
     pub fn next(&mut self) -> Result<Option<Row>, BinaryFault>
         requires { self.old.ended ≡ false }
         ensures read { (pushed : List ℕ) (given : List Row) → HasReadBinary self.old pushed given
@@ -139,6 +139,8 @@ impl BinaryReader {
         ensures same { (self.new.columns ≡ self.old.columns) × (self.new.limit ≡ self.old.limit) }
         ensures ended { self.new.ended ≡ false }
         ensures row { (row : Row) → result ≡ Ok (Some row) → self.new.stage ≡ Rows }
+        ensures fewer { (row : Row) → result ≡ Ok (Some row)
+            → length self.new.kept < length self.old.kept }
         ensures waits { result ≡ Ok None → WaitsWith self.new.stage self.new.kept }
         ensures failed { (fault : BinaryFault) → self.old.stage ≡ Failed fault
             → (result ≡ Err fault) × (self.new ≡ self.old) }
@@ -170,6 +172,8 @@ impl BinaryReader {
         ensures same { (self.new.columns ≡ self.old.columns) × (self.new.limit ≡ self.old.limit) }
         ensures ended { result ≡ Err Memory ⊎ self.new.ended ≡ true }
         ensures row { (row : Row) → result ≡ Ok (Some row) → self.new.stage ≡ Rows }
+        ensures fewer { (row : Row) → result ≡ Ok (Some row)
+            → length self.new.kept < length self.old.kept }
         ensures failed { (fault : BinaryFault) → self.old.stage ≡ Failed fault
             → (result ≡ Err fault) × (self.new ≡ record self.old { ended = true }) }
         ensures closed { self.old.stage ≡ Closed

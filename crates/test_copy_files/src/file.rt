@@ -14,10 +14,10 @@ use pg_copy::{
 use std::alloc::Global;
 
 /// How many columns the files have.
-const COLUMNS: u16 = 3;
+pub const COLUMNS: u16 = 3;
 
 /// The longest value that is read of a binary file.
-const LIMIT: u32 = 65_536;
+pub const LIMIT: u32 = 65_536;
 
 /// How a file is cut into pieces.
 #[derive(Clone, Copy, Debug)]

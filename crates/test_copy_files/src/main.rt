@@ -3,6 +3,7 @@
 #![tactic(auto)]
 
 mod file;
+mod loops;
 
 use anyhow::{Result, bail, ensure};
 use file::{File, FileCut, read, write};
@@ -41,6 +42,10 @@ fn main(rt: HostRuntime) -> Result<()> {
     ensure!(
         write::<BinaryReader>(alloc, of_text.as_slice())? == binary,
         "another binary file is written"
+    );
+    ensure!(
+        loops::rows_of(alloc, binary.as_slice())?.as_slice() == of_binary.as_slice(),
+        "a loop over the reader gives other rows"
     );
     println!(rt;
         "{} rows, {} bytes in text, {} in binary",

@@ -2,6 +2,7 @@ use Rattle.std.proofs.Common.{Ok, Err}
 use Rattle.pg_copy.specs.declared.binary_part.NoPart.TheVariants.{Incomplete, Faulty}
 use Rattle.pg_copy.specs.declared.binary_part.NoRow.TheVariants.{NoPart}
 use Rattle.pg_copy.proofs.BinaryHistory.{HasReadBinary-finish, AnswersNext-finish, finish-row, finish-closed}
+use Rattle.pg_copy.proofs.BinaryFewer.{finish-fewer}
 use Rattle.pg_copy.proofs.binary_reader.BinaryReader.finish.Goals as goal
 
 pub returns-in-Ok-clause-read : goal.returns-in-Ok-clause-read
@@ -35,3 +36,6 @@ pub returns-in-Err-NoPart-Faulty-clause-gives : goal.returns-in-Err-NoPart-Fault
 returns-in-Err-NoPart-Faulty-clause-gives c = λ pushed given h.
     let w = c.in-Err-NoPart-Faulty in
     AnswersNext-finish (Err (NoPart (Faulty w.fault))) c.args.self.now c.read.new.self c.end-in-Err-NoPart-Faulty.new.self pushed given (rw (w.field-0-is, w.field-0-0-is) at w.ensures) c.end-in-Err-NoPart-Faulty.ensures h
+
+pub returns-in-Ok-clause-fewer : goal.returns-in-Ok-clause-fewer
+returns-in-Ok-clause-fewer c = λ row e. finish-fewer (Ok c.in-Ok.row) c.args.self.now c.read.new.self c.end.new.self c.in-Ok.ensures c.end.ensures row e

@@ -3,6 +3,7 @@ use Rattle.pg_copy.specs.declared.binary_part.NoPart.TheVariants.{Incomplete, Fa
 use Rattle.pg_copy.specs.declared.binary_part.NoRow.TheVariants.{NoPart}
 use Rattle.pg_copy.specs.BinaryReader.{BinaryState}
 use Rattle.pg_copy.proofs.BinaryHistory.{HasReadBinary-next, AnswersNext-next, next-row, next-waits}
+use Rattle.pg_copy.proofs.BinaryFewer.{next-fewer}
 use Rattle.pg_copy.proofs.binary_reader.BinaryReader.next.Goals as goal
 
 pub returns-in-Ok-clause-read : goal.returns-in-Ok-clause-read
@@ -46,3 +47,6 @@ returns-in-Err-NoPart-Incomplete-clause-waits c = λ e.
     let stage = ap (λ (t : BinaryState). t.stage) c.self.view_is in
     let w = c.in-Err-NoPart-Incomplete in
     next-waits (Err (NoPart Incomplete)) c.args.self.now c.read.new.self (λ n is. kept ∙ (c.self.invariant.skips n (stage ∙ is)).1) (rw (w.field-0-is, w.field-0-0-is) at w.ensures) e
+
+pub returns-in-Ok-clause-fewer : goal.returns-in-Ok-clause-fewer
+returns-in-Ok-clause-fewer c = λ row e. next-fewer (Ok c.in-Ok.row) c.args.self.now c.read.new.self c.in-Ok.ensures row e
