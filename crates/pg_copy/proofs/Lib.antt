@@ -7,6 +7,7 @@ pub mod TextReads
 pub mod TextRound
 pub mod Rows
 pub mod BinaryRound
+pub mod BinaryFields
 pub mod BinaryFiles
 pub mod Writing
 pub mod BinaryReads

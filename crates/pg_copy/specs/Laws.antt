@@ -1,13 +1,14 @@
 -- Laws of the formats.
-use Rattle.std.specs.Prelude.{◌≡◌, ℕ, ◌≤◌, false, List, ◌++◌, Option, Ok}
+use Rattle.std.specs.Prelude.{◌≡◌, ℕ, ◌≤◌, false, List, [], ◌∷◌, ◌++◌, length, Option, Ok}
+use Rattle.std.specs.Int.{w16, to_be_bytes}
 use Rattle.std.specs.List.{flat_map, AllByRecursion}
-use Rattle.pg_copy.specs.Row.{Row}
+use Rattle.pg_copy.specs.Row.{Row, width_fault, field_fault, binary_fault, Writes}
 use Rattle.pg_copy.specs.declared.fault.BinaryFault.{BinaryFault}
 use Rattle.pg_copy.specs.Reading.{RowsEnding, Done, Ended, after_rows}
 use Rattle.pg_copy.specs.Text.{backslash, delimiter, ends_escaped, parts, field_value, line_row, FitsReader, text_reading, text_file_reading, written_row}
 use Rattle.pg_copy.specs.TextField.{IsField}
 use Rattle.pg_copy.specs.TextLine.{AreParts, AreFields}
-use Rattle.pg_copy.specs.Binary.{IsHead, FitsBinary, binary_row, trailer, IsBytes, IsBinaryFile}
+use Rattle.pg_copy.specs.Binary.{IsHead, FitsBinary, value, binary_row, trailer, IsBytes, IsBinaryFile}
 use Rattle.pg_copy.specs.BinaryPart.{binary_reading, body_reading}
 use Rattle.pg_copy.specs.BinaryPart as binary
 
@@ -72,3 +73,17 @@ pub record BinaryRoundTrip : Type 0 where
       → AllByRecursion (FitsBinary columns limit) rows
       → binary.binary_file_reading columns limit (h ++ flat_map binary_row rows ++ trailer)
       ≡ record { rows = rows; ending = Done }
+
+-- These fields were written to a buffer one after the other, and each call answered Ok.
+abbrev pub WritesFields : Row → List ℕ → List ℕ → Type 0
+WritesFields [] old new = new ≡ old
+WritesFields (field ∷ fields) old new = (mid : List ℕ)
+    × Writes (field_fault field) (value field) old (Ok tt) mid × WritesFields fields mid new
+
+-- The number of a row's fields that was written, and then each field, is the row written: it has no
+-- fault, and its bytes are appended.
+pub record FieldsAreRow : Type 0 where
+  pub row : (row : Row) (old mid new : List ℕ)
+      → Writes (width_fault (length row)) (to_be_bytes w16 (length row)) old (Ok tt) mid
+      → WritesFields row mid new
+      → Writes (binary_fault row) (binary_row row) old (Ok tt) new

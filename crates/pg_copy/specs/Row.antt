@@ -21,6 +21,15 @@ abbrev pub is_long : Option (List ℕ) → Bool
 is_long None = false
 is_long (Some bytes) = nat_lt 2147483647 (length bytes)
 
+-- why a row can't have so many fields, if it can't: none, or more than 32,767
+abbrev pub width_fault : ℕ → Option RowFault
+width_fault count =
+    if count == 0 || nat_lt most_fields count then Some (faults.Width count) else None
+
+-- why a field can't be written in binary, if it can't: it is too long
+abbrev pub field_fault : Option (List ℕ) → Option RowFault
+field_fault field = if is_long field then Some faults.FieldLong else None
+
 -- why a row can't be written as text, if it can't: its number of fields
 abbrev pub text_fault : Row → Option RowFault
 text_fault row = if is_misfit row then Some (faults.Width (length row)) else None

@@ -1,13 +1,14 @@
 //! The parts of a binary file, written.
 
-ghost use Rattle.std.specs.Prelude.{◌≡◌, ◌++◌, ◌≤◌, ◌<◌, None, false, length, take, OnOk, OnErr};
+ghost use Rattle.std.specs.Prelude.{◌≡◌, ◌++◌, ◌≤◌, ◌<◌, None, false, length, option_copied, take, OnOk, OnErr};
+ghost use Rattle.std.specs.Int.{w16, to_be_bytes};
 ghost use Rattle.std.specs.List.{list_any};
-ghost use Rattle.pg_copy.specs.Row.{is_long, binary_fault, Writes};
+ghost use Rattle.pg_copy.specs.Row.{is_long, width_fault, field_fault, binary_fault, Writes};
 ghost use Rattle.pg_copy.specs.Binary.{value, binary_row, written_head, trailer};
 
 use crate::Row;
 use crate::fault::RowFault;
-use crate::format::{LONGEST_VALUE, NULL, SIGNATURE, TRAILER, is_misfit};
+use crate::format::{LONGEST_VALUE, MOST_FIELDS, NULL, SIGNATURE, TRAILER};
 use pg_seq::Seq;
 use std::alloc::AllocError;
 
@@ -52,8 +53,18 @@ fn append(bytes: &[u8], buf: &mut Vec<u8>) -> Result<(), RowFault>
     }
 }
 
-fn is_long(field: &Option<Seq<u8>>) -> bool
-    ensures { result ≡ is_long field.now }
+/// Why a row can't have so many fields.
+fn width_fault(count: usize) -> Option<RowFault>
+    ensures { result ≡ width_fault count }
+{
+    if count == 0 || count > MOST_FIELDS {
+        return Some(RowFault::Width(count));
+    }
+    None
+}
+
+fn is_long(field: Option<&[u8]>) -> bool
+    ensures { result ≡ is_long (option_copied field.entry) }
 {
     match field {
         None => false,
@@ -61,21 +72,62 @@ fn is_long(field: &Option<Seq<u8>>) -> bool
     }
 }
 
+/// Why a field can't be written.
+fn field_fault(field: Option<&[u8]>) -> Option<RowFault>
+    ensures { result ≡ field_fault (option_copied field.entry) }
+{
+    if is_long(field) {
+        return Some(RowFault::FieldLong);
+    }
+    None
+}
+
+/// A field of a row, lent.
+fn lent(field: &Option<Seq<u8>>) -> Option<&[u8]>
+    ensures { option_copied result ≡ field.now }
+{
+    match field {
+        None => None,
+        Some(bytes) => Some(bytes.as_slice()),
+    }
+}
+
 fn has_long(fields: &[Option<Seq<u8>>]) -> bool
     ensures { result ≡ list_any is_long fields.now }
 {
-    fields.iter().any(|field| is_long(field))
+    fields.iter().any(|field| is_long(lent(field)))
 }
 
-fn put_value(field: &Option<Seq<u8>>, buf: &mut Vec<u8>) -> Result<(), AllocError>
-    requires { is_long field.now ≡ false }
-    ensures ok { OnOk result (buf.new.items ≡ buf.old.items ++ value field.now) }
+/// Why a row can't be written.
+fn row_fault(fields: &[Option<Seq<u8>>]) -> Option<RowFault>
+    ensures { result ≡ binary_fault fields.now }
+{
+    if let Some(fault) = width_fault(fields.len()) {
+        return Some(fault);
+    }
+    if has_long(fields) {
+        return Some(RowFault::FieldLong);
+    }
+    None
+}
+
+fn put_count(count: usize, buf: &mut Vec<u8>) -> Result<(), AllocError>
+    requires { count ≤ 32767 }
+    ensures ok { OnOk result (buf.new.items ≡ buf.old.items ++ to_be_bytes w16 count) }
+    ensures err { OnErr result (buf.new.items ≡ buf.old.items) }
+{
+    buf.extend_from_slice(&(count as u16).to_be_bytes())
+}
+
+fn put_value(field: Option<&[u8]>, buf: &mut Vec<u8>) -> Result<(), AllocError>
+    requires { is_long (option_copied field) ≡ false }
+    ensures ok { OnOk result (buf.new.items
+        ≡ buf.old.items ++ value (option_copied field.entry)) }
     ensures err { OnErr result (take (length buf.old.items) buf.new.items ≡ buf.old.items) }
 {
     match field {
         None => buf.extend_from_slice(&NULL.to_be_bytes()),
         Some(bytes) => {
-            let bytes = bytes.as_slice();
             buf.extend_from_slice(&(bytes.len() as u32).to_be_bytes())?;
             buf.extend_from_slice(bytes)
         }
@@ -88,11 +140,48 @@ fn put_values(fields: &[Option<Seq<u8>>], buf: &mut Vec<u8>) -> Result<(), Alloc
     ensures ok { OnOk result (buf.new.items ≡ buf.old.items ++ binary_row fields.now) }
     ensures err { OnErr result (take (length buf.old.items) buf.new.items ≡ buf.old.items) }
 {
-    buf.extend_from_slice(&(fields.len() as u16).to_be_bytes())?;
+    put_count(fields.len(), buf)?;
     for i in 0..fields.len() {
-        put_value(&fields[i], buf)?;
+        put_value(lent(&fields[i]), buf)?;
     }
     Ok(())
+}
+
+/// Appends the number of a row's values, which stands in front of them. A caller whose values don't stand in a `Row` writes a row
+/// by it, and each value by [`write_binary_field`] (PostgreSQL documentation, page COPY, "Binary Format"). Width is answered where
+/// there is no value or there are more than 32,767, and Memory where there are so many and the buffer could not grow. A refusal
+/// leaves `buf` as it was.
+pub fn write_binary_count(count: usize, buf: &mut Vec<u8>) -> Result<(), RowFault>
+    ensures { Writes (width_fault count)
+        (to_be_bytes w16 count) buf.old.items result buf.new.items }
+{
+    if let Some(fault) = width_fault(count) {
+        return Err(fault);
+    }
+    match put_count(count, buf) {
+        Ok(()) => Ok(()),
+        Err(_) => Err(RowFault::Memory),
+    }
+}
+
+/// Appends one value after its length, which is -1 for a null, as a row has it after the number of its values (PostgreSQL
+/// documentation, page COPY, "Binary Format"). FieldLong is answered where it has more than 2,147,483,647 bytes, and Memory where
+/// it has no more and the buffer could not grow. A refusal leaves `buf` as it was.
+pub fn write_binary_field(field: Option<&[u8]>, buf: &mut Vec<u8>) -> Result<(), RowFault>
+    ensures { Writes (field_fault (option_copied field.entry))
+        (value (option_copied field.entry)) buf.old.items result buf.new.items }
+{
+    if let Some(fault) = field_fault(field) {
+        return Err(fault);
+    }
+    let before = buf.len();
+    match put_value(field, buf) {
+        Ok(()) => Ok(()),
+        Err(_) => {
+            buf.truncate(before);
+            Err(RowFault::Memory)
+        }
+    }
 }
 
 /// Appends the row: the number of its values, and each value after its length, which is -1 for a null (PostgreSQL
@@ -104,11 +193,8 @@ pub fn write_binary_row(row: &Row, buf: &mut Vec<u8>) -> Result<(), RowFault>
         (binary_row row.now) buf.old.items result buf.new.items }
 {
     let fields = row.as_slice();
-    if is_misfit(fields) {
-        return Err(RowFault::Width(fields.len()));
-    }
-    if has_long(fields) {
-        return Err(RowFault::FieldLong);
+    if let Some(fault) = row_fault(fields) {
+        return Err(fault);
     }
     let before = buf.len();
     match put_values(fields, buf) {

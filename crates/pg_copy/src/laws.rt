@@ -1,7 +1,7 @@
 //! Laws of the formats: each function does nothing, and its contract is the law (PostgreSQL documentation, page COPY, "File
 //! Formats").
 
-ghost use Rattle.pg_copy.specs.Laws.{OneSplit, OneValue, TextRoundTrip, OneFile, BinaryRoundTrip};
+ghost use Rattle.pg_copy.specs.Laws.{OneSplit, OneValue, TextRoundTrip, OneFile, BinaryRoundTrip, FieldsAreRow};
 
 /// The bytes of a text file are lines in one way, and a line is fields in one way: those that a
 /// reader takes.
@@ -28,4 +28,10 @@ pub fn one_file()
 /// A head and rows that were written in binary are read as those rows, whatever follows them.
 pub fn binary_round_trip()
     ensures { BinaryRoundTrip }
+{}
+
+/// The number of a row's fields and then each field, written one after the other in binary, are the
+/// row written.
+pub fn fields_are_row()
+    ensures { FieldsAreRow }
 {}

@@ -2,7 +2,8 @@
 //!
 //! A reader takes a file in any pieces and gives exactly its rows ([`TextReader`], [`BinaryReader`]). A writer appends the one
 //! form in which a row is written ([`write_text_row`], [`write_binary_row`] between [`write_binary_head`] and
-//! [`write_binary_trailer`]). The functions of [`laws`] say what reading and writing have in common.
+//! [`write_binary_trailer`]). Values that don't stand in a row are written one by one ([`write_text_field`], and
+//! [`write_binary_count`] with [`write_binary_field`]). The functions of [`laws`] say what reading and writing have in common.
 #![tactic(auto)]
 
 mod binary_part;
@@ -19,7 +20,10 @@ mod text_reader;
 mod text_writer;
 
 pub use binary_reader::BinaryReader;
-pub use binary_writer::{write_binary_head, write_binary_row, write_binary_trailer};
+pub use binary_writer::{
+    write_binary_count, write_binary_field, write_binary_head, write_binary_row,
+    write_binary_trailer,
+};
 pub use fault::{BinaryFault, RowFault, TextFault};
 pub use pg_seq::Seq;
 pub use text_reader::TextReader;
