@@ -1,5 +1,5 @@
--- A row that is given takes bytes off what is kept.
-use Rattle.std.proofs.Common.{◌≡◌, ℕ, ◌+◌, ◌-◌, ◌<◌, ◌≤◌, List, [], ◌∷◌, length, drop, Option, Some, None, Result, Ok, Err, refl, ap, ◌∙◌, arith}
+-- A row that is given takes bytes off what is kept, and is counted.
+use Rattle.std.proofs.Common.{◌≡◌, ℕ, ◌+◌, ◌-◌, ◌<◌, ◌≤◌, List, [], ◌∷◌, length, drop, Option, Some, None, Result, Ok, Err, refl, sym, ap, ◌∙◌, arith}
 use Rattle.std.proofs.lemmas.List.{length-drop, drop-drop}
 use Rattle.pg_copy.specs.declared.binary_part.NoPart.TheVariants as stops
 use Rattle.pg_copy.specs.declared.binary_part.NoRow.{NoRow}
@@ -7,11 +7,12 @@ use Rattle.pg_copy.specs.declared.binary_part.NoRow.TheVariants as no_row
 use Rattle.pg_copy.specs.declared.binary_reader.BinaryStage.{BinaryStage}
 use Rattle.pg_copy.specs.declared.binary_reader.BinaryStage.TheVariants.{Head, Extension, Rows, Closed, Failed}
 use Rattle.pg_copy.specs.Row.{Row}
+use Rattle.pg_copy.specs.Reading.{given_by}
 use Rattle.pg_copy.specs.BinaryPart.{NoPart, ◌>>=◌, bytes_at, head_at, row_at}
-use Rattle.pg_copy.specs.BinaryReader.{BinaryState}
+use Rattle.pg_copy.specs.BinaryReader.{BinaryState, given_after}
 use Rattle.pg_copy.specs.Private.BinaryPart.{row_or_trailer, body_at, part_at, TakesPart}
 use Rattle.pg_copy.proofs.BinaryReads.{TakesAtLeast, takes_bind, takes_none, bytes_take, less, row_takes, head_takes, shorter}
-use Rattle.pg_copy.proofs.BinaryHistory.{next_answer, last_answer, finished}
+use Rattle.pg_copy.proofs.BinaryHistory.{next_answer, last_answer, finished, Goes-part, given-next}
 
 -- two parts one after the other, of which the second takes so many bytes
 takes_last : {A B : Type 0} (least : ℕ) (r : Result (A × List ℕ) NoPart) (bytes : List ℕ) (f : A × List ℕ → Result (B × List ℕ) NoPart) → TakesAtLeast 0 r bytes → ((x : A × List ℕ) → TakesAtLeast least (f x) x.1) → TakesAtLeast least (r >>= f) bytes
@@ -64,3 +65,13 @@ finish-fewer (Ok None) old mid new h f r e = absurd cc
 finish-fewer (Err no_row.Memory) old mid new h f r e = absurd cc
 finish-fewer (Err (no_row.NoPart stops.Incomplete)) old mid new h f r e = absurd cc
 finish-fewer (Err (no_row.NoPart (stops.Faulty fault))) old mid new h f r e = absurd cc
+
+pub next-given : (answer : Result (Option Row) NoRow) (old new : BinaryState) → TakesPart answer old new → new.given ≡ given_after old.given (given_by (next_answer answer))
+next-given answer old new h = (Goes-part answer old new h).given ∙ ap (given_after old.given) (sym (given-next answer))
+
+pub finish-given : (answer : Result (Option Row) NoRow) (old mid new : BinaryState) → TakesPart answer old mid → new ≡ finished answer mid → new.given ≡ given_after old.given (given_by (last_answer answer))
+finish-given (Ok (Some row)) old mid new h f = ap (λ (s : BinaryState). s.given) f ∙ (Goes-part (Ok (Some row)) old mid h).given
+finish-given (Ok None) old mid new h f = ap (λ (s : BinaryState). s.given) f ∙ (Goes-part (Ok None) old mid h).given
+finish-given (Err no_row.Memory) old mid new h f = ap (λ (s : BinaryState). s.given) f ∙ (Goes-part (Err no_row.Memory) old mid h).given
+finish-given (Err (no_row.NoPart stops.Incomplete)) old mid new h f = ap (λ (s : BinaryState). s.given) f ∙ (Goes-part (Err (no_row.NoPart stops.Incomplete)) old mid h).given
+finish-given (Err (no_row.NoPart (stops.Faulty fault))) old mid new h f = ap (λ (s : BinaryState). s.given) f ∙ (Goes-part (Err (no_row.NoPart (stops.Faulty fault))) old mid h).given

@@ -1,6 +1,6 @@
 -- What a reader of binary files has read.
 use Rattle.std.proofs.Common.{◌≡◌, ℕ, Bool, true, false, List, [], ◌∷◌, ◌++◌, Option, Some, None, Result, Ok, Err, refl, sym, ap, subst, ◌∙◌, arith, inl, inr}
-use Rattle.std.specs.Prelude.{◌<◌}
+use Rattle.std.specs.Prelude.{◌<◌, length}
 use Rattle.std.proofs.lemmas.List.{append-nil, length-append}
 use Rattle.std.proofs.lemmas.Bool.{false≢true, lt-ltb, cond-true}
 use Rattle.pg_copy.specs.declared.binary_part.NoPart.TheVariants as stops
@@ -14,8 +14,9 @@ use Rattle.pg_copy.specs.Row.{Row}
 use Rattle.pg_copy.specs.Reading.{RowsRead, RowsEnding, Open, Done, Bad, after_rows, RowWaits, given_by, IsGood, AnswersNext}
 use Rattle.pg_copy.specs.Binary.{open_head}
 use Rattle.pg_copy.specs.BinaryPart.{NoPart, Incomplete, Faulty, ◌>>=◌, bytes_at, fixed_at, head_at, row_at, part_reading, row_reading, body_reading, head_reading, binary_reading, trailer_reading, last_ending, binary_at_end, binary_file_reading}
-use Rattle.pg_copy.specs.BinaryReader.{BinaryState, binary_stage_reading, binary_left, HasReadBinary, WaitsWith, binary_ending}
-use Rattle.pg_copy.specs.Private.BinaryPart.{closed_at, row_or_trailer, body_at, part_at, extension_left, in_extension, after_head, waiting_at, TakesPart}
+use Rattle.pg_copy.specs.BinaryReader.{BinaryState, binary_stage_reading, binary_left, HasReadBinary, WaitsWith, told_rows, given_after, binary_ending}
+use Rattle.pg_copy.specs.Private.BinaryPart.{closed_at, row_or_trailer, body_at, part_at, extension_left, in_extension, after_head, waiting_at, option_rows, TakesPart}
+use Rattle.pg_copy.proofs.BinaryCounts.{told-rows}
 use Rattle.pg_copy.proofs.TextReads.{after-after, after-none}
 use Rattle.pg_copy.proofs.BinaryReads.{Grows, row_grows, head_grows, bytes_grow, body-step, part-rows}
 use Rattle.pg_copy.proofs.BinaryHeads.{head-open, open-few, open-many, skip-reads}
@@ -58,10 +59,6 @@ open_bytes Closed bytes = bytes
 open_bytes (Failed fault) bytes = bytes
 
 -- a reading that is due, by the next part of it
-abbrev pub option_rows : Option Row → List Row
-option_rows None = []
-option_rows (Some row) = row ∷ []
-
 abbrev pub PartReads : ℕ → ℕ → List ℕ → Result ((Option Row × BinaryStage) × List ℕ) NoPart → (List ℕ → RowsRead BinaryFault) → Type 0
 PartReads columns limit waits (Ok x) due = ((x.0.0 ≡ None) → (x.0.1 ≡ Closed) × (x.1 ≡ [])) × ((more : List ℕ) → due more ≡ after_rows (option_rows x.0.0) (binary_stage_reading x.0.1 columns limit (x.1 ++ more)))
 PartReads columns limit waits (Err Incomplete) due = due [] ≡ record { rows = []; ending = Open waits }
@@ -137,6 +134,7 @@ pub record ReadsRows (old new : BinaryState) (rows : List Row) : Type 0 where
   pub limit : new.limit ≡ old.limit
   pub ended : new.ended ≡ old.ended
   pub left : (more : List ℕ) → binary_left old more ≡ after_rows rows (binary_left new more)
+  pub given : new.given ≡ given_after old.given rows
 
 pub whole-same : (old new : BinaryState) (bytes : List ℕ) → new.columns ≡ old.columns → new.limit ≡ old.limit → binary_reading new.columns new.limit bytes ≡ binary_reading old.columns old.limit bytes
 whole-same old new bytes e f = ap (λ (c : ℕ). binary_reading c new.limit bytes) e ∙ ap (λ (l : ℕ). binary_reading old.columns l bytes) f
@@ -146,24 +144,25 @@ HasReadBinary-goes old new rows pushed given g h =
     record {
       so_far = λ e more. whole-same old new (pushed ++ more) g.columns g.limit ∙ h.so_far (sym g.ended ∙ e) more ∙ ap (after_rows given) (g.left more) ∙ after-after given rows (binary_left new more);
       in_all = ap binary_at_end (whole-same old new pushed g.columns g.limit) ∙ h.in_all ∙ ap (λ (r : RowsRead BinaryFault). after_rows given (binary_at_end r)) (g.left []) ∙ after-after given rows (binary_at_end (binary_left new []));
+      counted = g.given ∙ ap (λ (n : ℕ). given_after n rows) h.counted ∙ told-rows given rows;
     }
 
 pub Goes-same : (old : BinaryState) → ReadsRows old old []
-Goes-same old = record { columns = refl; limit = refl; ended = refl; left = λ more. refl }
+Goes-same old = record { columns = refl; limit = refl; ended = refl; left = λ more. refl; given = refl }
 
 -- a head that lacks bytes of its extension alone goes off
-enters : (columns limit : ℕ) (kept : List ℕ) (ended : Bool) → head_at kept ≡ Err Incomplete →
-    let old : BinaryState = record { columns = columns; limit = limit; kept = kept; stage = Head; ended = ended } in
+enters : (s : BinaryState) (kept : List ℕ) → head_at kept ≡ Err Incomplete →
+    let old : BinaryState = record s { kept = kept; stage = Head } in
     ReadsRows old (in_extension (extension_left (fixed_at kept)) old) []
-enters columns limit kept ended short = go (fixed_at kept) refl
+enters s kept short = go (fixed_at kept) refl
   where
     go : (r : Result (ℕ × List ℕ) NoPart) → fixed_at kept ≡ r →
-        let old : BinaryState = record { columns = columns; limit = limit; kept = kept; stage = Head; ended = ended } in
+        let old : BinaryState = record s { kept = kept; stage = Head } in
         ReadsRows old (in_extension (extension_left r) old) []
     go (Ok n) e =
         let are = head-open kept (Ok n) short e in
-        record { columns = refl; limit = refl; ended = refl; left = λ more. skip-reads columns limit kept more n e are.0 are.1 }
-    go (Err stop) e = Goes-same (record { columns = columns; limit = limit; kept = kept; stage = Head; ended = ended })
+        record { columns = refl; limit = refl; ended = refl; left = λ more. skip-reads s.columns s.limit kept more n e are.0 are.1; given = refl }
+    go (Err stop) e = Goes-same (record s { kept = kept; stage = Head })
 
 faulty-head : (columns limit : ℕ) (kept : List ℕ) (fault : BinaryFault) → head_at kept ≡ Err (Faulty fault) → part_at Head columns limit kept ≡ Err Incomplete → ⊥
 unfolding part_at
@@ -173,14 +172,14 @@ faulty-head columns limit kept fault e h = clash (sym (ap (λ r. r >>= λ x. bod
     clash f = cc
 
 -- a reader that waits has what it had, but for the head
-waits : (columns limit : ℕ) (kept : List ℕ) (stage : BinaryStage) (ended : Bool) → part_at stage columns limit kept ≡ Err Incomplete →
-    let old : BinaryState = record { columns = columns; limit = limit; kept = kept; stage = stage; ended = ended } in
+waits : (s : BinaryState) (kept : List ℕ) (stage : BinaryStage) → part_at stage s.columns s.limit kept ≡ Err Incomplete →
+    let old : BinaryState = record s { kept = kept; stage = stage } in
     ReadsRows old (waiting_at stage old) []
 unfolding binary_reading
-waits columns limit kept Head ended short = go (head_at kept) refl
+waits s kept Head short = go (head_at kept) refl
   where
     go : (r : Result (List ℕ × List ℕ) NoPart) → head_at kept ≡ r →
-        let old : BinaryState = record { columns = columns; limit = limit; kept = kept; stage = Head; ended = ended } in
+        let old : BinaryState = record s { kept = kept; stage = Head } in
         ReadsRows old (after_head r (in_extension (extension_left (fixed_at kept)) old) old) []
     go (Ok h) e = record {
       columns = refl;
@@ -188,14 +187,15 @@ waits columns limit kept Head ended short = go (head_at kept) refl
       ended = refl;
       left = λ more.
           let longer : head_at (kept ++ more) ≡ Ok (h.0, h.1 ++ more) = subst (λ t. Grows t (head_at (kept ++ more)) more) e (head_grows kept more) in
-          ap (λ t. head_reading (open_head (kept ++ more)) t (body_reading columns limit)) longer;
+          ap (λ t. head_reading (open_head (kept ++ more)) t (body_reading s.columns s.limit)) longer;
+      given = refl;
     }
-    go (Err Incomplete) e = enters columns limit kept ended e
-    go (Err (Faulty fault)) e = absurd (faulty-head columns limit kept fault e short)
-waits columns limit kept (Extension n) ended short = go (bytes_at n kept) refl
+    go (Err Incomplete) e = enters s kept e
+    go (Err (Faulty fault)) e = absurd (faulty-head s.columns s.limit kept fault e short)
+waits s kept (Extension n) short = go (bytes_at n kept) refl
   where
     go : (r : Result (List ℕ × List ℕ) NoPart) → bytes_at n kept ≡ r →
-        let old : BinaryState = record { columns = columns; limit = limit; kept = kept; stage = Extension n; ended = ended } in
+        let old : BinaryState = record s { kept = kept; stage = Extension n } in
         ReadsRows old (after_head r old old) []
     go (Ok h) e = record {
       columns = refl;
@@ -203,12 +203,13 @@ waits columns limit kept (Extension n) ended short = go (bytes_at n kept) refl
       ended = refl;
       left = λ more.
           let longer : bytes_at n (kept ++ more) ≡ Ok (h.0, h.1 ++ more) = subst (λ t. Grows t (bytes_at n (kept ++ more)) more) e (bytes_grow n kept more) in
-          ap (λ t. head_reading [] t (body_reading columns limit)) longer;
+          ap (λ t. head_reading [] t (body_reading s.columns s.limit)) longer;
+      given = refl;
     }
-    go (Err stop) e = Goes-same (record { columns = columns; limit = limit; kept = kept; stage = Extension n; ended = ended })
-waits columns limit kept Rows ended short = Goes-same (record { columns = columns; limit = limit; kept = kept; stage = Rows; ended = ended })
-waits columns limit kept Closed ended short = Goes-same (record { columns = columns; limit = limit; kept = kept; stage = Closed; ended = ended })
-waits columns limit kept (Failed fault) ended short = Goes-same (record { columns = columns; limit = limit; kept = kept; stage = Failed fault; ended = ended })
+    go (Err stop) e = Goes-same (record s { kept = kept; stage = Extension n })
+waits s kept Rows short = Goes-same (record s { kept = kept; stage = Rows })
+waits s kept Closed short = Goes-same (record s { kept = kept; stage = Closed })
+waits s kept (Failed fault) short = Goes-same (record s { kept = kept; stage = Failed fault })
 
 -- what the next part says of what is left
 abbrev Due : BinaryState → Result ((Option Row × BinaryStage) × List ℕ) NoPart → Type 0
@@ -220,12 +221,12 @@ due old p e = subst (λ q. Due old q) e (part-reads old.stage old.columns old.li
 pub Goes-part : (answer : Answer) (old new : BinaryState) → TakesPart answer old new → ReadsRows old new (answer_rows answer)
 Goes-part (Ok o) old new h =
     let r = due old (Ok ((o, new.stage), new.kept)) h.0 in
-    rw h.1 (record { columns = refl; limit = refl; ended = refl; left = λ more. r.1 more })
+    rw h.1 (record { columns = refl; limit = refl; ended = refl; left = λ more. r.1 more; given = refl })
 Goes-part (Err no_row.Memory) old new h = rw h.0 (Goes-same old)
-Goes-part (Err (no_row.NoPart stops.Incomplete)) old new h = rw h.1 (waits old.columns old.limit old.kept old.stage old.ended h.0)
+Goes-part (Err (no_row.NoPart stops.Incomplete)) old new h = rw h.1 (waits old old.kept old.stage h.0)
 Goes-part (Err (no_row.NoPart (stops.Faulty fault))) old new h =
     let r : (more : List ℕ) → binary_left old more ≡ record { rows = []; ending = Bad fault } = due old (Err (Faulty fault)) h.1 in
-    rw h.2 (record { columns = refl; limit = refl; ended = refl; left = r })
+    rw h.2 (record { columns = refl; limit = refl; ended = refl; left = r; given = refl })
 
 -- what the bytes pushed give so far
 pub reading-now : (s : BinaryState) (pushed : List ℕ) (given : List Row) → s.ended ≡ false → HasReadBinary s pushed given → binary_reading s.columns s.limit pushed ≡ after_rows given (binary_left s [])
@@ -255,37 +256,37 @@ left-fault old new fault h =
 abbrev EndsOpen : BinaryState → List ℕ → Type 0
 EndsOpen new bytes = (binary_ending new.stage new.kept ≡ Open bytes) × IsGood (binary_ending new.stage new.kept)
 
-enters-open : (columns limit : ℕ) (kept : List ℕ) (ended : Bool) → head_at kept ≡ Err Incomplete → EndsOpen (in_extension (extension_left (fixed_at kept)) (record { columns = columns; limit = limit; kept = kept; stage = Head; ended = ended })) (open_head kept)
-enters-open columns limit kept ended short = go (fixed_at kept) refl
+enters-open : (s : BinaryState) (kept : List ℕ) → head_at kept ≡ Err Incomplete → EndsOpen (in_extension (extension_left (fixed_at kept)) (record s { kept = kept; stage = Head })) (open_head kept)
+enters-open s kept short = go (fixed_at kept) refl
   where
-    go : (r : Result (ℕ × List ℕ) NoPart) → fixed_at kept ≡ r → EndsOpen (in_extension (extension_left r) (record { columns = columns; limit = limit; kept = kept; stage = Head; ended = ended })) (open_head kept)
+    go : (r : Result (ℕ × List ℕ) NoPart) → fixed_at kept ≡ r → EndsOpen (in_extension (extension_left r) (record s { kept = kept; stage = Head })) (open_head kept)
     go (Ok n) e =
         let are = head-open kept (Ok n) short e in
         (ap (λ (x : List ℕ). Open x) (sym (open-many kept are.0)), tt)
     go (Err stop) e = (ap (λ (x : List ℕ). Open x) (sym (open-few kept (head-open kept (Err stop) short e))), tt)
 
-open-ending : (columns limit : ℕ) (kept : List ℕ) (stage : BinaryStage) (ended : Bool) → part_at stage columns limit kept ≡ Err Incomplete →
-    EndsOpen (waiting_at stage (record { columns = columns; limit = limit; kept = kept; stage = stage; ended = ended })) (open_bytes stage kept)
+open-ending : (s : BinaryState) (kept : List ℕ) (stage : BinaryStage) → part_at stage s.columns s.limit kept ≡ Err Incomplete →
+    EndsOpen (waiting_at stage (record s { kept = kept; stage = stage })) (open_bytes stage kept)
 unfolding part_at
-open-ending columns limit kept Head ended e = go (head_at kept) refl
+open-ending s kept Head e = go (head_at kept) refl
   where
     go : (r : Result (List ℕ × List ℕ) NoPart) → head_at kept ≡ r →
-        let old : BinaryState = record { columns = columns; limit = limit; kept = kept; stage = Head; ended = ended } in
+        let old : BinaryState = record s { kept = kept; stage = Head } in
         EndsOpen (after_head r (in_extension (extension_left (fixed_at kept)) old) old) (bytes_after r (open_head kept))
     go (Ok h) f = (refl, tt)
-    go (Err Incomplete) f = enters-open columns limit kept ended f
-    go (Err (Faulty fault)) f = absurd (faulty-head columns limit kept fault f e)
-open-ending columns limit kept (Extension n) ended e = go (bytes_at n kept)
+    go (Err Incomplete) f = enters-open s kept f
+    go (Err (Faulty fault)) f = absurd (faulty-head s.columns s.limit kept fault f e)
+open-ending s kept (Extension n) e = go (bytes_at n kept)
   where
     go : (r : Result (List ℕ × List ℕ) NoPart) →
-        let old : BinaryState = record { columns = columns; limit = limit; kept = kept; stage = Extension n; ended = ended } in
+        let old : BinaryState = record s { kept = kept; stage = Extension n } in
         EndsOpen (after_head r old old) (bytes_after r [])
     go (Ok h) = (refl, tt)
     go (Err stop) = (refl, tt)
-open-ending columns limit kept Rows ended e = (refl, tt)
-open-ending columns limit [] Closed ended e = absurd cc
-open-ending columns limit (b ∷ bs) Closed ended e = absurd cc
-open-ending columns limit kept (Failed fault) ended e = absurd cc
+open-ending s kept Rows e = (refl, tt)
+open-ending s [] Closed e = absurd cc
+open-ending s (b ∷ bs) Closed e = absurd cc
+open-ending s kept (Failed fault) e = absurd cc
 
 pub AnswersNext-next : (answer : Answer) (old new : BinaryState) (pushed : List ℕ) (given : List Row) → old.ended ≡ false → TakesPart answer old new → HasReadBinary old pushed given
     → AnswersNext Memory (binary_reading new.columns new.limit pushed) given (binary_ending new.stage new.kept) (next_answer answer)
@@ -298,7 +299,7 @@ AnswersNext-next (Ok None) old new pushed given going h k =
     subst (λ (x : RowsEnding BinaryFault). IsGood x × (binary_reading new.columns new.limit pushed ≡ record { rows = given; ending = x })) here (tt, file)
 AnswersNext-next (Err no_row.Memory) old new pushed given going h k = inl refl
 AnswersNext-next (Err (no_row.NoPart stops.Incomplete)) old new pushed given going h k =
-    let o = open-ending old.columns old.limit old.kept old.stage old.ended h.0 in
+    let o = open-ending old old.kept old.stage h.0 in
     let g = Goes-part (Err (no_row.NoPart stops.Incomplete)) old new h in
     let file = whole-from old new pushed given (Open (open_bytes old.stage old.kept)) going g.columns g.limit k (left-open old new h) in
     let o' = subst (λ (s : BinaryState). EndsOpen s (open_bytes old.stage old.kept)) (sym h.1) o in
@@ -308,42 +309,42 @@ AnswersNext-next (Err (no_row.NoPart (stops.Faulty fault))) old new pushed given
     inr (ap (λ (s : BinaryState). binary_ending s.stage s.kept) h.2, whole-from old new pushed given (Bad fault) going g.columns g.limit k (left-fault old new fault h))
 
 -- what is kept where a row is waited for
-enters-with : (columns limit : ℕ) (kept : List ℕ) (ended : Bool) → head_at kept ≡ Err Incomplete →
-    let new : BinaryState = in_extension (extension_left (fixed_at kept)) (record { columns = columns; limit = limit; kept = kept; stage = Head; ended = ended }) in
+enters-with : (s : BinaryState) (kept : List ℕ) → head_at kept ≡ Err Incomplete →
+    let new : BinaryState = in_extension (extension_left (fixed_at kept)) (record s { kept = kept; stage = Head }) in
     WaitsWith new.stage new.kept
-enters-with columns limit kept ended short = go (fixed_at kept) refl
+enters-with s kept short = go (fixed_at kept) refl
   where
     go : (r : Result (ℕ × List ℕ) NoPart) → fixed_at kept ≡ r →
-        let new : BinaryState = in_extension (extension_left r) (record { columns = columns; limit = limit; kept = kept; stage = Head; ended = ended }) in
+        let new : BinaryState = in_extension (extension_left r) (record s { kept = kept; stage = Head }) in
         WaitsWith new.stage new.kept
     go (Ok n) e = refl
     go (Err stop) e = head-open kept (Err stop) short e
 
-waits-with : (columns limit : ℕ) (kept : List ℕ) (stage : BinaryStage) (ended : Bool) → ((n : ℕ) → stage ≡ Extension n → kept ≡ []) → part_at stage columns limit kept ≡ Err Incomplete →
-    let new : BinaryState = waiting_at stage (record { columns = columns; limit = limit; kept = kept; stage = stage; ended = ended }) in
+waits-with : (s : BinaryState) (kept : List ℕ) (stage : BinaryStage) → ((n : ℕ) → stage ≡ Extension n → kept ≡ []) → part_at stage s.columns s.limit kept ≡ Err Incomplete →
+    let new : BinaryState = waiting_at stage (record s { kept = kept; stage = stage }) in
     WaitsWith new.stage new.kept
 unfolding part_at
-waits-with columns limit kept Head ended skips e = go (head_at kept) refl
+waits-with s kept Head skips e = go (head_at kept) refl
   where
     go : (r : Result (List ℕ × List ℕ) NoPart) → head_at kept ≡ r →
-        let old : BinaryState = record { columns = columns; limit = limit; kept = kept; stage = Head; ended = ended } in
+        let old : BinaryState = record s { kept = kept; stage = Head } in
         let new : BinaryState = after_head r (in_extension (extension_left (fixed_at kept)) old) old in
         WaitsWith new.stage new.kept
     go (Ok h) f = tt
-    go (Err Incomplete) f = enters-with columns limit kept ended f
-    go (Err (Faulty fault)) f = absurd (faulty-head columns limit kept fault f e)
-waits-with columns limit kept (Extension n) ended skips e = go (bytes_at n kept)
+    go (Err Incomplete) f = enters-with s kept f
+    go (Err (Faulty fault)) f = absurd (faulty-head s.columns s.limit kept fault f e)
+waits-with s kept (Extension n) skips e = go (bytes_at n kept)
   where
     go : (r : Result (List ℕ × List ℕ) NoPart) →
-        let old : BinaryState = record { columns = columns; limit = limit; kept = kept; stage = Extension n; ended = ended } in
+        let old : BinaryState = record s { kept = kept; stage = Extension n } in
         let new : BinaryState = after_head r old old in
         WaitsWith new.stage new.kept
     go (Ok h) = tt
     go (Err stop) = skips n refl
-waits-with columns limit kept Rows ended skips e = tt
-waits-with columns limit [] Closed ended skips e = refl
-waits-with columns limit (b ∷ bs) Closed ended skips e = absurd cc
-waits-with columns limit kept (Failed fault) ended skips e = tt
+waits-with s kept Rows skips e = tt
+waits-with s [] Closed skips e = refl
+waits-with s (b ∷ bs) Closed skips e = absurd cc
+waits-with s kept (Failed fault) skips e = tt
 
 pub next-waits : (answer : Answer) (old new : BinaryState) → ((n : ℕ) → old.stage ≡ Extension n → old.kept ≡ []) → TakesPart answer old new → next_answer answer ≡ Ok None → WaitsWith new.stage new.kept
 next-waits (Ok (Some row)) old new skips h e = absurd cc
@@ -352,7 +353,7 @@ next-waits (Ok None) old new skips h e =
     subst (λ (t : BinaryStage). WaitsWith t new.kept) (sym n.0) n.1
 next-waits (Err no_row.Memory) old new skips h e = absurd cc
 next-waits (Err (no_row.NoPart stops.Incomplete)) old new skips h e =
-    let with = waits-with old.columns old.limit old.kept old.stage old.ended skips h.0 in
+    let with = waits-with old old.kept old.stage skips h.0 in
     subst (λ (s : BinaryState). WaitsWith s.stage s.kept) (sym h.1) with
 next-waits (Err (no_row.NoPart (stops.Faulty fault))) old new skips h e = absurd cc
 
@@ -365,7 +366,7 @@ stays-within old n e skips =
       ap (λ r. after_head r old old) (sym none) ∙ ap (λ (t : BinaryStage). waiting_at t old) (sym e),
     )
 
-given-next : (answer : Answer) → given_by (next_answer answer) ≡ answer_rows answer
+pub given-next : (answer : Answer) → given_by (next_answer answer) ≡ answer_rows answer
 given-next (Ok (Some row)) = refl
 given-next (Ok None) = refl
 given-next (Err no_row.Memory) = refl
@@ -378,7 +379,7 @@ HasReadBinary-next answer old new pushed given h k = rw (given-next answer) (Has
 -- ---- the end of the input
 
 pub HasReadBinary-ended : (mid new : BinaryState) (pushed : List ℕ) (given : List Row) → new ≡ record mid { ended = true } → HasReadBinary mid pushed given → HasReadBinary new pushed given
-HasReadBinary-ended mid new pushed given e h = subst (λ (s : BinaryState). HasReadBinary s pushed given) (sym e) (record { so_far = λ f. absurd (false≢true (sym f)); in_all = h.in_all })
+HasReadBinary-ended mid new pushed given e h = subst (λ (s : BinaryState). HasReadBinary s pushed given) (sym e) (record { so_far = λ f. absurd (false≢true (sym f)); in_all = h.in_all; counted = h.counted })
 
 all-from : (old new : BinaryState) (pushed : List ℕ) (given : List Row) (ending : RowsEnding BinaryFault) → new.columns ≡ old.columns → new.limit ≡ old.limit → HasReadBinary old pushed given
     → binary_left old [] ≡ record { rows = []; ending = ending } → binary_file_reading new.columns new.limit pushed ≡ record { rows = given; ending = last_ending ending }
@@ -409,7 +410,7 @@ HasReadBinary-finish (Err no_row.Memory) old mid new pushed given h e k = rw e (
 HasReadBinary-finish (Err (no_row.NoPart stops.Incomplete)) old mid new pushed given h e k =
     let g = Goes-part (Err (no_row.NoPart stops.Incomplete)) old mid h in
     let all = all-from old mid pushed given (Open (open_bytes old.stage old.kept)) g.columns g.limit k (left-open old mid h) in
-    rw e (record { so_far = λ f. absurd (false≢true (sym f)); in_all = all ∙ ap (λ (rows : List Row). record { rows = rows; ending = Bad Truncated }) (sym (append-nil given) ∙ sym (append-nil (given ++ []))) })
+    rw e (record { so_far = λ f. absurd (false≢true (sym f)); in_all = all ∙ ap (λ (rows : List Row). record { rows = rows; ending = Bad Truncated }) (sym (append-nil given) ∙ sym (append-nil (given ++ []))); counted = (HasReadBinary-goes old mid [] pushed given g k).counted })
 HasReadBinary-finish (Err (no_row.NoPart (stops.Faulty fault))) old mid new pushed given h e k = HasReadBinary-ended mid new pushed (given ++ []) e (HasReadBinary-goes old mid [] pushed given (Goes-part (Err (no_row.NoPart (stops.Faulty fault))) old mid h) k)
 
 pub finish-closed : (answer : Answer) (old mid new : BinaryState) → TakesPart answer old mid → new ≡ finished answer mid → last_answer answer ≡ Ok None → new.stage ≡ Closed

@@ -14,14 +14,15 @@ use Rattle.pg_copy.proofs.BinaryHeads.{skip-some, skip-all}
 use Rattle.pg_copy.proofs.BinaryHistory.{whole-same}
 
 -- what is left of a longer file
-pub HasReadBinary-pushed : (old new : BinaryState) (piece pushed : List ℕ) (given : List Row) → old.ended ≡ false → new.columns ≡ old.columns → new.limit ≡ old.limit
+pub HasReadBinary-pushed : (old new : BinaryState) (piece pushed : List ℕ) (given : List Row) → old.ended ≡ false → new.columns ≡ old.columns → new.limit ≡ old.limit → new.given ≡ old.given
     → ((more : List ℕ) → binary_left old (piece ++ more) ≡ binary_left new more) → HasReadBinary old pushed given → HasReadBinary new (pushed ++ piece) given
-HasReadBinary-pushed old new piece pushed given going e f l h =
+HasReadBinary-pushed old new piece pushed given going e f same l h =
     let so_far : (more : List ℕ) → binary_reading new.columns new.limit ((pushed ++ piece) ++ more) ≡ after_rows given (binary_left new more) =
     λ more. whole-same old new ((pushed ++ piece) ++ more) e f ∙ ap (binary_reading old.columns old.limit) (append_assoc pushed piece more) ∙ h.so_far going (piece ++ more) ∙ ap (after_rows given) (l more) in
     record {
       so_far = λ g more. so_far more;
       in_all = ap (λ (x : List ℕ). binary_at_end (binary_reading new.columns new.limit x)) (sym (append-nil (pushed ++ piece))) ∙ ap binary_at_end (so_far []);
+      counted = same ∙ h.counted;
     }
 
 -- how a push leaves a reader at this stage
@@ -52,13 +53,13 @@ HasReadBinary-within old new piece pushed given n going e empty is h = elim (cas
       let fewer : BinaryState = record old { stage = Extension (n - length piece) } in
       let here : fewer ≡ new = pushed-within old piece n e lt ∙ sym is in
       let some : HasReadBinary fewer (pushed ++ piece) given =
-      HasReadBinary-pushed old fewer piece pushed given going refl refl (λ more. left_is (piece ++ more) ∙ skip-some old.columns old.limit n piece more lt ∙ ap (λ (x : List ℕ). binary_stage_reading (Extension (n - length piece)) old.columns old.limit (x ++ more)) (sym empty)) h in
+      HasReadBinary-pushed old fewer piece pushed given going refl refl refl (λ more. left_is (piece ++ more) ∙ skip-some old.columns old.limit n piece more lt ∙ ap (λ (x : List ℕ). binary_stage_reading (Extension (n - length piece)) old.columns old.limit (x ++ more)) (sym empty)) h in
       subst (λ (s : BinaryState). HasReadBinary s (pushed ++ piece) given) here some
   | inr le ↦
       let after : BinaryState = record old { kept = old.kept ++ drop n piece; stage = Rows } in
       let here : after ≡ new = pushed-past old piece n e le ∙ sym is in
       let all : HasReadBinary after (pushed ++ piece) given =
-      HasReadBinary-pushed old after piece pushed given going refl refl (λ more. left_is (piece ++ more) ∙ skip-all old.columns old.limit n piece more le ∙ ap (λ (x : List ℕ). binary_stage_reading Rows old.columns old.limit ((x ++ drop n piece) ++ more)) (sym empty)) h in
+      HasReadBinary-pushed old after piece pushed given going refl refl refl (λ more. left_is (piece ++ more) ∙ skip-all old.columns old.limit n piece more le ∙ ap (λ (x : List ℕ). binary_stage_reading Rows old.columns old.limit ((x ++ drop n piece) ++ more)) (sym empty)) h in
       subst (λ (s : BinaryState). HasReadBinary s (pushed ++ piece) given) here all
 ]
   where

@@ -13,6 +13,7 @@ pub mod Writing
 pub mod BinaryReads
 pub mod BinaryHeads
 pub mod BinaryLoop
+pub mod BinaryCounts
 pub mod BinaryHistory
 pub mod BinaryFewer
 pub mod BinaryPushes

@@ -1,6 +1,6 @@
 -- A reader of a binary file as its callers see it, what its calls do, and what it was given and has
 -- given.
-use Rattle.std.specs.Prelude.{◌≡◌, ℕ, ◌-◌, ◌<◌, ◌⊎◌, nat_lt, if◌then◌else◌, Bool, false, List, [], ◌∷◌, ◌++◌, length, drop, Result, Ok, Err}
+use Rattle.std.specs.Prelude.{◌≡◌, ℕ, suc, ◌-◌, ◌<◌, ◌⊎◌, nat_lt, if◌then◌else◌, Bool, false, List, [], ◌∷◌, ◌++◌, length, drop, Result, Ok, Err}
 use Rattle.pg_copy.specs.declared.fault.BinaryFault.{BinaryFault}
 use Rattle.pg_copy.specs.declared.fault.BinaryFault.TheVariants.{AfterTrailer, Memory}
 use Rattle.pg_copy.specs.declared.binary_reader.BinaryStage.{BinaryStage}
@@ -10,13 +10,27 @@ use Rattle.pg_copy.specs.Reading.{RowsRead, RowsEnding, Open, Done, Bad, after_r
 use Rattle.pg_copy.specs.BinaryPart.{bytes_at, head_reading, binary_reading, body_reading, trailer_reading, binary_at_end, binary_file_reading}
 
 -- a reader's columns, the most bytes that a value may have, the bytes that it keeps since they are
--- no whole part yet, its stage, and whether `finish` has ended the input
+-- no whole part yet, its stage, whether `finish` has ended the input, and how many rows it has given
 pub record BinaryState : Type 0 where
   pub columns : ℕ
   pub limit : ℕ
   pub kept : List ℕ
   pub stage : BinaryStage
   pub ended : Bool
+  pub given : ℕ
+
+-- the number of rows that a reader tells, of so many: the number itself, or the last one of 64 bits
+abbrev pub told_rows : ℕ → ℕ
+told_rows n = if nat_lt n 18446744073709551615 then n else 18446744073709551615
+
+-- the number of rows that is told after one row more: it stays at the last one of 64 bits
+abbrev pub one_more : ℕ → ℕ
+one_more n = if nat_lt n 18446744073709551615 then suc n else n
+
+-- the number of rows that is told after these rows too
+abbrev pub given_after : ℕ → List Row → ℕ
+given_after n [] = n
+given_after n (row ∷ rows) = given_after (one_more n) rows
 
 -- what a reader at this stage still gives of these bytes; of an extension n bytes are to come
 abbrev pub binary_stage_reading : BinaryStage → ℕ → ℕ → List ℕ → RowsRead BinaryFault
@@ -37,11 +51,13 @@ abbrev pub binary_last : BinaryState → RowsRead BinaryFault
 binary_last s = binary_at_end (binary_left s [])
 
 -- The reader was pushed these bytes in all, and has given these rows: they are the first that a
--- file which begins so has, and what the reader still gives is the rest of that file's reading.
+-- file which begins so has, what the reader still gives is the rest of that file's reading, and it
+-- tells how many they are.
 pub record HasReadBinary (s : BinaryState) (pushed : List ℕ) (given : List Row) : Type 0 where
   pub so_far : s.ended ≡ false → (more : List ℕ)
       → binary_reading s.columns s.limit (pushed ++ more) ≡ after_rows given (binary_left s more)
   pub in_all : binary_file_reading s.columns s.limit pushed ≡ after_rows given (binary_last s)
+  pub counted : s.given ≡ told_rows (length given)
 
 -- what stands after all rows, of a reader at this stage that keeps these bytes, while the input
 -- goes on

@@ -7,7 +7,7 @@ ghost use Rattle.pg_copy.specs.declared.binary_reader.BinaryStage.TheVariants.{H
 ghost use Rattle.pg_copy.specs.Row.{Row};
 ghost use Rattle.pg_copy.specs.Reading.{RowWaits, given_by, AnswersNext};
 ghost use Rattle.pg_copy.specs.BinaryPart.{Incomplete, fixed_at, head_at, binary_reading, binary_file_reading};
-ghost use Rattle.pg_copy.specs.BinaryReader.{HasReadBinary, PushesBinary, IsReading, WaitsWith, binary_left, binary_ending};
+ghost use Rattle.pg_copy.specs.BinaryReader.{HasReadBinary, PushesBinary, IsReading, WaitsWith, one_more, given_after, binary_left, binary_ending};
 ghost use Rattle.pg_copy.specs.Private.BinaryPart.{TakesPart, FindsNext, stage_of, extension_left, in_extension};
 
 use crate::Row;
@@ -32,6 +32,13 @@ pub enum BinaryStage {
     Failed(BinaryFault),
 }
 
+/// The number of rows given, after one more.
+fn one_more(given: u64) -> u64
+    ensures { result ≡ one_more given }
+{
+    given.saturating_add(1)
+}
+
 /// Takes a binary file in any pieces, and gives exactly its rows.
 ///
 /// `push` keeps a piece, `next` gives the rows that are whole, one by one, and `finish` those that are left at the end of the
@@ -50,6 +57,7 @@ pub struct BinaryReader {
     look: Look,
     stage: BinaryStage,
     ended: bool,
+    given: u64,
 }
 
 impl Model for BinaryReader {
@@ -58,7 +66,7 @@ impl Model for BinaryReader {
 
     ghost Value = { BinaryState };
 
-    ghost view = { λ r. record { columns = r.columns; limit = r.limit; kept = r.buffer; stage = r.stage; ended = r.ended } };
+    ghost view = { λ r. record { columns = r.columns; limit = r.limit; kept = r.buffer; stage = r.stage; ended = r.ended; given = r.given } };
 
     ghost invariant = { λ r. IsBinaryReader r.columns r.limit r.buffer r.look r.stage };
 }
@@ -69,7 +77,7 @@ impl BinaryReader {
         requires columns { (0 < columns) × (columns ≤ 32767) }
         requires limit { (0 < limit) × (limit ≤ 2147483647) }
         ensures state { result
-            ≡ record { columns = columns; limit = limit; kept = []; stage = Head; ended = false } }
+            ≡ record { columns = columns; limit = limit; kept = []; stage = Head; ended = false; given = 0 } }
         ensures read { HasReadBinary result [] [] }
     {
         BinaryReader {
@@ -80,6 +88,7 @@ impl BinaryReader {
             look: Look::start(),
             stage: BinaryStage::Head,
             ended: false,
+            given: 0,
         }
     }
 
@@ -95,6 +104,14 @@ impl BinaryReader {
         ensures { result ≡ self.now.ended }
     {
         self.ended
+    }
+
+    /// How many rows were given, so that a caller can say which row a fault stands in the place of. The number stays at
+    /// `u64::MAX`.
+    pub fn rows_given(&self) -> u64
+        ensures { result ≡ self.now.given }
+    {
+        self.given
     }
 
     /// Takes the next piece of the file, all of it. What it has of the head's extension is dropped, once a call of `next` has
@@ -139,6 +156,7 @@ impl BinaryReader {
         ensures same { (self.new.columns ≡ self.old.columns) × (self.new.limit ≡ self.old.limit) }
         ensures ended { self.new.ended ≡ false }
         ensures row { (row : Row) → result ≡ Ok (Some row) → self.new.stage ≡ Rows }
+        ensures given { self.new.given ≡ given_after self.old.given (given_by result) }
         ensures fewer { (row : Row) → result ≡ Ok (Some row)
             → length self.new.kept < length self.old.kept }
         ensures waits { result ≡ Ok None → WaitsWith self.new.stage self.new.kept }
@@ -172,6 +190,7 @@ impl BinaryReader {
         ensures same { (self.new.columns ≡ self.old.columns) × (self.new.limit ≡ self.old.limit) }
         ensures ended { result ≡ Err Memory ⊎ self.new.ended ≡ true }
         ensures row { (row : Row) → result ≡ Ok (Some row) → self.new.stage ≡ Rows }
+        ensures given { self.new.given ≡ given_after self.old.given (given_by result) }
         ensures fewer { (row : Row) → result ≡ Ok (Some row)
             → length self.new.kept < length self.old.kept }
         ensures failed { (fault : BinaryFault) → self.old.stage ≡ Failed fault
@@ -279,6 +298,7 @@ impl BinaryReader {
                         self.buffer.take(self.look.start + self.look.walk.at);
                         self.look = Look::start();
                         self.stage = BinaryStage::Rows;
+                        self.given = one_more(self.given);
                         Ok(Some(Seq::new(values)))
                     }
                     Err(_) => Err(NoRow::Memory),

@@ -15,7 +15,7 @@ use Rattle.pg_copy.specs.declared.binary_reader.BinaryStage.TheVariants.{Head, E
 use Rattle.pg_copy.specs.Row.{Row}
 use Rattle.pg_copy.specs.Reading.{RowWaits}
 use Rattle.pg_copy.specs.BinaryPart.{NoPart, Incomplete, Faulty, ◌>>=◌, number_at, bytes_at, fixed_at, head_at, values_at, row_at}
-use Rattle.pg_copy.specs.BinaryReader.{BinaryState, binary_left}
+use Rattle.pg_copy.specs.BinaryReader.{BinaryState, given_after, binary_left}
 
 -- a function's reason why it read no part, as reading has it
 abbrev pub no_part : Stop → NoPart
@@ -163,10 +163,16 @@ waiting_at (Failed fault) s = s
 abbrev pub waiting : BinaryState → BinaryState
 waiting s = waiting_at s.stage s
 
+-- a row as a list of one, or no row
+abbrev pub option_rows : Option Row → List Row
+option_rows None = []
+option_rows (Some row) = row ∷ []
+
 -- the next part is taken, or it is waited for, or a fault is found in its place and nothing changes
 abbrev pub FindsNext : Result (Option Row) NoRow → BinaryState → BinaryState → Type 0
 FindsNext (Ok row) old new = (part_at old.stage old.columns old.limit old.kept
-    ≡ Ok ((row, new.stage), new.kept)) × (new ≡ record old { kept = new.kept; stage = new.stage })
+    ≡ Ok ((row, new.stage), new.kept))
+    × (new ≡ record old { kept = new.kept; stage = new.stage; given = given_after old.given (option_rows row) })
 FindsNext (Err no_row.Memory) old new = (new ≡ old) × RowWaits (binary_left old [])
 FindsNext (Err (no_row.NoPart stops.Incomplete)) old new =
     (part_at old.stage old.columns old.limit old.kept ≡ Err Incomplete) × (new ≡ waiting old)

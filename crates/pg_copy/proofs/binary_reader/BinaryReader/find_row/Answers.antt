@@ -1,7 +1,7 @@
-use Rattle.std.proofs.Common.{◌≡◌, ◌+◌, drop, ap, sym, ◌∙◌}
+use Rattle.std.proofs.Common.{◌≡◌, ℕ, ◌+◌, drop, ap, sym, ◌∙◌}
 use Rattle.pg_copy.specs.declared.binary_reader.BinaryStage.{BinaryStage}
 use Rattle.pg_copy.specs.declared.binary_reader.BinaryStage.TheVariants.{Rows}
-use Rattle.pg_copy.specs.BinaryReader.{BinaryState}
+use Rattle.pg_copy.specs.BinaryReader.{BinaryState, one_more}
 use Rattle.pg_copy.specs.Private.BinaryPart.{part_at, stage_of}
 use Rattle.pg_copy.proofs.BinaryWalk.{found-row, part-row}
 use Rattle.pg_copy.proofs.BinaryHistory.{waits-part}
@@ -19,7 +19,11 @@ returns-in-Ok c =
     let found = rw c.as_slice-bytes.ensures at w.found in
     let back : c.split_at.result.1.now ≡ drop (l.start + 2) s.buffer = c.split_at.ensures.back ∙ ap (drop (l.start + 2)) c.as_slice-bytes.ensures in
     let row = found-row c.args.in_head s.columns s.limit s.buffer l c.in-Ok.values.items c.split_at.result.1.now c.self.invariant.columns_few looked found back c.in-Ok.ensures in
-    (before ∙ rw (c.new.ensures, c.take-in-Ok.ensures) row, ap (λ (v : BinaryState). record v { kept = c.take-in-Ok.new.self; stage = Rows }) c.self.view_is)
+    let taken = c.take-in-Ok.new.self in (
+      before ∙ rw (c.new.ensures, c.take-in-Ok.ensures) row,
+      ap (λ (n : ℕ). record { columns = s.columns; limit = s.limit; kept = taken; stage = Rows; ended = s.ended; given = n }) c.one_more-self-inside.ensures
+          ∙ ap (λ (v : BinaryState). record v { kept = taken; stage = Rows; given = one_more v.given }) c.self.view_is,
+    )
 
 pub returns-in-Err : goal.returns-in-Err
 returns-in-Err c =

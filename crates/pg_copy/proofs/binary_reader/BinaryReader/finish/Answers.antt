@@ -2,7 +2,7 @@ use Rattle.std.proofs.Common.{Ok, Err}
 use Rattle.pg_copy.specs.declared.binary_part.NoPart.TheVariants.{Incomplete, Faulty}
 use Rattle.pg_copy.specs.declared.binary_part.NoRow.TheVariants.{NoPart}
 use Rattle.pg_copy.proofs.BinaryHistory.{HasReadBinary-finish, AnswersNext-finish, finish-row, finish-closed}
-use Rattle.pg_copy.proofs.BinaryFewer.{finish-fewer}
+use Rattle.pg_copy.proofs.BinaryFewer.{finish-fewer, finish-given}
 use Rattle.pg_copy.proofs.binary_reader.BinaryReader.finish.Goals as goal
 
 pub returns-in-Ok-clause-read : goal.returns-in-Ok-clause-read
@@ -39,3 +39,6 @@ returns-in-Err-NoPart-Faulty-clause-gives c = λ pushed given h.
 
 pub returns-in-Ok-clause-fewer : goal.returns-in-Ok-clause-fewer
 returns-in-Ok-clause-fewer c = λ row e. finish-fewer (Ok c.in-Ok.row) c.args.self.now c.read.new.self c.end.new.self c.in-Ok.ensures c.end.ensures row e
+
+pub returns-in-Ok-clause-given : goal.returns-in-Ok-clause-given
+returns-in-Ok-clause-given c = finish-given (Ok c.in-Ok.row) c.args.self.now c.read.new.self c.end.new.self c.in-Ok.ensures c.end.ensures

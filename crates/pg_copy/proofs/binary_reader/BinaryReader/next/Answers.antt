@@ -3,7 +3,7 @@ use Rattle.pg_copy.specs.declared.binary_part.NoPart.TheVariants.{Incomplete, Fa
 use Rattle.pg_copy.specs.declared.binary_part.NoRow.TheVariants.{NoPart}
 use Rattle.pg_copy.specs.BinaryReader.{BinaryState}
 use Rattle.pg_copy.proofs.BinaryHistory.{HasReadBinary-next, AnswersNext-next, next-row, next-waits}
-use Rattle.pg_copy.proofs.BinaryFewer.{next-fewer}
+use Rattle.pg_copy.proofs.BinaryFewer.{next-fewer, next-given}
 use Rattle.pg_copy.proofs.binary_reader.BinaryReader.next.Goals as goal
 
 pub returns-in-Ok-clause-read : goal.returns-in-Ok-clause-read
@@ -50,3 +50,6 @@ returns-in-Err-NoPart-Incomplete-clause-waits c = λ e.
 
 pub returns-in-Ok-clause-fewer : goal.returns-in-Ok-clause-fewer
 returns-in-Ok-clause-fewer c = λ row e. next-fewer (Ok c.in-Ok.row) c.args.self.now c.read.new.self c.in-Ok.ensures row e
+
+pub returns-in-Ok-clause-given : goal.returns-in-Ok-clause-given
+returns-in-Ok-clause-given c = next-given (Ok c.in-Ok.row) c.args.self.now c.read.new.self c.in-Ok.ensures
