@@ -18,3 +18,4 @@ pub mod BinaryHistory
 pub mod BinaryFewer
 pub mod BinaryPushes
 pub mod BinaryWalk
+pub mod BinaryLent

@@ -2,3 +2,5 @@
 pub mod Units
 pub mod TextLine
 pub mod BinaryPart
+pub mod RowBuffer
+pub mod BinaryRow

@@ -130,7 +130,7 @@ pub fn extension_left(bytes: &[u8]) -> Option<u32>
 
 /// A value, which is lent, and what stands after it.
 #[tactic(auto, unfolding(crate::specs::BinaryPart::value_at))]
-fn value_at(limit: u32, bytes: &[u8]) -> Result<(Option<&[u8]>, &[u8]), NoPart>
+pub fn value_at(limit: u32, bytes: &[u8]) -> Result<(Option<&[u8]>, &[u8]), NoPart>
     ensures { ReadsPart (λ x. (option_copied x.0, x.1.now)) result (value_at limit bytes.now) }
 {
     let (len, rest) = u32_at(bytes)?;

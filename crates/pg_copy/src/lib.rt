@@ -8,11 +8,13 @@
 
 mod binary_part;
 mod binary_reader;
+mod binary_row;
 mod binary_writer;
 mod fault;
 mod format;
 pub mod laws;
 mod plain;
+mod row_buffer;
 mod scan;
 mod text_field;
 mod text_line;
@@ -20,6 +22,7 @@ mod text_reader;
 mod text_writer;
 
 pub use binary_reader::BinaryReader;
+pub use binary_row::{BinaryRow, LentValues};
 pub use binary_writer::{
     write_binary_count, write_binary_field, write_binary_head, write_binary_row,
     write_binary_trailer,
