@@ -15,7 +15,7 @@ use Rattle.pg_copy.specs.Reading.{RowsRead, RowsEnding, Open, Done, Bad, after_r
 use Rattle.pg_copy.specs.Binary.{open_head}
 use Rattle.pg_copy.specs.BinaryPart.{NoPart, Incomplete, Faulty, ◌>>=◌, bytes_at, fixed_at, head_at, row_at, part_reading, row_reading, body_reading, head_reading, binary_reading, trailer_reading, last_ending, binary_at_end, binary_file_reading}
 use Rattle.pg_copy.specs.BinaryReader.{BinaryState, binary_stage_reading, binary_left, HasReadBinary, WaitsWith, told_rows, given_after, binary_ending}
-use Rattle.pg_copy.specs.Private.BinaryPart.{closed_at, row_or_trailer, body_at, part_at, extension_left, in_extension, after_head, waiting_at, option_rows, TakesPart}
+use Rattle.pg_copy.specs.Private.BinaryPart.{closed_at, row_or_trailer, body_at, part_at, extension_left, in_extension, after_head, waiting_at, let_go, option_rows, TakesPart}
 use Rattle.pg_copy.proofs.BinaryCounts.{told-rows}
 use Rattle.pg_copy.proofs.TextReads.{after-after, after-none}
 use Rattle.pg_copy.proofs.BinaryReads.{Grows, row_grows, head_grows, bytes_grow, body-step, part-rows}
@@ -40,7 +40,7 @@ last_answer (Err (no_row.NoPart (stops.Faulty fault))) = Err fault
 abbrev pub finished : Result (Option Row) NoRow → BinaryState → BinaryState
 finished (Ok row) mid = record mid { ended = true }
 finished (Err no_row.Memory) mid = mid
-finished (Err (no_row.NoPart stops.Incomplete)) mid = record mid { kept = []; stage = Failed Truncated; ended = true }
+finished (Err (no_row.NoPart stops.Incomplete)) mid = record mid { kept = []; stage = Failed Truncated; ended = true; held = None }
 finished (Err (no_row.NoPart (stops.Faulty fault))) mid = record mid { ended = true }
 
 -- ---- the next part
@@ -218,12 +218,16 @@ Due old p = PartReads old.columns old.limit (open_bytes old.stage old.kept) p (�
 due : (old : BinaryState) (p : Result ((Option Row × BinaryStage) × List ℕ) NoPart) → part_at old.stage old.columns old.limit old.kept ≡ p → Due old p
 due old p e = subst (λ q. Due old q) e (part-reads old.stage old.columns old.limit old.kept)
 
+-- what is lent is no part of what is left
+Goes-held : {new : BinaryState} {rows : List Row} (old : BinaryState) → ReadsRows (let_go old) new rows → ReadsRows old new rows
+Goes-held old g = record { columns = g.columns; limit = g.limit; ended = g.ended; left = g.left; given = g.given }
+
 pub Goes-part : (answer : Answer) (old new : BinaryState) → TakesPart answer old new → ReadsRows old new (answer_rows answer)
 Goes-part (Ok o) old new h =
     let r = due old (Ok ((o, new.stage), new.kept)) h.0 in
     rw h.1 (record { columns = refl; limit = refl; ended = refl; left = λ more. r.1 more; given = refl })
 Goes-part (Err no_row.Memory) old new h = rw h.0 (Goes-same old)
-Goes-part (Err (no_row.NoPart stops.Incomplete)) old new h = rw h.1 (waits old old.kept old.stage h.0)
+Goes-part (Err (no_row.NoPart stops.Incomplete)) old new h = rw h.1 (Goes-held old (waits (let_go old) old.kept old.stage h.0))
 Goes-part (Err (no_row.NoPart (stops.Faulty fault))) old new h =
     let r : (more : List ℕ) → binary_left old more ≡ record { rows = []; ending = Bad fault } = due old (Err (Faulty fault)) h.1 in
     rw h.2 (record { columns = refl; limit = refl; ended = refl; left = r; given = refl })
@@ -299,7 +303,7 @@ AnswersNext-next (Ok None) old new pushed given going h k =
     subst (λ (x : RowsEnding BinaryFault). IsGood x × (binary_reading new.columns new.limit pushed ≡ record { rows = given; ending = x })) here (tt, file)
 AnswersNext-next (Err no_row.Memory) old new pushed given going h k = inl refl
 AnswersNext-next (Err (no_row.NoPart stops.Incomplete)) old new pushed given going h k =
-    let o = open-ending old old.kept old.stage h.0 in
+    let o = open-ending (let_go old) old.kept old.stage h.0 in
     let g = Goes-part (Err (no_row.NoPart stops.Incomplete)) old new h in
     let file = whole-from old new pushed given (Open (open_bytes old.stage old.kept)) going g.columns g.limit k (left-open old new h) in
     let o' = subst (λ (s : BinaryState). EndsOpen s (open_bytes old.stage old.kept)) (sym h.1) o in
@@ -353,17 +357,17 @@ next-waits (Ok None) old new skips h e =
     subst (λ (t : BinaryStage). WaitsWith t new.kept) (sym n.0) n.1
 next-waits (Err no_row.Memory) old new skips h e = absurd cc
 next-waits (Err (no_row.NoPart stops.Incomplete)) old new skips h e =
-    let with = waits-with old old.kept old.stage skips h.0 in
+    let with = waits-with (let_go old) old.kept old.stage skips h.0 in
     subst (λ (s : BinaryState). WaitsWith s.stage s.kept) (sym h.1) with
 next-waits (Err (no_row.NoPart (stops.Faulty fault))) old new skips h e = absurd cc
 
 -- a reader within an extension takes no part
-pub stays-within : (old : BinaryState) (n : ℕ) → old.stage ≡ Extension n → (0 < n) × (old.kept ≡ []) → TakesPart (Err (no_row.NoPart stops.Incomplete)) old old
+pub stays-within : (old : BinaryState) (n : ℕ) → old.stage ≡ Extension n → (0 < n) × (old.kept ≡ []) → old.held ≡ None → TakesPart (Err (no_row.NoPart stops.Incomplete)) old old
 unfolding part_at
-stays-within old n e skips =
+stays-within old n e skips none_held =
     let none : bytes_at n old.kept ≡ Err Incomplete = ap (bytes_at n) skips.1 ∙ cond-true _ _ _ (lt-ltb 0 n skips.0) in (
       ap (λ (t : BinaryStage). part_at t old.columns old.limit old.kept) e ∙ ap (λ r. r >>= λ h. body_at old.columns old.limit h.1) none,
-      ap (λ r. after_head r old old) (sym none) ∙ ap (λ (t : BinaryStage). waiting_at t old) (sym e),
+      ap (λ r. after_head r old old) (sym none) ∙ ap (λ (t : BinaryStage). waiting_at t old) (sym e) ∙ ap (λ (o : Option Row). waiting_at old.stage (record old { held = o })) none_held,
     )
 
 pub given-next : (answer : Answer) → given_by (next_answer answer) ≡ answer_rows answer

@@ -13,6 +13,7 @@ use Rattle.pg_copy.specs.declared.binary_reader.BinaryStage.TheVariants.{Head, E
 use Rattle.pg_copy.specs.Row.{Row}
 use Rattle.pg_copy.specs.BinaryPart.{NoPart, Incomplete, Faulty, ◌>>=◌, number_at, head_at, value_at, values_at, row_at}
 use Rattle.pg_copy.specs.Private.BinaryPart.{rest_of, IsWalkBegun, IsRowWalked, row_or_trailer, closed_at, body_at, part_at, IsAfterHead, StartsRow, IsLooked, stage_of, is_head, IsBinaryReader}
+use Rattle.pg_copy.specs.Private.RowBuffer.{RowBytes}
 use Rattle.pg_copy.specs.BinaryReader.{IsReading}
 use Rattle.pg_copy.proofs.BinaryReads.{Grows, number_grows, values_grow, head_grows, TakesAtLeast, value_takes, head_takes}
 
@@ -83,6 +84,7 @@ begun-start columns limit bytes count rest e same =
     record {
       count = e ∙ ap (λ (n : ℕ). Ok (n, rest)) same ∙ ap (λ (x : List ℕ). Ok (columns, x)) b.1;
       in_range = b.0;
+      after_count = omega arith;
       few = omega arith;
       values = ap (λ (n : ℕ). rest_of (values_at limit n (drop 2 bytes))) none;
     }
@@ -110,7 +112,7 @@ begun-more columns limit bytes at l v after some h e =
     let k : columns - (l - 1) ≡ suc (columns - l) = omega (arith, h.few) in
     let values : rest_of (values_at limit (columns - (l - 1)) (drop 2 bytes)) ≡ Ok (drop (length bytes - length after) bytes) =
     ap (λ (n : ℕ). rest_of (values_at limit n (drop 2 bytes))) k ∙ snoc limit (columns - l) (drop 2 bytes) ∙ ap (λ (x : Result (List ℕ) NoPart). x >>= λ y. rest_of (value_at limit y)) h.values ∙ ap rest_of e ∙ ap (λ (x : List ℕ). Ok x) is in
-    (record { count = h.count; in_range = omega arith; few = omega (arith, h.few); values = values }, omega (arith, place), omega (arith, len, long, t.2, h.in_range), is)
+    (record { count = h.count; in_range = omega arith; after_count = omega (arith, place, h.after_count); few = omega (arith, h.few); values = values }, omega (arith, place), omega (arith, len, long, t.2, h.in_range), is)
 
 -- the row, by its values
 row-of : (columns limit : ℕ) (bytes : List ℕ) (r : Result (Row × List ℕ) NoPart) → columns ≤ 32767 → number_at w16 bytes ≡ Ok (columns, drop 2 bytes) → values_at limit columns (drop 2 bytes) ≡ r → row_at columns limit bytes ≡ (r >>= λ x. Ok (Some x.0, x.1))
@@ -152,6 +154,7 @@ walked-append columns limit bytes more w walked lt =
     record {
       count = count ∙ ap (λ (x : List ℕ). Ok (columns, x)) (sym after);
       in_range = omega (arith, h.in_range, length-append bytes more);
+      after_count = h.after_count;
       few = h.few;
       values = ap (λ (x : List ℕ). rest_of (values_at limit (columns - w.left) x)) after
           ∙ grown-rest (values_at limit (columns - w.left) (drop 2 bytes)) (values_at limit (columns - w.left) (drop 2 bytes ++ more)) (drop w.at bytes) more (values_grow limit (columns - w.left) (drop 2 bytes) more) h.values
@@ -207,13 +210,14 @@ not-within : (stage : BinaryStage) (n : ℕ) → (stage ≡ Head) ⊎ (stage ≡
 not-within stage n (inl h) e = absurd cc
 not-within stage n (inr h) e = absurd cc
 
-pub reader-append : (columns limit : ℕ) (kept more : List ℕ) (l : Look) (stage : BinaryStage) → IsBinaryReader columns limit kept l stage → (stage ≡ Head) ⊎ (stage ≡ Rows) → IsBinaryReader columns limit (kept ++ more) l stage
-reader-append columns limit kept more l stage h keeps = record {
+pub reader-append : (columns limit : ℕ) (buffer : RowBytes) (more : List ℕ) (l : Look) (stage : BinaryStage) → IsBinaryReader columns limit buffer l stage → (stage ≡ Head) ⊎ (stage ≡ Rows) → IsBinaryReader columns limit (record { front = None; kept = buffer.kept ++ more }) l stage
+reader-append columns limit buffer more l stage h keeps = record {
   columns_few = h.columns_few;
-  looked = looked-append (is_head stage) columns limit kept more l h.looked;
+  looked = looked-append (is_head stage) columns limit buffer.kept more l h.looked;
   not_memory = h.not_memory;
   closed = λ e. absurd (not-closed stage keeps e);
   skips = λ n e. absurd (not-within stage n keeps e);
+  lends = inr refl;
 }
 
 -- ---- looks
@@ -250,7 +254,7 @@ part-after in_head columns limit bytes rest after e more =
 
 -- a row that was found
 pub part-row : (in_head : Bool) (columns limit : ℕ) (bytes : List ℕ) (l : Look) → columns ≤ 32767 → IsLooked in_head columns limit bytes l → IsAfterHead in_head bytes (drop l.start bytes) → 0 < l.walk.at → l.walk.left ≡ 0
-    → (row : Row) × (values_at limit columns (drop (l.start + 2) bytes) ≡ Ok (row, drop (l.start + l.walk.at) bytes)) × (part_at (stage_of in_head) columns limit bytes ≡ Ok ((Some row, Rows), drop (l.start + l.walk.at) bytes)) × (l.start + 2 ≤ length bytes) × (l.start + l.walk.at ≤ length bytes)
+    → (row : Row) × (values_at limit columns (drop (l.start + 2) bytes) ≡ Ok (row, drop (l.start + l.walk.at) bytes)) × (part_at (stage_of in_head) columns limit bytes ≡ Ok ((Some row, Rows), drop (l.start + l.walk.at) bytes)) × (l.start + 2 ≤ l.start + l.walk.at) × (l.start + l.walk.at ≤ length bytes)
 part-row in_head columns limit bytes l few h after some none =
     let rest = drop l.start bytes in
     let b = h.walk some in
@@ -261,7 +265,7 @@ part-row in_head columns limit bytes l few h after some none =
       r.0,
       ap (values_at limit columns) (sym values) ∙ r.1 ∙ ap (λ (x : List ℕ). Ok (r.0, x)) place,
       part-of in_head columns limit bytes rest after ∙ body-of columns limit rest (Ok (Some r.0, drop l.walk.at rest)) r.2 ∙ ap (λ (x : List ℕ). Ok ((Some r.0, Rows), x)) place,
-      omega (arith, two, length-drop l.start bytes, h.in_range),
+      omega (arith, b.after_count),
       omega (arith, b.in_range, length-drop l.start bytes, h.in_range),
     )
 

@@ -16,6 +16,7 @@ pub mod BinaryLoop
 pub mod BinaryCounts
 pub mod BinaryHistory
 pub mod BinaryFewer
+pub mod BinaryHolds
 pub mod BinaryPushes
 pub mod BinaryWalk
 pub mod BinaryLent

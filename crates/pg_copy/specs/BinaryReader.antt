@@ -1,6 +1,6 @@
 -- A reader of a binary file as its callers see it, what its calls do, and what it was given and has
 -- given.
-use Rattle.std.specs.Prelude.{◌≡◌, ℕ, suc, ◌-◌, ◌<◌, ◌⊎◌, nat_lt, if◌then◌else◌, Bool, false, List, [], ◌∷◌, ◌++◌, length, drop, Result, Ok, Err}
+use Rattle.std.specs.Prelude.{◌≡◌, ℕ, suc, ◌-◌, ◌<◌, ◌⊎◌, nat_lt, if◌then◌else◌, Bool, false, List, [], ◌∷◌, ◌++◌, length, drop, Option, None, Result, Ok, Err}
 use Rattle.pg_copy.specs.declared.fault.BinaryFault.{BinaryFault}
 use Rattle.pg_copy.specs.declared.fault.BinaryFault.TheVariants.{AfterTrailer, Memory}
 use Rattle.pg_copy.specs.declared.binary_reader.BinaryStage.{BinaryStage}
@@ -10,7 +10,8 @@ use Rattle.pg_copy.specs.Reading.{RowsRead, RowsEnding, Open, Done, Bad, after_r
 use Rattle.pg_copy.specs.BinaryPart.{bytes_at, head_reading, binary_reading, body_reading, trailer_reading, binary_at_end, binary_file_reading}
 
 -- a reader's columns, the most bytes that a value may have, the bytes that it keeps since they are
--- no whole part yet, its stage, whether `finish` has ended the input, and how many rows it has given
+-- no whole part yet, its stage, whether `finish` has ended the input, how many rows it has given,
+-- and the row that it lends, if it lends one
 pub record BinaryState : Type 0 where
   pub columns : ℕ
   pub limit : ℕ
@@ -18,6 +19,7 @@ pub record BinaryState : Type 0 where
   pub stage : BinaryStage
   pub ended : Bool
   pub given : ℕ
+  pub held : Option Row
 
 -- the number of rows that a reader tells, of so many: the number itself, or the last one of 64 bits
 abbrev pub told_rows : ℕ → ℕ
@@ -96,10 +98,10 @@ stage_after stages.Closed [] = stages.Closed
 stage_after stages.Closed (b ∷ bs) = stages.Failed AfterTrailer
 stage_after (stages.Failed fault) piece = stages.Failed fault
 
--- the reader after a push that took this piece
+-- the reader after a push that took this piece: it lends no row
 abbrev pub pushed_after : BinaryState → List ℕ → BinaryState
 pushed_after s piece =
-    record s { kept = s.kept ++ kept_of s.stage piece; stage = stage_after s.stage piece }
+    record s { kept = s.kept ++ kept_of s.stage piece; stage = stage_after s.stage piece; held = None }
 
 -- The reader is in the head or among the rows, and has found neither trailer nor fault.
 abbrev pub IsReading : BinaryStage → Type 0

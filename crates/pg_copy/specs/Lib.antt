@@ -1,6 +1,6 @@
 -- What a reader of the contracts must believe stands in Row, Reading, Text, TextField, TextLine and
 -- Binary. BinaryPart reads a binary file from left to right, which the law OneFile ties to Binary.
--- TextReader and BinaryReader say what the calls of a reader do, Laws what the formats have in
+-- TextReader, BinaryReader and BinaryLent say what the calls of a reader do, Laws what the formats have in
 -- common, and Private has the words of private functions. Of private types the public files name
 -- the stages of the two readers alone (TextStage, BinaryStage).
 pub mod Row
@@ -12,5 +12,6 @@ pub mod TextReader
 pub mod Binary
 pub mod BinaryPart
 pub mod BinaryReader
+pub mod BinaryLent
 pub mod Laws
 pub mod Private

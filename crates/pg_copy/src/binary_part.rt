@@ -256,6 +256,14 @@ impl Look {
     }
 }
 
+/// Where a row stands in the bytes that are kept.
+#[derive(Clone, Copy, Debug, Drop, PartialEq, Eq)]
+pub struct Place {
+    /// Where its values begin: after their number.
+    pub values: usize,
+    pub end: usize,
+}
+
 /// Where the row begins in the bytes: after the head, where it is still to be read.
 fn row_start(in_head: bool, bytes: &[u8], start: usize) -> Result<usize, NoPart>
     requires found { (in_head ≡ false) ⊎ (0 < start)

@@ -1,6 +1,6 @@
 //! Reading a binary file that comes in pieces.
 
-ghost use Rattle.std.specs.Prelude.{◌≡◌, ◌++◌, ◌≤◌, ◌<◌, ◌↔◌, ◌⊎◌, ℕ, List, length, Ok, Err, [], true, false, IsTrue, OnOk};
+ghost use Rattle.std.specs.Prelude.{◌≡◌, ◌++◌, ◌≤◌, ◌<◌, ◌↔◌, ◌⊎◌, ℕ, List, length, None, Ok, Err, [], true, false, IsTrue, IfOk, OnOk};
 ghost use Rattle.pg_copy.specs.declared.fault.BinaryFault.{BinaryFault};
 ghost use Rattle.pg_copy.specs.declared.fault.BinaryFault.TheVariants.{Memory};
 ghost use Rattle.pg_copy.specs.declared.binary_reader.BinaryStage.TheVariants.{Head, Extension, Rows, Closed, Failed};
@@ -8,13 +8,18 @@ ghost use Rattle.pg_copy.specs.Row.{Row};
 ghost use Rattle.pg_copy.specs.Reading.{RowWaits, given_by, AnswersNext};
 ghost use Rattle.pg_copy.specs.BinaryPart.{Incomplete, fixed_at, head_at, binary_reading, binary_file_reading};
 ghost use Rattle.pg_copy.specs.BinaryReader.{HasReadBinary, PushesBinary, IsReading, WaitsWith, one_more, given_after, binary_left, binary_ending};
-ghost use Rattle.pg_copy.specs.Private.BinaryPart.{TakesPart, FindsNext, stage_of, extension_left, in_extension};
+ghost use Rattle.pg_copy.specs.BinaryLent.{as_next, Lends};
+ghost use Rattle.pg_copy.specs.Private.BinaryPart.{IsRowAt, HasRowAt, lending, let_go, TakesPart, FindsNext, stage_of, extension_left, in_extension};
 
 use crate::Row;
-use crate::binary_part::{Look, NoPart, NoRow, RowOrTrailer, extension_left, find_part, values_of};
+use crate::binary_part::{
+    Look, NoPart, NoRow, Place, RowOrTrailer, extension_left, find_part, values_of,
+};
+use crate::binary_row::BinaryRow;
 use crate::fault::BinaryFault;
-use pg_seq::{Buffer, Seq};
-use std::alloc::Global;
+use crate::row_buffer::RowBuffer;
+use pg_seq::Seq;
+use std::alloc::{AllocError, Global};
 use std::marker::Model;
 
 /// Where a reader of a binary file stands.
@@ -52,7 +57,7 @@ pub struct BinaryReader {
     alloc: Global,
     columns: u16,
     limit: u32,
-    buffer: Buffer,
+    buffer: RowBuffer,
     // how far the next part was looked over
     look: Look,
     stage: BinaryStage,
@@ -63,10 +68,11 @@ pub struct BinaryReader {
 impl Model for BinaryReader {
     ghost use Rattle.pg_copy.specs.BinaryReader.{BinaryState};
     ghost use Rattle.pg_copy.specs.Private.BinaryPart.{IsBinaryReader};
+    ghost use Rattle.pg_copy.specs.Private.BinaryRow.{held_row};
 
     ghost Value = { BinaryState };
 
-    ghost view = { λ r. record { columns = r.columns; limit = r.limit; kept = r.buffer; stage = r.stage; ended = r.ended; given = r.given } };
+    ghost view = { λ r. record { columns = r.columns; limit = r.limit; kept = r.buffer.kept; stage = r.stage; ended = r.ended; given = r.given; held = held_row r.columns r.limit r.buffer.front } };
 
     ghost invariant = { λ r. IsBinaryReader r.columns r.limit r.buffer r.look r.stage };
 }
@@ -77,14 +83,14 @@ impl BinaryReader {
         requires columns { (0 < columns) × (columns ≤ 32767) }
         requires limit { (0 < limit) × (limit ≤ 2147483647) }
         ensures state { result
-            ≡ record { columns = columns; limit = limit; kept = []; stage = Head; ended = false; given = 0 } }
+            ≡ record { columns = columns; limit = limit; kept = []; stage = Head; ended = false; given = 0; held = None } }
         ensures read { HasReadBinary result [] [] }
     {
         BinaryReader {
             alloc,
             columns,
             limit,
-            buffer: Buffer::new(alloc),
+            buffer: RowBuffer::new(alloc),
             look: Look::start(),
             stage: BinaryStage::Head,
             ended: false,
@@ -163,6 +169,7 @@ impl BinaryReader {
         ensures failed { (fault : BinaryFault) → self.old.stage ≡ Failed fault
             → (result ≡ Err fault) × (self.new ≡ self.old) }
         ensures closed { self.old.stage ≡ Closed → (result ≡ Ok None) × (self.new ≡ self.old) }
+        ensures held { result ≡ Err Memory ⊎ self.new.held ≡ None }
         ensures memory { result ≡ Err Memory
             → (self.new ≡ self.old) × RowWaits (binary_left self.old []) }
     {
@@ -175,6 +182,57 @@ impl BinaryReader {
                 Err(NoRow::NoPart(NoPart::Incomplete)) => Ok(None),
                 Err(NoRow::NoPart(NoPart::Faulty(fault))) => Err(fault),
             },
+        }
+    }
+
+    /// Whether a next row waits, which is then lent until the next change of the reader: [`BinaryReader::held`] gives it. It counts as
+    /// given. A fault is answered as `next` answers it, and no memory is asked for (PostgreSQL documentation, page COPY, "Binary
+    /// Format").
+    pub fn next_lent(&mut self) -> Result<bool, BinaryFault>
+        requires { self.old.ended ≡ false }
+        ensures read { (pushed : List ℕ) (given : List Row) → HasReadBinary self.old pushed given
+            → HasReadBinary self.new pushed (given ++ given_by (as_next result self.new.held)) }
+        ensures gives { (pushed : List ℕ) (given : List Row) → HasReadBinary self.old pushed given
+            → AnswersNext Memory (binary_reading self.new.columns self.new.limit pushed) given
+            (binary_ending self.new.stage self.new.kept) (as_next result self.new.held) }
+        ensures same { (self.new.columns ≡ self.old.columns) × (self.new.limit ≡ self.old.limit) }
+        ensures ended { self.new.ended ≡ false }
+        ensures lends { Lends result self.new.held }
+        ensures row { result ≡ Ok true → self.new.stage ≡ Rows }
+        ensures given { self.new.given
+            ≡ given_after self.old.given (given_by (as_next result self.new.held)) }
+        ensures fewer { result ≡ Ok true → length self.new.kept < length self.old.kept }
+        ensures waits { result ≡ Ok false → WaitsWith self.new.stage self.new.kept }
+        ensures failed { (fault : BinaryFault) → self.old.stage ≡ Failed fault
+            → (result ≡ Err fault) × (self.new ≡ self.old) }
+        ensures closed { self.old.stage ≡ Closed → (result ≡ Ok false) × (self.new ≡ self.old) }
+        ensures memory { result ≡ Err Memory → ⊥ }
+    {
+        match self.stage {
+            BinaryStage::Failed(fault) => Err(fault),
+            BinaryStage::Closed => Ok(false),
+            BinaryStage::Head | BinaryStage::Extension(_) | BinaryStage::Rows => {
+                match self.find() {
+                    Ok(Some(place)) => {
+                        self.hold(place);
+                        Ok(true)
+                    }
+                    Ok(None) => Ok(false),
+                    Err(NoPart::Incomplete) => Ok(false),
+                    Err(NoPart::Faulty(fault)) => Err(fault),
+                }
+            }
+        }
+    }
+
+    /// The row that the last call of `next_lent` answered true for; None where another call of `push`, `next`, `next_lent` or
+    /// `finish` came after it, but for those that answered Memory. It takes no memory.
+    pub fn held(&self) -> Option<BinaryRow<'_>>
+        ensures { result ≡ self.now.held }
+    {
+        match self.buffer.front() {
+            Some(values) => Some(BinaryRow::of_values(self.limit, self.columns, values)),
+            None => None,
         }
     }
 
@@ -198,6 +256,7 @@ impl BinaryReader {
         ensures closed { self.old.stage ≡ Closed
             → (result ≡ Ok None) × (self.new ≡ record self.old { ended = true }) }
         ensures trailer { result ≡ Ok None → self.new.stage ≡ Closed }
+        ensures held { result ≡ Err Memory ⊎ self.new.held ≡ None }
         ensures memory { result ≡ Err Memory
             → (self.new ≡ self.old) × RowWaits (binary_left self.old []) }
     {
@@ -253,30 +312,48 @@ impl BinaryReader {
         requires { IsReading self.old.stage }
         ensures { TakesPart result self.old self.new }
     {
-        if let BinaryStage::Extension(_) = self.stage {
-            return Err(NoRow::NoPart(NoPart::Incomplete));
-        }
-        let in_head = self.stage == BinaryStage::Head;
-        match self.find_row(in_head) {
-            Ok(row) => Ok(row),
-            Err(NoRow::NoPart(NoPart::Faulty(fault))) => {
-                self.stop(fault);
-                Err(NoRow::NoPart(NoPart::Faulty(fault)))
-            }
-            Err(none) => Err(none),
+        match self.find() {
+            Ok(None) => Ok(None),
+            Ok(Some(place)) => match self.copy_row(place) {
+                Ok(row) => {
+                    self.hold(place);
+                    self.let_go();
+                    Ok(Some(row))
+                }
+                Err(_) => Err(NoRow::Memory),
+            },
+            Err(stop) => Err(NoRow::NoPart(stop)),
         }
     }
 
-    /// Takes a row, or the trailer, in front of which the head may stand. Where neither is whole, a head that is goes off
-    /// alone, so that it isn't kept until the first row has come, and so does one that lacks bytes of its extension alone. At a
-    /// fault nothing changes.
-    fn find_row(&mut self, in_head: bool) -> Result<Option<Row>, NoRow>
+    /// Finds the next row, or takes the trailer.
+    fn find(&mut self) -> Result<Option<Place>, NoPart>
+        requires { IsReading self.old.stage }
+        ensures { FindsNext result self.old self.new }
+    {
+        if let BinaryStage::Extension(_) = self.stage {
+            return Err(NoPart::Incomplete);
+        }
+        let in_head = self.stage == BinaryStage::Head;
+        self.find_row(in_head)
+    }
+
+    /// Finds a row, or takes the trailer, in front of which the head may stand. Where neither is whole, a head that is goes off
+    /// alone, so that it isn't kept until the first row has come, and so does one that lacks bytes of its extension alone.
+    fn find_row(&mut self, in_head: bool) -> Result<Option<Place>, NoPart>
         requires { self.old.stage ≡ stage_of in_head }
         ensures { FindsNext result self.old self.new }
     {
-        let bytes = self.buffer.as_slice();
+        let bytes = self.buffer.kept();
         match find_part(in_head, self.columns, self.limit, bytes, &mut self.look) {
-            Err(NoPart::Faulty(fault)) => Err(NoRow::NoPart(NoPart::Faulty(fault))),
+            Ok(RowOrTrailer::Row) => Ok(Some(Place {
+                values: self.look.start + 2,
+                end: self.look.start + self.look.walk.at,
+            })),
+            Ok(RowOrTrailer::Trailer) => {
+                self.close();
+                Ok(None)
+            }
             Err(NoPart::Incomplete) => {
                 if self.look.start > 0 {
                     self.buffer.take(self.look.start);
@@ -284,38 +361,55 @@ impl BinaryReader {
                     self.stage = BinaryStage::Rows;
                 } else if in_head {
                     self.enter_extension();
+                } else {
+                    self.buffer.take(0);
                 }
-                Err(NoRow::NoPart(NoPart::Incomplete))
+                Err(NoPart::Incomplete)
             }
-            Ok(RowOrTrailer::Trailer) => {
-                self.close();
-                Ok(None)
-            }
-            Ok(RowOrTrailer::Row) => {
-                let (_, values) = bytes.split_at(self.look.start + 2);
-                match values_of(self.alloc, self.limit, self.columns, values) {
-                    Ok(values) => {
-                        self.buffer.take(self.look.start + self.look.walk.at);
-                        self.look = Look::start();
-                        self.stage = BinaryStage::Rows;
-                        self.given = one_more(self.given);
-                        Ok(Some(Seq::new(values)))
-                    }
-                    Err(_) => Err(NoRow::Memory),
-                }
+            Err(NoPart::Faulty(fault)) => {
+                self.stop(fault);
+                Err(NoPart::Faulty(fault))
             }
         }
+    }
+
+    /// A copy of the row that was found at this place.
+    fn copy_row(&self, place: Place) -> Result<Row, AllocError>
+        requires { HasRowAt self.now place }
+        ensures { IfOk result (λ row. IsRowAt self.now place row) }
+    {
+        let (_, values) = self.buffer.kept().split_at(place.values);
+        let values = values_of(self.alloc, self.limit, self.columns, values)?;
+        Ok(Seq::new(values))
+    }
+
+    /// Takes the row that was found at this place, and lends it.
+    fn hold(&mut self, place: Place)
+        requires { HasRowAt self.old place }
+        ensures { (row : Row) → IsRowAt self.old place row
+            → self.new ≡ lending row place self.old }
+    {
+        self.buffer.hold(place.values, place.end);
+        self.look = Look::start();
+        self.stage = BinaryStage::Rows;
+        self.given = one_more(self.given);
+    }
+
+    /// Lends no row any more.
+    fn let_go(&mut self)
+        ensures { self.new ≡ let_go self.old }
+    {
+        self.buffer.take(0);
     }
 
     /// Takes a head off that lacks bytes of its extension alone.
     fn enter_extension(&mut self)
         requires stage { self.old.stage ≡ Head }
         requires open { head_at self.old.kept ≡ Err Incomplete }
-        ensures { self.new ≡ in_extension (extension_left (fixed_at self.old.kept)) self.old }
+        ensures { self.new ≡ in_extension (extension_left (fixed_at self.old.kept)) (let_go self.old) }
     {
-        if let Some(missing) = extension_left(self.buffer.as_slice()) {
-            let len = self.buffer.len();
-            self.buffer.take(len);
+        if let Some(missing) = extension_left(self.buffer.kept()) {
+            self.buffer.clear();
             self.look = Look::start();
             self.stage = BinaryStage::Extension(missing);
         }
@@ -323,10 +417,9 @@ impl BinaryReader {
 
     /// The trailer was read, and nothing stands after it.
     fn close(&mut self)
-        ensures { self.new ≡ record self.old { kept = []; stage = Closed } }
+        ensures { self.new ≡ record self.old { kept = []; stage = Closed; held = None } }
     {
-        let len = self.buffer.len();
-        self.buffer.take(len);
+        self.buffer.clear();
         self.look = Look::start();
         self.stage = BinaryStage::Closed;
     }
@@ -334,10 +427,9 @@ impl BinaryReader {
     /// Reads no more.
     fn stop(&mut self, fault: BinaryFault)
         requires { fault ≡ Memory → ⊥ }
-        ensures { self.new ≡ record self.old { kept = []; stage = Failed fault } }
+        ensures { self.new ≡ record self.old { kept = []; stage = Failed fault; held = None } }
     {
-        let len = self.buffer.len();
-        self.buffer.take(len);
+        self.buffer.clear();
         self.look = Look::start();
         self.stage = BinaryStage::Failed(fault);
     }

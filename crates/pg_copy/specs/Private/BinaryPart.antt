@@ -8,6 +8,7 @@ use Rattle.pg_copy.specs.declared.binary_part.NoRow.{NoRow}
 use Rattle.pg_copy.specs.declared.binary_part.NoRow.TheVariants as no_row
 use Rattle.pg_copy.specs.declared.binary_part.Walk.{Walk}
 use Rattle.pg_copy.specs.declared.binary_part.Look.{Look}
+use Rattle.pg_copy.specs.declared.binary_part.Place.{Place}
 use Rattle.pg_copy.specs.declared.binary_part.RowOrTrailer.{RowOrTrailer}
 use Rattle.pg_copy.specs.declared.binary_part.RowOrTrailer.TheVariants as parts
 use Rattle.pg_copy.specs.declared.binary_reader.BinaryStage.{BinaryStage}
@@ -15,7 +16,8 @@ use Rattle.pg_copy.specs.declared.binary_reader.BinaryStage.TheVariants.{Head, E
 use Rattle.pg_copy.specs.Row.{Row}
 use Rattle.pg_copy.specs.Reading.{RowWaits}
 use Rattle.pg_copy.specs.BinaryPart.{NoPart, Incomplete, Faulty, ◌>>=◌, number_at, bytes_at, fixed_at, head_at, values_at, row_at}
-use Rattle.pg_copy.specs.BinaryReader.{BinaryState, given_after, binary_left}
+use Rattle.pg_copy.specs.BinaryReader.{BinaryState, one_more, given_after, binary_left}
+use Rattle.pg_copy.specs.Private.RowBuffer.{RowBytes}
 
 -- a function's reason why it read no part, as reading has it
 abbrev pub no_part : Stop → NoPart
@@ -38,6 +40,7 @@ rest_of (Err stop) = Err stop
 pub record IsWalkBegun (columns limit : ℕ) (bytes : List ℕ) (w : Walk) : Type 0 where
   pub count : number_at w16 bytes ≡ Ok (columns, drop 2 bytes)
   pub in_range : w.at ≤ length bytes
+  pub after_count : 2 ≤ w.at
   pub few : w.left ≤ columns
   pub values : rest_of (values_at limit (columns - w.left) (drop 2 bytes)) ≡ Ok (drop w.at bytes)
 
@@ -126,14 +129,15 @@ is_head Rows = false
 is_head Closed = false
 is_head (Failed fault) = false
 
--- what is kept of a reader
-pub record IsBinaryReader (columns limit : ℕ) (kept : List ℕ) (look : Look)
+-- what is kept of a reader: a row is lent among the rows alone
+pub record IsBinaryReader (columns limit : ℕ) (buffer : RowBytes) (look : Look)
     (stage : BinaryStage) : Type 0 where
   pub columns_few : columns ≤ 32767
-  pub looked : IsLooked (is_head stage) columns limit kept look
+  pub looked : IsLooked (is_head stage) columns limit buffer.kept look
   pub not_memory : stage ≡ Failed Memory → ⊥
-  pub closed : stage ≡ Closed → kept ≡ []
-  pub skips : (n : ℕ) → stage ≡ Extension n → (0 < n) × (kept ≡ [])
+  pub closed : stage ≡ Closed → buffer.kept ≡ []
+  pub skips : (n : ℕ) → stage ≡ Extension n → (0 < n) × (buffer.kept ≡ [])
+  pub lends : (stage ≡ Rows) ⊎ (buffer.front ≡ None)
 
 -- how much of an extension is to come, after its length and what is there of it
 abbrev pub extension_left : Result (ℕ × List ℕ) NoPart → Option ℕ
@@ -159,32 +163,50 @@ waiting_at Rows s = s
 waiting_at Closed s = s
 waiting_at (Failed fault) s = s
 
+-- the reader, which lends no row any more
+abbrev pub let_go : BinaryState → BinaryState
+let_go s = record s { held = None }
+
 -- a reader that waits for more bytes
 abbrev pub waiting : BinaryState → BinaryState
-waiting s = waiting_at s.stage s
+waiting s = waiting_at s.stage (let_go s)
 
 -- a row as a list of one, or no row
 abbrev pub option_rows : Option Row → List Row
 option_rows None = []
 option_rows (Some row) = row ∷ []
 
--- the next part is taken, or it is waited for, or a fault is found in its place and nothing changes
-abbrev pub FindsNext : Result (Option Row) NoRow → BinaryState → BinaryState → Type 0
-FindsNext (Ok row) old new = (part_at old.stage old.columns old.limit old.kept
-    ≡ Ok ((row, new.stage), new.kept))
-    × (new ≡ record old { kept = new.kept; stage = new.stage; given = given_after old.given (option_rows row) })
-FindsNext (Err no_row.Memory) old new = (new ≡ old) × RowWaits (binary_left old [])
-FindsNext (Err (no_row.NoPart stops.Incomplete)) old new =
-    (part_at old.stage old.columns old.limit old.kept ≡ Err Incomplete) × (new ≡ waiting old)
-FindsNext (Err (no_row.NoPart (stops.Faulty fault))) old new =
-    (part_at old.stage old.columns old.limit old.kept ≡ Err (Faulty fault)) × (new ≡ old)
+-- At this place of what is kept stands this row, which is the next part.
+pub record IsRowAt (s : BinaryState) (place : Place) (row : Row) : Type 0 where
+  pub in_order : place.values ≤ place.end
+  pub in_range : place.end ≤ length s.kept
+  pub values : values_at s.limit s.columns (drop place.values s.kept) ≡ Ok (row, drop place.end s.kept)
+  pub part : part_at s.stage s.columns s.limit s.kept ≡ Ok ((Some row, Rows), drop place.end s.kept)
 
--- the same, where the reader stops at a fault
-abbrev pub TakesPart : Result (Option Row) NoRow → BinaryState → BinaryState → Type 0
-TakesPart (Ok row) old new = FindsNext (Ok row) old new
-TakesPart (Err no_row.Memory) old new = FindsNext (Err no_row.Memory) old new
-TakesPart (Err (no_row.NoPart stops.Incomplete)) old new =
-    FindsNext (Err (no_row.NoPart stops.Incomplete)) old new
-TakesPart (Err (no_row.NoPart (stops.Faulty fault))) old new = (fault ≡ Memory → ⊥)
+-- At this place of what is kept stands a row, which is the next part.
+abbrev pub HasRowAt : BinaryState → Place → Type 0
+HasRowAt s place = (row : Row) × IsRowAt s place row
+
+-- the reader, once it lends the row at this place
+abbrev pub lending : Row → Place → BinaryState → BinaryState
+lending row place s = record s { kept = drop place.end s.kept; stage = Rows; given = one_more s.given; held = Some row }
+
+-- a row is found, and nothing changes; or the trailer is taken, or the next part is waited for, or the
+-- reader stops at a fault in its place
+abbrev pub FindsNext : Result (Option Place) Stop → BinaryState → BinaryState → Type 0
+FindsNext (Ok (Some place)) old new = HasRowAt old place × (new ≡ old)
+FindsNext (Ok None) old new = (part_at old.stage old.columns old.limit old.kept ≡ Ok ((None, Closed), []))
+    × (new ≡ record old { kept = []; stage = Closed; held = None })
+FindsNext (Err stops.Incomplete) old new =
+    (part_at old.stage old.columns old.limit old.kept ≡ Err Incomplete) × (new ≡ waiting old)
+FindsNext (Err (stops.Faulty fault)) old new = (fault ≡ Memory → ⊥)
     × (part_at old.stage old.columns old.limit old.kept ≡ Err (Faulty fault))
-    × (new ≡ record old { kept = []; stage = Failed fault })
+    × (new ≡ record old { kept = []; stage = Failed fault; held = None })
+
+-- the next part is taken, or it is waited for, or the reader stops at a fault in its place
+abbrev pub TakesPart : Result (Option Row) NoRow → BinaryState → BinaryState → Type 0
+TakesPart (Ok row) old new = (part_at old.stage old.columns old.limit old.kept
+    ≡ Ok ((row, new.stage), new.kept))
+    × (new ≡ record old { kept = new.kept; stage = new.stage; given = given_after old.given (option_rows row); held = None })
+TakesPart (Err no_row.Memory) old new = (new ≡ old) × RowWaits (binary_left old [])
+TakesPart (Err (no_row.NoPart stop)) old new = FindsNext (Err stop) old new
