@@ -1,6 +1,6 @@
 -- Walks over the rows of a binary file.
 use Rattle.std.proofs.Common.{◌≡◌, ℕ, zero, suc, ◌+◌, ◌-◌, ◌<◌, ◌≤◌, Bool, true, false, eqb, List, [], ◌∷◌, ◌++◌, length, take, drop, Option, Some, None, Result, Ok, Err, refl, sym, ap, subst, ◌∙◌, arith, inl, inr}
-use Rattle.std.specs.Prelude.{◌⊎◌, IfOk}
+use Rattle.std.specs.Prelude.{◌⊎◌}
 use Rattle.std.specs.Int.{w16, cast_signed, from_be_bytes}
 use Rattle.pg_copy.specs.declared.fault.BinaryFault.{BinaryFault}
 use Rattle.pg_copy.specs.declared.fault.BinaryFault.TheVariants.{FieldCount, AfterTrailer}
@@ -291,10 +291,15 @@ started in_head bytes start n (le, after, inl (inl f, same)) e z = false≢true 
 started in_head bytes start n (le, after, inl (inr lt, same)) e z = absurd (omega (arith, lt, same, z))
 started in_head bytes start n (le, after, inr s) e z = absurd (omega (arith, s.2, z))
 
--- the row that was copied is the row that was found
-pub found-row : (in_head : Bool) (columns limit : ℕ) (bytes : List ℕ) (l : Look) (items : Row) (values : List ℕ) → columns ≤ 32767 → IsLooked in_head columns limit bytes l → (0 < l.walk.at) × (l.walk.left ≡ 0) × IsAfterHead in_head bytes (drop l.start bytes)
-    → values ≡ drop (l.start + 2) bytes → IfOk (values_at limit columns values) (λ x. items ≡ x.0) → part_at (stage_of in_head) columns limit bytes ≡ Ok ((Some items, Rows), drop (l.start + l.walk.at) bytes)
-found-row in_head columns limit bytes l items values few h found e made =
-    let r = part-row in_head columns limit bytes l few h found.2 found.0 found.1 in
-    let same : items ≡ r.0 = subst (λ (y : Result (Row × List ℕ) NoPart). IfOk y (λ x. items ≡ x.0)) (ap (values_at limit columns) e ∙ r.1) made in
-    r.2 ∙ ap (λ (x : Row). Ok ((Some x, Rows), drop (l.start + l.walk.at) bytes)) (sym same)
+-- a reader at the head or among the rows has not failed
+pub not-stopped : (in_head : Bool) (fault : BinaryFault) → stage_of in_head ≡ Failed fault → ⊥
+not-stopped true fault e = absurd cc
+not-stopped false fault e = absurd cc
+
+-- a reader within an extension lends no row
+pub no-front : (stage : BinaryStage) (n : ℕ) (front : Option (List ℕ)) → stage ≡ Extension n → (stage ≡ Rows) ⊎ (front ≡ None) → front ≡ None
+no-front stage n front e (inl f) = absurd (apart (sym e ∙ f))
+  where
+    apart : Extension n ≡ Rows → ⊥
+    apart g = cc
+no-front stage n front e (inr f) = f
