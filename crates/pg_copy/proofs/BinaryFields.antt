@@ -1,12 +1,11 @@
 -- A row that is written field by field.
-use Rattle.std.proofs.Common.{◌≡◌, ℕ, Bool, true, false, cond, List, [], ◌∷◌, ◌++◌, length, Option, Some, None, Result, Ok, refl, sym, ap, ◌∙◌, append_assoc}
-use Rattle.std.specs.Prelude.{◌||◌, ◌==◌, nat_lt}
+use Rattle.std.proofs.Common.{◌≡◌, ℕ, Bool, true, false, cond, List, [], ◌∷◌, ◌++◌, length, Option, Some, None, Ok, refl, sym, ap, ◌∙◌, append_assoc}
 use Rattle.std.specs.List.{flat_map, list_any}
 use Rattle.std.specs.Int.{w16, to_be_bytes}
 use Rattle.std.proofs.lemmas.List.{append-nil}
 use Rattle.pg_copy.specs.declared.fault.RowFault.{RowFault}
 use Rattle.pg_copy.specs.declared.fault.RowFault.TheVariants as faults
-use Rattle.pg_copy.specs.Row.{Row, most_fields, is_misfit, is_long, width_fault, field_fault, binary_fault, Writes}
+use Rattle.pg_copy.specs.Row.{Row, is_misfit, is_long, width_fault, binary_fault, Writes}
 use Rattle.pg_copy.specs.Binary.{value, binary_row}
 use Rattle.pg_copy.specs.Laws.{WritesFields}
 

@@ -1,6 +1,6 @@
 -- What a reader of binary files has read.
-use Rattle.std.proofs.Common.{◌≡◌, ℕ, Bool, true, false, List, [], ◌∷◌, ◌++◌, Option, Some, None, Result, Ok, Err, refl, sym, ap, subst, ◌∙◌, arith, inl, inr}
-use Rattle.std.specs.Prelude.{◌<◌, length}
+use Rattle.std.proofs.Common.{◌≡◌, ℕ, true, false, List, [], ◌∷◌, ◌++◌, Option, Some, None, Result, Ok, Err, refl, sym, ap, subst, ◌∙◌, arith, inl, inr}
+use Rattle.std.specs.Prelude.{◌<◌}
 use Rattle.std.proofs.lemmas.List.{append-nil, length-append}
 use Rattle.std.proofs.lemmas.Bool.{false≢true, lt-ltb, cond-true}
 use Rattle.pg_copy.specs.declared.binary_part.NoPart.TheVariants as stops
@@ -14,7 +14,7 @@ use Rattle.pg_copy.specs.Row.{Row}
 use Rattle.pg_copy.specs.Reading.{RowsRead, RowsEnding, Open, Done, Bad, after_rows, RowWaits, given_by, IsGood, AnswersNext}
 use Rattle.pg_copy.specs.Binary.{open_head}
 use Rattle.pg_copy.specs.BinaryPart.{NoPart, Incomplete, Faulty, ◌>>=◌, bytes_at, fixed_at, head_at, row_at, part_reading, row_reading, body_reading, head_reading, binary_reading, trailer_reading, last_ending, binary_at_end, binary_file_reading}
-use Rattle.pg_copy.specs.BinaryReader.{BinaryState, binary_stage_reading, binary_left, HasReadBinary, WaitsWith, told_rows, given_after, binary_ending}
+use Rattle.pg_copy.specs.BinaryReader.{BinaryState, binary_stage_reading, binary_left, HasReadBinary, WaitsWith, given_after, binary_ending}
 use Rattle.pg_copy.specs.Private.BinaryPart.{closed_at, row_or_trailer, body_at, part_at, extension_left, in_extension, after_head, waiting_at, let_go, option_rows, TakesPart}
 use Rattle.pg_copy.proofs.BinaryCounts.{told-rows}
 use Rattle.pg_copy.proofs.TextReads.{after-after, after-none}

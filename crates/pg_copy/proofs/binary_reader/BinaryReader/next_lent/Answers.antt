@@ -3,7 +3,7 @@ use Rattle.pg_copy.specs.declared.binary_part.NoPart.TheVariants.{Incomplete, Fa
 use Rattle.pg_copy.specs.declared.binary_part.NoRow.TheVariants.{NoPart}
 use Rattle.pg_copy.specs.BinaryReader.{BinaryState}
 use Rattle.pg_copy.proofs.BinaryHistory.{HasReadBinary-next, AnswersNext-next, next-waits}
-use Rattle.pg_copy.proofs.BinaryHolds.{none-takes, lends-at, HasReadBinary-lent, AnswersNext-lent, some-lent, given-lent, fewer-lent, takes-held}
+use Rattle.pg_copy.proofs.BinaryHolds.{none-takes, lends-at, HasReadBinary-lent, AnswersNext-lent, some-lent, given-lent, fewer-lent}
 use Rattle.pg_copy.proofs.binary_reader.BinaryReader.next_lent.Goals as goal
 
 pub returns-in-Ok-Some-clause-read : goal.returns-in-Ok-Some-clause-read
