@@ -27,7 +27,7 @@ impl<'a> Model for BinaryRow<'a> {
 
 impl<'a> BinaryRow<'a> {
     /// The row of so many values, of at most `limit` bytes each, with which the bytes begin.
-    pub fn of_values(limit: u32, count: u16, values: &'a [u8]) -> BinaryRow<'a>
+    pub(crate) fn of_values(limit: u32, count: u16, values: &'a [u8]) -> BinaryRow<'a>
         ensures { result ≡ values_left limit count values.now }
     {
         BinaryRow {

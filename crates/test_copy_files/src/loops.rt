@@ -1,10 +1,13 @@
 //! The loops of a caller: over the rows that wait, and over those that are left.
 
-ghost use Rattle.std.specs.Prelude.{◌≡◌, false};
+ghost use Rattle.std.specs.Prelude.{◌≡◌, false, OnOk};
 
 use crate::file::{COLUMNS, LIMIT};
-use anyhow::Result;
-use pg_copy::{BinaryReader, Row};
+use anyhow::{Result, bail, ensure};
+use pg_copy::{
+    BinaryReader, Row, write_binary_count, write_binary_field, write_binary_head,
+    write_binary_trailer,
+};
 use std::alloc::Global;
 
 /// Takes the rows that wait.
@@ -33,4 +36,42 @@ pub fn rows_of(alloc: Global, bytes: &[u8]) -> Result<Vec<Row>> {
     take_waiting(&mut reader, &mut rows)?;
     take_left(&mut reader, &mut rows)?;
     Ok(rows)
+}
+
+/// Writes the row that the reader lends, value by value.
+fn write_held(reader: &BinaryReader, out: &mut Vec<u8>) -> Result<()> {
+    let Some(row) = reader.held() else {
+        bail!("no row is held");
+    };
+    write_binary_count(usize::from(COLUMNS), out)?;
+    for value in row.values() {
+        write_binary_field(value, out)?;
+    }
+    Ok(())
+}
+
+/// Writes the rows that wait, each as it is lent.
+fn write_waiting(reader: &mut BinaryReader, out: &mut Vec<u8>) -> Result<()>
+    requires { reader.old.ended ≡ false }
+    ensures { OnOk result (reader.new.ended ≡ false) }
+{
+    while reader.next_lent()? {
+        write_held(reader, out)?;
+    }
+    Ok(())
+}
+
+/// A binary file written again from so many rows that the reader lends, which comes a byte at a time.
+pub fn written_again(alloc: Global, bytes: &[u8], rows: usize) -> Result<Vec<u8>> {
+    let mut reader = BinaryReader::new(alloc, COLUMNS, LIMIT);
+    let mut out = Vec::new(alloc);
+    write_binary_head(&mut out)?;
+    for i in 0..bytes.len() {
+        reader.push(&bytes[i..i + 1])?;
+        write_waiting(&mut reader, &mut out)?;
+    }
+    ensure!(reader.finish()?.is_none(), "a row is left");
+    ensure!(reader.rows_given() == rows as u64, "another number of rows");
+    write_binary_trailer(&mut out)?;
+    Ok(out)
 }

@@ -47,6 +47,10 @@ fn main(rt: HostRuntime) -> Result<()> {
         loops::rows_of(alloc, binary.as_slice())?.as_slice() == of_binary.as_slice(),
         "a loop over the reader gives other rows"
     );
+    ensure!(
+        loops::written_again(alloc, binary.as_slice(), of_binary.len())? == binary,
+        "another binary file is written of rows that are lent"
+    );
     println!(rt;
         "{} rows, {} bytes in text, {} in binary",
         of_text.len(),
