@@ -4,4 +4,4 @@ use Rattle.pgpipe_loop.proofs.lines.short.put_values.Given as goal
 
 -- with the values that are left, the line is that of all
 abbrev pub invariant-values : goal.invariant-values
-invariant-values l = with_fields l.lines l.values-iter ≡ with_fields l.initial.lines l.values
+invariant-values l = with_fields l.lines l.value-iterator ≡ with_fields l.initial.lines l.values
