@@ -20,7 +20,8 @@ use Rattle.pg_wire.specs.Stream.{IsWhole, IsFaulty}
 use Rattle.pg_wire.specs.Decoder.{DecoderState, Takes}
 use Rattle.pg_wire.specs.BackDecoder.{LetsGo, TakesLent, as_next}
 use Rattle.pg_wire.specs.Private.Found.{FindsLent}
-use Rattle.pg_wire.specs.Private.Held.{StreamState, LetsFront, IsHeldFront, back_state}
+use Rattle.pg_wire.specs.Spellings.{LetsBytes}
+use Rattle.pg_wire.specs.Private.Held.{StreamState, IsHeldFront, back_state}
 use Rattle.pg_wire.proofs.Rests.{IsBytes-drop, message_found, bad_fault}
 
 -- ---- a message that was judged
@@ -70,7 +71,7 @@ something_held front (inr p) long = p.1
 
 -- ---- after a call
 
-pub lets_go : {A : Type 0} (old : List ℕ) (r : Result A WireFault) (new : List ℕ) → LetsFront old r new → LetsGo (lent_bytes old) r (lent_bytes new)
+pub lets_go : {A : Type 0} (old : List ℕ) (r : Result A WireFault) (new : List ℕ) → LetsBytes old r new → LetsGo (lent_bytes old) r (lent_bytes new)
 lets_go old (Ok x) new e = ap lent_bytes e
 lets_go old (Err wire.Memory) new e = ap lent_bytes e
 lets_go old (Err (wire.UnknownTag x)) new e = ap lent_bytes e
@@ -79,7 +80,7 @@ lets_go old (Err (wire.LongLength x)) new e = ap lent_bytes e
 lets_go old (Err (wire.BadBody x)) new e = ap lent_bytes e
 lets_go old (Err (wire.BadFirst x)) new e = ap lent_bytes e
 
-pub still_lent : {A : Type 0} (old : List ℕ) (r : Result A WireFault) (new : List ℕ) → LetsFront old r new → IsHeldFront old → IsHeldFront new
+pub still_lent : {A : Type 0} (old : List ℕ) (r : Result A WireFault) (new : List ℕ) → LetsBytes old r new → IsHeldFront old → IsHeldFront new
 still_lent old (Ok x) new e h = inl e
 still_lent old (Err wire.Memory) new e h = subst IsHeldFront (sym e) h
 still_lent old (Err (wire.UnknownTag x)) new e h = inl e
@@ -96,11 +97,11 @@ nothing_before zero items fits e = refl
 nothing_before (suc n) [] fits e = absurd (omega arith)
 nothing_before (suc n) (x ∷ items) fits e = absurd cc
 
-abbrev decoded : List ℕ → ℕ → Option WireFault → DecoderState
+abbrev pub decoded : List ℕ → ℕ → Option WireFault → DecoderState
 decoded kept limit fault = record { kept = kept; limit = limit; fault = fault }
 
 -- a buffer that holds so many bytes of its beginning
-abbrev buffered : ℕ → List ℕ → ℕ → Option WireFault → StreamState
+abbrev pub buffered : ℕ → List ℕ → ℕ → Option WireFault → StreamState
 buffered held items limit fault = record { front = take held items; rest = decoded (drop held items) limit fault }
 
 holds_next : (items : List ℕ) (limit size : ℕ) (fault : Option WireFault) (held : Option Lent) → fault ≡ None → FindsLent limit items (Ok (found.Lent size))
@@ -114,7 +115,7 @@ holds_next items limit size fault held unfailed f =
     }
 
 module _ (old : StreamState) (rest : List ℕ) (gone : StreamState) (held : ℕ) (items : List ℕ) (limit : ℕ) (fault : Option WireFault) (size : ℕ) where
-  whole_buffer : buffered held items limit fault ≡ gone → held ≤ length items → gone.front ≡ [] → gone.rest ≡ old.rest → decoded items limit fault ≡ old.rest
+  pub whole_buffer : buffered held items limit fault ≡ gone → held ≤ length items → gone.front ≡ [] → gone.rest ≡ old.rest → decoded items limit fault ≡ old.rest
   whole_buffer view fits none same =
       let empty : take held items ≡ [] = ap (λ (s : StreamState). s.front) view ∙ none in
       ap (λ (u : List ℕ). decoded u limit fault) (sym (nothing_before held items fits empty)) ∙ ap (λ (s : StreamState). s.rest) view ∙ same

@@ -1,6 +1,7 @@
 pub mod Rests
 pub mod Takings
 pub mod Lendings
+pub mod Spelled
 pub mod Streams
 pub mod Passwords
 pub mod Rows

@@ -3,6 +3,7 @@
 pub mod Stream
 pub mod Decoder
 pub mod BackDecoder
+pub mod Spellings
 pub mod First
 pub mod FirstDecoder
 pub mod Laws

@@ -3,7 +3,7 @@
 ghost use Rattle.std.specs.Prelude.{◌≡◌, ◌<◌, length, MatchOption};
 ghost use Rattle.pg_message.specs.Direction.{IsLimit};
 ghost use Rattle.pg_wire.specs.Stream.{Head};
-ghost use Rattle.pg_wire.specs.Private.Found.{Judges, Finds, FindsLent};
+ghost use Rattle.pg_wire.specs.Private.Found.{Judges, Finds, FindsLent, FindsWhole};
 
 use crate::fault::WireFault;
 use pg_layout::BodyFault;
@@ -69,6 +69,24 @@ pub fn find<M: Message>(
             Err(BodyFault::Bad) => Err(WireFault::BadBody(tag)),
             Err(BodyFault::Memory) => Err(WireFault::Memory),
         },
+    }
+}
+
+/// What stands at the beginning of a rest, where a whole message is judged in place.
+pub fn find_whole<M: Message>(limit: u32, rest: &[u8]) -> Judged
+    requires { IsLimit limit }
+    ensures { FindsWhole M.direction limit rest.now result }
+{
+    match judge::<M>(limit, rest) {
+        Judged::Open => Judged::Open,
+        Judged::Faulty(fault) => Judged::Faulty(fault),
+        Judged::Whole(tag, len) => {
+            if M::is_message(tag, &rest[5..len + 1]) {
+                Judged::Whole(tag, len)
+            } else {
+                Judged::Faulty(WireFault::BadBody(tag))
+            }
+        }
     }
 }
 

@@ -17,10 +17,11 @@ ghost use Rattle.pg_wire.specs.Private.FirstReader.{first_of, JudgesPacket, Find
 use crate::buffer::drop_first;
 use crate::decoder::FrontDecoder;
 use crate::fault::WireFault;
+use crate::spellings::Spellings;
 use bytes::BytesMut;
 use kind::FirstKind;
 use pg_layout::{BodyFault, LONGEST_PACKET, after_terminated, ended, i32_at, terminated};
-use pg_message::First;
+use pg_message::{First, FrontMessage};
 use pg_seq::Seq;
 use std::alloc::Global;
 use std::marker::Model;
@@ -254,5 +255,21 @@ impl FirstDecoder {
             fault,
         } = self;
         FrontDecoder::resume(alloc, buffer, limit, fault)
+    }
+
+    /// A reader of the bytes of the messages after the first packets, as [`into_front`](FirstDecoder::into_front) gives a decoder.
+    pub fn into_spellings(self, limit: u32) -> Spellings<FrontMessage>
+        requires { IsLimit limit }
+        ensures stream { result.stream
+            ≡ record { kept = self.kept; limit = limit; fault = self.fault } }
+        ensures held { result.held ≡ [] }
+    {
+        let FirstDecoder {
+            alloc,
+            buffer,
+            ended: _,
+            fault,
+        } = self;
+        Spellings::resume(alloc, buffer, limit, fault)
     }
 }

@@ -19,6 +19,7 @@ pub mod laws;
 mod machine;
 mod password;
 mod session;
+mod spellings;
 
 pub use back::{BackDecoder, Cut};
 pub use decoder::{Decoder, FrontDecoder};
@@ -35,4 +36,6 @@ pub use pg_message::{
 };
 pub use pg_seq::Seq;
 pub use pg_values::{FieldsView, LentFields, LentValues, RowView, ValueList, Values};
+
 pub use session::{Aside, ExecEnd, Outcome, Part, Request, Step};
+pub use spellings::Spellings;

@@ -5,12 +5,13 @@ ghost use Rattle.pg_message.specs.Direction.{IsLimit};
 ghost use Rattle.pg_message.specs.Private.LentReader.{lent_bytes};
 ghost use Rattle.pg_wire.specs.Decoder.{Pushes, IsLasting, Takes};
 ghost use Rattle.pg_wire.specs.BackDecoder.{TakesLent};
-ghost use Rattle.pg_wire.specs.Private.Held.{LetsFront, back_state, IsHeldFront};
+ghost use Rattle.pg_wire.specs.Spellings.{LetsBytes, TakesSpelling};
+ghost use Rattle.pg_wire.specs.Private.Held.{back_state, spellings_state, IsHeldFront};
 
 use crate::back::Cut;
 use crate::buffer::drop_first;
 use crate::fault::WireFault;
-use crate::find::{Found, find, find_lent};
+use crate::find::{Found, Judged, find, find_lent, find_whole};
 use bytes::BytesMut;
 use pg_message::{BackMessage, Message};
 use std::alloc::Global;
@@ -131,7 +132,7 @@ impl<M: Message> Stream<M> {
     /// Takes a piece, all of it or, where memory is refused, nothing.
     pub fn push(&mut self, piece: &[u8]) -> Result<(), WireFault>
         ensures call { Pushes self.old.rest piece.now result self.new.rest }
-        ensures front { LetsFront self.old.front result self.new.front }
+        ensures front { LetsBytes self.old.front result self.new.front }
     {
         if let Some(fault) = self.fault {
             self.let_go();
@@ -145,7 +146,7 @@ impl<M: Message> Stream<M> {
     /// The next message, taken off.
     pub fn next(&mut self) -> Result<Option<M>, WireFault>
         ensures call { Takes M.direction self.old.rest result self.new.rest }
-        ensures front { LetsFront self.old.front result self.new.front }
+        ensures front { LetsBytes self.old.front result self.new.front }
     {
         if let Some(fault) = self.fault {
             self.let_go();
@@ -165,6 +166,34 @@ impl<M: Message> Stream<M> {
                 self.let_go();
                 self.fault = Some(fault);
                 Err(fault)
+            }
+        }
+    }
+}
+
+impl<M: Message> Stream<M> {
+    /// The next message, whose bytes stay in the buffer; whether there is one.
+    pub fn next_spelling(&mut self) -> Result<bool, WireFault>
+        ensures { TakesSpelling M.direction self.old.rest result (spellings_state self.new) }
+    {
+        if let Some(fault) = self.fault {
+            self.let_go();
+            return Err(fault);
+        }
+        match find_whole::<M>(self.limit, self.rest()) {
+            Judged::Open => {
+                self.let_go();
+                Ok(false)
+            }
+            Judged::Faulty(reason) => {
+                self.let_go();
+                self.fault = Some(reason);
+                Err(reason)
+            }
+            Judged::Whole(_, len) => {
+                self.let_go();
+                self.held = len + 1;
+                Ok(true)
             }
         }
     }

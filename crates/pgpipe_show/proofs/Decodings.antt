@@ -6,7 +6,7 @@ use Rattle.std.proofs.lemmas.Grind.{flat_map-append}
 use Rattle.pg_wire.specs.declared.fault.WireFault.{WireFault}
 use Rattle.pg_wire.specs.message.First.{First}
 use Rattle.pg_wire.specs.Backend.{backend}
-use Rattle.pg_wire.specs.Decoder.{DecoderState}
+use Rattle.pg_wire.specs.Spellings.{SpellingsState}
 use Rattle.pg_wire.specs.Direction.{Direction, spelling}
 use Rattle.pg_wire.specs.First.{packet, IsBeginning}
 use Rattle.pg_wire.specs.FirstDecoder.{FirstState, FirstPushes}
@@ -150,18 +150,18 @@ module _ {K : Type 0} (takes : K → List ℕ → K → Type 0) (failures : K �
   front_more kept text ns rest a s = client_messages bytes text kept ns rest a s
 
   module _ (kept before c : List ℕ) (s : K) (p : ArePut takes failures false start bytes before next.Message kept c s) where
-    pub back_ok : (d : DecoderState) (c' : List ℕ) (s' : K) → PutsMessages takes failures backend c s kept (Ok d) c' s' → HasShown takes failures start bytes (decoding.Back d) c' s'
+    pub back_ok : (d : SpellingsState) (c' : List ℕ) (s' : K) → PutsMessages takes failures backend c s kept (Ok d) c' s' → HasShown takes failures start bytes (decoding.Back d) c' s'
     back_ok d c' s' h =
-        let a = all_put backend false next.Message kept before c s (back_more kept) (λ rest f x. x) p d.kept c' s' h.1 in
+        let a = all_put backend false next.Message kept before c s (back_more kept) (λ rest f x. x) p d.stream.kept c' s' h.1 in
         record { text = a.text; are_at = (h.0, a.shown.1, h.2); put = a.put; within = a.within }
 
     pub back_err : (w : Stop Shown) (c' : List ℕ) (s' : K) → PutsMessages takes failures backend c s kept (Err w) c' s' → Stops takes failures false start bytes before w c' s'
     back_err w c' s' h = messages_stop backend false next.Message kept before c s (back_more kept) (λ rest f x. x) p w c' s' h
 
   module _ (kept before c : List ℕ) (s : K) (p : ArePut takes failures true start bytes before next.Message kept c s) where
-    pub front_ok : (d : DecoderState) (c' : List ℕ) (s' : K) → PutsMessages takes failures frontend c s kept (Ok d) c' s' → HasShown takes failures start bytes (decoding.Front d) c' s'
+    pub front_ok : (d : SpellingsState) (c' : List ℕ) (s' : K) → PutsMessages takes failures frontend c s kept (Ok d) c' s' → HasShown takes failures start bytes (decoding.Front d) c' s'
     front_ok d c' s' h =
-        let a = all_put frontend true next.Message kept before c s (front_more kept) (λ rest f x. x) p d.kept c' s' h.1 in
+        let a = all_put frontend true next.Message kept before c s (front_more kept) (λ rest f x. x) p d.stream.kept c' s' h.1 in
         record { text = a.text; are_at = (h.0, a.shown, h.2); put = a.put; within = a.within }
 
     pub front_err : (w : Stop Shown) (c' : List ℕ) (s' : K) → PutsMessages takes failures frontend c s kept (Err w) c' s' → Stops takes failures true start bytes before w c' s'
@@ -221,11 +221,11 @@ module _ {K : Type 0} (takes : K → List ℕ → K → Type 0) (failures : K �
 -- ---- a decoding and a piece
 
 module _ {K : Type 0} (takes : K → List ℕ → K → Type 0) (failures : K → ℕ) (start : K) (bytes piece c : List ℕ) (s : K) where
-  abbrev pub back_received : (d : DecoderState) (st : HasShown takes failures start bytes (decoding.Back d) c s) → ArePut takes failures false start (bytes ++ piece) st.text next.Message (d.kept ++ piece) c s
-  back_received d st = record { text = st.text; begins = prefix_of_itself st.text; shown = (refl, messages_received backend bytes st.text d.kept piece st.are_at.1); put = st.put; within = st.within }
+  abbrev pub back_received : (d : SpellingsState) (st : HasShown takes failures start bytes (decoding.Back d) c s) → ArePut takes failures false start (bytes ++ piece) st.text next.Message (d.stream.kept ++ piece) c s
+  back_received d st = record { text = st.text; begins = prefix_of_itself st.text; shown = (refl, messages_received backend bytes st.text d.stream.kept piece st.are_at.1); put = st.put; within = st.within }
 
-  abbrev pub front_received : (d : DecoderState) (st : HasShown takes failures start bytes (decoding.Front d) c s) → ArePut takes failures true start (bytes ++ piece) st.text next.Message (d.kept ++ piece) c s
-  front_received d st = record { text = st.text; begins = prefix_of_itself st.text; shown = client_received bytes st.text next.Message d.kept piece st.are_at.1; put = st.put; within = st.within }
+  abbrev pub front_received : (d : SpellingsState) (st : HasShown takes failures start bytes (decoding.Front d) c s) → ArePut takes failures true start (bytes ++ piece) st.text next.Message (d.stream.kept ++ piece) c s
+  front_received d st = record { text = st.text; begins = prefix_of_itself st.text; shown = client_received bytes st.text next.Message d.stream.kept piece st.are_at.1; put = st.put; within = st.within }
 
   abbrev pub first_received : (d : FirstState) (st : HasShown takes failures start bytes (decoding.First d) c s) → ArePut takes failures true start (bytes ++ piece) st.text next.Packet (d.kept ++ piece) c s
   first_received d st = record { text = st.text; begins = prefix_of_itself st.text; shown = client_received bytes st.text next.Packet d.kept piece st.are_at.2; put = st.put; within = st.within }
@@ -260,20 +260,20 @@ module _ {K : Type 0} (takes : K → List ℕ → K → Type 0) (failures : K �
   side_of : (at' : Decoding) (h : Stop Shown) (c' : List ℕ) (s' : K) → at ≡ at' → Stops takes failures (is_front at') start (bytes ++ piece) st.text h c' s' → Stops takes failures (is_front at) start (bytes ++ piece) st.text h c' s'
   side_of at' h c' s' is = subst (λ (f : Bool). Stops takes failures f start (bytes ++ piece) st.text h c' s') (sym (ap is_front is))
 
-  pub take_back_ok : (d d' : DecoderState) (c' : List ℕ) (s' : K) → at ≡ decoding.Back d → PutsMessages takes failures backend c s (d.kept ++ piece) (Ok d') c' s' → StepShows takes failures (is_front at) start (bytes ++ piece) st.text (Ok (decoding.Back d')) c' s'
-  take_back_ok d d' c' s' is h = (sym (ap is_front is), back_ok takes failures start (bytes ++ piece) (d.kept ++ piece) st.text c s (back_received takes failures start bytes piece c s d (as_it_is (decoding.Back d) is)) d' c' s' h)
+  pub take_back_ok : (d d' : SpellingsState) (c' : List ℕ) (s' : K) → at ≡ decoding.Back d → PutsMessages takes failures backend c s (d.stream.kept ++ piece) (Ok d') c' s' → StepShows takes failures (is_front at) start (bytes ++ piece) st.text (Ok (decoding.Back d')) c' s'
+  take_back_ok d d' c' s' is h = (sym (ap is_front is), back_ok takes failures start (bytes ++ piece) (d.stream.kept ++ piece) st.text c s (back_received takes failures start bytes piece c s d (as_it_is (decoding.Back d) is)) d' c' s' h)
 
-  pub take_back_err : (d : DecoderState) (w : Stop Shown) (c' : List ℕ) (s' : K) → at ≡ decoding.Back d → PutsMessages takes failures backend c s (d.kept ++ piece) (Err w) c' s' → Stops takes failures (is_front at) start (bytes ++ piece) st.text w c' s'
-  take_back_err d w c' s' is h = side_of (decoding.Back d) w c' s' is (back_err takes failures start (bytes ++ piece) (d.kept ++ piece) st.text c s (back_received takes failures start bytes piece c s d (as_it_is (decoding.Back d) is)) w c' s' h)
+  pub take_back_err : (d : SpellingsState) (w : Stop Shown) (c' : List ℕ) (s' : K) → at ≡ decoding.Back d → PutsMessages takes failures backend c s (d.stream.kept ++ piece) (Err w) c' s' → Stops takes failures (is_front at) start (bytes ++ piece) st.text w c' s'
+  take_back_err d w c' s' is h = side_of (decoding.Back d) w c' s' is (back_err takes failures start (bytes ++ piece) (d.stream.kept ++ piece) st.text c s (back_received takes failures start bytes piece c s d (as_it_is (decoding.Back d) is)) w c' s' h)
 
   pub take_first : (d : FirstState) (r : Result Decoding (Stop Shown)) (c' : List ℕ) (s' : K) → at ≡ decoding.First d → ((stands : HasShown takes failures start bytes (decoding.First d) c s) → StepShows takes failures true start (bytes ++ piece) stands.text r c' s') → StepShows takes failures (is_front at) start (bytes ++ piece) st.text r c' s'
   take_first d r c' s' is h = subst (λ (f : Bool). StepShows takes failures f start (bytes ++ piece) st.text r c' s') (sym (ap is_front is)) (h (as_it_is (decoding.First d) is))
 
-  pub take_front_ok : (d d' : DecoderState) (c' : List ℕ) (s' : K) → at ≡ decoding.Front d → PutsMessages takes failures frontend c s (d.kept ++ piece) (Ok d') c' s' → StepShows takes failures (is_front at) start (bytes ++ piece) st.text (Ok (decoding.Front d')) c' s'
-  take_front_ok d d' c' s' is h = (sym (ap is_front is), front_ok takes failures start (bytes ++ piece) (d.kept ++ piece) st.text c s (front_received takes failures start bytes piece c s d (as_it_is (decoding.Front d) is)) d' c' s' h)
+  pub take_front_ok : (d d' : SpellingsState) (c' : List ℕ) (s' : K) → at ≡ decoding.Front d → PutsMessages takes failures frontend c s (d.stream.kept ++ piece) (Ok d') c' s' → StepShows takes failures (is_front at) start (bytes ++ piece) st.text (Ok (decoding.Front d')) c' s'
+  take_front_ok d d' c' s' is h = (sym (ap is_front is), front_ok takes failures start (bytes ++ piece) (d.stream.kept ++ piece) st.text c s (front_received takes failures start bytes piece c s d (as_it_is (decoding.Front d) is)) d' c' s' h)
 
-  pub take_front_err : (d : DecoderState) (w : Stop Shown) (c' : List ℕ) (s' : K) → at ≡ decoding.Front d → PutsMessages takes failures frontend c s (d.kept ++ piece) (Err w) c' s' → Stops takes failures (is_front at) start (bytes ++ piece) st.text w c' s'
-  take_front_err d w c' s' is h = side_of (decoding.Front d) w c' s' is (front_err takes failures start (bytes ++ piece) (d.kept ++ piece) st.text c s (front_received takes failures start bytes piece c s d (as_it_is (decoding.Front d) is)) w c' s' h)
+  pub take_front_err : (d : SpellingsState) (w : Stop Shown) (c' : List ℕ) (s' : K) → at ≡ decoding.Front d → PutsMessages takes failures frontend c s (d.stream.kept ++ piece) (Err w) c' s' → Stops takes failures (is_front at) start (bytes ++ piece) st.text w c' s'
+  take_front_err d w c' s' is h = side_of (decoding.Front d) w c' s' is (front_err takes failures start (bytes ++ piece) (d.stream.kept ++ piece) st.text c s (front_received takes failures start bytes piece c s d (as_it_is (decoding.Front d) is)) w c' s' h)
 
   pub take_over : (n : ℕ) → at ≡ decoding.Over n → StepShows takes failures (is_front at) start (bytes ++ piece) st.text (Ok (decoding.Over (n + length piece))) c s
   take_over n is = (sym (ap is_front is), over_received takes failures start bytes piece c s n (as_it_is (decoding.Over n) is))
@@ -285,9 +285,9 @@ module _ {K : Type 0} (takes : K → List ℕ → K → Type 0) (failures : K �
 module _ {K : Type 0} (takes : K → List ℕ → K → Type 0) (failures : K → ℕ) (start : K) (bytes c : List ℕ) (s : K) where
   -- what stands is put but for an open rest
   abbrev pub all_shown : (at : Decoding) (st : HasShown takes failures start bytes at c s) → AreAllShown (is_front at) bytes st.text
-  all_shown (decoding.Back d) st = record { n = next.Message; rest = d.kept; shown = (refl, st.are_at.1); is_open = st.are_at.2 }
+  all_shown (decoding.Back d) st = record { n = next.Message; rest = d.stream.kept; shown = (refl, st.are_at.1); is_open = st.are_at.2 }
   all_shown (decoding.First d) st = record { n = next.Packet; rest = d.kept; shown = st.are_at.2; is_open = st.are_at.3 }
-  all_shown (decoding.Front d) st = record { n = next.Message; rest = d.kept; shown = st.are_at.1; is_open = st.are_at.2 }
+  all_shown (decoding.Front d) st = record { n = next.Message; rest = d.stream.kept; shown = st.are_at.1; is_open = st.are_at.2 }
   all_shown (decoding.Over n) st = record { n = next.Nothing; rest = st.are_at.0; shown = st.are_at.1; is_open = tt }
 
   kept_is : (at : Decoding) (st : HasShown takes failures start bytes at c s) → unshown at ≡ length (all_shown at st).rest

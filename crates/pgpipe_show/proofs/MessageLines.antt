@@ -1,12 +1,13 @@
 -- How the lines go on from message to message.
-use Rattle.std.proofs.Common.{◌≡◌, ℕ, List, [], ◌∷◌, ◌++◌, ◌⊎◌, inl, inr, Option, Some, None, Ok, Err, refl, sym, ap, subst, ◌∙◌, append_assoc, append-nil}
+use Rattle.std.proofs.Common.{◌≡◌, ℕ, ◌+◌, ◌-◌, true, false, length, arith, List, [], ◌∷◌, ◌++◌, ◌⊎◌, inl, inr, Option, Some, None, Ok, Err, refl, sym, ap, subst, ◌∙◌, append_assoc, append-nil}
 use Rattle.std.specs.List.{flat_map, AllByRecursion}
 use Rattle.std.proofs.lemmas.Grind.{flat_map-append}
 use Rattle.std.proofs.lemmas.Option.{none-some}
 use Rattle.pg_wire.specs.declared.fault.WireFault.{WireFault}
 use Rattle.pg_wire.specs.declared.fault.WireFault.TheVariants as wire
 use Rattle.pg_wire.specs.link.LinkFault.{LinkFault}
-use Rattle.pg_wire.specs.Decoder.{DecoderState, Takes}
+use Rattle.pg_wire.specs.Decoder.{DecoderState}
+use Rattle.pg_wire.specs.Spellings.{SpellingsState, TakesSpelling}
 use Rattle.pg_wire.specs.Direction.{Direction, spelling}
 use Rattle.pg_wire.specs.Stream.{IsStream, IsWithin, IsOpen, IsFaulty}
 use Rattle.pgpipe_base.specs.declared.stop.Stop.{Stop}
@@ -14,7 +15,8 @@ use Rattle.pgpipe_base.specs.declared.stop.Stop.TheVariants as stop
 use Rattle.pgpipe_show.specs.declared.show.Shown.{Shown}
 use Rattle.pgpipe_show.specs.declared.show.Shown.TheVariants as shown
 use Rattle.pgpipe_show.specs.Messages.{line, lines}
-use Rattle.pgpipe_base.specs.Outbox.{Puts}
+use Rattle.std.specs.Prelude.{slice_index, drop}
+use Rattle.pgpipe_base.specs.Outbox.{Puts, line_of}
 use Rattle.pgpipe_show.specs.Show.{length_limit}
 use Rattle.pgpipe_show.specs.Private.Showing.{IsSound, HasPut, Breaks, PutsMessages, StepsSource, PutsLine, fault_stop}
 use Rattle.pgpipe_base.proofs.Pieces.{puts_none, puts_then}
@@ -68,46 +70,64 @@ module _ {K M : Type 0} (D : Direction M) (takes : K → List ℕ → K → Type
   }
 
   module _ (d : DecoderState) (c : List ℕ) (s : K) (sound : IsSound d) (h : HasPut takes failures D c0 s0 bytes d.kept c s) where
-    -- ---- what the decoder answers
+    -- ---- what the reader answers
 
     -- no whole message waits
-    pub at_none : (o : Option M) (d' : DecoderState) → o ≡ None → Takes D d (Ok o) d' → PutsMessages takes failures D c0 s0 bytes (Ok d') c s
-    at_none o d' none got =
-        let t = subst (λ (x : Option M). Takes D d (Ok x) d') none got in
+    pub at_none : (new : SpellingsState) → TakesSpelling D d (Ok false) new → PutsMessages takes failures D c0 s0 bytes (Ok new) c s
+    at_none new taken =
+        let t = taken.0 in
         let is_open : IsOpen D length_limit d.kept = subst (λ (l : ℕ). IsOpen D l d.kept) sound.limited t.2 in
-        subst (λ (e : DecoderState). PutsMessages takes failures D c0 s0 bytes (Ok e) c s) (sym t.1) (sound, h, is_open)
+        subst (λ (e : DecoderState). IsSound e × HasPut takes failures D c0 s0 bytes e.kept c s × IsOpen D length_limit e.kept) (sym t.1) (sound, h, is_open)
 
-    -- the rest is faulty, or memory was refused
-    pub at_fault : (f : WireFault) (d' : DecoderState) → Takes D d (Err f) d' → PutsMessages takes failures D c0 s0 bytes (Err (fault_stop f)) c s
-    at_fault wire.Memory d' t = (d.kept, h)
-    at_fault (wire.UnknownTag b) d' t = (d.kept, h, subst (λ (l : ℕ). IsFaulty D l d.kept (wire.UnknownTag b)) sound.limited (found_now D d (wire.UnknownTag b) d' sound.no_fault t))
-    at_fault (wire.ShortLength n) d' t = (d.kept, h, subst (λ (l : ℕ). IsFaulty D l d.kept (wire.ShortLength n)) sound.limited (found_now D d (wire.ShortLength n) d' sound.no_fault t))
-    at_fault (wire.LongLength n) d' t = (d.kept, h, subst (λ (l : ℕ). IsFaulty D l d.kept (wire.LongLength n)) sound.limited (found_now D d (wire.LongLength n) d' sound.no_fault t))
-    at_fault (wire.BadFirst n) d' t = (d.kept, h, subst (λ (l : ℕ). IsFaulty D l d.kept (wire.BadFirst n)) sound.limited (found_now D d (wire.BadFirst n) d' sound.no_fault t))
-    at_fault (wire.BadBody b) d' t = (d.kept, h, subst (λ (l : ℕ). IsFaulty D l d.kept (wire.BadBody b)) sound.limited (found_now D d (wire.BadBody b) d' sound.no_fault t))
+    -- the rest is faulty
+    pub at_fault : (f : WireFault) (new : SpellingsState) → TakesSpelling D d (Err f) new → PutsMessages takes failures D c0 s0 bytes (Err (fault_stop f)) c s
+    at_fault wire.Memory new t = absurd t
+    at_fault (wire.UnknownTag b) new t = (d.kept, h, subst (λ (l : ℕ). IsFaulty D l d.kept (wire.UnknownTag b)) sound.limited (found_now D d (wire.UnknownTag b) new.stream sound.no_fault t.0))
+    at_fault (wire.ShortLength n) new t = (d.kept, h, subst (λ (l : ℕ). IsFaulty D l d.kept (wire.ShortLength n)) sound.limited (found_now D d (wire.ShortLength n) new.stream sound.no_fault t.0))
+    at_fault (wire.LongLength n) new t = (d.kept, h, subst (λ (l : ℕ). IsFaulty D l d.kept (wire.LongLength n)) sound.limited (found_now D d (wire.LongLength n) new.stream sound.no_fault t.0))
+    at_fault (wire.BadFirst n) new t = (d.kept, h, subst (λ (l : ℕ). IsFaulty D l d.kept (wire.BadFirst n)) sound.limited (found_now D d (wire.BadFirst n) new.stream sound.no_fault t.0))
+    at_fault (wire.BadBody b) new t = (d.kept, h, subst (λ (l : ℕ). IsFaulty D l d.kept (wire.BadBody b)) sound.limited (found_now D d (wire.BadBody b) new.stream sound.no_fault t.0))
 
-    -- ---- what is done with a message
+    -- ---- what is done with a message, whose bytes are these
 
-    -- its line is put
-    pub at_line : (o : Option M) (d' : DecoderState) (m : M) (c' : List ℕ) (s' : K) → o ≡ Some m → Takes D d (Ok o) d' → PutsLine takes failures c s (line D m) (Ok tt) c' s'
-        → IsSound d' × HasPut takes failures D c0 s0 bytes d'.kept c' s'
-    at_line o d' m c' s' some got p =
-        let t = subst (λ (x : Option M). Takes D d (Ok x) d') some got in
-        let within : IsWithin D length_limit m = subst (λ (l : ℕ). IsWithin D l m) sound.limited t.1 in
-        (record { limited = ap (λ (e : DecoderState). e.limit) t.3 ∙ sound.limited; no_fault = ap (λ (e : DecoderState). e.fault) t.3 ∙ sound.no_fault }, has_put_more d.kept c s m d'.kept c' s' h t.2 within p)
+    module _ (new : SpellingsState) (taken : TakesSpelling D d (Ok true) new) (spelled : List ℕ) (lent : spelled ≡ new.held) where
+      abbrev m : M
+      m = taken.0
 
-    -- the work stopped in it
-    pub at_stop : (o : Option M) (d' : DecoderState) (m : M) (w : Stop Shown) (c' : List ℕ) (s' : K) → o ≡ Some m → Takes D d (Ok o) d' → PutsLine takes failures c s (line D m) (Err w) c' s' → PutsMessages takes failures D c0 s0 bytes (Err w) c' s'
-    at_stop o d' m stop.Memory c' s' some got p =
-        (d.kept, subst (λ (k : List ℕ). HasPut takes failures D c0 s0 bytes d.kept k s') (sym p.0) (subst (λ (k : K). HasPut takes failures D c0 s0 bytes d.kept c k) (sym p.1) h))
-    at_stop o d' m stop.SinkFailed c' s' some got p =
-        let t = subst (λ (x : Option M). Takes D d (Ok x) d') some got in
-        breaks_more d.kept c s m d'.kept c' s' p.0 h t.2 (subst (λ (l : ℕ). IsWithin D l m) sound.limited t.1) p.1
-    at_stop o d' m (stop.Answer shown.Whole) c' s' some got p = absurd p
-    at_stop o d' m (stop.Answer (shown.Rest n)) c' s' some got p = absurd p
-    at_stop o d' m (stop.Answer (shown.Fault f)) c' s' some got p = absurd p
-    at_stop o d' m stop.SourceFailed c' s' some got p = absurd p
-    at_stop o d' m stop.Endless c' s' some got p = absurd p
+      spelled_is : spelled ≡ spelling D m
+      spelled_is = lent ∙ taken.2
+
+      within : IsWithin D length_limit m
+      within = subst (λ (l : ℕ). IsWithin D l m) sound.limited taken.1.1
+
+      size_is : length spelled - 1 ≡ 4 + length (D.body m)
+      size_is = omega (arith, ap length spelled_is)
+
+      line_is : line_of (slice_index spelled 0 ∷ []) (length spelled - 1) (drop 5 spelled) ≡ line D m
+      line_is =
+          ap (λ (b : List ℕ). line_of (slice_index b 0 ∷ []) (length spelled - 1) (drop 5 b)) spelled_is ∙ ap (λ (n : ℕ). line_of (D.tag m ∷ []) n (D.body m)) size_is
+
+      -- its line is put
+      pub at_line : (c' : List ℕ) (s' : K) → PutsLine takes failures c s (line_of (slice_index spelled 0 ∷ []) (length spelled - 1) (drop 5 spelled)) (Ok tt) c' s'
+          → IsSound new.stream × HasPut takes failures D c0 s0 bytes new.stream.kept c' s'
+      at_line c' s' p =
+          let t = taken.1 in
+          let put : PutsLine takes failures c s (line D m) (Ok tt) c' s' = subst (λ (text : List ℕ). PutsLine takes failures c s text (Ok tt) c' s') line_is p in
+          (record { limited = ap (λ (e : DecoderState). e.limit) t.3 ∙ sound.limited; no_fault = ap (λ (e : DecoderState). e.fault) t.3 ∙ sound.no_fault }, has_put_more d.kept c s m new.stream.kept c' s' h t.2 within put)
+
+      -- the work stopped in it
+      stopped : (w : Stop Shown) (c' : List ℕ) (s' : K) → PutsLine takes failures c s (line D m) (Err w) c' s' → PutsMessages takes failures D c0 s0 bytes (Err w) c' s'
+      stopped stop.Memory c' s' p =
+          (d.kept, subst (λ (k : List ℕ). HasPut takes failures D c0 s0 bytes d.kept k s') (sym p.0) (subst (λ (k : K). HasPut takes failures D c0 s0 bytes d.kept c k) (sym p.1) h))
+      stopped stop.SinkFailed c' s' p = breaks_more d.kept c s m new.stream.kept c' s' p.0 h taken.1.2 within p.1
+      stopped (stop.Answer shown.Whole) c' s' p = absurd p
+      stopped (stop.Answer (shown.Rest n)) c' s' p = absurd p
+      stopped (stop.Answer (shown.Fault f)) c' s' p = absurd p
+      stopped stop.SourceFailed c' s' p = absurd p
+      stopped stop.Endless c' s' p = absurd p
+
+      pub at_stop : (w : Stop Shown) (c' : List ℕ) (s' : K) → PutsLine takes failures c s (line_of (slice_index spelled 0 ∷ []) (length spelled - 1) (drop 5 spelled)) (Err w) c' s' → PutsMessages takes failures D c0 s0 bytes (Err w) c' s'
+      at_stop w c' s' p = stopped w c' s' (subst (λ (text : List ℕ). PutsLine takes failures c s text (Err w) c' s') line_is p)
 
 pub faults_leave_source : (A : Type 0) (ended : Type 0) (n : ℕ) (f : WireFault) → StepsSource {A = A} ended n n (Err (fault_stop f))
 faults_leave_source A ended n wire.Memory = refl

@@ -7,7 +7,7 @@ ghost use Rattle.pgpipe_show.specs.Private.Showing.{is_front, unshown, AreAt, Is
 use crate::messages::{put_messages, take_messages};
 use crate::packets::{Next, put_packets};
 use crate::show::Shown;
-use pg_wire::{BackMessage, Decoder, FirstDecoder, FrontDecoder, LONGEST, Sink};
+use pg_wire::{BackMessage, FirstDecoder, FrontMessage, LONGEST, Sink, Spellings};
 use pgpipe_base::Stop;
 use pgpipe_base::outbox::Outbox;
 use std::alloc::Global;
@@ -16,11 +16,11 @@ use std::alloc::Global;
 #[derive(Drop)]
 pub enum Decoding {
     /// The messages of a backend.
-    Back(Decoder<BackMessage>),
+    Back(Spellings<BackMessage>),
     /// The first packets of a client.
     First(FirstDecoder),
     /// The messages of a client.
-    Front(FrontDecoder),
+    Front(Spellings<FrontMessage>),
     /// Nothing after a Cancel: so many bytes came.
     Over(usize),
 }
@@ -47,8 +47,8 @@ fn take_packets<K: Sink>(
     match put_packets(&mut first, spelled, outbox, sink)? {
         Next::Packet => Ok(Decoding::First(first)),
         Next::Message => {
-            let decoder = put_messages(first.into_front(LONGEST), spelled, outbox, sink)?;
-            Ok(Decoding::Front(decoder))
+            let spellings = put_messages(first.into_spellings(LONGEST), outbox, sink)?;
+            Ok(Decoding::Front(spellings))
         }
         Next::Nothing => Ok(Decoding::Over(first.kept())),
     }
@@ -63,7 +63,7 @@ impl Decoding {
         if front {
             Decoding::First(FirstDecoder::new(alloc))
         } else {
-            Decoding::Back(Decoder::new(alloc, LONGEST))
+            Decoding::Back(Spellings::new(alloc, LONGEST))
         }
     }
 
@@ -72,9 +72,9 @@ impl Decoding {
         ensures { result ≡ unshown self.now }
     {
         match self {
-            Decoding::Back(decoder) => decoder.kept(),
+            Decoding::Back(spellings) => spellings.kept(),
             Decoding::First(decoder) => decoder.kept(),
-            Decoding::Front(decoder) => decoder.kept(),
+            Decoding::Front(spellings) => spellings.kept(),
             Decoding::Over(count) => *count,
         }
     }
@@ -96,14 +96,14 @@ impl Decoding {
         ensures source { LeavesSource result }
     {
         match self {
-            Decoding::Back(decoder) => {
-                let decoder = take_messages(decoder, piece, spelled, outbox, sink)?;
-                Ok(Decoding::Back(decoder))
+            Decoding::Back(spellings) => {
+                let spellings = take_messages(spellings, piece, outbox, sink)?;
+                Ok(Decoding::Back(spellings))
             }
             Decoding::First(decoder) => take_packets(decoder, piece, spelled, outbox, sink),
-            Decoding::Front(decoder) => {
-                let decoder = take_messages(decoder, piece, spelled, outbox, sink)?;
-                Ok(Decoding::Front(decoder))
+            Decoding::Front(spellings) => {
+                let spellings = take_messages(spellings, piece, outbox, sink)?;
+                Ok(Decoding::Front(spellings))
             }
             Decoding::Over(count) => Ok(Decoding::Over(count + piece.len())),
         }

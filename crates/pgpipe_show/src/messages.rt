@@ -1,28 +1,16 @@
 //! The lines of messages.
 
 ghost use Rattle.std.specs.Prelude.{◌≡◌, ◌≤◌, ◌^◌, ◌-◌, ◌++◌, [], ◌∷◌, length, drop, slice_index};
-ghost use Rattle.pg_wire.specs.Encoder.{Encodes};
-ghost use Rattle.pg_wire.specs.Stream.{IsWithin};
-ghost use Rattle.pgpipe_show.specs.Messages.{line};
 ghost use Rattle.pgpipe_base.specs.Outbox.{line_of};
-ghost use Rattle.pgpipe_show.specs.Show.{length_limit};
 ghost use Rattle.pgpipe_show.specs.Private.Showing.{IsSound, PutsLine, PutsMessages, LeavesSource};
 
 use crate::show::Shown;
 use crate::stop::fault_stop;
-use pg_wire::{Decoder, EncodeFault, Message, Sink};
+use pg_wire::{Message, Sink, Spellings};
 use pgpipe_base::Stop;
 use pgpipe_base::outbox::Outbox;
 
-// Spells a message, and lets it go.
-fn spell<M: Message>(message: M, spelled: &mut Vec<u8>) -> Result<(), EncodeFault>
-    ensures { Encodes M.direction message [] result spelled.new.items }
-{
-    spelled.clear();
-    message.encode(spelled)
-}
-
-// Puts the line of a message that is spelled so.
+// Puts the line of a message that is spelled so, from where it stands.
 fn put_spelled<K: Sink>(
     spelled: &[u8],
     outbox: &mut Outbox,
@@ -40,40 +28,22 @@ fn put_spelled<K: Sink>(
     }
 }
 
-// Puts the line of a message.
-fn put_message<M: Message, K: Sink>(
-    message: M,
-    spelled: &mut Vec<u8>,
-    outbox: &mut Outbox,
-    sink: &mut K,
-) -> Result<(), Stop<Shown>>
-    requires { IsWithin M.direction length_limit message }
-    ensures { PutsLine K.takes K.failures outbox.old sink.old
-        (line M.direction message) result outbox.new sink.new }
-{
-    match spell(message, spelled) {
-        Ok(()) => put_spelled(spelled.as_slice(), outbox, sink),
-        Err(_) => Err(Stop::Memory),
-    }
-}
-
 /// Puts the lines of the messages that are whole.
 pub fn put_messages<M: Message, K: Sink>(
-    decoder: Decoder<M>,
-    spelled: &mut Vec<u8>,
+    spellings: Spellings<M>,
     outbox: &mut Outbox,
     sink: &mut K,
-) -> Result<Decoder<M>, Stop<Shown>>
-    requires { IsSound decoder }
-    ensures puts { PutsMessages K.takes K.failures M.direction outbox.old sink.old decoder.kept
-        result outbox.new sink.new }
+) -> Result<Spellings<M>, Stop<Shown>>
+    requires { IsSound spellings.stream }
+    ensures puts { PutsMessages K.takes K.failures M.direction outbox.old sink.old
+        spellings.stream.kept result outbox.new sink.new }
     ensures source { LeavesSource result }
 {
-    let mut reader = decoder;
+    let mut reader = spellings;
     loop {
         match reader.next() {
-            Ok(None) => return Ok(reader),
-            Ok(Some(message)) => put_message(message, spelled, outbox, sink)?,
+            Ok(false) => return Ok(reader),
+            Ok(true) => put_spelled(reader.spelling(), outbox, sink)?,
             Err(fault) => return Err(fault_stop(fault)),
         }
     }
@@ -81,20 +51,19 @@ pub fn put_messages<M: Message, K: Sink>(
 
 /// Takes a piece, and puts the lines of the messages that are whole then.
 pub fn take_messages<M: Message, K: Sink>(
-    decoder: Decoder<M>,
+    spellings: Spellings<M>,
     piece: &[u8],
-    spelled: &mut Vec<u8>,
     outbox: &mut Outbox,
     sink: &mut K,
-) -> Result<Decoder<M>, Stop<Shown>>
-    requires { IsSound decoder }
-    ensures puts { PutsMessages K.takes K.failures M.direction outbox.old sink.old (decoder.kept
-        ++ piece.now) result outbox.new sink.new }
+) -> Result<Spellings<M>, Stop<Shown>>
+    requires { IsSound spellings.stream }
+    ensures puts { PutsMessages K.takes K.failures M.direction outbox.old sink.old
+        (spellings.stream.kept ++ piece.now) result outbox.new sink.new }
     ensures source { LeavesSource result }
 {
-    let mut reader = decoder;
+    let mut reader = spellings;
     match reader.push(piece) {
-        Ok(()) => put_messages(reader, spelled, outbox, sink),
+        Ok(()) => put_messages(reader, outbox, sink),
         Err(_) => Err(Stop::Memory),
     }
 }

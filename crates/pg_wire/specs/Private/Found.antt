@@ -29,6 +29,12 @@ abbrev pub IsFirst : {M : Type 0} → Direction M → ℕ → List ℕ → M →
 IsFirst d limit rest m len = (len ≤ length rest) × IsWithin d limit m
     × (rest ≡ spelling d m ++ drop len rest)
 
+-- what stands at the beginning of the rest, where a whole message is judged in place
+abbrev pub FindsWhole : {M : Type 0} → Direction M → ℕ → List ℕ → Judged → Type 0
+FindsWhole d limit rest judged.Open = IsOpen d limit rest × (length rest < limit + 1)
+FindsWhole d limit rest (judged.Faulty f) = IsFaulty d limit rest f
+FindsWhole {M} d limit rest (judged.Whole tag len) = (m : M) × IsFirst d limit rest m (len + 1)
+
 -- the next message, and how many bytes it takes
 abbrev pub Finds : {M : Type 0} → Direction M → ℕ → List ℕ → Result (Option (M × ℕ)) WireFault
     → Type 0

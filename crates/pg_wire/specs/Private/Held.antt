@@ -7,17 +7,16 @@ use Rattle.pg_wire.specs.declared.fault.WireFault.TheVariants as wire
 use Rattle.pg_message.specs.Private.LentReader.{lent_bytes}
 use Rattle.pg_wire.specs.Decoder.{DecoderState}
 use Rattle.pg_wire.specs.BackDecoder.{BackState}
+use Rattle.pg_wire.specs.Spellings.{SpellingsState}
 
 -- the bytes of the message that is still held, if one is, and the stream after it
 pub record StreamState : Type 0 where
   pub front : List ℕ
   pub rest : DecoderState
 
--- After a call nothing is held, but where memory was refused, which changes nothing.
-abbrev pub LetsFront : {A : Type 0} → List ℕ → Result A WireFault → List ℕ → Type 0
-LetsFront old (Ok x) new = new ≡ []
-LetsFront old (Err wire.Memory) new = new ≡ old
-LetsFront old (Err f) new = new ≡ []
+-- as callers of a reader of spellings see it
+abbrev pub spellings_state : StreamState → SpellingsState
+spellings_state s = record { stream = s.rest; held = s.front }
 
 -- as callers of a backend's decoder see it
 abbrev pub back_state : StreamState → BackState

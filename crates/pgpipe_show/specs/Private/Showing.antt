@@ -7,6 +7,7 @@ use Rattle.pg_wire.specs.link.LinkFault.{LinkFault}
 use Rattle.pg_wire.specs.message.First.{First}
 use Rattle.pg_wire.specs.Backend.{backend}
 use Rattle.pg_wire.specs.Decoder.{DecoderState}
+use Rattle.pg_wire.specs.Spellings.{SpellingsState}
 use Rattle.pg_wire.specs.Direction.{Direction}
 use Rattle.pg_wire.specs.First.{IsBeginning, IsOpenPacket, IsFaultyPacket}
 use Rattle.pg_wire.specs.FirstDecoder.{FirstState}
@@ -82,10 +83,11 @@ pub record Breaks {K M : Type 0} (takes : K → List ℕ → K → Type 0) (fail
 
 -- The messages in these bytes are put, as far as may be.
 abbrev pub PutsMessages : {K M : Type 0} → (K → List ℕ → K → Type 0) → (K → ℕ) → Direction M
-    → List ℕ → K → List ℕ → Result DecoderState (Stop Shown) → List ℕ → K → Type 0
-PutsMessages takes failures d collected sink bytes (Ok new) collected' sink' = IsSound new
-    × HasPut takes failures d collected sink bytes new.kept collected' sink'
-    × IsOpen d length_limit new.kept
+    → List ℕ → K → List ℕ → Result SpellingsState (Stop Shown) → List ℕ → K → Type 0
+PutsMessages takes failures d collected sink bytes (Ok new) collected' sink' =
+    IsSound new.stream
+    × HasPut takes failures d collected sink bytes new.stream.kept collected' sink'
+    × IsOpen d length_limit new.stream.kept
 PutsMessages takes failures d collected sink bytes (Err (stop.Answer (shown.Fault f))) collected'
     sink' =
     (rest : List ℕ) × HasPut takes failures d collected sink bytes rest collected' sink'
@@ -149,26 +151,27 @@ is_front _ = true
 
 -- how many bytes no line was put for
 abbrev pub unshown : Decoding → ℕ
-unshown (decoding.Back d) = length d.kept
+unshown (decoding.Back d) = length d.stream.kept
 unshown (decoding.First s) = length s.kept
-unshown (decoding.Front d) = length d.kept
+unshown (decoding.Front d) = length d.stream.kept
 unshown (decoding.Over n) = n
 
 -- No fault was found in what is read now, and it has not come to its end.
 abbrev pub IsSoundAt : Decoding → Type 0
-IsSoundAt (decoding.Back d) = IsSound d
+IsSoundAt (decoding.Back d) = IsSound d.stream
 IsSoundAt (decoding.First s) = (s.ended ≡ false) × (s.fault ≡ None)
-IsSoundAt (decoding.Front d) = IsSound d
+IsSoundAt (decoding.Front d) = IsSound d.stream
 IsSoundAt (decoding.Over size) = Unit {0}
 
 -- What is read now keeps the open rest of these bytes, and the text is the lines for the others.
 abbrev pub AreAt : List ℕ → List ℕ → Decoding → Type 0
-AreAt bytes text (decoding.Back d) = IsSound d × AreMessages backend bytes text d.kept
-    × IsOpen backend length_limit d.kept
+AreAt bytes text (decoding.Back d) = IsSound d.stream
+    × AreMessages backend bytes text d.stream.kept × IsOpen backend length_limit d.stream.kept
 AreAt bytes text (decoding.First s) = (s.ended ≡ false) × (s.fault ≡ None)
     × IsClientSide bytes text next.Packet s.kept × IsOpenPacket s.kept
-AreAt bytes text (decoding.Front d) = IsSound d × IsClientSide bytes text next.Message d.kept
-    × IsOpen frontend length_limit d.kept
+AreAt bytes text (decoding.Front d) = IsSound d.stream
+    × IsClientSide bytes text next.Message d.stream.kept
+    × IsOpen frontend length_limit d.stream.kept
 AreAt bytes text (decoding.Over size) = (rest : List ℕ) × IsClientSide bytes text next.Nothing rest
     × (size ≡ length rest)
 

@@ -2,24 +2,24 @@ use Rattle.std.proofs.lemmas.Result.{err_from_is_err_and}
 use Rattle.pgpipe_show.proofs.Decodings.{take_back_ok, take_back_err, take_first, take_front_ok, take_front_err, take_over}
 use Rattle.pgpipe_show.proofs.decoding.Decoding.take.Goals as goal
 
-pub returns-in_ok-decoder-in-Back-clause-steps : goal.returns-in_ok-decoder-in-Back-clause-steps
-returns-in_ok-decoder-in-Back-clause-steps g c = λ start bytes st. take_back_ok g.K.Sink.takes g.K.Sink.failures start bytes c.args.piece.now c.args.outbox.now c.args.sink.now c.args.self st c.in-Back.decoder c.in_ok-decoder-in-Back.decoder c.take_messages.new.outbox c.take_messages.new.sink c.in-Back.is c.in_ok-decoder-in-Back.ensures.puts
+pub returns-in_ok-spellings-in-Back-clause-steps : goal.returns-in_ok-spellings-in-Back-clause-steps
+returns-in_ok-spellings-in-Back-clause-steps g c = λ start bytes st. take_back_ok g.K.Sink.takes g.K.Sink.failures start bytes c.args.piece.now c.args.outbox.now c.args.sink.now c.args.self st c.in-Back.spellings c.in_ok-spellings-in-Back.spellings c.take_messages.new.outbox c.take_messages.new.sink c.in-Back.is c.in_ok-spellings-in-Back.ensures.puts
 
-pub returns-in_err-decoder-in-Back-clause-steps : goal.returns-in_err-decoder-in-Back-clause-steps
-returns-in_err-decoder-in-Back-clause-steps g c =
+pub returns-in_err-spellings-in-Back-clause-steps : goal.returns-in_err-spellings-in-Back-clause-steps
+returns-in_err-spellings-in-Back-clause-steps g c =
     let p = err_from_is_err_and c.from_residual.result c.from_residual.ensures.1 in
-    λ start bytes st. rw (p.1, p.2) (take_back_err g.K.Sink.takes g.K.Sink.failures start bytes c.args.piece.now c.args.outbox.now c.args.sink.now c.args.self st c.in-Back.decoder c.in_err-decoder-in-Back.field-0.0 c.take_messages.new.outbox c.take_messages.new.sink c.in-Back.is c.in_err-decoder-in-Back.ensures.puts)
+    λ start bytes st. rw (p.1, p.2) (take_back_err g.K.Sink.takes g.K.Sink.failures start bytes c.args.piece.now c.args.outbox.now c.args.sink.now c.args.self st c.in-Back.spellings c.in_err-spellings-in-Back.field-0.0 c.take_messages.new.outbox c.take_messages.new.sink c.in-Back.is c.in_err-spellings-in-Back.ensures.puts)
 
 pub returns-in-First-clause-steps : goal.returns-in-First-clause-steps
 returns-in-First-clause-steps g c = λ start bytes st. take_first g.K.Sink.takes g.K.Sink.failures start bytes c.args.piece.now c.args.outbox.now c.args.sink.now c.args.self st c.in-First.decoder c.take_packets.result c.take_packets.new.outbox c.take_packets.new.sink c.in-First.is (c.take_packets.ensures.steps start bytes)
 
-pub returns-in_ok-decoder-in-Front-clause-steps : goal.returns-in_ok-decoder-in-Front-clause-steps
-returns-in_ok-decoder-in-Front-clause-steps g c = λ start bytes st. take_front_ok g.K.Sink.takes g.K.Sink.failures start bytes c.args.piece.now c.args.outbox.now c.args.sink.now c.args.self st c.in-Front.decoder c.in_ok-decoder-in-Front.decoder c.take_messages-in-Front.new.outbox c.take_messages-in-Front.new.sink c.in-Front.is c.in_ok-decoder-in-Front.ensures.puts
+pub returns-in_ok-spellings-in-Front-clause-steps : goal.returns-in_ok-spellings-in-Front-clause-steps
+returns-in_ok-spellings-in-Front-clause-steps g c = λ start bytes st. take_front_ok g.K.Sink.takes g.K.Sink.failures start bytes c.args.piece.now c.args.outbox.now c.args.sink.now c.args.self st c.in-Front.spellings c.in_ok-spellings-in-Front.spellings c.take_messages-in-Front.new.outbox c.take_messages-in-Front.new.sink c.in-Front.is c.in_ok-spellings-in-Front.ensures.puts
 
-pub returns-in_err-decoder-in-Front-clause-steps : goal.returns-in_err-decoder-in-Front-clause-steps
-returns-in_err-decoder-in-Front-clause-steps g c =
-    let p = err_from_is_err_and c.from_residual-in_err-decoder-in-Front.result c.from_residual-in_err-decoder-in-Front.ensures.1 in
-    λ start bytes st. rw (p.1, p.2) (take_front_err g.K.Sink.takes g.K.Sink.failures start bytes c.args.piece.now c.args.outbox.now c.args.sink.now c.args.self st c.in-Front.decoder c.in_err-decoder-in-Front.field-0.0 c.take_messages-in-Front.new.outbox c.take_messages-in-Front.new.sink c.in-Front.is c.in_err-decoder-in-Front.ensures.puts)
+pub returns-in_err-spellings-in-Front-clause-steps : goal.returns-in_err-spellings-in-Front-clause-steps
+returns-in_err-spellings-in-Front-clause-steps g c =
+    let p = err_from_is_err_and c.from_residual-in_err-spellings-in-Front.result c.from_residual-in_err-spellings-in-Front.ensures.1 in
+    λ start bytes st. rw (p.1, p.2) (take_front_err g.K.Sink.takes g.K.Sink.failures start bytes c.args.piece.now c.args.outbox.now c.args.sink.now c.args.self st c.in-Front.spellings c.in_err-spellings-in-Front.field-0.0 c.take_messages-in-Front.new.outbox c.take_messages-in-Front.new.sink c.in-Front.is c.in_err-spellings-in-Front.ensures.puts)
 
 pub returns-in-Over-clause-steps : goal.returns-in-Over-clause-steps
 returns-in-Over-clause-steps g c = λ start bytes st. take_over g.K.Sink.takes g.K.Sink.failures start bytes c.args.piece.now c.args.outbox.now c.args.sink.now c.args.self st c.in-Over.count c.in-Over.is

@@ -1,0 +1,92 @@
+//! A stream of one direction, taken in pieces, of which the bytes of each message are lent.
+
+ghost use Rattle.std.specs.Prelude.{◌≡◌, [], length, None};
+ghost use Rattle.pg_message.specs.Direction.{IsLimit};
+ghost use Rattle.pg_wire.specs.Decoder.{IsLasting, Pushes};
+ghost use Rattle.pg_wire.specs.Spellings.{LetsBytes, TakesSpelling};
+
+use crate::fault::WireFault;
+use crate::machine::Stream;
+use bytes::BytesMut;
+use pg_message::Message;
+use std::alloc::Global;
+use std::marker::Model;
+
+/// Takes a stream of one direction in any pieces, and lends the bytes of exactly its messages ("Overview", "Message Formats").
+///
+/// It is a [`Decoder`](crate::Decoder) for whom the bytes are enough: a message is judged where it stands and not made, so no memory is
+/// asked for it, however large it is. What is kept and which fault is found is as of a decoder.
+#[derive(Drop)]
+pub struct Spellings<M: Message> {
+    stream: Stream<M>,
+}
+
+impl<M: Message> Model for Spellings<M> {
+    ghost use Rattle.pg_wire.specs.Spellings.{SpellingsState};
+    ghost use Rattle.pg_wire.specs.Private.Held.{spellings_state};
+
+    ghost Value = { SpellingsState };
+
+    ghost view = { λ s. spellings_state s.stream };
+}
+
+impl<M: Message> Spellings<M> {
+    /// A reader of what is kept already, which answers this fault for good if there is one.
+    pub(crate) fn resume(
+        alloc: Global,
+        buffer: BytesMut,
+        limit: u32,
+        fault: Option<WireFault>,
+    ) -> Self
+        requires limit { IsLimit limit }
+        requires fault { IsLasting fault }
+        ensures stream { result.stream
+            ≡ record { kept = buffer.items; limit = limit; fault = fault } }
+        ensures held { result.held ≡ [] }
+    {
+        Spellings {
+            stream: Stream::resume(alloc, buffer, limit, fault),
+        }
+    }
+
+    /// A reader that takes messages with a length field of at most `limit`, which is from 64 to 1,073,741,823.
+    pub fn new(alloc: Global, limit: u32) -> Self
+        requires { IsLimit limit }
+        ensures stream { result.stream ≡ record { kept = []; limit = limit; fault = None } }
+        ensures held { result.held ≡ [] }
+    {
+        Spellings::resume(alloc, BytesMut::new(alloc), limit, None)
+    }
+
+    /// How many bytes are kept: those that were pushed and have not been given as messages.
+    pub fn kept(&self) -> usize
+        ensures { result ≡ length self.now.stream.kept }
+    {
+        self.stream.kept()
+    }
+
+    /// Takes the next piece of the stream, all of it. A fault that `next` has found is answered, and after Memory nothing of the piece was
+    /// taken and the reader is unchanged. A piece without bytes wants no memory.
+    pub fn push(&mut self, piece: &[u8]) -> Result<(), WireFault>
+        ensures call { Pushes self.old.stream piece.now result self.new.stream }
+        ensures held { LetsBytes self.old.held result self.new.held }
+    {
+        self.stream.push(piece)
+    }
+
+    /// Whether a next message is whole, which [`spelling`](Self::spelling) then lends, and which counts as given; false where more bytes are to
+    /// come. A fault is found where no more messages stand before it, and is then answered for good; it is never Memory.
+    pub fn next(&mut self) -> Result<bool, WireFault>
+        ensures { TakesSpelling M.direction self.old.stream result self.new }
+    {
+        self.stream.next_spelling()
+    }
+
+    /// The bytes of the message that the last call of `next` said is there: its tag, its length field and its body. None after another call,
+    /// but a `push` that answered Memory.
+    pub fn spelling(&self) -> &[u8]
+        ensures { result.now ≡ self.now.held }
+    {
+        self.stream.front()
+    }
+}
