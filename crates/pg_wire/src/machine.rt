@@ -123,7 +123,9 @@ impl<M: Message> Stream<M> {
         ensures { result.items ≡ self.rest.kept }
     {
         let Stream {
-            mut buffer, held, ..
+            mut buffer,
+            held,
+            ..
         } = self;
         drop_first(&mut buffer, held);
         buffer
