@@ -1,5 +1,5 @@
 -- What a call of a decoder does to what it was given and has given.
-use Rattle.std.proofs.Common.{◌≡◌, ℕ, List, [], ◌∷◌, ◌++◌, Option, Some, None, Result, Ok, Err, sym, ap, subst, ◌∙◌, append_assoc, inl, inr}
+use Rattle.std.proofs.Common.{◌≡◌, ℕ, List, [], ◌∷◌, ◌++◌, Option, Some, None, Result, Ok, Err, refl, sym, ap, subst, ◌∙◌, append_assoc, inl, inr}
 use Rattle.std.specs.Prelude.{OnOk, ◌⊎◌}
 use Rattle.std.specs.List.{flat_map, AllByRecursion}
 use Rattle.std.proofs.lemmas.List.{append-nil}
@@ -7,6 +7,7 @@ use Rattle.pg_wire.specs.declared.fault.WireFault.{WireFault}
 use Rattle.pg_wire.specs.declared.fault.WireFault.TheVariants as wire
 use Rattle.pg_message.specs.Direction.{Direction, spelling}
 use Rattle.pg_wire.specs.Stream.{IsWithin, IsStream, IsFaulty}
+use Rattle.pg_wire.specs.Laws.{FaultOfNext}
 use Rattle.pg_wire.specs.Decoder.{DecoderState, HasTaken, HasStoredFault, Pushes, Takes, given_after}
 
 module _ {M : Type 0} (d : Direction M) where
@@ -62,3 +63,12 @@ module _ {M : Type 0} (d : Direction M) where
   taken_next old (Err (wire.LongLength x)) new t pushed given h = faulty old (wire.LongLength x) new t pushed given h
   taken_next old (Err (wire.BadBody x)) new t pushed given h = faulty old (wire.BadBody x) new t pushed given h
   taken_next old (Err (wire.BadFirst x)) new t pushed given h = faulty old (wire.BadFirst x) new t pushed given h
+
+  -- a fault was answered
+  pub fault_of_next : FaultOfNext d
+  fault_of_next old wire.Memory new t = inl (refl, t.0, t.1, t.2)
+  fault_of_next old (wire.UnknownTag x) new t = inr t
+  fault_of_next old (wire.ShortLength x) new t = inr t
+  fault_of_next old (wire.LongLength x) new t = inr t
+  fault_of_next old (wire.BadBody x) new t = inr t
+  fault_of_next old (wire.BadFirst x) new t = inr t

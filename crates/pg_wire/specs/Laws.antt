@@ -1,7 +1,8 @@
 -- Laws of spellings and streams, for every message and every list of bytes.
-use Rattle.std.specs.Prelude.{ℕ, ◌≡◌, ◌≤◌, Bool, true, false, List, [], ◌∷◌, ◌++◌, None}
+use Rattle.std.specs.Prelude.{ℕ, ◌≡◌, ◌≤◌, Bool, true, false, List, [], ◌∷◌, ◌++◌, ◌⊎◌, Some, None, Err}
 use Rattle.std.specs.List.{flat_map, AllByRecursion}
 use Rattle.pg_wire.specs.declared.fault.WireFault.{WireFault}
+use Rattle.pg_wire.specs.declared.fault.WireFault.TheVariants as wire
 use Rattle.pg_message.specs.declared.message.First.{First}
 use Rattle.pg_message.specs.declared.message.BackMessage.{BackMessage}
 use Rattle.pg_message.specs.declared.message.BackMessage.TheVariants.{Ready}
@@ -15,6 +16,7 @@ use Rattle.pg_message.specs.Direction.{Direction, spelling, HasSpelling}
 use Rattle.pg_message.specs.Frontend.{frontend}
 use Rattle.pg_wire.specs.Password.{md5_text}
 pub use Rattle.pg_message.specs.Message.{OneToOne}
+use Rattle.pg_wire.specs.Decoder.{DecoderState, Takes, WantsMemory}
 use Rattle.pg_wire.specs.Stream.{IsWithin, IsStream, IsFaulty, BeginsNoMessage}
 
 -- Two messages with the same bytes are one, and no message's bytes begin another's.
@@ -38,6 +40,16 @@ FaultyBeginsNone d = (limit : ℕ) (rest : List ℕ) (f : WireFault) → IsFault
 abbrev pub OneFault : {M : Type 0} → Direction M → Type 0
 OneFault d = (limit : ℕ) (rest : List ℕ) (f g : WireFault) → 64 ≤ limit → IsFaulty d limit rest f
     → IsFaulty d limit rest g → f ≡ g
+
+-- A fault that `next` answers is want of memory, and nothing has changed; or it was found before; or
+-- the rest has it, and it is answered for good.
+abbrev pub FaultOfNext : {M : Type 0} → Direction M → Type 0
+FaultOfNext {M} d = (old : DecoderState) (f : WireFault) (new : DecoderState)
+    → Takes {M = M} d old (Err f) new
+    → ((f ≡ wire.Memory) × (old.fault ≡ None) × (new ≡ old) × WantsMemory d old.limit old.kept)
+    ⊎ ((old.fault ≡ Some f) × (new ≡ old))
+    ⊎ ((old.fault ≡ None) × (new ≡ record old { fault = Some f })
+    × IsFaulty d old.limit old.kept f)
 
 -- What encoders wrote is read as what was meant: however much of joined spellings is read, it is
 -- the first of those messages, and the rest is the spellings of the others.

@@ -1,6 +1,6 @@
 //! Laws of the formats: each function does nothing, and its contract is the law.
 
-ghost use Rattle.pg_wire.specs.Laws.{OneSpelling, OneReading, FaultyBeginsNone, OneFault, RoundTrip, OnePacket, OneBeginning, FaultyBeginsNoPacket, OnePacketFault, PacketsAgain, OneOutcome, OneCut, AnswerIsSpelled};
+ghost use Rattle.pg_wire.specs.Laws.{OneSpelling, OneReading, FaultyBeginsNone, FaultOfNext, OneFault, RoundTrip, OnePacket, OneBeginning, FaultyBeginsNoPacket, OnePacketFault, PacketsAgain, OneOutcome, OneCut, AnswerIsSpelled};
 
 use pg_message::Message;
 
@@ -26,6 +26,12 @@ pub fn faulty_begins_none<M: Message>()
 /// A rest is faulty for one reason at most.
 pub fn one_fault<M: Message>()
     ensures { OneFault M.direction }
+{}
+
+/// A fault that a decoder's `next` answers, by cases: want of memory, with nothing changed; one that was found before; or one that the rest
+/// has, which is then answered for good.
+pub fn fault_of_next<M: Message>()
+    ensures { FaultOfNext M.direction }
 {}
 
 /// What encoders wrote is read as what was meant, however far the reading goes.

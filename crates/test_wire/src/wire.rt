@@ -164,6 +164,7 @@ fn the_laws_are_called() {
     laws::one_reading::<FrontMessage>();
     laws::faulty_begins_none::<BackMessage>();
     laws::one_fault::<FrontMessage>();
+    laws::fault_of_next::<BackMessage>();
     laws::round_trip::<BackMessage>();
     laws::one_packet();
     laws::one_beginning();
