@@ -15,11 +15,11 @@ use Rattle.pg_copy.specs.Reading.{RowsRead, RowsEnding, Open, Done, Ended, Bad, 
 abbrev pub backslash : ℕ
 backslash = 92
 
--- the byte between two fields of a line: a tab
+-- the byte between two fields of a line, where the options say no other: a tab
 abbrev pub delimiter : ℕ
 delimiter = 9
 
--- the field that is null: \N
+-- the field that is null, where the options say no other: \N
 abbrev pub null_mark : List ℕ
 null_mark = backslash ∷ 78 ∷ []
 
@@ -34,6 +34,15 @@ carriage_return = 13
 -- the line that ends the rows, \. without its newline
 abbrev pub end_mark : List ℕ
 end_mark = backslash ∷ 46 ∷ []
+
+-- the options of a file: the byte between two fields of a line, and the field that is null
+pub record Options : Type 0 where
+  pub delimiter : ℕ
+  pub null_mark : List ℕ
+
+-- the options of a file, where no others are said: a tab and \N
+abbrev pub default_options : Options
+default_options = record { delimiter = delimiter; null_mark = null_mark }
 
 -- ---- units: a backslash with the byte after it, or one other byte
 

@@ -20,6 +20,22 @@ pub enum TextFault {
     Memory,
 }
 
+/// Why there are no such options of a text file: the first of these that holds (PostgreSQL documentation, page COPY, DELIMITER
+/// and NULL).
+#[derive(Clone, Copy, Debug, Drop, PartialEq, Eq, Error)]
+pub enum OptionFault {
+    /// This byte can't part fields: it is a newline, a return, a backslash, a dot, a letter from `a` to `z` or a digit.
+    #[error("O1 Delimiter {0}")]
+    Delimiter(u8),
+    /// These bytes can't stand for null: a newline, a return or the delimiter is among them, they are `\.`, or they end in a
+    /// lone backslash.
+    #[error("O2 NullMark")]
+    NullMark,
+    /// Memory was refused.
+    #[error("O3 Memory")]
+    Memory,
+}
+
 /// What stands in the place of a part of a binary file: the first of these that holds. After any of them but Memory the
 /// reader answers it for good; after Memory it is unchanged (PostgreSQL documentation, page COPY, "Binary Format").
 #[derive(Clone, Copy, Debug, Drop, PartialEq, Eq, Error)]

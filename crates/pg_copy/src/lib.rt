@@ -15,13 +15,15 @@ mod plain;
 mod scan;
 mod text_field;
 mod text_line;
+mod text_options;
 mod text_reader;
 mod text_writer;
 
 pub use binary_reader::BinaryReader;
 pub use binary_writer::{write_binary_head, write_binary_row, write_binary_trailer};
-pub use fault::{BinaryFault, RowFault, TextFault};
+pub use fault::{BinaryFault, OptionFault, RowFault, TextFault};
 pub use pg_seq::Seq;
+pub use text_options::TextOptions;
 pub use text_reader::TextReader;
 pub use text_writer::{write_text_field, write_text_row};
 
