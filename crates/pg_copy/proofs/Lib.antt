@@ -1,3 +1,4 @@
+pub mod OptionFacts
 pub mod TextParts
 pub mod TextValues
 pub mod TextLines
@@ -6,6 +7,7 @@ pub mod TextSplit
 pub mod TextReads
 pub mod TextRound
 pub mod Rows
+pub mod OptionRows
 pub mod BinaryRound
 pub mod BinaryFiles
 pub mod Writing

@@ -5,7 +5,7 @@ use Rattle.std.specs.List.{onto_first}
 use Rattle.std.proofs.lemmas.List.{append-nil, take_more, drop_more, take-append-drop, length-take-le}
 use Rattle.std.proofs.lemmas.Bool.{cases_eq, eq-eqb, ne_eqb, lt-ltb}
 use Rattle.pg_copy.specs.declared.scan.Scan.{Scan}
-use Rattle.pg_copy.specs.Text.{delimiter, newline, carriage_return, backslash, parts_from, parts, has_unit, ends_escaped}
+use Rattle.pg_copy.specs.Text.{newline, carriage_return, backslash, parts_from, parts, has_unit, ends_escaped}
 use Rattle.pg_copy.specs.Private.Units.{units_from, units, IsPlain, after, IsScanned, IsUnitAt}
 
 -- no unit of the bytes is the mark alone, where the first byte is escaped or not
@@ -116,14 +116,14 @@ units-few false mark (b ∷ bs) = few (eqb b mark) (units_from (eqb b 92) mark b
 
 -- ---- a walk
 
-pub scanned-few : (bytes : List ℕ) (s : Scan) → IsScanned bytes s → s.delimiters ≤ s.at
-scanned-few bytes s h = omega (arith, units-few false delimiter (take s.at bytes), length-take-le s.at bytes h.in_range, h.delimiters)
+pub scanned-few : (delimiter : ℕ) (bytes : List ℕ) (s : Scan) → IsScanned delimiter bytes s → s.delimiters ≤ s.at
+scanned-few delimiter bytes s h = omega (arith, units-few false delimiter (take s.at bytes), length-take-le s.at bytes h.in_range, h.delimiters)
 
 -- one byte more
-pub scanned-more : (bytes : List ℕ) (s t : Scan) (i b : ℕ) → i < length bytes → get_or bytes i 0 ≡ b → IsScanned bytes (record s { at = i })
+pub scanned-more : (delimiter : ℕ) (bytes : List ℕ) (s t : Scan) (i b : ℕ) → i < length bytes → get_or bytes i 0 ≡ b → IsScanned delimiter bytes (record s { at = i })
     → ends_escaped s.escaped (b ∷ []) ≡ t.escaped → units_from s.escaped newline (b ∷ []) ≡ 0 → s.delimiters + units_from s.escaped delimiter (b ∷ []) ≡ t.delimiters
-    → ((n : ℕ) → ltb 0 n ≡ s.returned → ltb 0 (n + units_from s.escaped carriage_return (b ∷ [])) ≡ t.returned) → IsScanned bytes (record t { at = i + 1 })
-scanned-more bytes s t i b lt is h escaped newlines delimiters returned =
+    → ((n : ℕ) → ltb 0 n ≡ s.returned → ltb 0 (n + units_from s.escaped carriage_return (b ∷ [])) ≡ t.returned) → IsScanned delimiter bytes (record t { at = i + 1 })
+scanned-more delimiter bytes s t i b lt is h escaped newlines delimiters returned =
     let more : take (i + 1) bytes ≡ take i bytes ++ b ∷ [] = take_more bytes i 0 lt ∙ ap (λ (x : ℕ). take i bytes ++ x ∷ []) is in
     let units_more : (mark : ℕ) → units mark (take (i + 1) bytes) ≡ units mark (take i bytes) + units_from s.escaped mark (b ∷ []) =
     λ mark. ap (units mark) more ∙ units-append false mark (take i bytes) (b ∷ []) ∙ ap (λ (e : Bool). units mark (take i bytes) + units_from e mark (b ∷ [])) h.escaped in
@@ -145,24 +145,24 @@ noted n true false h = same_after n true h
 noted n false false h = same_after n false h
 
 -- one plain byte more
-pub scanned-plain : (bytes : List ℕ) (s : Scan) (i : ℕ) → i < length bytes → IsPlain (get_or bytes i 0) → s.escaped ≡ false → IsScanned bytes (record s { at = i }) → IsScanned bytes (record s { at = i + 1 })
-scanned-plain bytes s i lt p e h =
-    scanned-more bytes s s i _ lt refl h (rw (e, p.no_backslash) refl) (rw (e, p.no_newline) refl) (rw (e, p.no_delimiter) (omega arith)) (λ n k. rw (e, p.no_return) (same_after n s.returned k))
+pub scanned-plain : (delimiter : ℕ) (bytes : List ℕ) (s : Scan) (i : ℕ) → i < length bytes → IsPlain delimiter (get_or bytes i 0) → s.escaped ≡ false → IsScanned delimiter bytes (record s { at = i }) → IsScanned delimiter bytes (record s { at = i + 1 })
+scanned-plain delimiter bytes s i lt p e h =
+    scanned-more delimiter bytes s s i _ lt refl h (rw (e, p.no_backslash) refl) (rw (e, p.no_newline) refl) (rw (e, p.no_delimiter) (omega arith)) (λ n k. rw (e, p.no_return) (same_after n s.returned k))
 
 -- plain bytes more
-pub scanned-run : (bytes : List ℕ) (s : Scan) (at n : ℕ) → at + n ≤ length bytes → ((i : ℕ) → at ≤ i → i < at + n → IsPlain (get_or bytes i 0)) → s.escaped ≡ false → IsScanned bytes (record s { at = at }) → IsScanned bytes (record s { at = at + n })
-scanned-run bytes s at zero le plain e h = let same : at ≡ at + 0 = omega arith in subst (λ (i : ℕ). IsScanned bytes (record s { at = i })) same h
-scanned-run bytes s at (suc n) le plain e h =
+pub scanned-run : (delimiter : ℕ) (bytes : List ℕ) (s : Scan) (at n : ℕ) → at + n ≤ length bytes → ((i : ℕ) → at ≤ i → i < at + n → IsPlain delimiter (get_or bytes i 0)) → s.escaped ≡ false → IsScanned delimiter bytes (record s { at = at }) → IsScanned delimiter bytes (record s { at = at + n })
+scanned-run delimiter bytes s at zero le plain e h = let same : at ≡ at + 0 = omega arith in subst (λ (i : ℕ). IsScanned delimiter bytes (record s { at = i })) same h
+scanned-run delimiter bytes s at (suc n) le plain e h =
     let same : at + n + 1 ≡ at + suc n = omega arith in
-    subst (λ (i : ℕ). IsScanned bytes (record s { at = i })) same (scanned-plain bytes s (at + n) (omega arith) (plain (at + n) (omega arith) (omega arith)) e (scanned-run bytes s at n (omega arith) (λ i a b. plain i a (omega (arith, b))) e h))
+    subst (λ (i : ℕ). IsScanned delimiter bytes (record s { at = i })) same (scanned-plain delimiter bytes s (at + n) (omega arith) (plain (at + n) (omega arith) (omega arith)) e (scanned-run delimiter bytes s at n (omega arith) (λ i a b. plain i a (omega (arith, b))) e h))
 
 -- one byte more, which ends no line
-pub scanned-after : (bytes : List ℕ) (s : Scan) (b : ℕ) → s.at < length bytes → get_or bytes s.at 0 ≡ b → (s.escaped ≡ false → eqb b newline ≡ false) → IsScanned bytes s → IsScanned bytes (after s b)
-scanned-after bytes s b lt is other h = go s.escaped refl
+pub scanned-after : (delimiter : ℕ) (bytes : List ℕ) (s : Scan) (b : ℕ) → s.at < length bytes → get_or bytes s.at 0 ≡ b → (s.escaped ≡ false → eqb b newline ≡ false) → IsScanned delimiter bytes s → IsScanned delimiter bytes (after delimiter s b)
+scanned-after delimiter bytes s b lt is other h = go s.escaped refl
   where
-    go : (t : Bool) → s.escaped ≡ t → IsScanned bytes (cond t (record { at = s.at + 1; escaped = false; delimiters = s.delimiters; returned = s.returned }) (record { at = s.at + 1; escaped = eqb b backslash; delimiters = s.delimiters + cond (eqb b delimiter) 1 0; returned = s.returned || eqb b carriage_return }))
-    go true e = scanned-more bytes s (record { at = s.at; escaped = false; delimiters = s.delimiters; returned = s.returned }) s.at b lt is h (rw e refl) (rw e refl) (rw e (omega arith)) (λ n k. rw e (same_after n s.returned k))
-    go false e = scanned-more bytes s (record { at = s.at; escaped = eqb b backslash; delimiters = s.delimiters + cond (eqb b delimiter) 1 0; returned = s.returned || eqb b carriage_return }) s.at b lt is h (rw e refl) (rw (e, other e) refl) (rw e (omega arith)) (λ n k. rw e (noted n s.returned (eqb b carriage_return) k))
+    go : (t : Bool) → s.escaped ≡ t → IsScanned delimiter bytes (cond t (record { at = s.at + 1; escaped = false; delimiters = s.delimiters; returned = s.returned }) (record { at = s.at + 1; escaped = eqb b backslash; delimiters = s.delimiters + cond (eqb b delimiter) 1 0; returned = s.returned || eqb b carriage_return }))
+    go true e = scanned-more delimiter bytes s (record { at = s.at; escaped = false; delimiters = s.delimiters; returned = s.returned }) s.at b lt is h (rw e refl) (rw e refl) (rw e (omega arith)) (λ n k. rw e (same_after n s.returned k))
+    go false e = scanned-more delimiter bytes s (record { at = s.at; escaped = eqb b backslash; delimiters = s.delimiters + cond (eqb b delimiter) 1 0; returned = s.returned || eqb b carriage_return }) s.at b lt is h (rw e refl) (rw (e, other e) refl) (rw e (omega arith)) (λ n k. rw e (noted n s.returned (eqb b carriage_return) k))
 
 -- ---- the first part
 

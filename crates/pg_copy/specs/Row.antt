@@ -21,10 +21,6 @@ abbrev pub is_long : Option (List ℕ) → Bool
 is_long None = false
 is_long (Some bytes) = nat_lt 2147483647 (length bytes)
 
--- why a row can't be written as text, if it can't: its number of fields
-abbrev pub text_fault : Row → Option RowFault
-text_fault row = if is_misfit row then Some (faults.Width (length row)) else None
-
 -- why a row can't be written in binary, if it can't: its number of fields, else a value that is too
 -- long
 abbrev pub binary_fault : Row → Option RowFault

@@ -3,7 +3,7 @@
 use Rattle.std.specs.Prelude.{◌≡◌, ℕ, List, [], ◌∷◌, ◌++◌}
 use Rattle.pg_copy.specs.TextField.{IsField}
 use Rattle.pg_copy.specs.Row.{Row}
-use Rattle.pg_copy.specs.Text.{backslash}
+use Rattle.pg_copy.specs.Text.{Options, backslash}
 
 -- No byte `mark` among these stands unescaped: they are bytes other than the mark and the
 -- backslash, and backslashes each with the byte after it.
@@ -23,8 +23,8 @@ pub data AreParts (mark : ℕ) : List ℕ → List (List ℕ) → Type 0 where
       → AreParts mark (p ++ mark ∷ bytes) (p ∷ ps)
 
 -- Field k of a line spells value k of the row, and there are as many of both.
-abbrev pub AreFields : List (List ℕ) → Row → Type 0
-AreFields [] [] = Unit {0}
-AreFields [] (v ∷ vs) = ⊥
-AreFields (p ∷ ps) [] = ⊥
-AreFields (p ∷ ps) (v ∷ vs) = IsField p v × AreFields ps vs
+abbrev pub AreFields : Options → List (List ℕ) → Row → Type 0
+AreFields o [] [] = Unit {0}
+AreFields o [] (v ∷ vs) = ⊥
+AreFields o (p ∷ ps) [] = ⊥
+AreFields o (p ∷ ps) (v ∷ vs) = IsField o p v × AreFields o ps vs

@@ -7,36 +7,37 @@ use Rattle.pg_copy.specs.declared.text_reader.TextStage.{TextStage}
 use Rattle.pg_copy.specs.declared.text_reader.TextStage.TheVariants as stages
 use Rattle.pg_copy.specs.Row.{Row}
 use Rattle.pg_copy.specs.Reading.{RowsRead, RowsEnding, Open, Done, Ended, Bad, after_rows}
-use Rattle.pg_copy.specs.Text.{text_reading, text_at_end, text_file_reading}
+use Rattle.pg_copy.specs.Text.{Options, text_reading, text_at_end, text_file_reading}
 
--- a reader's columns (None for any number), the bytes that it keeps since they are no whole row
--- yet, its stage, and whether `finish` has ended the input
+-- a reader's options, its columns (None for any number), the bytes that it keeps since they are no
+-- whole row yet, its stage, and whether `finish` has ended the input
 pub record TextState : Type 0 where
+  pub options : Options
   pub columns : Option ℕ
   pub kept : List ℕ
   pub stage : TextStage
   pub ended : Bool
 
 -- what a reader at this stage still gives of these bytes
-abbrev pub text_stage_reading : TextStage → Option ℕ → List ℕ → RowsRead TextFault
-text_stage_reading stages.Lines columns bytes = text_reading columns bytes
-text_stage_reading stages.Marked columns bytes = record { rows = []; ending = Done }
-text_stage_reading (stages.Failed fault) columns bytes = record { rows = []; ending = Bad fault }
+abbrev pub text_stage_reading : TextStage → Options → Option ℕ → List ℕ → RowsRead TextFault
+text_stage_reading stages.Lines o columns bytes = text_reading o columns bytes
+text_stage_reading stages.Marked o columns bytes = record { rows = []; ending = Done }
+text_stage_reading (stages.Failed fault) o columns bytes = record { rows = []; ending = Bad fault }
 
 -- what the reader still gives, if these bytes are pushed next
 abbrev pub text_left : TextState → List ℕ → RowsRead TextFault
-text_left s more = text_stage_reading s.stage s.columns (s.kept ++ more)
+text_left s more = text_stage_reading s.stage s.options s.columns (s.kept ++ more)
 
 -- what the reader still gives, if the input has ended
 abbrev pub text_last : TextState → RowsRead TextFault
-text_last s = text_at_end s.columns (text_left s [])
+text_last s = text_at_end s.options s.columns (text_left s [])
 
 -- The reader was pushed these bytes in all, and has given these rows: they are the first that a
 -- file which begins so has, and what the reader still gives is the rest of that file's reading.
 pub record HasReadText (s : TextState) (pushed : List ℕ) (given : List Row) : Type 0 where
   pub so_far : s.ended ≡ false → (more : List ℕ)
-      → text_reading s.columns (pushed ++ more) ≡ after_rows given (text_left s more)
-  pub in_all : text_file_reading s.columns pushed ≡ after_rows given (text_last s)
+      → text_reading s.options s.columns (pushed ++ more) ≡ after_rows given (text_left s more)
+  pub in_all : text_file_reading s.options s.columns pushed ≡ after_rows given (text_last s)
 
 -- what stands after all rows, of a reader at this stage that keeps these bytes, while the input
 -- goes on

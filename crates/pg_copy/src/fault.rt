@@ -76,6 +76,9 @@ pub enum RowFault {
     /// A value is longer than a binary file can say: it has more than 2,147,483,647 bytes.
     #[error("R2 FieldLong")]
     FieldLong,
+    /// The field of this number, counted from 0, is the first text that would be written as the null mark is.
+    #[error("R4 LikeNull {0}")]
+    LikeNull(usize),
     /// The buffer could not grow.
     #[error("R3 Memory")]
     Memory,

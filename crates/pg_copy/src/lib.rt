@@ -25,7 +25,7 @@ pub use fault::{BinaryFault, OptionFault, RowFault, TextFault};
 pub use pg_seq::Seq;
 pub use text_options::TextOptions;
 pub use text_reader::TextReader;
-pub use text_writer::{write_text_field, write_text_row};
+pub use text_writer::{write_text_field, write_text_row, write_text_row_with};
 
 /// The values of a row, in the order of its columns. None is null (PostgreSQL documentation, page COPY, "File Formats").
 pub type Row = Seq<Option<Seq<u8>>>;

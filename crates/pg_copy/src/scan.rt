@@ -4,7 +4,6 @@ ghost use Rattle.std.specs.Prelude.{◌≡◌, ◌+◌, ◌<◌, ◌≤◌, ◌^
 ghost use Rattle.pg_copy.specs.Text.{newline};
 ghost use Rattle.pg_copy.specs.Private.Units.{IsScanned, IsUnitAt, after};
 
-use crate::format::DELIMITER;
 use crate::plain::{is_plain, plain_end};
 
 /// How far a line was walked over, and what is known of it.
@@ -33,10 +32,10 @@ impl Scan {
     }
 
     /// The walk after one byte more, which doesn't end the line.
-    fn after(self, byte: u8) -> Self
+    fn after(self, byte: u8, delimiter: u8) -> Self
         requires few { self.delimiters ≤ self.at }
         requires room { self.at + 1 < 2 ^ 64 }
-        ensures { result ≡ after self byte }
+        ensures { result ≡ after delimiter self byte }
     {
         if self.escaped {
             return Scan {
@@ -49,15 +48,15 @@ impl Scan {
         Scan {
             at: self.at + 1,
             escaped: byte == b'\\',
-            delimiters: self.delimiters + usize::from(byte == DELIMITER),
+            delimiters: self.delimiters + usize::from(byte == delimiter),
             returned: self.returned || byte == b'\r',
         }
     }
 
     /// Goes on to the newline that ends the line, and says whether it is there.
-    pub fn find_newline(&mut self, bytes: &[u8]) -> bool
-        requires { IsScanned bytes.now self.old }
-        ensures scanned { IsScanned bytes.now self.new }
+    pub fn find_newline(&mut self, bytes: &[u8], delimiter: u8) -> bool
+        requires { IsScanned delimiter bytes.now self.old }
+        ensures scanned { IsScanned delimiter bytes.now self.new }
         ensures found { result ≡ true → IsUnitAt newline bytes.now self.new.at }
         ensures room { result ≡ true → self.new.at + 1 < 2 ^ 64 }
         ensures none { result ≡ false → self.new.at ≡ length bytes.now }
@@ -66,14 +65,14 @@ impl Scan {
         while scan.at < bytes.len() {
             let byte = bytes[scan.at];
             if scan.escaped {
-                scan = scan.after(byte);
-            } else if is_plain(byte) {
-                scan.at = plain_end(bytes, scan.at + 1);
+                scan = scan.after(byte, delimiter);
+            } else if is_plain(byte, delimiter) {
+                scan.at = plain_end(bytes, scan.at + 1, delimiter);
             } else if byte == b'\n' {
                 *self = scan;
                 return true;
             } else {
-                scan = scan.after(byte);
+                scan = scan.after(byte, delimiter);
             }
         }
         *self = scan;

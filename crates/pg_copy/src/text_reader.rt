@@ -6,8 +6,9 @@ ghost use Rattle.pg_copy.specs.declared.fault.TextFault.TheVariants.{Memory};
 ghost use Rattle.pg_copy.specs.declared.text_reader.TextStage.TheVariants.{Lines, Marked, Failed};
 ghost use Rattle.pg_copy.specs.Row.{Row};
 ghost use Rattle.pg_copy.specs.Reading.{RowWaits, given_by, AnswersNext};
-ghost use Rattle.pg_copy.specs.Text.{newline, text_reading, text_file_reading};
+ghost use Rattle.pg_copy.specs.Text.{newline, default_options, text_reading, text_file_reading};
 ghost use Rattle.pg_copy.specs.TextReader.{HasReadText, PushesText, text_left, text_last, text_ending, last_text_ending};
+ghost use Rattle.pg_copy.specs.TextOptions.{AreOptions};
 ghost use Rattle.pg_copy.specs.Private.Units.{IsScanned, IsUnitAt};
 ghost use Rattle.pg_copy.specs.Private.TextLine.{TakesLine, TakesLast, EndsInput};
 
@@ -15,6 +16,7 @@ use crate::Row;
 use crate::fault::TextFault;
 use crate::scan::Scan;
 use crate::text_line::{JudgedLine, fields_of, judge};
+use crate::text_options::TextOptions;
 use pg_seq::{Buffer, Seq};
 use std::alloc::Global;
 use std::marker::Model;
@@ -39,6 +41,7 @@ pub enum TextStage {
 #[derive(Drop)]
 pub struct TextReader {
     alloc: Global,
+    options: TextOptions,
     columns: Option<u16>,
     buffer: Buffer,
     // how far the first line of the buffer was walked over
@@ -53,21 +56,42 @@ impl Model for TextReader {
 
     ghost Value = { TextState };
 
-    ghost view = { λ r. record { columns = r.columns; kept = r.buffer; stage = r.stage; ended = r.ended } };
+    ghost view = { λ r. record { options = r.options; columns = r.columns; kept = r.buffer; stage = r.stage; ended = r.ended } };
 
-    ghost invariant = { λ r. IsTextReader r.buffer r.scan r.stage };
+    ghost invariant = { λ r. IsTextReader r.options.delimiter r.buffer r.scan r.stage };
 }
 
 impl TextReader {
     /// A reader of rows of so many columns, 1 to 32,767; or of any number up to 32,767, where None is given.
     pub fn new(alloc: Global, columns: Option<u16>) -> Self
         requires { IfSome columns (λ n. (0 < n) × (n ≤ 32767)) }
-        ensures state { result
-            ≡ record { columns = columns; kept = []; stage = Lines; ended = false } }
+        ensures state { result ≡ record {
+          options = default_options;
+          columns = columns;
+          kept = [];
+          stage = Lines;
+          ended = false;
+        } }
+        ensures read { HasReadText result [] [] }
+    {
+        TextReader::with_options(alloc, columns, TextOptions::default())
+    }
+
+    /// The same, of a file with these options.
+    pub fn with_options(alloc: Global, columns: Option<u16>, options: TextOptions) -> Self
+        requires { IfSome columns (λ n. (0 < n) × (n ≤ 32767)) }
+        ensures state { result ≡ record {
+          options = options;
+          columns = columns;
+          kept = [];
+          stage = Lines;
+          ended = false;
+        } }
         ensures read { HasReadText result [] [] }
     {
         TextReader {
             alloc,
+            options,
             columns,
             buffer: Buffer::new(alloc),
             scan: Scan::start(),
@@ -119,8 +143,9 @@ impl TextReader {
         ensures read { (pushed : List ℕ) (given : List Row) → HasReadText self.old pushed given
             → HasReadText self.new pushed (given ++ given_by result) }
         ensures gives { (pushed : List ℕ) (given : List Row) → HasReadText self.old pushed given
-            → AnswersNext Memory (text_reading self.new.columns pushed) given
+            → AnswersNext Memory (text_reading self.new.options self.new.columns pushed) given
             (text_ending self.new.stage self.new.kept) result }
+        ensures options { self.new.options ≡ self.old.options }
         ensures columns { self.new.columns ≡ self.old.columns }
         ensures ended { self.new.ended ≡ false }
         ensures row { (row : Row) → result ≡ Ok (Some row) → self.new.stage ≡ Lines }
@@ -151,8 +176,9 @@ impl TextReader {
         ensures read { (pushed : List ℕ) (given : List Row) → HasReadText self.old pushed given
             → HasReadText self.new pushed (given ++ given_by result) }
         ensures gives { (pushed : List ℕ) (given : List Row) → HasReadText self.old pushed given
-            → AnswersNext Memory (text_file_reading self.new.columns pushed) given
+            → AnswersNext Memory (text_file_reading self.new.options self.new.columns pushed) given
             (last_text_ending self.new.stage) result }
+        ensures options { self.new.options ≡ self.old.options }
         ensures columns { self.new.columns ≡ self.old.columns }
         ensures ended { result ≡ Err Memory ⊎ self.new.ended ≡ true }
         ensures row { (row : Row) → result ≡ Ok (Some row) → self.new.stage ≡ Lines }
@@ -182,25 +208,29 @@ impl TextReader {
 
     /// Walks on over the first line, and says how far it goes and whether the newline that ends it stands there.
     fn walk(&mut self) -> (Scan, bool)
-        ensures scanned { IsScanned self.old.kept result.0 }
+        ensures scanned { IsScanned self.old.options.delimiter self.old.kept result.0 }
         ensures found { result.1 ≡ true → IsUnitAt newline self.old.kept result.0.at }
         ensures room { result.1 ≡ true → result.0.at + 1 < 2 ^ 64 }
         ensures none { result.1 ≡ false → result.0.at ≡ length self.old.kept }
         ensures state { self.new ≡ self.old }
+        ensures options { AreOptions self.old.options }
     {
-        let found = self.scan.find_newline(self.buffer.as_slice());
+        let found = self
+            .scan
+            .find_newline(self.buffer.as_slice(), self.options.delimiter());
         (self.scan, found)
     }
 
     /// Answers for the first line, which was walked over, and takes so many bytes with what ends it.
     fn take_line(&mut self, scan: Scan, taken: usize) -> Result<Option<Row>, TextFault>
         requires lines { self.old.stage ≡ Lines }
-        requires scanned { IsScanned self.old.kept scan }
+        requires options { AreOptions self.old.options }
+        requires scanned { IsScanned self.old.options.delimiter self.old.kept scan }
         requires in_range { taken ≤ length self.old.kept }
         ensures { TakesLine scan.at taken self.old result self.new }
     {
         let line = &self.buffer.as_slice()[..scan.at];
-        match judge(self.columns, line, scan) {
+        match judge(&self.options, self.columns, line, scan) {
             JudgedLine::EndMark => {
                 self.stop(TextStage::Marked);
                 Ok(None)
@@ -209,7 +239,7 @@ impl TextReader {
                 self.stop(TextStage::Failed(fault));
                 Err(fault)
             }
-            JudgedLine::Row(count) => match fields_of(self.alloc, line, count) {
+            JudgedLine::Row(count) => match fields_of(self.alloc, line, count, &self.options) {
                 Ok(fields) => {
                     self.buffer.take(taken);
                     self.scan = Scan::start();

@@ -21,4 +21,4 @@ returns-else-scan-eq0 c =
     let s = c.walk-found.result.0 in
     let whole : s.at ≡ length c.args.self.now.kept = c.walk-found.ensures.none c.if-found.false in
     let t = rw (c.walk-found.ensures.state, whole) at c.take_line-else-scan-eq0.ensures in
-    takes-open c.args.self.now c.take_line-else-scan-eq0.new.self c.take_line-else-scan-eq0.result c.requires (units-whole c.args.self.now.kept s whole c.walk-found.ensures.scanned) (omega (arith, whole, c.if-scan-eq0.false)) t
+    takes-open c.args.self.now c.take_line-else-scan-eq0.new.self c.take_line-else-scan-eq0.result c.requires (units-whole c.args.self.now.options.delimiter c.args.self.now.kept s whole c.walk-found.ensures.scanned) (omega (arith, whole, c.if-scan-eq0.false)) t

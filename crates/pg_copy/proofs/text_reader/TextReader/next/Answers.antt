@@ -35,4 +35,4 @@ returns-else-found-clause-gives c = λ pushed given h.
     let old = c.args.self.now in
     let lines : old.stage ≡ Lines = ap (λ (s : TextState). s.stage) (sym c.self.view_is) ∙ c.in-Lines.is in
     let s = c.walk-found.result.0 in
-    rw c.walk-found.ensures.state (AnswersNext-none old pushed given lines c.requires (units-whole old.kept s (c.walk-found.ensures.none c.if-found.false) c.walk-found.ensures.scanned) h)
+    rw c.walk-found.ensures.state (AnswersNext-none old pushed given lines c.requires (units-whole old.options.delimiter old.kept s (c.walk-found.ensures.none c.if-found.false) c.walk-found.ensures.scanned) h)
