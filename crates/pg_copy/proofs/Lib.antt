@@ -4,6 +4,8 @@ pub mod TextValues
 pub mod TextLines
 pub mod TextEscapes
 pub mod TextSplit
+pub mod TextPairs
+pub mod TextBreaks
 pub mod TextReads
 pub mod TextRound
 pub mod Rows

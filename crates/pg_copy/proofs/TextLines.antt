@@ -4,12 +4,12 @@ use Rattle.std.specs.Str.{bytes_eq}
 use Rattle.std.proofs.lemmas.Bool.{cond-true, cond-false}
 use Rattle.std.proofs.lemmas.List.{take_all, take_more}
 use Rattle.pg_copy.specs.declared.fault.TextFault.{TextFault}
-use Rattle.pg_copy.specs.declared.fault.TextFault.TheVariants.{RawReturn, LoneBackslash, Columns}
+use Rattle.pg_copy.specs.declared.fault.TextFault.TheVariants.{RawReturn, RawNewline, LoneBackslash, Columns}
 use Rattle.pg_copy.specs.declared.scan.Scan.{Scan}
 use Rattle.pg_copy.specs.Row.{Row}
 use Rattle.pg_copy.specs.Reading.{RowsRead}
-use Rattle.pg_copy.specs.Text.{Options, carriage_return, parts, has_unit, ends_escaped, end_mark, fits_width, field_value, line_row, line_reading, row_or_fault}
-use Rattle.pg_copy.specs.Private.Units.{units, units_from, IsScanned, IsUnitAt, NoBackslash, IsFieldWalked, IsFieldEnd, IsPlain}
+use Rattle.pg_copy.specs.Text.{Options, newline, carriage_return, parts, has_unit, ends_escaped, end_mark, fits_width, field_value, line_row, line_reading, row_or_fault}
+use Rattle.pg_copy.specs.Private.Units.{units, units_from, IsCounted, IsUnitAt, NoBackslash, IsFieldWalked, IsFieldEnd, IsPlain}
 use Rattle.pg_copy.specs.Private.TextLine.{LineGives, LineEnds, LineFails}
 use Rattle.pg_copy.proofs.TextParts.{parts-first, parts-none, parts-length, has_unit-is, units-append, ends_escaped-append}
 
@@ -86,11 +86,11 @@ walked-end delimiter bytes i e plain le h =
 
 -- ---- lines
 
-pub lines_row : (delimiter : ℕ) (line : List ℕ) (s : Scan) → (delimiter ≡ 92 → ⊥) → IsScanned delimiter line s → s.at ≡ length line
-    → (has_unit carriage_return line ≡ s.returned) × (ends_escaped false line ≡ s.escaped) × (length (parts delimiter line) ≡ s.delimiters + 1)
+pub lines_row : (delimiter : ℕ) (line : List ℕ) (s : Scan) → (delimiter ≡ 92 → ⊥) → IsCounted delimiter line s → s.at ≡ length line
+    → (has_unit carriage_return line ≡ s.returned) × (has_unit newline line ≡ s.newlined) × (ends_escaped false line ≡ s.escaped) × (length (parts delimiter line) ≡ s.delimiters + 1)
 lines_row delimiter line s ne h whole =
     let all : take s.at line ≡ line = ap (λ (n : ℕ). take n line) whole ∙ take_all (length line) line (omega arith) in
-    (has_unit-is line s.returned (rw all at h.returned), rw all at h.escaped, parts-length false delimiter line ne ∙ ap (λ (n : ℕ). n + 1) (rw all at h.delimiters))
+    (has_unit-is carriage_return line s.returned (λ e. absurd (omega arith)) (rw all at h.returned), has_unit-is newline line s.newlined (λ e. absurd (omega arith)) (rw all at h.newlined), rw all at h.escaped, parts-length false delimiter line ne ∙ ap (λ (n : ℕ). n + 1) (rw all at h.delimiters))
 
 pub line-ends : (o : Options) (columns : Option ℕ) (line : List ℕ) → bytes_eq line end_mark ≡ true → LineEnds o columns line
 line-ends o columns line e after = cond-true _ _ _ e
@@ -101,16 +101,19 @@ line-of o columns line r after e h = cond-false _ _ _ e ∙ ap (λ (x : Result R
 pub line-return : (o : Options) (columns : Option ℕ) (line : List ℕ) → bytes_eq line end_mark ≡ false → has_unit carriage_return line ≡ true → LineFails o columns line RawReturn
 line-return o columns line e h = record { is = λ after. line-of o columns line (Err RawReturn) after e (cond-true _ _ _ h); not_memory = λ f. cc }
 
-pub line-lone : (o : Options) (columns : Option ℕ) (line : List ℕ) → bytes_eq line end_mark ≡ false → has_unit carriage_return line ≡ false → ends_escaped false line ≡ true → LineFails o columns line LoneBackslash
-line-lone o columns line e h k = record { is = λ after. line-of o columns line (Err LoneBackslash) after e (cond-false _ _ _ h ∙ cond-true _ _ _ k); not_memory = λ f. cc }
+pub line-newline : (o : Options) (columns : Option ℕ) (line : List ℕ) → bytes_eq line end_mark ≡ false → has_unit carriage_return line ≡ false → has_unit newline line ≡ true → LineFails o columns line RawNewline
+line-newline o columns line e h n = record { is = λ after. line-of o columns line (Err RawNewline) after e (cond-false _ _ _ h ∙ cond-true _ _ _ n); not_memory = λ f. cc }
 
-pub line-columns : (o : Options) (columns : Option ℕ) (line : List ℕ) (n : ℕ) → bytes_eq line end_mark ≡ false → has_unit carriage_return line ≡ false → ends_escaped false line ≡ false → length (parts o.delimiter line) ≡ n → fits_width columns n ≡ false → LineFails o columns line (Columns n)
-line-columns o columns line n e h k len w =
-    record { is = λ after. line-of o columns line (Err (Columns n)) after e (cond-false _ _ _ h ∙ cond-false _ _ _ k ∙ cond-false _ _ _ (ap (fits_width columns) len ∙ w) ∙ ap (λ (m : ℕ). Err (Columns m)) len); not_memory = λ f. cc }
+pub line-lone : (o : Options) (columns : Option ℕ) (line : List ℕ) → bytes_eq line end_mark ≡ false → has_unit carriage_return line ≡ false → has_unit newline line ≡ false → ends_escaped false line ≡ true → LineFails o columns line LoneBackslash
+line-lone o columns line e h n k = record { is = λ after. line-of o columns line (Err LoneBackslash) after e (cond-false _ _ _ h ∙ cond-false _ _ _ n ∙ cond-true _ _ _ k); not_memory = λ f. cc }
 
-pub line_row-row : (o : Options) (columns : Option ℕ) (line : List ℕ) → has_unit carriage_return line ≡ false → ends_escaped false line ≡ false → fits_width columns (length (parts o.delimiter line)) ≡ true → line_row o columns line ≡ Ok (map (field_value o) (parts o.delimiter line))
-line_row-row o columns line h k w = cond-false _ _ _ h ∙ cond-false _ _ _ k ∙ cond-true _ _ _ w
+pub line-columns : (o : Options) (columns : Option ℕ) (line : List ℕ) (n : ℕ) → bytes_eq line end_mark ≡ false → has_unit carriage_return line ≡ false → has_unit newline line ≡ false → ends_escaped false line ≡ false → length (parts o.delimiter line) ≡ n → fits_width columns n ≡ false → LineFails o columns line (Columns n)
+line-columns o columns line n e h nl k len w =
+    record { is = λ after. line-of o columns line (Err (Columns n)) after e (cond-false _ _ _ h ∙ cond-false _ _ _ nl ∙ cond-false _ _ _ k ∙ cond-false _ _ _ (ap (fits_width columns) len ∙ w) ∙ ap (λ (m : ℕ). Err (Columns m)) len); not_memory = λ f. cc }
 
-pub line-row : (o : Options) (columns : Option ℕ) (line : List ℕ) (n : ℕ) → bytes_eq line end_mark ≡ false → has_unit carriage_return line ≡ false → ends_escaped false line ≡ false → length (parts o.delimiter line) ≡ n → fits_width columns n ≡ true
+pub line_row-row : (o : Options) (columns : Option ℕ) (line : List ℕ) → has_unit carriage_return line ≡ false → has_unit newline line ≡ false → ends_escaped false line ≡ false → fits_width columns (length (parts o.delimiter line)) ≡ true → line_row o columns line ≡ Ok (map (field_value o) (parts o.delimiter line))
+line_row-row o columns line h nl k w = cond-false _ _ _ h ∙ cond-false _ _ _ nl ∙ cond-false _ _ _ k ∙ cond-true _ _ _ w
+
+pub line-row : (o : Options) (columns : Option ℕ) (line : List ℕ) (n : ℕ) → bytes_eq line end_mark ≡ false → has_unit carriage_return line ≡ false → has_unit newline line ≡ false → ends_escaped false line ≡ false → length (parts o.delimiter line) ≡ n → fits_width columns n ≡ true
     → LineGives o columns line (map (field_value o) (parts o.delimiter line))
-line-row o columns line n e h k len w after = line-of o columns line (Ok (map (field_value o) (parts o.delimiter line))) after e (line_row-row o columns line h k (ap (fits_width columns) len ∙ w))
+line-row o columns line n e h nl k len w after = line-of o columns line (Ok (map (field_value o) (parts o.delimiter line))) after e (line_row-row o columns line h nl k (ap (fits_width columns) len ∙ w))

@@ -2,9 +2,9 @@
 use Rattle.std.proofs.Common.{◌≡◌, ℕ, Bool, true, false, cond, eqb, List, [], ◌∷◌, ◌++◌, length, map, Option, Ok, Err, refl, sym, ap, subst, ◌∙◌, inl, inr}
 use Rattle.std.specs.List.{onto_first}
 use Rattle.std.proofs.lemmas.Bool.{cases_eq, eq-eqb, ne_eqb, false≢true}
-use Rattle.pg_copy.specs.declared.fault.TextFault.TheVariants.{RawReturn, LoneBackslash, Columns}
+use Rattle.pg_copy.specs.declared.fault.TextFault.TheVariants.{RawReturn, RawNewline, LoneBackslash, Columns}
 use Rattle.pg_copy.specs.Row.{Row}
-use Rattle.pg_copy.specs.Text.{Options, carriage_return, parts_from, parts, has_unit, ends_escaped, field_value, fits_width, line_row}
+use Rattle.pg_copy.specs.Text.{Options, newline, carriage_return, parts_from, parts, has_unit, ends_escaped, field_value, fits_width, line_row}
 use Rattle.pg_copy.specs.TextLine.{AreUnits, nothing, byte, escape, AreParts, one, lone, more, AreFields}
 use Rattle.pg_copy.proofs.TextParts.{IsUncut, IsUncut-append, ends_escaped-append, parts-uncut, parts-cut}
 use Rattle.pg_copy.specs.TextOptions.{AreOptions}
@@ -91,13 +91,14 @@ fields-there o (p ∷ ps) h = (field-there o p h.0, fields-there o ps h.1)
 
 -- what a line that is read has
 line-has : (o : Options) (columns : Option ℕ) (line : List ℕ) (row : Row) → line_row o columns line ≡ Ok row → (ends_escaped false line ≡ false) × (row ≡ map (field_value o) (parts o.delimiter line))
-line-has o columns line row e = go (has_unit carriage_return line) (ends_escaped false line) (fits_width columns (length (parts o.delimiter line))) e
+line-has o columns line row e = go (has_unit carriage_return line) (has_unit newline line) (ends_escaped false line) (fits_width columns (length (parts o.delimiter line))) e
   where
-    go : (r l f : Bool) → cond r (Err RawReturn) (cond l (Err LoneBackslash) (cond f (Ok (map (field_value o) (parts o.delimiter line))) (Err (Columns (length (parts o.delimiter line)))))) ≡ Ok row → (l ≡ false) × (row ≡ map (field_value o) (parts o.delimiter line))
-    go true l f e = absurd cc
-    go false true f e = absurd cc
-    go false false true e = (refl, cc)
-    go false false false e = absurd cc
+    go : (r n l f : Bool) → cond r (Err RawReturn) (cond n (Err RawNewline) (cond l (Err LoneBackslash) (cond f (Ok (map (field_value o) (parts o.delimiter line))) (Err (Columns (length (parts o.delimiter line))))))) ≡ Ok row → (l ≡ false) × (row ≡ map (field_value o) (parts o.delimiter line))
+    go true n l f e = absurd cc
+    go false true l f e = absurd cc
+    go false false true f e = absurd cc
+    go false false false true e = (refl, cc)
+    go false false false false e = absurd cc
 
 pub line-fields : (o : Options) (columns : Option ℕ) (line : List ℕ) (row : Row) → AreOptions o → line_row o columns line ≡ Ok row → AreFields o (parts o.delimiter line) row
 line-fields o columns line row are e =

@@ -2,7 +2,7 @@
 -- TextLine and Binary. BinaryPart reads a binary file from left to right, which the law OneFile ties
 -- to Binary. TextReader and BinaryReader say what the calls of a reader do, Laws what the formats
 -- have in common, and Private has the words of private functions. Of private types the public files
--- name the stages of the two readers alone (TextStage, BinaryStage).
+-- name the stages of the two readers (TextStage, BinaryStage) and how lines end (LineEnd).
 pub mod Row
 pub mod Reading
 pub mod Text

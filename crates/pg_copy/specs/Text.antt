@@ -1,13 +1,16 @@
 -- COPY text files (PostgreSQL documentation, page COPY, "Text Format"). Bytes are numbers below
 -- 256.
-use Rattle.std.specs.Prelude.{◌≡◌, ◌<◌, ℕ, zero, suc, ◌+◌, ◌*◌, ◌%◌, Bool, true, false, ◌==◌, nat_lt, nat_le, if◌then◌else◌, List, [], ◌∷◌, ◌++◌, length, take, map, fold, Option, Some, None, Result, Ok, Err}
+use Rattle.std.specs.Prelude.{◌≡◌, ◌<◌, ℕ, zero, suc, ◌+◌, ◌*◌, ◌%◌, Bool, true, false, ◌==◌, ◌&&◌, nat_lt, nat_le, if◌then◌else◌, List, [], ◌∷◌, ◌++◌, length, take, map, fold, Option, Some, None, Result, Ok, Err}
 use Rattle.std.specs.List.{take_while, flat_map, join_with_byte, onto_first, position_from}
 use Rattle.std.specs.Char.{digit_value}
+use Rattle.std.specs.Option.{unwrap_or}
 use Rattle.std.specs.Str.{bytes_eq}
 use Rattle.pg_copy.specs.declared.fault.RowFault.{RowFault}
 use Rattle.pg_copy.specs.declared.fault.RowFault.TheVariants as faults
 use Rattle.pg_copy.specs.declared.fault.TextFault.{TextFault}
-use Rattle.pg_copy.specs.declared.fault.TextFault.TheVariants.{RawReturn, LoneBackslash, Columns}
+use Rattle.pg_copy.specs.declared.fault.TextFault.TheVariants.{RawReturn, RawNewline, LoneBackslash, Columns}
+use Rattle.pg_copy.specs.declared.line_end.LineEnd.{LineEnd}
+use Rattle.pg_copy.specs.declared.line_end.LineEnd.TheVariants.{Newline, Return, Both}
 use Rattle.pg_copy.specs.Row.{Row, most_fields, is_misfit}
 use Rattle.pg_copy.specs.Reading.{RowsRead, RowsEnding, Open, Done, Ended, Bad, after_rows}
 
@@ -25,11 +28,11 @@ delimiter = 9
 abbrev pub null_mark : List ℕ
 null_mark = backslash ∷ 78 ∷ []
 
--- the byte that ends a line, unless a backslash stands before it
+-- the byte that ends a line, unless a backslash stands before it or the file's lines end otherwise
 abbrev pub newline : ℕ
 newline = 10
 
--- the byte that a line may have only after a backslash
+-- the byte that a line may have only after a backslash, and that ends it in some files
 abbrev pub carriage_return : ℕ
 carriage_return = 13
 
@@ -65,13 +68,65 @@ parts_from false mark (b ∷ bs) =
     else onto_first b (parts_from (b == backslash) mark bs)
 
 -- the bytes cut at each byte `mark` that isn't escaped: a line's fields at the delimiter, a file's
--- lines at the newline
+-- lines where one byte ends them
 abbrev pub parts : ℕ → List ℕ → List (List ℕ)
 parts mark bytes = parts_from false mark bytes
 
 -- whether a byte `mark` that isn't escaped is among the bytes
 abbrev pub has_unit : ℕ → List ℕ → Bool
 has_unit mark bytes = nat_lt 1 (length (parts mark bytes))
+
+-- ---- lines
+
+-- how lines end where these bytes stand after the first return that isn't escaped: by both, if a
+-- newline is the first of them; while nothing stands there, that isn't decided
+abbrev pub after_return : List ℕ → Option LineEnd
+after_return [] = None
+after_return (b ∷ bs) = Some (if b == newline then Both else Return)
+
+-- how lines end, as `line_end` finds it; `escaped` says that the bytes come after a backslash that
+-- begins an escape
+abbrev pub line_end_from : Bool → List ℕ → Option LineEnd
+line_end_from escaped [] = None
+line_end_from true (b ∷ bs) = line_end_from false bs
+line_end_from false (b ∷ bs) =
+    if b == newline then Some Newline
+    else if b == carriage_return then after_return bs
+    else line_end_from (b == backslash) bs
+
+-- how the lines of a file end that begins with these bytes: the first newline or return decides it
+-- that isn't escaped
+abbrev pub line_end : List ℕ → Option LineEnd
+line_end bytes = line_end_from false bytes
+
+-- the lines of these bytes, as `lines` cuts them where a return and a newline end them; `escaped`
+-- says that the bytes come after a backslash that begins an escape
+abbrev pub pairs_from : Bool → List ℕ → List (List ℕ)
+pairs_from escaped [] = [] ∷ []
+pairs_from true (b ∷ bs) = onto_first b (pairs_from false bs)
+pairs_from false (b ∷ []) = (b ∷ []) ∷ []
+pairs_from false (b ∷ c ∷ bs) =
+    if b == carriage_return && c == newline then [] ∷ pairs_from false bs
+    else onto_first b (pairs_from (b == backslash) (c ∷ bs))
+
+-- the same, by how lines end
+abbrev pub lines_from : LineEnd → Bool → List ℕ → List (List ℕ)
+lines_from Newline escaped bytes = parts_from escaped newline bytes
+lines_from Return escaped bytes = parts_from escaped carriage_return bytes
+lines_from Both escaped bytes = pairs_from escaped bytes
+
+-- the bytes cut at each line end that isn't escaped
+abbrev pub lines : LineEnd → List ℕ → List (List ℕ)
+lines e bytes = lines_from e false bytes
+
+-- how lines end, where the file's lines before these bytes have decided this, or nothing
+abbrev pub decided_by : Option LineEnd → List ℕ → Option LineEnd
+decided_by None bytes = line_end bytes
+decided_by (Some e) bytes = Some e
+
+-- how lines end once the input has ended: a return that stands last ends its line then
+abbrev pub decided_at_end : Option LineEnd → List ℕ → LineEnd
+decided_at_end before bytes = unwrap_or (decided_by before bytes) Return
 
 -- ---- the value of a field
 
@@ -143,11 +198,12 @@ pub record FitsReader (columns : Option ℕ) (row : Row) : Type 0 where
   pub some : 0 < length row
   pub width : fits_width columns (length row) ≡ true
 
--- the row of a line without its newline, or the first fault of the line: a return that isn't
--- escaped, a lone backslash at its end, or its number of fields
+-- the row of a line without its end, or the first fault of the line: a return that isn't escaped, a
+-- newline that isn't escaped, a lone backslash at its end, or its number of fields
 abbrev pub line_row : Options → Option ℕ → List ℕ → Result Row TextFault
 line_row o columns line =
     if has_unit carriage_return line then Err RawReturn
+    else if has_unit newline line then Err RawNewline
     else if ends_escaped false line then Err LoneBackslash
     else if fits_width columns (length (parts o.delimiter line))
     then Ok (map (field_value o) (parts o.delimiter line))
@@ -167,19 +223,28 @@ line_reading o columns line after =
     if bytes_eq line end_mark then record { rows = []; ending = Done }
     else row_or_fault (line_row o columns line) after
 
--- the reading of lines, the last of which has no newline yet
+-- the reading of lines, the last of which has no end yet
 abbrev pub lines_reading : Options → Option ℕ → List (List ℕ) → RowsRead TextFault
 lines_reading o columns [] = record { rows = []; ending = Open [] }
 lines_reading o columns (line ∷ []) = record { rows = []; ending = Open line }
 lines_reading o columns (line ∷ next ∷ lines) =
     line_reading o columns line (lines_reading o columns (next ∷ lines))
 
--- what the beginning of a file is read as: the rows of its whole lines, up to the end mark or the
--- first fault
-unfoldable pub text_reading : Options → Option ℕ → List ℕ → RowsRead TextFault
-text_reading o columns bytes = lines_reading o columns (parts newline bytes)
+-- what bytes are read as, where their lines end so; while that isn't decided, no line is whole
+abbrev pub reading_by : Options → Option ℕ → Option LineEnd → List ℕ → RowsRead TextFault
+reading_by o columns None bytes = record { rows = []; ending = Open bytes }
+reading_by o columns (Some e) bytes = lines_reading o columns (lines e bytes)
 
--- what stands after the rows once the input has ended: a last line without a newline is a whole one
+-- what bytes of a file are read as that come after lines which ended so, or after none: the rows of
+-- their whole lines, up to the end mark or the first fault
+unfoldable pub reading_after : Options → Option ℕ → Option LineEnd → List ℕ → RowsRead TextFault
+reading_after o columns before bytes = reading_by o columns (decided_by before bytes) bytes
+
+-- what the beginning of a file is read as
+abbrev pub text_reading : Options → Option ℕ → List ℕ → RowsRead TextFault
+text_reading o columns bytes = reading_after o columns None bytes
+
+-- what stands after the rows once the input has ended: a last line without its end is a whole one
 -- then, unless it is empty
 abbrev pub last_reading : Options → Option ℕ → RowsEnding TextFault → RowsRead TextFault
 last_reading o columns (Open []) = record { rows = []; ending = Ended }
@@ -193,9 +258,14 @@ last_reading o columns (Bad fault) = record { rows = []; ending = Bad fault }
 abbrev pub text_at_end : Options → Option ℕ → RowsRead TextFault → RowsRead TextFault
 text_at_end o columns r = after_rows r.rows (last_reading o columns r.ending)
 
+-- what the bytes of a file are read as that come last, after lines which ended so, or after none
+unfoldable pub last_after : Options → Option ℕ → Option LineEnd → List ℕ → RowsRead TextFault
+last_after o columns before bytes =
+    text_at_end o columns (lines_reading o columns (lines (decided_at_end before bytes) bytes))
+
 -- what a whole file is read as
 abbrev pub text_file_reading : Options → Option ℕ → List ℕ → RowsRead TextFault
-text_file_reading o columns bytes = text_at_end o columns (text_reading o columns bytes)
+text_file_reading o columns bytes = last_after o columns None bytes
 
 -- ---- the canonical line of a row
 

@@ -6,7 +6,7 @@ use thiserror::Error;
 /// answers it for good; after Memory it is unchanged (PostgreSQL documentation, page COPY, "Text Format").
 #[derive(Clone, Copy, Debug, Drop, PartialEq, Eq, Error)]
 pub enum TextFault {
-    /// The line has a carriage return that isn't escaped.
+    /// The line has a carriage return that isn't escaped, in a file whose lines don't end by it alone.
     #[error("T1 RawReturn")]
     RawReturn,
     /// The input ends in a backslash that begins an escape. Only `finish` answers it.
@@ -15,6 +15,9 @@ pub enum TextFault {
     /// The line has this many fields, which isn't the number of columns, or is above 32,767 where none was given.
     #[error("T3 Columns {0}")]
     Columns(usize),
+    /// The line has a newline that isn't escaped, in a file whose lines don't end by it alone.
+    #[error("T5 RawNewline")]
+    RawNewline,
     /// Memory was refused.
     #[error("T4 Memory")]
     Memory,

@@ -11,6 +11,7 @@ mod binary_writer;
 mod fault;
 mod format;
 pub mod laws;
+mod line_end;
 mod plain;
 mod scan;
 mod text_field;

@@ -3,7 +3,7 @@
 ghost use Rattle.std.specs.Prelude.{◌≡◌, ◌<◌, ◌+◌, length, map, IfOk};
 ghost use Rattle.pg_copy.specs.Text.{parts, fits_width, field_value};
 ghost use Rattle.pg_copy.specs.TextOptions.{AreOptions};
-ghost use Rattle.pg_copy.specs.Private.Units.{IsScanned, IsFieldEnd};
+ghost use Rattle.pg_copy.specs.Private.Units.{IsCounted, IsFieldEnd};
 ghost use Rattle.pg_copy.specs.Private.TextLine.{IsJudged};
 
 use crate::fault::TextFault;
@@ -37,7 +37,7 @@ fn fits_width(columns: Option<u16>, count: usize) -> bool
 /// Judges a line that was walked over.
 pub fn judge(options: &TextOptions, columns: Option<u16>, line: &[u8], scan: Scan) -> JudgedLine
     requires options { AreOptions options.now }
-    requires scanned { IsScanned options.now.delimiter line.now scan }
+    requires counted { IsCounted options.now.delimiter line.now scan }
     requires whole { scan.at ≡ length line.now }
     ensures { IsJudged options.now columns line.now result }
 {
@@ -46,6 +46,9 @@ pub fn judge(options: &TextOptions, columns: Option<u16>, line: &[u8], scan: Sca
     }
     if scan.returned {
         return JudgedLine::Faulty(TextFault::RawReturn);
+    }
+    if scan.newlined {
+        return JudgedLine::Faulty(TextFault::RawNewline);
     }
     if scan.escaped {
         return JudgedLine::Faulty(TextFault::LoneBackslash);

@@ -1,19 +1,22 @@
 //! Reading a text file that comes in pieces.
 
-ghost use Rattle.std.specs.Prelude.{◌≡◌, ◌++◌, ◌≤◌, ◌+◌, ◌^◌, ◌<◌, ◌↔◌, ℕ, List, Ok, Err, [], true, false, length, IsTrue, OnOk, IfSome, ◌⊎◌};
+ghost use Rattle.std.specs.Prelude.{◌≡◌, ◌++◌, ◌≤◌, ◌+◌, ◌^◌, ◌<◌, ◌↔◌, ℕ, List, Some, None, Ok, Err, [], true, false, length, IsTrue, OnOk, IfSome, ◌⊎◌};
 ghost use Rattle.pg_copy.specs.declared.fault.TextFault.{TextFault};
 ghost use Rattle.pg_copy.specs.declared.fault.TextFault.TheVariants.{Memory};
+ghost use Rattle.pg_copy.specs.declared.line_end.LineEnd.{LineEnd};
 ghost use Rattle.pg_copy.specs.declared.text_reader.TextStage.TheVariants.{Lines, Marked, Failed};
 ghost use Rattle.pg_copy.specs.Row.{Row};
 ghost use Rattle.pg_copy.specs.Reading.{RowWaits, given_by, AnswersNext};
-ghost use Rattle.pg_copy.specs.Text.{newline, default_options, text_reading, text_file_reading};
+ghost use Rattle.pg_copy.specs.Text.{default_options, text_reading, text_file_reading};
 ghost use Rattle.pg_copy.specs.TextReader.{HasReadText, PushesText, text_left, text_last, text_ending, last_text_ending};
 ghost use Rattle.pg_copy.specs.TextOptions.{AreOptions};
-ghost use Rattle.pg_copy.specs.Private.Units.{IsScanned, IsUnitAt};
+ghost use Rattle.pg_copy.specs.Private.Breaks.{end_len, IsFirstLine};
+ghost use Rattle.pg_copy.specs.Private.Units.{IsCounted, IsScanned, StandsAt};
 ghost use Rattle.pg_copy.specs.Private.TextLine.{TakesLine, TakesLast, EndsInput};
 
 use crate::Row;
 use crate::fault::TextFault;
+use crate::line_end::LineEnd;
 use crate::scan::Scan;
 use crate::text_line::{JudgedLine, fields_of, judge};
 use crate::text_options::TextOptions;
@@ -43,6 +46,8 @@ pub struct TextReader {
     alloc: Global,
     options: TextOptions,
     columns: Option<u16>,
+    // how the lines of the rows that were given ended
+    line_end: Option<LineEnd>,
     buffer: Buffer,
     // how far the first line of the buffer was walked over
     scan: Scan,
@@ -56,9 +61,9 @@ impl Model for TextReader {
 
     ghost Value = { TextState };
 
-    ghost view = { λ r. record { options = r.options; columns = r.columns; kept = r.buffer; stage = r.stage; ended = r.ended } };
+    ghost view = { λ r. record { options = r.options; columns = r.columns; line_end = r.line_end; kept = r.buffer; stage = r.stage; ended = r.ended } };
 
-    ghost invariant = { λ r. IsTextReader r.options.delimiter r.buffer r.scan r.stage };
+    ghost invariant = { λ r. IsTextReader r.options.delimiter r.line_end r.buffer r.scan r.stage };
 }
 
 impl TextReader {
@@ -68,6 +73,7 @@ impl TextReader {
         ensures state { result ≡ record {
           options = default_options;
           columns = columns;
+          line_end = None;
           kept = [];
           stage = Lines;
           ended = false;
@@ -83,6 +89,7 @@ impl TextReader {
         ensures state { result ≡ record {
           options = options;
           columns = columns;
+          line_end = None;
           kept = [];
           stage = Lines;
           ended = false;
@@ -93,6 +100,7 @@ impl TextReader {
             alloc,
             options,
             columns,
+            line_end: None,
             buffer: Buffer::new(alloc),
             scan: Scan::start(),
             stage: TextStage::Lines,
@@ -160,10 +168,9 @@ impl TextReader {
             TextStage::Marked => Ok(None),
             TextStage::Lines => {
                 let (scan, found) = self.walk();
-                if found {
-                    self.take_line(scan, scan.at + 1)
-                } else {
-                    Ok(None)
+                match found {
+                    Some(end) => self.take_line(scan, scan.at + end.len(), Some(end)),
+                    None => Ok(None),
                 }
             }
         }
@@ -206,28 +213,34 @@ impl TextReader {
         }
     }
 
-    /// Walks on over the first line, and says how far it goes and whether the newline that ends it stands there.
-    fn walk(&mut self) -> (Scan, bool)
-        ensures scanned { IsScanned self.old.options.delimiter self.old.kept result.0 }
-        ensures found { result.1 ≡ true → IsUnitAt newline self.old.kept result.0.at }
-        ensures room { result.1 ≡ true → result.0.at + 1 < 2 ^ 64 }
-        ensures none { result.1 ≡ false → result.0.at ≡ length self.old.kept }
+    /// Walks on over the first line, and says how far it goes and how the line ends, if it does.
+    fn walk(&mut self) -> (Scan, Option<LineEnd>)
+        ensures scanned { IsScanned self.old.options.delimiter self.old.line_end self.old.kept
+            result.0 }
+        ensures found { (e : LineEnd) → result.1 ≡ Some e → IsFirstLine self.old.line_end
+            self.old.kept e result.0.at (result.0.at + end_len e) }
+        ensures room { (e : LineEnd) → result.1 ≡ Some e → result.0.at + end_len e < 2 ^ 64 }
+        ensures none { result.1 ≡ None → StandsAt self.old.line_end self.old.kept result.0 }
         ensures state { self.new ≡ self.old }
         ensures options { AreOptions self.old.options }
     {
-        let found = self
-            .scan
-            .find_newline(self.buffer.as_slice(), self.options.delimiter());
+        let delimiter = self.options.delimiter();
+        let found = self.scan.find_end(self.buffer.as_slice(), delimiter, self.line_end);
         (self.scan, found)
     }
 
-    /// Answers for the first line, which was walked over, and takes so many bytes with what ends it.
-    fn take_line(&mut self, scan: Scan, taken: usize) -> Result<Option<Row>, TextFault>
+    /// Answers for the first line, which was walked over, and takes so many bytes with what ends it. Lines end so from then on.
+    fn take_line(
+        &mut self,
+        scan: Scan,
+        taken: usize,
+        line_end: Option<LineEnd>,
+    ) -> Result<Option<Row>, TextFault>
         requires lines { self.old.stage ≡ Lines }
         requires options { AreOptions self.old.options }
-        requires scanned { IsScanned self.old.options.delimiter self.old.kept scan }
+        requires counted { IsCounted self.old.options.delimiter self.old.kept scan }
         requires in_range { taken ≤ length self.old.kept }
-        ensures { TakesLine scan.at taken self.old result self.new }
+        ensures { TakesLine scan.at taken line_end self.old result self.new }
     {
         let line = &self.buffer.as_slice()[..scan.at];
         match judge(&self.options, self.columns, line, scan) {
@@ -242,6 +255,7 @@ impl TextReader {
             JudgedLine::Row(count) => match fields_of(self.alloc, line, count, &self.options) {
                 Ok(fields) => {
                     self.buffer.take(taken);
+                    self.line_end = line_end;
                     self.scan = Scan::start();
                     Ok(Some(Seq::new(fields)))
                 }
@@ -267,12 +281,35 @@ impl TextReader {
         ensures { TakesLast self.old result self.new }
     {
         let (scan, found) = self.walk();
-        if found {
-            self.take_line(scan, scan.at + 1)
-        } else if scan.at == 0 {
-            Ok(None)
-        } else {
-            self.take_line(scan, scan.at)
+        if let Some(end) = found {
+            return self.take_line(scan, scan.at + end.len(), Some(end));
+        }
+        if self.buffer.len() == 0 {
+            return Ok(None);
+        }
+        self.open_line(scan)
+    }
+
+    /// Answers for the last line, which is open and was walked over, but for a return that stands last.
+    fn open_line(&mut self, scan: Scan) -> Result<Option<Row>, TextFault>
+        requires lines { self.old.stage ≡ Lines }
+        requires options { AreOptions self.old.options }
+        requires scanned { IsScanned self.old.options.delimiter self.old.line_end self.old.kept
+            scan }
+        requires stands { StandsAt self.old.line_end self.old.kept scan }
+        requires some { 0 < length self.old.kept }
+        ensures { TakesLast self.old result self.new }
+    {
+        let len = self.buffer.len();
+        if scan.at == len {
+            return self.take_line(scan, len, self.line_end);
+        }
+        match self.line_end {
+            None => self.take_line(scan, len, Some(LineEnd::Return)),
+            Some(end) => {
+                let whole = scan.after(b'\r', self.options.delimiter());
+                self.take_line(whole, len, Some(end))
+            }
         }
     }
 

@@ -1,10 +1,13 @@
 -- A walk over the units of a text file.
-use Rattle.std.specs.Prelude.{◌≡◌, ℕ, suc, ◌+◌, ◌<◌, ◌≤◌, ◌==◌, ◌||◌, Bool, true, false, if◌then◌else◌, nat_lt, List, [], ◌∷◌, length, take, drop, slice_index, ◌++◌, Option, Some, None}
+use Rattle.std.specs.Prelude.{◌≡◌, ℕ, suc, ◌+◌, ◌<◌, ◌≤◌, ◌==◌, ◌||◌, ◌⊎◌, Bool, true, false, if◌then◌else◌, nat_lt, List, [], ◌∷◌, length, take, drop, slice_index, ◌++◌, Option, Some, None}
 use Rattle.std.specs.Char.{digit_value}
 use Rattle.std.specs.Str.{bytes_eq}
+use Rattle.pg_copy.specs.declared.line_end.LineEnd.{LineEnd}
+use Rattle.pg_copy.specs.declared.line_end.LineEnd.TheVariants.{Both}
 use Rattle.pg_copy.specs.declared.scan.Scan.{Scan}
 use Rattle.pg_copy.specs.declared.text_line.FieldEnd.{FieldEnd}
-use Rattle.pg_copy.specs.Text.{carriage_return, ends_escaped, digits_at, newline, backslash, letter_for}
+use Rattle.pg_copy.specs.Text.{carriage_return, ends_escaped, digits_at, newline, backslash, letter_for, lines_from, lines, decided_by}
+use Rattle.pg_copy.specs.Private.Breaks.{decided_from, MayEnd, put_before}
 
 -- how many units are the mark alone; at the start a backslash stood before if escaped
 abbrev pub units_from : Bool → ℕ → List ℕ → ℕ
@@ -16,13 +19,28 @@ units_from false mark (b ∷ bs) = (if b == mark then 1 else 0) + units_from (b 
 abbrev pub units : ℕ → List ℕ → ℕ
 units mark bytes = units_from false mark bytes
 
--- the bytes before the walk's place: none of their units is a newline, and so many are delimiters
-pub record IsScanned (delimiter : ℕ) (bytes : List ℕ) (s : Scan) : Type 0 where
+-- the bytes before the walk's place: so many of their units are delimiters
+pub record IsCounted (delimiter : ℕ) (bytes : List ℕ) (s : Scan) : Type 0 where
   pub in_range : s.at ≤ length bytes
   pub escaped : ends_escaped false (take s.at bytes) ≡ s.escaped
-  pub newlines : units newline (take s.at bytes) ≡ 0
   pub delimiters : units delimiter (take s.at bytes) ≡ s.delimiters
   pub returned : nat_lt 0 (units carriage_return (take s.at bytes)) ≡ s.returned
+  pub newlined : nat_lt 0 (units newline (take s.at bytes)) ≡ s.newlined
+
+-- the same, where none of them begins a line end
+pub record IsScanned (delimiter : ℕ) (before : Option LineEnd) (bytes : List ℕ)
+    (s : Scan) : Type 0 where
+  pub counted : IsCounted delimiter bytes s
+  pub decided : (more : List ℕ) → decided_by before (bytes ++ more)
+      ≡ decided_from before s.escaped (drop s.at bytes ++ more)
+  pub cut : (e : LineEnd) → MayEnd before e → (more : List ℕ) → lines e (bytes ++ more)
+      ≡ put_before (take s.at bytes) (lines_from e s.escaped (drop s.at bytes ++ more))
+
+-- the walk goes no further: it is at the end, or at a return that stands last and may begin a line
+-- end
+abbrev pub StandsAt : Option LineEnd → List ℕ → Scan → Type 0
+StandsAt before bytes s = (s.at ≡ length bytes)
+    ⊎ ((s.escaped ≡ false) × (drop s.at bytes ≡ carriage_return ∷ []) × MayEnd before Both)
 
 -- a byte that stands for itself, in a line that is read and in a value that is written
 pub record IsPlain (delimiter b : ℕ) : Type 0 where
@@ -40,12 +58,14 @@ after delimiter s b =
       escaped = false;
       delimiters = s.delimiters;
       returned = s.returned;
+      newlined = s.newlined;
     }
     else record {
       at = s.at + 1;
       escaped = b == backslash;
       delimiters = s.delimiters + (if b == delimiter then 1 else 0);
       returned = s.returned || b == carriage_return;
+      newlined = s.newlined || b == newline;
     }
 
 -- the first unit that is the mark stands at place n
