@@ -10,6 +10,7 @@ pub mod TextReads
 pub mod TextRound
 pub mod Rows
 pub mod OptionRows
+pub mod LineEndRows
 pub mod BinaryRound
 pub mod BinaryFiles
 pub mod Writing

@@ -4,7 +4,7 @@ use Rattle.pg_copy.specs.declared.fault.OptionFault.TheVariants as option_faults
 use Rattle.pg_copy.specs.declared.fault.RowFault.TheVariants as row_faults
 use Rattle.pg_copy.specs.Row.{Row}
 use Rattle.pg_copy.specs.Reading.{Open}
-use Rattle.pg_copy.specs.Text.{Options, text_reading, written_row, text_fault}
+use Rattle.pg_copy.specs.Text.{Options, reading_after, text_reading, written_row, text_fault}
 use Rattle.pg_copy.specs.TextOptions.{options_fault}
 
 -- ---- options
@@ -43,7 +43,7 @@ unfolding comma three three_written
 written = refl
 
 read_back : text_reading comma (Some 3) three_written ≡ record { rows = three ∷ []; ending = Open [] }
-unfolding text_reading comma three three_written
+unfolding reading_after comma three three_written
 read_back = refl
 
 writable : text_fault comma three ≡ None

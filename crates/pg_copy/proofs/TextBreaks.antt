@@ -1,16 +1,15 @@
 -- Newlines and returns that may end a line.
-use Rattle.std.proofs.Common.{◌≡◌, ℕ, ◌+◌, ◌-◌, ◌<◌, ◌≤◌, Bool, true, false, cond, eqb, List, [], ◌∷◌, ◌++◌, length, take, drop, get_or, Option, Some, None, zero, suc, refl, sym, ap, subst, ◌∙◌, append_assoc, arith, inl, inr}
-use Rattle.std.specs.Prelude.{◌⊎◌, ◌||◌}
+use Rattle.std.proofs.Common.{◌≡◌, ℕ, ◌+◌, ◌<◌, ◌≤◌, Bool, true, false, cond, eqb, List, [], ◌∷◌, ◌++◌, length, take, drop, get_or, Option, Some, None, zero, suc, refl, sym, ap, subst, ◌∙◌, append_assoc, arith, inl, inr}
+use Rattle.std.specs.Prelude.{◌||◌}
 use Rattle.std.specs.List.{onto_first}
 use Rattle.std.specs.Option.{unwrap_or}
-use Rattle.std.proofs.lemmas.Bool.{eqb-true, or_parts, or_cases}
-use Rattle.std.proofs.lemmas.List.{append-nil, take_more, drop_more, drop-drop, drop-append-le, take-append-le, take_all, drop_all, length-take, length-drop, length-append, take-append-drop}
+use Rattle.std.proofs.lemmas.Bool.{eqb-true, or_parts}
+use Rattle.std.proofs.lemmas.List.{append-nil, take_more, drop_more, drop-drop, get_or-drop, drop-append-le, take-append-le, take_all, drop_all, length-drop, length-append, take-append-drop}
 use Rattle.pg_copy.specs.declared.line_end.LineEnd.{LineEnd}
 use Rattle.pg_copy.specs.declared.line_end.LineEnd.TheVariants.{Newline, Return, Both}
-use Rattle.pg_copy.specs.declared.line_end.LineBreak.{LineBreak}
-use Rattle.pg_copy.specs.declared.line_end.LineBreak.TheVariants.{Ends, Stays, Waits}
+use Rattle.pg_copy.specs.declared.line_end.LineBreak.TheVariants.{Ends, Stays}
 use Rattle.pg_copy.specs.declared.scan.Scan.{Scan}
-use Rattle.pg_copy.specs.Text.{line_end, line_end_from, parts_from, pairs_from, lines_from, lines, decided_by, decided_at_end, ends_escaped}
+use Rattle.pg_copy.specs.Text.{line_end_from, pairs_from, lines_from, lines, decided_by, decided_at_end}
 use Rattle.pg_copy.specs.Private.Breaks.{end_len, is_break, at_newline, at_return, break_at, decided_from, MayEnd, put_before, Steps, EndsHere, FirstStays, IsBreak, IsFirstLine, IsLastLine}
 use Rattle.pg_copy.specs.Private.Units.{IsPlain, IsCounted, IsScanned, StandsAt, after}
 use Rattle.pg_copy.proofs.TextParts.{counted-plain, counted-after}
@@ -65,17 +64,17 @@ steps-other before b bs h k = record { decided = λ more. decided before (bs ++ 
     cut Both xs = pairs-other b xs k
 
 -- where only one end is left, a fact of it is one of each that is left
-only : {P : LineEnd → Type 0} (f e : LineEnd) → f ≡ e → P f → P e
-only {P} f e h p = subst P h p
+only : (P : LineEnd → Type 0) (f e : LineEnd) → f ≡ e → P f → P e
+only P f e h p = subst P h p
 
 newline-breaks : (before : Option LineEnd) (bs : List ℕ) → IsBreak before (10 ∷ bs) (at_newline before)
 newline-breaks None bs = record { in_range = omega arith; may = tt; decided = λ more. refl; cut = λ more. refl }
 newline-breaks (Some Newline) bs = record { in_range = omega arith; may = refl; decided = λ more. refl; cut = λ more. refl }
-newline-breaks (Some Return) bs = record { decided = λ more. refl; cut = λ e m more. only {P = λ e. lines_from e false (10 ∷ (bs ++ more)) ≡ onto_first 10 (lines_from e (eqb 10 92) (bs ++ more))} Return e m refl }
-newline-breaks (Some Both) bs = record { decided = λ more. refl; cut = λ e m more. only {P = λ e. lines_from e false (10 ∷ (bs ++ more)) ≡ onto_first 10 (lines_from e (eqb 10 92) (bs ++ more))} Both e m (pairs-other 10 (bs ++ more) refl) }
+newline-breaks (Some Return) bs = record { decided = λ more. refl; cut = λ e m more. only (λ e. lines_from e false (10 ∷ (bs ++ more)) ≡ onto_first 10 (lines_from e (eqb 10 92) (bs ++ more))) Return e m refl }
+newline-breaks (Some Both) bs = record { decided = λ more. refl; cut = λ e m more. only (λ e. lines_from e false (10 ∷ (bs ++ more)) ≡ onto_first 10 (lines_from e (eqb 10 92) (bs ++ more))) Both e m (pairs-other 10 (bs ++ more) refl) }
 
 return-breaks : (before : Option LineEnd) (bs : List ℕ) → IsBreak before (13 ∷ bs) (at_return before bs)
-return-breaks (Some Newline) bs = record { decided = λ more. refl; cut = λ e m more. only {P = λ e. lines_from e false (13 ∷ (bs ++ more)) ≡ onto_first 13 (lines_from e (eqb 13 92) (bs ++ more))} Newline e m refl }
+return-breaks (Some Newline) bs = record { decided = λ more. refl; cut = λ e m more. only (λ e. lines_from e false (13 ∷ (bs ++ more)) ≡ onto_first 13 (lines_from e (eqb 13 92) (bs ++ more))) Newline e m refl }
 return-breaks (Some Return) bs = record { in_range = omega arith; may = refl; decided = λ more. refl; cut = λ more. refl }
 return-breaks None [] = (refl, tt)
 return-breaks None (c ∷ cs) = go (eqb c 10) refl
@@ -88,7 +87,7 @@ return-breaks (Some Both) (c ∷ cs) = go (eqb c 10) refl
   where
     go : (t : Bool) → eqb c 10 ≡ t → IsBreak (Some Both) (13 ∷ c ∷ cs) (cond t (Ends Both) Stays)
     go true h = record { in_range = omega arith; may = refl; decided = λ more. refl; cut = λ more. rw h refl }
-    go false h = record { decided = λ more. refl; cut = λ e m more. only {P = λ e. lines_from e false (13 ∷ ((c ∷ cs) ++ more)) ≡ onto_first 13 (lines_from e (eqb 13 92) ((c ∷ cs) ++ more))} Both e m (rw h refl) }
+    go false h = record { decided = λ more. refl; cut = λ e m more. only (λ e. lines_from e false (13 ∷ ((c ∷ cs) ++ more)) ≡ onto_first 13 (lines_from e (eqb 13 92) ((c ∷ cs) ++ more))) Both e m (rw h refl) }
 
 -- what a newline or a return is
 breaks-first : (before : Option LineEnd) (b : ℕ) (bs : List ℕ) → is_break b ≡ true → IsBreak before (b ∷ bs) (break_at before (b ∷ bs))
@@ -150,8 +149,8 @@ scanned-step delimiter before bytes s t b lt is h c at g =
       counted = c;
       decided = λ more. h.decided more ∙ ap (λ (x : List ℕ). decided_from before s.escaped (x ++ more)) back ∙ g.decided more ∙ ap (λ (x : List ℕ). decided_from before t.escaped (x ++ more)) rest;
       cut = λ e m more. h.cut e m more ∙ ap (λ (x : List ℕ). put_before (take s.at bytes) (lines_from e s.escaped (x ++ more))) back ∙ ap (put_before (take s.at bytes)) (g.cut e m more)
-      ∙ sym (put_before-more (take s.at bytes) b (lines_from e t.escaped (drop (s.at + 1) bytes ++ more))) ∙ ap (λ (x : List ℕ). put_before x (lines_from e t.escaped (drop (s.at + 1) bytes ++ more))) (sym front)
-      ∙ ap (λ (x : List ℕ). put_before (take t.at bytes) (lines_from e t.escaped (x ++ more))) rest;
+          ∙ sym (put_before-more (take s.at bytes) b (lines_from e t.escaped (drop (s.at + 1) bytes ++ more))) ∙ ap (λ (x : List ℕ). put_before x (lines_from e t.escaped (drop (s.at + 1) bytes ++ more))) (sym front)
+          ∙ ap (λ (x : List ℕ). put_before (take t.at bytes) (lines_from e t.escaped (x ++ more))) rest;
     }
 
 -- one plain byte more
@@ -194,13 +193,13 @@ scanned-stays delimiter before bytes s b lt is e stays h =
 -- ---- the end of the line
 
 pub line-found : (delimiter : ℕ) (before : Option LineEnd) (bytes : List ℕ) (s : Scan) (e : LineEnd) → s.escaped ≡ false → EndsHere before e (drop s.at bytes) → IsScanned delimiter before bytes s → IsFirstLine before bytes e s.at (s.at + end_len e)
-line-found delimiter before bytes s e open ends h =
+line-found delimiter before bytes s e unescaped ends h =
     let after-end : drop (end_len e) (drop s.at bytes) ≡ drop (s.at + end_len e) bytes = drop-drop (end_len e) s.at bytes in
     record {
       in_range = omega (arith, ends.in_range, length-drop s.at bytes, h.counted.in_range);
-      decided = λ more. h.decided more ∙ ap (λ (x : Bool). decided_from before x (drop s.at bytes ++ more)) open ∙ ends.decided more;
-      cut = λ more. h.cut e ends.may more ∙ ap (λ (x : Bool). put_before (take s.at bytes) (lines_from e x (drop s.at bytes ++ more))) open ∙ ap (put_before (take s.at bytes)) (ends.cut more)
-      ∙ put_before-cut (take s.at bytes) (lines e (drop (end_len e) (drop s.at bytes) ++ more)) ∙ ap (λ (x : List ℕ). take s.at bytes ∷ lines e (x ++ more)) after-end;
+      decided = λ more. h.decided more ∙ ap (λ (x : Bool). decided_from before x (drop s.at bytes ++ more)) unescaped ∙ ends.decided more;
+      cut = λ more. h.cut e ends.may more ∙ ap (λ (x : Bool). put_before (take s.at bytes) (lines_from e x (drop s.at bytes ++ more))) unescaped ∙ ap (put_before (take s.at bytes)) (ends.cut more)
+          ∙ put_before-cut (take s.at bytes) (lines e (drop (end_len e) (drop s.at bytes) ++ more)) ∙ ap (λ (x : List ℕ). take s.at bytes ∷ lines e (x ++ more)) after-end;
     }
 
 pub first-is-last : (before : Option LineEnd) (bytes : List ℕ) (e : LineEnd) (len taken : ℕ) → IsFirstLine before bytes e len taken → IsLastLine before bytes e len taken
@@ -224,7 +223,7 @@ one-line delimiter before bytes s e m all h =
     cut-now delimiter before bytes [] s e m (ap (λ (n : ℕ). drop n bytes) all ∙ drop_all (length bytes) bytes (omega arith)) h ∙ ap (put_before (take s.at bytes)) (lines_from-none e s.escaped) ∙ put_before-cut (take s.at bytes) []
     ∙ ap (λ (n : ℕ). take n bytes ∷ []) all ∙ ap (λ (x : List ℕ). x ∷ []) (take_all (length bytes) bytes (omega arith))
 
-undecided : (delimiter : ℕ) (bytes : List ℕ) (s : Scan) → s.at ≡ length bytes → IsScanned delimiter None bytes s → decided_by None bytes ≡ None
+pub undecided : (delimiter : ℕ) (bytes : List ℕ) (s : Scan) → s.at ≡ length bytes → IsScanned delimiter None bytes s → decided_by None bytes ≡ None
 undecided delimiter bytes s all h =
     decided-now delimiter None bytes [] s (ap (λ (n : ℕ). drop n bytes) all ∙ drop_all (length bytes) bytes (omega arith)) h ∙ none s.escaped
   where
@@ -232,24 +231,24 @@ undecided delimiter bytes s all h =
     none e = refl
 
 pub waiting-undecided : (delimiter : ℕ) (bytes : List ℕ) (s : Scan) → s.escaped ≡ false → drop s.at bytes ≡ 13 ∷ [] → IsScanned delimiter None bytes s → decided_by None bytes ≡ None
-waiting-undecided delimiter bytes s open r h = decided-now delimiter None bytes (13 ∷ []) s r h ∙ ap (λ (x : Bool). decided_from None x (13 ∷ [])) open
+waiting-undecided delimiter bytes s unescaped r h = decided-now delimiter None bytes (13 ∷ []) s r h ∙ ap (λ (x : Bool). decided_from None x (13 ∷ [])) unescaped
 
 -- a return stands last
 whole : (bytes : List ℕ) (n : ℕ) → drop n bytes ≡ 13 ∷ [] → take n bytes ++ 13 ∷ [] ≡ bytes
 whole bytes n r = ap (λ (x : List ℕ). take n bytes ++ x) (sym r) ∙ take-append-drop n bytes
 
 pub last-return : (delimiter : ℕ) (bytes : List ℕ) (s : Scan) → s.escaped ≡ false → drop s.at bytes ≡ 13 ∷ [] → IsScanned delimiter None bytes s → IsLastLine None bytes Return s.at (length bytes)
-last-return delimiter bytes s open r h =
-    let none = waiting-undecided delimiter bytes s open r h in
+last-return delimiter bytes s unescaped r h =
+    let none = waiting-undecided delimiter bytes s unescaped r h in
     let nothing : drop (length bytes) bytes ≡ [] = drop_all (length bytes) bytes (omega arith) in
     record {
       decided = ap (λ (d : Option LineEnd). unwrap_or d Return) none;
-      cut = cut-now delimiter None bytes (13 ∷ []) s Return tt r h ∙ ap (λ (x : Bool). put_before (take s.at bytes) (lines_from Return x (13 ∷ []))) open ∙ put_before-cut (take s.at bytes) ([] ∷ []) ∙ ap (λ (x : List ℕ). take s.at bytes ∷ lines Return x) (sym nothing);
+      cut = cut-now delimiter None bytes (13 ∷ []) s Return tt r h ∙ ap (λ (x : Bool). put_before (take s.at bytes) (lines_from Return x (13 ∷ []))) unescaped ∙ put_before-cut (take s.at bytes) ([] ∷ []) ∙ ap (λ (x : List ℕ). take s.at bytes ∷ lines Return x) (sym nothing);
     }
 
 pub lone-return : (delimiter : ℕ) (before : Option LineEnd) (bytes : List ℕ) (s : Scan) → s.escaped ≡ false → drop s.at bytes ≡ 13 ∷ [] → MayEnd before Both → IsScanned delimiter before bytes s → lines Both bytes ≡ bytes ∷ []
-lone-return delimiter before bytes s open r m h =
-    cut-now delimiter before bytes (13 ∷ []) s Both m r h ∙ ap (λ (x : Bool). put_before (take s.at bytes) (lines_from Both x (13 ∷ []))) open ∙ put_before-part (take s.at bytes) (13 ∷ []) [] ∙ ap (λ (x : List ℕ). x ∷ []) (whole bytes s.at r)
+lone-return delimiter before bytes s unescaped r m h =
+    cut-now delimiter before bytes (13 ∷ []) s Both m r h ∙ ap (λ (x : Bool). put_before (take s.at bytes) (lines_from Both x (13 ∷ []))) unescaped ∙ put_before-part (take s.at bytes) (13 ∷ []) [] ∙ ap (λ (x : List ℕ). x ∷ []) (whole bytes s.at r)
 
 -- a return that stands last is walked over too
 pub counted-return : (delimiter : ℕ) (before : Option LineEnd) (bytes : List ℕ) (s : Scan) → drop s.at bytes ≡ 13 ∷ [] → IsScanned delimiter before bytes s → IsCounted delimiter bytes (after delimiter s 13)
@@ -263,3 +262,39 @@ counted-return delimiter before bytes s r h =
 
 pub return-place : (bytes : List ℕ) (n : ℕ) → drop n bytes ≡ 13 ∷ [] → n + 1 ≡ length bytes
 return-place bytes n r = omega (arith, ap length r, length-drop n bytes)
+
+-- a newline or a return in its place
+pub break-here : (before : Option LineEnd) (bytes : List ℕ) (at b : ℕ) → at < length bytes → get_or bytes at 0 ≡ b → is_break b ≡ true → IsBreak before (drop at bytes) (break_at before (drop at bytes))
+break-here before bytes at b lt is h =
+    let place : at + 0 ≡ at = omega arith in
+    let first : get_or (drop at bytes) 0 0 ≡ b = get_or-drop at bytes 0 0 ∙ ap (λ (n : ℕ). get_or bytes n 0) place ∙ is in
+    breaks before (drop at bytes) (omega (arith, length-drop at bytes)) (ap is_break first ∙ h)
+
+-- ---- a line that is open at the end of the input
+
+pub last-one : (delimiter : ℕ) (before : Option LineEnd) (bytes : List ℕ) (s : Scan) → s.at ≡ length bytes → IsScanned delimiter before bytes s → lines (decided_at_end before bytes) bytes ≡ bytes ∷ []
+last-one delimiter None bytes s all h = ap (λ (d : Option LineEnd). lines (unwrap_or d Return) bytes) (undecided delimiter bytes s all h) ∙ one-line delimiter None bytes s Return tt all h
+last-one delimiter (Some e) bytes s all h = one-line delimiter (Some e) bytes s e refl all h
+
+pub last-return-at : (delimiter : ℕ) (before : Option LineEnd) (bytes : List ℕ) (s : Scan) → before ≡ None → s.escaped ≡ false → drop s.at bytes ≡ 13 ∷ [] → IsScanned delimiter before bytes s → IsLastLine before bytes Return s.at (length bytes)
+last-return-at delimiter None bytes s none unescaped r h = last-return delimiter bytes s unescaped r h
+last-return-at delimiter (Some e) bytes s none unescaped r h = absurd cc
+
+pub last-lone : (delimiter : ℕ) (before : Option LineEnd) (bytes : List ℕ) (s : Scan) (e : LineEnd) → before ≡ Some e → s.escaped ≡ false → drop s.at bytes ≡ 13 ∷ [] → MayEnd before Both → IsScanned delimiter before bytes s → lines (decided_at_end before bytes) bytes ≡ bytes ∷ []
+last-lone delimiter None bytes s e some unescaped r m h = absurd cc
+last-lone delimiter (Some f) bytes s e some unescaped r m h = ap (λ (g : LineEnd). lines g bytes) m ∙ lone-return delimiter (Some f) bytes s unescaped r m h
+
+pub after-at : (delimiter : ℕ) (s : Scan) (b : ℕ) → (after delimiter s b).at ≡ s.at + 1
+after-at delimiter s b = go s.escaped
+  where
+    go : (t : Bool) → (cond {A = Scan} t (record { at = s.at + 1; escaped = false; delimiters = s.delimiters; returned = s.returned; newlined = s.newlined }) (record { at = s.at + 1; escaped = eqb b 92; delimiters = s.delimiters + cond (eqb b delimiter) 1 0; returned = s.returned || eqb b 13; newlined = s.newlined || eqb b 10 })).at ≡ s.at + 1
+    go true = refl
+    go false = refl
+
+-- where the walk isn't at the end, a return stands last
+pub stands-last : (before : Option LineEnd) (bytes : List ℕ) (s : Scan) → (s.at ≡ length bytes → ⊥) → StandsAt before bytes s → (s.escaped ≡ false) × (drop s.at bytes ≡ 13 ∷ []) × MayEnd before Both
+stands-last before bytes s ne (inl all) = absurd (ne all)
+stands-last before bytes s ne (inr w) = w
+
+pub same-end : (e f : LineEnd) → Some e ≡ Some f → e ≡ f
+same-end e f h = cc

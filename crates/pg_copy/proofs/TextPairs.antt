@@ -3,7 +3,7 @@ use Rattle.std.proofs.Common.{◌≡◌, ℕ, Bool, true, false, cond, eqb, List
 use Rattle.std.specs.Prelude.{◌&&◌}
 use Rattle.std.specs.List.{onto_first}
 use Rattle.std.proofs.lemmas.List.{append-nil}
-use Rattle.std.proofs.lemmas.Bool.{cases_eq, cases_Bool, eqb-true, eqb-false, eq-eqb, ne_eqb, and_parts}
+use Rattle.std.proofs.lemmas.Bool.{cases_eq, eqb-true, eqb-false, eq-eqb, ne_eqb, and_parts}
 use Rattle.pg_copy.specs.declared.line_end.LineEnd.{LineEnd}
 use Rattle.pg_copy.specs.declared.line_end.LineEnd.TheVariants.{Newline, Return, Both}
 use Rattle.pg_copy.specs.Text.{newline, carriage_return, pairs_from, lines}
@@ -23,9 +23,9 @@ first-part [] rest h = tt
 first-part (b ∷ p) rest h = h
 
 put-return : (bytes : List ℕ) (ps : List (List ℕ)) → NoNewlineFirst bytes → ArePairs bytes ps → ArePairs (13 ∷ bytes) (onto_first 13 ps)
-put-return _ _ no (one p h) = one (13 ∷ p) (return p no h)
-put-return _ _ no (lone p h) = lone (13 ∷ p) (return p (first-part p (92 ∷ []) no) h)
-put-return _ _ no (more p bytes ps h k) = more (13 ∷ p) bytes ps (return p (first-part p (13 ∷ 10 ∷ bytes) no) h) k
+put-return _ _ apart (one p h) = one (13 ∷ p) (return p apart h)
+put-return _ _ apart (lone p h) = lone (13 ∷ p) (return p (first-part p (92 ∷ []) apart) h)
+put-return _ _ apart (more p bytes ps h k) = more (13 ∷ p) bytes ps (return p (first-part p (13 ∷ 10 ∷ bytes) apart) h) k
 
 put-escape : (b : ℕ) (bytes : List ℕ) (ps : List (List ℕ)) → ArePairs bytes ps → ArePairs (92 ∷ b ∷ bytes) (onto_first 92 (onto_first b ps))
 put-escape b _ _ (one p h) = one (92 ∷ b ∷ p) (escape b p h)
@@ -38,10 +38,10 @@ Due true bytes = ArePairs (92 ∷ bytes) (onto_first 92 (pairs_from true bytes))
 
 -- a byte in front, where the bytes from it on aren't a return and a newline
 one-more : (b : ℕ) (bs : List ℕ) → (b ≡ 13 → NoNewlineFirst bs) → Due (eqb b 92) bs → ArePairs (b ∷ bs) (onto_first b (pairs_from (eqb b 92) bs))
-one-more b bs no due = elim (cases_eq b 92) [
+one-more b bs apart due = elim (cases_eq b 92) [
   | inl e ↦ subst (λ (x : ℕ). ArePairs (x ∷ bs) (onto_first x (pairs_from (eqb x 92) bs))) (sym e) (rw (eq-eqb b 92 e) at due)
   | inr n92 ↦ rw (ne_eqb b 92 n92) (elim (cases_eq b 13) [
-    | inl e ↦ subst (λ (x : ℕ). ArePairs (x ∷ bs) (onto_first x (pairs_from false bs))) (sym e) (put-return bs (pairs_from false bs) (no e) (rw (ne_eqb b 92 n92) at due))
+    | inl e ↦ subst (λ (x : ℕ). ArePairs (x ∷ bs) (onto_first x (pairs_from false bs))) (sym e) (put-return bs (pairs_from false bs) (apart e) (rw (ne_eqb b 92 n92) at due))
     | inr n13 ↦ put-byte b bs (pairs_from false bs) n92 n13 (rw (ne_eqb b 92 n92) at due)
   ])
 ]
@@ -76,13 +76,13 @@ pairs-there false (b ∷ c ∷ bs) = go (eqb b 13 && eqb c 10) refl (pairs-there
 
 -- a part in front of these bytes, which begin with no newline
 before : (p rest : List ℕ) → AreUnpaired p → NoNewlineFirst rest → (q : List ℕ) (ps : List (List ℕ)) → pairs_from false rest ≡ q ∷ ps → pairs_from false (p ++ rest) ≡ (p ++ q) ∷ ps
-before _ rest nothing no q ps e = e
-before _ rest (byte b bs n92 n13 h) no q ps e = other b (bs ++ rest) n92 n13 ∙ ap (onto_first b) (before bs rest h no q ps e)
+before _ rest nothing apart q ps e = e
+before _ rest (byte b bs n92 n13 h) apart q ps e = other b (bs ++ rest) n92 n13 ∙ ap (onto_first b) (before bs rest h apart q ps e)
   where
     other : (b : ℕ) (xs : List ℕ) → (b ≡ 92 → ⊥) → (b ≡ 13 → ⊥) → pairs_from false (b ∷ xs) ≡ onto_first b (pairs_from false xs)
     other b [] n92 n13 = refl
     other b (c ∷ cs) n92 n13 = rw (ne_eqb b 13 n13, ne_eqb b 92 n92) refl
-before _ rest (return bs first h) no q ps e = lonely (bs ++ rest) (join bs rest first no) ∙ ap (onto_first 13) (before bs rest h no q ps e)
+before _ rest (return bs first h) apart q ps e = lonely (bs ++ rest) (join bs rest first apart) ∙ ap (onto_first 13) (before bs rest h apart q ps e)
   where
     join : (xs ys : List ℕ) → NoNewlineFirst xs → NoNewlineFirst ys → NoNewlineFirst (xs ++ ys)
     join [] ys f g = g
@@ -91,7 +91,7 @@ before _ rest (return bs first h) no q ps e = lonely (bs ++ rest) (join bs rest 
     lonely : (xs : List ℕ) → NoNewlineFirst xs → pairs_from false (13 ∷ xs) ≡ onto_first 13 (pairs_from false xs)
     lonely [] f = refl
     lonely (c ∷ cs) f = rw (ne_eqb c 10 f) refl
-before _ rest (escape b bs h) no q ps e = ap (λ (x : List (List ℕ)). onto_first 92 (onto_first b x)) (before bs rest h no q ps e)
+before _ rest (escape b bs h) apart q ps e = ap (λ (x : List (List ℕ)). onto_first 92 (onto_first b x)) (before bs rest h apart q ps e)
 
 pairs-are : (bytes : List ℕ) (ps : List (List ℕ)) → ArePairs bytes ps → pairs_from false bytes ≡ ps
 pairs-are _ _ (one p h) = ap (pairs_from false) (sym (append-nil p)) ∙ before p [] h tt [] [] refl ∙ ap (λ (x : List ℕ). x ∷ []) (append-nil p)

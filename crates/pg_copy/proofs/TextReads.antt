@@ -1,5 +1,5 @@
 -- What a reader of text files has read.
-use Rattle.std.proofs.Common.{◌≡◌, ℕ, ◌+◌, ◌<◌, Bool, true, false, cond, eqb, ◌&&◌, List, [], ◌∷◌, ◌++◌, length, take, drop, Option, Some, None, Result, Ok, Err, refl, sym, ap, subst, ◌∙◌, append_assoc, arith, inl, inr}
+use Rattle.std.proofs.Common.{◌≡◌, ℕ, ◌<◌, Bool, true, false, cond, eqb, ◌&&◌, List, [], ◌∷◌, ◌++◌, length, take, drop, Option, Some, None, Result, Ok, Err, refl, sym, ap, subst, ◌∙◌, append_assoc, arith, inl, inr}
 use Rattle.std.proofs.lemmas.List.{append-nil, length-append, drop_all, take_all, nil_from_length}
 use Rattle.std.proofs.lemmas.Bool.{false≢true}
 use Rattle.std.specs.List.{onto_first}
@@ -285,9 +285,10 @@ takes-line old new e len taken answer lines at t = go answer t
         let later = record old { kept = drop taken old.kept; line_end = Some e } in
         let left : text_last new ≡ text_at_end old.options old.columns rest = ap text_last t.1 ∙ last-lines later (drop taken old.kept) lines ∙ last-of old.options old.columns e (drop taken old.kept) in
         let kept : new.kept ≡ drop taken old.kept = ap (λ (s : TextState). s.kept) t.1 in
-        let end : new.line_end ≡ Some e = ap (λ (s : TextState). s.line_end) t.1 in
-        (first ∙ ap (text_at_end old.options old.columns) (t.0 rest) ∙ at_end-after old.options old.columns (row ∷ []) rest ∙ ap (after_rows (row ∷ [])) (sym left),
-        t.1 ∙ ap (λ (k : List ℕ). record old { kept = k; line_end = Some e }) (sym kept) ∙ ap (λ (f : Option LineEnd). record old { kept = new.kept; line_end = f }) (sym end))
+        let end : new.line_end ≡ Some e = ap (λ (s : TextState). s.line_end) t.1 in (
+          first ∙ ap (text_at_end old.options old.columns) (t.0 rest) ∙ at_end-after old.options old.columns (row ∷ []) rest ∙ ap (after_rows (row ∷ [])) (sym left),
+          t.1 ∙ ap (λ (k : List ℕ). record old { kept = k; line_end = Some e }) (sym kept) ∙ ap (λ (f : Option LineEnd). record old { kept = new.kept; line_end = f }) (sym end),
+        )
     go (Ok None) t = rw t.1 (first ∙ ap (text_at_end old.options old.columns) (t.0 rest), tt, refl)
     go (Err fault) (inl t) = inl (t.0, t.1, row-waits (text_last old) (text_at_end old.options old.columns rest) t.2 (first ∙ ap (text_at_end old.options old.columns) (t.3 rest) ∙ at_end-after old.options old.columns (t.2 ∷ []) rest))
     go (Err fault) (inr t) = inr (t.0.not_memory, first ∙ ap (text_at_end old.options old.columns) (t.0.is rest), t.1)
@@ -385,3 +386,8 @@ AnswersNext-failed old pushed given fault e h =
 pub AnswersNext-failed-next : (old : TextState) (pushed : List ℕ) (given : List Row) (fault : TextFault) → old.ended ≡ false → old.stage ≡ Failed fault → HasReadText old pushed given → AnswersNext Memory (text_reading old.options old.columns pushed) given (text_ending old.stage old.kept) (Err fault)
 AnswersNext-failed-next old pushed given fault going e h =
     inr (ap (λ (t : TextStage). text_ending t old.kept) e, now old old pushed given (Bad fault) going refl refl h (left-at old (Failed fault) e))
+
+pub AnswersNext-marked-next : (old : TextState) (pushed : List ℕ) (given : List Row) → old.ended ≡ false → old.stage ≡ Marked → HasReadText old pushed given → AnswersNext Memory (text_reading old.options old.columns pushed) given (text_ending old.stage old.kept) (Ok None)
+AnswersNext-marked-next old pushed given going e h =
+    let here : Done ≡ text_ending old.stage old.kept = ap (λ (t : TextStage). text_ending t old.kept) (sym e) in
+    subst (λ (x : RowsEnding TextFault). IsGood x × (text_reading old.options old.columns pushed ≡ record { rows = given; ending = x })) here (tt, now old old pushed given Done going refl refl h (left-at old Marked e))

@@ -5,20 +5,23 @@ use Rattle.std.specs.Char.{digit_value}
 use Rattle.std.specs.Str.{bytes_eq}
 use Rattle.std.proofs.lemmas.Bool.{cases_eq, ne_eqb, eq-eqb, eqb-false, cond-true, cond-false, ltb-false, le-ltb, or_parts}
 use Rattle.std.proofs.lemmas.List.{append-nil, length-map}
+use Rattle.std.specs.Option.{unwrap_or}
+use Rattle.pg_copy.specs.declared.line_end.LineEnd.{LineEnd}
+use Rattle.pg_copy.specs.declared.line_end.LineEnd.TheVariants.{Newline, Return}
 use Rattle.pg_copy.specs.declared.fault.TextFault.{TextFault}
 use Rattle.pg_copy.specs.declared.fault.RowFault.{RowFault}
 use Rattle.pg_copy.specs.Row.{Row, is_misfit, Writes}
 use Rattle.pg_copy.specs.Reading.{Open, Ended, after_rows}
-use Rattle.pg_copy.specs.Text.{Options, default_options, newline, carriage_return, null_mark, parts, ends_escaped, letter_value, escape_by, escape_at, text_after, field_value, fits_width, line_row, end_mark, row_or_fault, lines_reading, text_reading, text_at_end, text_file_reading, letter_for, with_letter, written_byte, written_field, written_fields, written_row, is_like_null, like_null, text_fault}
+use Rattle.pg_copy.specs.Text.{Options, default_options, newline, carriage_return, null_mark, parts, ends_escaped, letter_value, escape_by, escape_at, text_after, field_value, fits_width, line_row, end_mark, row_or_fault, lines, line_end, line_end_from, reading_by, reading_after, last_after, lines_reading, text_reading, text_at_end, text_file_reading, letter_for, with_letter, written_byte, written_field, written_fields, written_row, is_like_null, like_null, text_fault}
 use Rattle.pg_copy.specs.TextOptions.{ends_field, AreOptions}
-use Rattle.pg_copy.specs.Laws.{HasLine}
+use Rattle.pg_copy.specs.Laws.{HasLine, end_after}
 use Rattle.pg_copy.specs.Private.Units.{IsPlain}
 use Rattle.pg_copy.proofs.TextParts.{IsUncut, ends_escaped-append, IsUncut-append, parts-uncut, parts-cut, parts-some, has_unit-none}
 use Rattle.pg_copy.proofs.TextValues.{digits-none}
 use Rattle.pg_copy.proofs.TextLines.{line_row-row}
 use Rattle.pg_copy.proofs.TextEscapes.{same-again, other-bytes}
 use Rattle.pg_copy.proofs.OptionFacts.{OptionFacts, option-facts, three}
-use Rattle.pg_copy.proofs.TextReads.{lines_reading-cons, reading-empty, not_backslash, after-none}
+use Rattle.pg_copy.proofs.TextReads.{lines_reading-cons, not_backslash, after-none}
 
 -- ---- letters
 
@@ -215,33 +218,61 @@ pub line_again : (o : Options) → OptionFacts o → (columns : Option ℕ) (row
 line_again o f columns row h =
     let line = written_fields o row in
     let return = IsSafe-row o f carriage_return row (return_mark o.delimiter) f.no_return in
+    let line_end = IsSafe-row o f newline row (newline_mark o.delimiter) f.no_newline in
     let fields = parts_again o f row h.fits.some in
     let len : length (parts o.delimiter line) ≡ length row = ap length fields ∙ length-map row (written_field o) in
-    line_row-row o columns line (has_unit-none carriage_return line (parts-uncut carriage_return line return.uncut)) return.closed (ap (fits_width columns) len ∙ h.fits.width)
+    line_row-row o columns line (has_unit-none carriage_return line (parts-uncut carriage_return line return.uncut)) (has_unit-none newline line (parts-uncut newline line line_end.uncut)) return.closed (ap (fits_width columns) len ∙ h.fits.width)
     ∙ ap (λ (x : List (List ℕ)). Ok (map (field_value o) x)) fields ∙ ap (λ (x : Row). Ok x) (fields_again o f row (none-passes (is_like_null o) 0 row h.no_like_null))
 
+-- bytes that are no newline and no return decide nothing
+end-uncut : (e : Bool) (a b : List ℕ) → IsUncut e 10 a → IsUncut e 13 a → line_end_from e (a ++ b) ≡ line_end_from (ends_escaped e a) b
+end-uncut e [] b h k = refl
+end-uncut true (x ∷ a) b h k = end-uncut false a b h k
+end-uncut false (x ∷ a) b h k = rw (h.0, k.0) (end-uncut (eqb x 92) a b h.1 k.1)
+
+-- a canonical line in front decides that lines end by newline
+row-decides : (o : Options) → OptionFacts o → (row : Row) (rest : List ℕ) → line_end (written_row o row ++ rest) ≡ Some Newline
+row-decides o f row rest =
+    let line = written_fields o row in
+    let return = IsSafe-row o f carriage_return row (return_mark o.delimiter) f.no_return in
+    let line_ends = IsSafe-row o f newline row (newline_mark o.delimiter) f.no_newline in
+    ap (line_end_from false) (append_assoc line (newline ∷ []) rest) ∙ end-uncut false line (newline ∷ rest) line_ends.uncut return.uncut ∙ ap (λ (e : Bool). line_end_from e (newline ∷ rest)) return.closed
+
 -- a canonical line in front is read as its row
-pub row_again : (o : Options) → OptionFacts o → (columns : Option ℕ) (row : Row) (rest : List ℕ) → HasLine o columns row → text_reading o columns (written_row o row ++ rest) ≡ after_rows (row ∷ []) (text_reading o columns rest)
-unfolding text_reading
+row_again : (o : Options) → OptionFacts o → (columns : Option ℕ) (row : Row) (rest : List ℕ) → HasLine o columns row → lines_reading o columns (parts newline (written_row o row ++ rest)) ≡ after_rows (row ∷ []) (lines_reading o columns (parts newline rest))
 row_again o f columns row rest h =
     let line = written_fields o row in
-    let line_end = IsSafe-row o f newline row (newline_mark o.delimiter) f.no_newline in
-    let cut : parts newline (written_row o row ++ rest) ≡ line ∷ parts newline rest = ap (parts newline) (append_assoc line (newline ∷ []) rest) ∙ parts-cut newline line rest line_end.uncut line_end.closed in
+    let line_ends = IsSafe-row o f newline row (newline_mark o.delimiter) f.no_newline in
+    let cut : parts newline (written_row o row ++ rest) ≡ line ∷ parts newline rest = ap (parts newline) (append_assoc line (newline ∷ []) rest) ∙ parts-cut newline line rest line_ends.uncut line_ends.closed in
     ap (lines_reading o columns) cut ∙ lines_reading-cons o columns line (parts newline rest) (parts-some false newline rest not_backslash)
     ∙ cond-false _ _ _ (not_end o f row) ∙ ap (λ (x : Result Row TextFault). row_or_fault x (lines_reading o columns (parts newline rest))) (line_again o f columns row h)
 
--- the canonical lines of rows in front are read as those rows
-rows-read : (o : Options) → OptionFacts o → (columns : Option ℕ) (rows : List Row) (rest : List ℕ) → AllByRecursion (HasLine o columns) rows → text_reading o columns (flat_map (written_row o) rows ++ rest) ≡ after_rows rows (text_reading o columns rest)
+-- the canonical lines of rows in front are read as those rows, where lines end by newline
+rows-read : (o : Options) → OptionFacts o → (columns : Option ℕ) (rows : List Row) (rest : List ℕ) → AllByRecursion (HasLine o columns) rows → lines_reading o columns (parts newline (flat_map (written_row o) rows ++ rest)) ≡ after_rows rows (lines_reading o columns (parts newline rest))
 rows-read o f columns [] rest h = refl
 rows-read o f columns (row ∷ rows) rest h =
-    ap (text_reading o columns) (append_assoc (written_row o row) (flat_map (written_row o) rows) rest) ∙ row_again o f columns row (flat_map (written_row o) rows ++ rest) h.0 ∙ ap (after_rows (row ∷ [])) (rows-read o f columns rows rest h.1)
+    ap (λ (x : List ℕ). lines_reading o columns (parts newline x)) (append_assoc (written_row o row) (flat_map (written_row o) rows) rest) ∙ row_again o f columns row (flat_map (written_row o) rows ++ rest) h.0 ∙ ap (after_rows (row ∷ [])) (rows-read o f columns rows rest h.1)
 
-pub rows-trip : (o : Options) (columns : Option ℕ) (rows : List Row) (rest : List ℕ) → AreOptions o → AllByRecursion (HasLine o columns) rows → text_reading o columns (flat_map (written_row o) rows ++ rest) ≡ after_rows rows (text_reading o columns rest)
-rows-trip o columns rows rest are h = rows-read o (option-facts o are) columns rows rest h
+-- rows in front decide how lines end
+rows-decide : (o : Options) → OptionFacts o → (row : Row) (rows : List Row) (rest : List ℕ) → line_end (flat_map (written_row o) (row ∷ rows) ++ rest) ≡ Some Newline
+rows-decide o f row rows rest = ap line_end (append_assoc (written_row o row) (flat_map (written_row o) rows) rest) ∙ row-decides o f row (flat_map (written_row o) rows ++ rest)
+
+pub rows-trip : (o : Options) (columns : Option ℕ) (rows : List Row) (rest : List ℕ) → AreOptions o → AllByRecursion (HasLine o columns) rows → text_reading o columns (flat_map (written_row o) rows ++ rest) ≡ after_rows rows (reading_after o columns (end_after rows) rest)
+unfolding reading_after
+rows-trip o columns [] rest are h = refl
+rows-trip o columns (row ∷ rows) rest are h =
+    let f = option-facts o are in
+    ap (λ (e : Option LineEnd). reading_by o columns e (flat_map (written_row o) (row ∷ rows) ++ rest)) (rows-decide o f row rows rest) ∙ rows-read o f columns (row ∷ rows) rest h
 
 -- a file of canonical lines is read as those rows
 pub file-trip : (o : Options) (columns : Option ℕ) (rows : List Row) → AreOptions o → AllByRecursion (HasLine o columns) rows → text_file_reading o columns (flat_map (written_row o) rows) ≡ record { rows = rows; ending = Ended }
-file-trip o columns rows are h =
-    let lines : text_reading o columns (flat_map (written_row o) rows) ≡ after_rows rows (record { rows = []; ending = Open [] }) =
-    ap (text_reading o columns) (sym (append-nil (flat_map (written_row o) rows))) ∙ rows-trip o columns rows [] are h ∙ ap (after_rows rows) (reading-empty o columns) in
-    ap (text_at_end o columns) (lines ∙ after-none rows (Open [])) ∙ after-none rows Ended
+unfolding last_after
+file-trip o columns [] are h = refl
+file-trip o columns (row ∷ rows) are h =
+    let f = option-facts o are in
+    let all = flat_map (written_row o) (row ∷ rows) in
+    let decided : line_end all ≡ Some Newline = ap line_end (sym (append-nil all)) ∙ rows-decide o f row rows [] in
+    let read : lines_reading o columns (parts newline all) ≡ after_rows (row ∷ rows) (record { rows = []; ending = Open [] }) =
+    ap (λ (x : List ℕ). lines_reading o columns (parts newline x)) (sym (append-nil all)) ∙ rows-read o f columns (row ∷ rows) [] h in
+    ap (λ (e : Option LineEnd). text_at_end o columns (lines_reading o columns (lines (unwrap_or e Return) all))) decided
+    ∙ ap (text_at_end o columns) (read ∙ after-none (row ∷ rows) (Open [])) ∙ after-none (row ∷ rows) Ended

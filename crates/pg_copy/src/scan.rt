@@ -26,11 +26,11 @@ pub struct Scan {
 impl Scan {
     pub fn start() -> Self
         ensures { result ≡ record {
-            at = 0;
-            escaped = false;
-            delimiters = 0;
-            returned = false;
-            newlined = false;
+          at = 0;
+          escaped = false;
+          delimiters = 0;
+          returned = false;
+          newlined = false;
         } }
     {
         Scan {

@@ -225,7 +225,9 @@ impl TextReader {
         ensures options { AreOptions self.old.options }
     {
         let delimiter = self.options.delimiter();
-        let found = self.scan.find_end(self.buffer.as_slice(), delimiter, self.line_end);
+        let found = self
+            .scan
+            .find_end(self.buffer.as_slice(), delimiter, self.line_end);
         (self.scan, found)
     }
 
