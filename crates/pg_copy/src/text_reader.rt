@@ -38,9 +38,10 @@ pub enum TextStage {
 /// Takes a text file in any pieces, and gives exactly its rows.
 ///
 /// `push` keeps a piece, `next` gives the rows of the lines that are closed, one by one, and `finish` those that are left at the
-/// end of the input. A fault stands in the place of its row, and is answered for good from then on. The line `\.` ends the
-/// rows, and what follows it is dropped. Each byte is walked over once to find where its line ends, however the pieces are cut
-/// (PostgreSQL documentation, page COPY, "Text Format").
+/// end of the input. All lines end alike: by a newline, by a return, or by a return and a newline directly after it, as the first
+/// newline or return decides that isn't escaped. While that is a return and stands last, its line isn't whole. A fault stands in the
+/// place of its row, and is answered for good from then on. The line `\.` ends the rows, and what follows it is dropped. Each byte
+/// is walked over once to find where its line ends, however the pieces are cut (PostgreSQL documentation, page COPY, "Text Format").
 #[derive(Drop)]
 pub struct TextReader {
     alloc: Global,
@@ -67,7 +68,8 @@ impl Model for TextReader {
 }
 
 impl TextReader {
-    /// A reader of rows of so many columns, 1 to 32,767; or of any number up to 32,767, where None is given.
+    /// A reader of rows of so many columns, 1 to 32,767; or of any number up to 32,767, where None is given. A tab parts the fields,
+    /// and null is `\N`.
     pub fn new(alloc: Global, columns: Option<u16>) -> Self
         requires { IfSome columns (λ n. (0 < n) × (n ≤ 32767)) }
         ensures state { result ≡ record {
@@ -83,7 +85,7 @@ impl TextReader {
         TextReader::with_options(alloc, columns, TextOptions::default())
     }
 
-    /// The same, of a file with these options.
+    /// The same, of a file whose fields the options' delimiter parts, and whose nulls are their null mark.
     pub fn with_options(alloc: Global, columns: Option<u16>, options: TextOptions) -> Self
         requires { IfSome columns (λ n. (0 < n) × (n ≤ 32767)) }
         ensures state { result ≡ record {
@@ -177,7 +179,8 @@ impl TextReader {
     }
 
     /// Says that the input has ended, and gives the next row that is left, or None where none is: the last line need not be
-    /// closed, and no line stands there where it is empty. It is to be called until it answers None. Memory is answered only
+    /// closed, and no line stands there where it is empty; a return that stands last ends its line, where it is the first newline or
+    /// return that isn't escaped. It is to be called until it answers None. Memory is answered only
     /// where a row is left, and leaves the reader unchanged (PostgreSQL documentation, page COPY, "Text Format").
     pub fn finish(&mut self) -> Result<Option<Row>, TextFault>
         ensures read { (pushed : List ℕ) (given : List Row) → HasReadText self.old pushed given

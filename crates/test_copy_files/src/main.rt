@@ -3,6 +3,8 @@
 #![tactic(auto)]
 
 mod file;
+#[cfg(test)]
+mod options;
 
 use anyhow::{Result, bail, ensure};
 use file::{File, FileCut, read, write};
