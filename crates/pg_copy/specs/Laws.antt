@@ -16,8 +16,8 @@ use Rattle.pg_copy.specs.BinaryPart as binary
 
 -- ---- text
 
--- `parts` cuts bytes at each mark that isn't escaped, `lines` at each line end, and there is one such
--- cut: so lines and fields are what the bytes say.
+-- `parts` cuts bytes at each mark that isn't escaped, `lines` at each line end, and there is one
+-- such cut: so lines and fields are what the bytes say.
 pub record OneSplit : Type 0 where
   pub there : (mark : ℕ) (bytes : List ℕ) → (mark ≡ backslash → ⊥)
       → AreParts mark bytes (parts mark bytes)

@@ -199,7 +199,8 @@ pub record FitsReader (columns : Option ℕ) (row : Row) : Type 0 where
   pub width : fits_width columns (length row) ≡ true
 
 -- the row of a line without its end, or the first fault of the line: a return that isn't escaped, a
--- newline that isn't escaped, a lone backslash at its end, or its number of fields
+-- newline that isn't escaped, a lone backslash at its end, or its number of fields. Where a return
+-- and a newline after it end lines, such a return or newline in a line is without the other.
 abbrev pub line_row : Options → Option ℕ → List ℕ → Result Row TextFault
 line_row o columns line =
     if has_unit carriage_return line then Err RawReturn

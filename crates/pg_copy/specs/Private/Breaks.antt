@@ -58,7 +58,8 @@ pub record Steps (before : Option LineEnd) (escaped : Bool) (b : ℕ) (bs : List
     (escaped' : Bool) : Type 0 where
   pub decided : (more : List ℕ) → decided_from before escaped (b ∷ (bs ++ more))
       ≡ decided_from before escaped' (bs ++ more)
-  pub cut : (e : LineEnd) → MayEnd before e → (more : List ℕ) → lines_from e escaped (b ∷ (bs ++ more))
+  pub cut : (e : LineEnd) → MayEnd before e → (more : List ℕ)
+      → lines_from e escaped (b ∷ (bs ++ more))
       ≡ onto_first b (lines_from e escaped' (bs ++ more))
 
 -- a line ends here, whatever comes after these bytes
@@ -86,7 +87,8 @@ pub record IsFirstLine (before : Option LineEnd) (bytes : List ℕ) (e : LineEnd
     (len taken : ℕ) : Type 0 where
   pub in_range : taken ≤ length bytes
   pub decided : (more : List ℕ) → decided_by before (bytes ++ more) ≡ Some e
-  pub cut : (more : List ℕ) → lines e (bytes ++ more) ≡ take len bytes ∷ lines e (drop taken bytes ++ more)
+  pub cut : (more : List ℕ) → lines e (bytes ++ more)
+      ≡ take len bytes ∷ lines e (drop taken bytes ++ more)
 
 -- The same, where nothing comes after these bytes.
 pub record IsLastLine (before : Option LineEnd) (bytes : List ℕ) (e : LineEnd)
