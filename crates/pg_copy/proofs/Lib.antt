@@ -1,11 +1,16 @@
+pub mod OptionFacts
 pub mod TextParts
 pub mod TextValues
 pub mod TextLines
 pub mod TextEscapes
 pub mod TextSplit
+pub mod TextPairs
+pub mod TextBreaks
 pub mod TextReads
 pub mod TextRound
 pub mod Rows
+pub mod OptionRows
+pub mod LineEndRows
 pub mod BinaryRound
 pub mod BinaryFields
 pub mod BinaryFiles

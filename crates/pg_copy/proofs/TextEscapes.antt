@@ -6,7 +6,7 @@ use Rattle.std.specs.Char.{digit_value}
 use Rattle.std.specs.Str.{bytes_eq}
 use Rattle.std.proofs.lemmas.Bool.{cases_eq, cases_lt, eq-eqb, ne_eqb, eqb-true, cond-true, cond-false}
 use Rattle.std.proofs.lemmas.List.{drop_at, length-append}
-use Rattle.pg_copy.specs.Text.{null_mark, ends_escaped, letter_value, digits_value, digits_at, hex_escape, escape_by, escape_at, text_after, field_value}
+use Rattle.pg_copy.specs.Text.{Options, ends_escaped, letter_value, digits_value, digits_at, hex_escape, escape_by, escape_at, text_after, field_value}
 use Rattle.pg_copy.specs.TextField.{NoDigit, IsNumeral, IsEscape, octal, hexadecimal, bare_x, letter, IsText, nothing, plain, escaped, IsField}
 use Rattle.pg_copy.specs.Private.Units.{NoBackslash}
 use Rattle.pg_copy.proofs.TextValues.{digits-none, digits-some, text_after-drop, same_pair}
@@ -185,6 +185,10 @@ same-bytes (x ∷ xs) (y ∷ ys) e =
     and_parts true t f = (refl, f)
     and_parts false t f = absurd cc
 
+pub same-again : (xs : List ℕ) → bytes_eq xs xs ≡ true
+same-again [] = refl
+same-again (x ∷ xs) = rw (eq-eqb x x refl) (same-again xs)
+
 pub other-bytes : (xs ys : List ℕ) → (xs ≡ ys → ⊥) → bytes_eq xs ys ≡ false
 other-bytes xs ys ne = go (bytes_eq xs ys) refl
   where
@@ -192,19 +196,19 @@ other-bytes xs ys ne = go (bytes_eq xs ys) refl
     go true e = absurd (ne (same-bytes xs ys e))
     go false e = refl
 
-pub field-is : (bytes : List ℕ) (v : Option (List ℕ)) → IsField bytes v → field_value bytes ≡ v
-field-is bytes None h = ap field_value h
-field-is bytes (Some text) h = cond-false _ _ _ (other-bytes bytes null_mark h.0) ∙ ap (λ (x : List ℕ). Some x) (text-is bytes text h.1)
+pub field-is : (o : Options) (bytes : List ℕ) (v : Option (List ℕ)) → IsField o bytes v → field_value o bytes ≡ v
+field-is o bytes None h = cond-true _ _ _ (ap (λ (x : List ℕ). bytes_eq x o.null_mark) h ∙ same-again o.null_mark)
+field-is o bytes (Some text) h = cond-false _ _ _ (other-bytes bytes o.null_mark h.0) ∙ ap (λ (x : List ℕ). Some x) (text-is bytes text h.1)
 
-pub field-there : (bytes : List ℕ) → ends_escaped false bytes ≡ false → IsField bytes (field_value bytes)
-field-there bytes closed = go (bytes_eq bytes null_mark) refl
+pub field-there : (o : Options) (bytes : List ℕ) → ends_escaped false bytes ≡ false → IsField o bytes (field_value o bytes)
+field-there o bytes closed = go (bytes_eq bytes o.null_mark) refl
   where
-    go : (t : Bool) → bytes_eq bytes null_mark ≡ t → IsField bytes (field_value bytes)
-    go true e = subst (IsField bytes) (sym (cond-true _ _ _ e)) (same-bytes bytes null_mark e)
-    go false e = subst (IsField bytes) (sym (cond-false _ _ _ e)) ((λ same. clash (sym e ∙ ap (λ (x : List ℕ). bytes_eq x null_mark) same)), text-there (length bytes) bytes (omega arith) closed)
+    go : (t : Bool) → bytes_eq bytes o.null_mark ≡ t → IsField o bytes (field_value o bytes)
+    go true e = subst (IsField o bytes) (sym (cond-true _ _ _ e)) (same-bytes bytes o.null_mark e)
+    go false e = subst (IsField o bytes) (sym (cond-false _ _ _ e)) ((λ same. clash (sym e ∙ ap (λ (x : List ℕ). bytes_eq x o.null_mark) same ∙ same-again o.null_mark)), text-there (length bytes) bytes (omega arith) closed)
       where
         clash : false ≡ true → ⊥
         clash f = cc
 
-pub field-once : (bytes : List ℕ) (v w : Option (List ℕ)) → IsField bytes v → IsField bytes w → v ≡ w
-field-once bytes v w h k = sym (field-is bytes v h) ∙ field-is bytes w k
+pub field-once : (o : Options) (bytes : List ℕ) (v w : Option (List ℕ)) → IsField o bytes v → IsField o bytes w → v ≡ w
+field-once o bytes v w h k = sym (field-is o bytes v h) ∙ field-is o bytes w k

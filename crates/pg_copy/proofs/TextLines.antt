@@ -4,35 +4,35 @@ use Rattle.std.specs.Str.{bytes_eq}
 use Rattle.std.proofs.lemmas.Bool.{cond-true, cond-false}
 use Rattle.std.proofs.lemmas.List.{take_all, take_more}
 use Rattle.pg_copy.specs.declared.fault.TextFault.{TextFault}
-use Rattle.pg_copy.specs.declared.fault.TextFault.TheVariants.{RawReturn, LoneBackslash, Columns}
+use Rattle.pg_copy.specs.declared.fault.TextFault.TheVariants.{RawReturn, RawNewline, LoneBackslash, Columns}
 use Rattle.pg_copy.specs.declared.scan.Scan.{Scan}
 use Rattle.pg_copy.specs.Row.{Row}
 use Rattle.pg_copy.specs.Reading.{RowsRead}
-use Rattle.pg_copy.specs.Text.{delimiter, carriage_return, parts, has_unit, ends_escaped, end_mark, fits_width, field_value, line_row, line_reading, row_or_fault}
-use Rattle.pg_copy.specs.Private.Units.{units, units_from, IsScanned, IsUnitAt, NoBackslash, IsFieldWalked, IsFieldEnd, IsPlain}
+use Rattle.pg_copy.specs.Text.{Options, newline, carriage_return, parts, has_unit, ends_escaped, end_mark, fits_width, field_value, line_row, line_reading, row_or_fault}
+use Rattle.pg_copy.specs.Private.Units.{units, units_from, IsCounted, IsUnitAt, NoBackslash, IsFieldWalked, IsFieldEnd, IsPlain}
 use Rattle.pg_copy.specs.Private.TextLine.{LineGives, LineEnds, LineFails}
 use Rattle.pg_copy.proofs.TextParts.{parts-first, parts-none, parts-length, has_unit-is, units-append, ends_escaped-append}
 
 -- ---- fields
 
 -- one value more is read
-pub fields_more : (value : List ℕ → Option (List ℕ)) (done : List (Option (List ℕ))) (rest : List ℕ) (n : ℕ) (total : List (Option (List ℕ))) → IsUnitAt delimiter rest n
+pub fields_more : (delimiter : ℕ) (value : List ℕ → Option (List ℕ)) (done : List (Option (List ℕ))) (rest : List ℕ) (n : ℕ) (total : List (Option (List ℕ))) → IsUnitAt delimiter rest n
     → done ++ map value (parts delimiter rest) ≡ total → (done ++ value (take n rest) ∷ []) ++ map value (parts delimiter (drop (n + 1) rest)) ≡ total
-fields_more value done rest n total h e =
+fields_more delimiter value done rest n total h e =
     append_assoc done (value (take n rest) ∷ []) (map value (parts delimiter (drop (n + 1) rest))) ∙ ap (λ (x : List (List ℕ)). done ++ map value x) (sym (parts-first delimiter rest n h)) ∙ e
 
 -- the last value is read
-pub fields_last : (value : List ℕ → Option (List ℕ)) (done : List (Option (List ℕ))) (rest : List ℕ) (total : List (Option (List ℕ))) → units delimiter rest ≡ 0
+pub fields_last : (delimiter : ℕ) (value : List ℕ → Option (List ℕ)) (done : List (Option (List ℕ))) (rest : List ℕ) (total : List (Option (List ℕ))) → units delimiter rest ≡ 0
     → done ++ map value (parts delimiter rest) ≡ total → done ++ value rest ∷ [] ≡ total
-fields_last value done rest total h e = ap (λ (x : List (List ℕ)). done ++ map value x) (sym (parts-none delimiter rest h)) ∙ e
+fields_last delimiter value done rest total h e = ap (λ (x : List (List ℕ)). done ++ map value x) (sym (parts-none delimiter rest h)) ∙ e
 
 NoBackslash-append : (a : List ℕ) (b : ℕ) → NoBackslash a → eqb b 92 ≡ false → NoBackslash (a ++ b ∷ [])
 NoBackslash-append [] b h k = (k, tt)
 NoBackslash-append (x ∷ a) b h k = (h.0, NoBackslash-append a b h.1 k)
 
-pub walked-more : (bytes : List ℕ) (i b : ℕ) (escaped plain escaped' plain' : Bool) → i < length bytes → get_or bytes i 0 ≡ b → IsFieldWalked bytes i escaped plain
-    → ends_escaped escaped (b ∷ []) ≡ escaped' → units_from escaped delimiter (b ∷ []) ≡ 0 → (plain' ≡ true → (plain ≡ true) × (eqb b 92 ≡ false)) → IsFieldWalked bytes (i + 1) escaped' plain'
-walked-more bytes i b escaped plain escaped' plain' lt is h e n p =
+pub walked-more : (delimiter : ℕ) (bytes : List ℕ) (i b : ℕ) (escaped plain escaped' plain' : Bool) → i < length bytes → get_or bytes i 0 ≡ b → IsFieldWalked delimiter bytes i escaped plain
+    → ends_escaped escaped (b ∷ []) ≡ escaped' → units_from escaped delimiter (b ∷ []) ≡ 0 → (plain' ≡ true → (plain ≡ true) × (eqb b 92 ≡ false)) → IsFieldWalked delimiter bytes (i + 1) escaped' plain'
+walked-more delimiter bytes i b escaped plain escaped' plain' lt is h e n p =
     let more : take (i + 1) bytes ≡ take i bytes ++ b ∷ [] = take_more bytes i 0 lt ∙ ap (λ (x : ℕ). take i bytes ++ x ∷ []) is in
     record {
       escaped = ap (ends_escaped false) more ∙ ends_escaped-append false (take i bytes) (b ∷ []) ∙ ap (λ (t : Bool). ends_escaped t (b ∷ [])) h.escaped ∙ e;
@@ -41,28 +41,28 @@ walked-more bytes i b escaped plain escaped' plain' lt is h e n p =
     }
 
 -- plain bytes at the front
-pub walked-run : (bytes : List ℕ) (n : ℕ) → n ≤ length bytes → ((i : ℕ) → 0 ≤ i → i < n → IsPlain (get_or bytes i 0)) → IsFieldWalked bytes n false true
-walked-run bytes zero le plain = record { escaped = refl; none = refl; plain = λ e. tt }
-walked-run bytes (suc n) le plain =
+pub walked-run : (delimiter : ℕ) (bytes : List ℕ) (n : ℕ) → n ≤ length bytes → ((i : ℕ) → 0 ≤ i → i < n → IsPlain delimiter (get_or bytes i 0)) → IsFieldWalked delimiter bytes n false true
+walked-run delimiter bytes zero le plain = record { escaped = refl; none = refl; plain = λ e. tt }
+walked-run delimiter bytes (suc n) le plain =
     let p = plain n (omega arith) (omega arith) in
     let one : n + 1 ≡ suc n = omega arith in
-    subst (λ (i : ℕ). IsFieldWalked bytes i false true) one
-    (walked-more bytes n _ false true false true (omega arith) refl (walked-run bytes n (omega arith) (λ i a b. plain i a (omega (arith, b)))) (rw p.no_backslash refl) (rw p.no_delimiter refl) (λ t. (t, p.no_backslash)))
+    subst (λ (i : ℕ). IsFieldWalked delimiter bytes i false true) one
+    (walked-more delimiter bytes n _ false true false true (omega arith) refl (walked-run delimiter bytes n (omega arith) (λ i a b. plain i a (omega (arith, b)))) (rw p.no_backslash refl) (rw p.no_delimiter refl) (λ t. (t, p.no_backslash)))
 
 -- where an escape was begun, the bytes aren't plain
 plain_closed : (a : List ℕ) → NoBackslash a → ends_escaped false a ≡ false
 plain_closed [] h = refl
 plain_closed (b ∷ a) h = rw h.0 (plain_closed a h.1)
 
-pub walked-escaped : (bytes : List ℕ) (i b : ℕ) (plain : Bool) → i < length bytes → get_or bytes i 0 ≡ b → IsFieldWalked bytes i true plain → IsFieldWalked bytes (i + 1) false plain
-walked-escaped bytes i b plain lt is h =
-    walked-more bytes i b true plain false plain lt is h refl refl (λ t. absurd (clash (sym (plain_closed (take i bytes) (h.plain t)) ∙ h.escaped)))
+pub walked-escaped : (delimiter : ℕ) (bytes : List ℕ) (i b : ℕ) (plain : Bool) → i < length bytes → get_or bytes i 0 ≡ b → IsFieldWalked delimiter bytes i true plain → IsFieldWalked delimiter bytes (i + 1) false plain
+walked-escaped delimiter bytes i b plain lt is h =
+    walked-more delimiter bytes i b true plain false plain lt is h refl refl (λ t. absurd (clash (sym (plain_closed (take i bytes) (h.plain t)) ∙ h.escaped)))
   where
     clash : false ≡ true → ⊥
     clash e = cc
 
-pub walked-at : (bytes : List ℕ) (i : ℕ) (plain : Bool) → i < length bytes → get_or bytes i 0 ≡ delimiter → IsFieldWalked bytes i false plain → IsFieldEnd bytes (record { len = i; plain = plain; last = false })
-walked-at bytes i plain lt is h = record {
+pub walked-at : (delimiter : ℕ) (bytes : List ℕ) (i : ℕ) (plain : Bool) → i < length bytes → get_or bytes i 0 ≡ delimiter → IsFieldWalked delimiter bytes i false plain → IsFieldEnd delimiter bytes (record { len = i; plain = plain; last = false })
+walked-at delimiter bytes i plain lt is h = record {
   plain = h.plain;
   more = λ e. record { in_range = lt; none = h.none; closed = h.escaped; is = is };
   whole = λ e. absurd (clash e);
@@ -71,8 +71,8 @@ walked-at bytes i plain lt is h = record {
     clash : false ≡ true → ⊥
     clash e = cc
 
-pub walked-end : (bytes : List ℕ) (i : ℕ) (e plain : Bool) → length bytes ≤ i → IsFieldWalked bytes i e plain → IsFieldEnd bytes (record { len = length bytes; plain = plain; last = true })
-walked-end bytes i e plain le h =
+pub walked-end : (delimiter : ℕ) (bytes : List ℕ) (i : ℕ) (e plain : Bool) → length bytes ≤ i → IsFieldWalked delimiter bytes i e plain → IsFieldEnd delimiter bytes (record { len = length bytes; plain = plain; last = true })
+walked-end delimiter bytes i e plain le h =
     let all : take i bytes ≡ bytes = take_all i bytes le in
     let whole : take (length bytes) bytes ≡ bytes = take_all (length bytes) bytes (omega arith) in
     record {
@@ -86,31 +86,34 @@ walked-end bytes i e plain le h =
 
 -- ---- lines
 
-pub lines_row : (columns : Option ℕ) (line : List ℕ) (s : Scan) → IsScanned line s → s.at ≡ length line
-    → (has_unit carriage_return line ≡ s.returned) × (ends_escaped false line ≡ s.escaped) × (length (parts delimiter line) ≡ s.delimiters + 1)
-lines_row columns line s h whole =
+pub lines_row : (delimiter : ℕ) (line : List ℕ) (s : Scan) → (delimiter ≡ 92 → ⊥) → IsCounted delimiter line s → s.at ≡ length line
+    → (has_unit carriage_return line ≡ s.returned) × (has_unit newline line ≡ s.newlined) × (ends_escaped false line ≡ s.escaped) × (length (parts delimiter line) ≡ s.delimiters + 1)
+lines_row delimiter line s ne h whole =
     let all : take s.at line ≡ line = ap (λ (n : ℕ). take n line) whole ∙ take_all (length line) line (omega arith) in
-    (has_unit-is line s.returned (rw all at h.returned), rw all at h.escaped, parts-length false delimiter line (λ e. absurd (omega arith)) ∙ ap (λ (n : ℕ). n + 1) (rw all at h.delimiters))
+    (has_unit-is carriage_return line s.returned (λ e. absurd (omega arith)) (rw all at h.returned), has_unit-is newline line s.newlined (λ e. absurd (omega arith)) (rw all at h.newlined), rw all at h.escaped, parts-length false delimiter line ne ∙ ap (λ (n : ℕ). n + 1) (rw all at h.delimiters))
 
-pub line-ends : (columns : Option ℕ) (line : List ℕ) → bytes_eq line end_mark ≡ true → LineEnds columns line
-line-ends columns line e after = cond-true _ _ _ e
+pub line-ends : (o : Options) (columns : Option ℕ) (line : List ℕ) → bytes_eq line end_mark ≡ true → LineEnds o columns line
+line-ends o columns line e after = cond-true _ _ _ e
 
-line-of : (columns : Option ℕ) (line : List ℕ) (r : Result Row TextFault) (after : RowsRead TextFault) → bytes_eq line end_mark ≡ false → line_row columns line ≡ r → line_reading columns line after ≡ row_or_fault r after
-line-of columns line r after e h = cond-false _ _ _ e ∙ ap (λ (x : Result Row TextFault). row_or_fault x after) h
+line-of : (o : Options) (columns : Option ℕ) (line : List ℕ) (r : Result Row TextFault) (after : RowsRead TextFault) → bytes_eq line end_mark ≡ false → line_row o columns line ≡ r → line_reading o columns line after ≡ row_or_fault r after
+line-of o columns line r after e h = cond-false _ _ _ e ∙ ap (λ (x : Result Row TextFault). row_or_fault x after) h
 
-pub line-return : (columns : Option ℕ) (line : List ℕ) → bytes_eq line end_mark ≡ false → has_unit carriage_return line ≡ true → LineFails columns line RawReturn
-line-return columns line e h = record { is = λ after. line-of columns line (Err RawReturn) after e (cond-true _ _ _ h); not_memory = λ f. cc }
+pub line-return : (o : Options) (columns : Option ℕ) (line : List ℕ) → bytes_eq line end_mark ≡ false → has_unit carriage_return line ≡ true → LineFails o columns line RawReturn
+line-return o columns line e h = record { is = λ after. line-of o columns line (Err RawReturn) after e (cond-true _ _ _ h); not_memory = λ f. cc }
 
-pub line-lone : (columns : Option ℕ) (line : List ℕ) → bytes_eq line end_mark ≡ false → has_unit carriage_return line ≡ false → ends_escaped false line ≡ true → LineFails columns line LoneBackslash
-line-lone columns line e h k = record { is = λ after. line-of columns line (Err LoneBackslash) after e (cond-false _ _ _ h ∙ cond-true _ _ _ k); not_memory = λ f. cc }
+pub line-newline : (o : Options) (columns : Option ℕ) (line : List ℕ) → bytes_eq line end_mark ≡ false → has_unit carriage_return line ≡ false → has_unit newline line ≡ true → LineFails o columns line RawNewline
+line-newline o columns line e h n = record { is = λ after. line-of o columns line (Err RawNewline) after e (cond-false _ _ _ h ∙ cond-true _ _ _ n); not_memory = λ f. cc }
 
-pub line-columns : (columns : Option ℕ) (line : List ℕ) (n : ℕ) → bytes_eq line end_mark ≡ false → has_unit carriage_return line ≡ false → ends_escaped false line ≡ false → length (parts delimiter line) ≡ n → fits_width columns n ≡ false → LineFails columns line (Columns n)
-line-columns columns line n e h k len w =
-    record { is = λ after. line-of columns line (Err (Columns n)) after e (cond-false _ _ _ h ∙ cond-false _ _ _ k ∙ cond-false _ _ _ (ap (fits_width columns) len ∙ w) ∙ ap (λ (m : ℕ). Err (Columns m)) len); not_memory = λ f. cc }
+pub line-lone : (o : Options) (columns : Option ℕ) (line : List ℕ) → bytes_eq line end_mark ≡ false → has_unit carriage_return line ≡ false → has_unit newline line ≡ false → ends_escaped false line ≡ true → LineFails o columns line LoneBackslash
+line-lone o columns line e h n k = record { is = λ after. line-of o columns line (Err LoneBackslash) after e (cond-false _ _ _ h ∙ cond-false _ _ _ n ∙ cond-true _ _ _ k); not_memory = λ f. cc }
 
-pub line_row-row : (columns : Option ℕ) (line : List ℕ) → has_unit carriage_return line ≡ false → ends_escaped false line ≡ false → fits_width columns (length (parts delimiter line)) ≡ true → line_row columns line ≡ Ok (map field_value (parts delimiter line))
-line_row-row columns line h k w = cond-false _ _ _ h ∙ cond-false _ _ _ k ∙ cond-true _ _ _ w
+pub line-columns : (o : Options) (columns : Option ℕ) (line : List ℕ) (n : ℕ) → bytes_eq line end_mark ≡ false → has_unit carriage_return line ≡ false → has_unit newline line ≡ false → ends_escaped false line ≡ false → length (parts o.delimiter line) ≡ n → fits_width columns n ≡ false → LineFails o columns line (Columns n)
+line-columns o columns line n e h nl k len w =
+    record { is = λ after. line-of o columns line (Err (Columns n)) after e (cond-false _ _ _ h ∙ cond-false _ _ _ nl ∙ cond-false _ _ _ k ∙ cond-false _ _ _ (ap (fits_width columns) len ∙ w) ∙ ap (λ (m : ℕ). Err (Columns m)) len); not_memory = λ f. cc }
 
-pub line-row : (columns : Option ℕ) (line : List ℕ) (n : ℕ) → bytes_eq line end_mark ≡ false → has_unit carriage_return line ≡ false → ends_escaped false line ≡ false → length (parts delimiter line) ≡ n → fits_width columns n ≡ true
-    → LineGives columns line (map field_value (parts delimiter line))
-line-row columns line n e h k len w after = line-of columns line (Ok (map field_value (parts delimiter line))) after e (line_row-row columns line h k (ap (fits_width columns) len ∙ w))
+pub line_row-row : (o : Options) (columns : Option ℕ) (line : List ℕ) → has_unit carriage_return line ≡ false → has_unit newline line ≡ false → ends_escaped false line ≡ false → fits_width columns (length (parts o.delimiter line)) ≡ true → line_row o columns line ≡ Ok (map (field_value o) (parts o.delimiter line))
+line_row-row o columns line h nl k w = cond-false _ _ _ h ∙ cond-false _ _ _ nl ∙ cond-false _ _ _ k ∙ cond-true _ _ _ w
+
+pub line-row : (o : Options) (columns : Option ℕ) (line : List ℕ) (n : ℕ) → bytes_eq line end_mark ≡ false → has_unit carriage_return line ≡ false → has_unit newline line ≡ false → ends_escaped false line ≡ false → length (parts o.delimiter line) ≡ n → fits_width columns n ≡ true
+    → LineGives o columns line (map (field_value o) (parts o.delimiter line))
+line-row o columns line n e h nl k len w after = line-of o columns line (Ok (map (field_value o) (parts o.delimiter line))) after e (line_row-row o columns line h nl k (ap (fits_width columns) len ∙ w))

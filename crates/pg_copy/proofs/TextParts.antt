@@ -1,12 +1,12 @@
 -- Parts between units, and walks over units.
-use Rattle.std.proofs.Common.{◌≡◌, ℕ, zero, suc, ◌+◌, ◌<◌, ◌≤◌, Bool, true, false, cond, eqb, ltb, List, [], ◌∷◌, ◌++◌, length, take, drop, get_or, refl, sym, ap, subst, ◌∙◌, append_assoc, arith, inl, inr}
+use Rattle.std.proofs.Common.{◌≡◌, ℕ, zero, suc, ◌+◌, ◌<◌, ◌≤◌, Bool, true, false, cond, eqb, ltb, List, [], ◌∷◌, ◌++◌, length, take, drop, get_or, refl, sym, ap, ◌∙◌, append_assoc, arith, inl, inr}
 use Rattle.std.specs.Prelude.{◌||◌}
 use Rattle.std.specs.List.{onto_first}
 use Rattle.std.proofs.lemmas.List.{append-nil, take_more, drop_more, take-append-drop, length-take-le}
 use Rattle.std.proofs.lemmas.Bool.{cases_eq, eq-eqb, ne_eqb, lt-ltb}
 use Rattle.pg_copy.specs.declared.scan.Scan.{Scan}
-use Rattle.pg_copy.specs.Text.{delimiter, newline, carriage_return, backslash, parts_from, parts, has_unit, ends_escaped}
-use Rattle.pg_copy.specs.Private.Units.{units_from, units, IsPlain, after, IsScanned, IsUnitAt}
+use Rattle.pg_copy.specs.Text.{newline, carriage_return, backslash, parts_from, parts, has_unit, ends_escaped}
+use Rattle.pg_copy.specs.Private.Units.{units_from, units, IsPlain, after, IsCounted, IsUnitAt}
 
 -- no unit of the bytes is the mark alone, where the first byte is escaped or not
 abbrev pub IsUncut : Bool → ℕ → List ℕ → Type 0
@@ -116,23 +116,23 @@ units-few false mark (b ∷ bs) = few (eqb b mark) (units_from (eqb b 92) mark b
 
 -- ---- a walk
 
-pub scanned-few : (bytes : List ℕ) (s : Scan) → IsScanned bytes s → s.delimiters ≤ s.at
-scanned-few bytes s h = omega (arith, units-few false delimiter (take s.at bytes), length-take-le s.at bytes h.in_range, h.delimiters)
+pub counted-few : (delimiter : ℕ) (bytes : List ℕ) (s : Scan) → IsCounted delimiter bytes s → s.delimiters ≤ s.at
+counted-few delimiter bytes s h = omega (arith, units-few false delimiter (take s.at bytes), length-take-le s.at bytes h.in_range, h.delimiters)
 
 -- one byte more
-pub scanned-more : (bytes : List ℕ) (s t : Scan) (i b : ℕ) → i < length bytes → get_or bytes i 0 ≡ b → IsScanned bytes (record s { at = i })
-    → ends_escaped s.escaped (b ∷ []) ≡ t.escaped → units_from s.escaped newline (b ∷ []) ≡ 0 → s.delimiters + units_from s.escaped delimiter (b ∷ []) ≡ t.delimiters
-    → ((n : ℕ) → ltb 0 n ≡ s.returned → ltb 0 (n + units_from s.escaped carriage_return (b ∷ [])) ≡ t.returned) → IsScanned bytes (record t { at = i + 1 })
-scanned-more bytes s t i b lt is h escaped newlines delimiters returned =
+counted-more : (delimiter : ℕ) (bytes : List ℕ) (s t : Scan) (i b : ℕ) → i < length bytes → get_or bytes i 0 ≡ b → IsCounted delimiter bytes (record s { at = i })
+    → ends_escaped s.escaped (b ∷ []) ≡ t.escaped → s.delimiters + units_from s.escaped delimiter (b ∷ []) ≡ t.delimiters
+    → ((n : ℕ) → ltb 0 n ≡ s.returned → ltb 0 (n + units_from s.escaped carriage_return (b ∷ [])) ≡ t.returned) → ((n : ℕ) → ltb 0 n ≡ s.newlined → ltb 0 (n + units_from s.escaped newline (b ∷ [])) ≡ t.newlined) → IsCounted delimiter bytes (record t { at = i + 1 })
+counted-more delimiter bytes s t i b lt is h escaped delimiters returned newlined =
     let more : take (i + 1) bytes ≡ take i bytes ++ b ∷ [] = take_more bytes i 0 lt ∙ ap (λ (x : ℕ). take i bytes ++ x ∷ []) is in
     let units_more : (mark : ℕ) → units mark (take (i + 1) bytes) ≡ units mark (take i bytes) + units_from s.escaped mark (b ∷ []) =
     λ mark. ap (units mark) more ∙ units-append false mark (take i bytes) (b ∷ []) ∙ ap (λ (e : Bool). units mark (take i bytes) + units_from e mark (b ∷ [])) h.escaped in
     record {
       in_range = omega arith;
       escaped = ap (ends_escaped false) more ∙ ends_escaped-append false (take i bytes) (b ∷ []) ∙ ap (λ (e : Bool). ends_escaped e (b ∷ [])) h.escaped ∙ escaped;
-      newlines = units_more newline ∙ omega (arith, h.newlines, newlines);
       delimiters = units_more delimiter ∙ ap (λ (n : ℕ). n + units_from s.escaped delimiter (b ∷ [])) h.delimiters ∙ delimiters;
       returned = ap (ltb 0) (units_more carriage_return) ∙ returned (units carriage_return (take i bytes)) h.returned;
+      newlined = ap (ltb 0) (units_more newline) ∙ newlined (units newline (take i bytes)) h.newlined;
     }
 
 same_after : (n : ℕ) (t : Bool) → ltb 0 n ≡ t → ltb 0 (n + 0) ≡ t
@@ -145,24 +145,17 @@ noted n true false h = same_after n true h
 noted n false false h = same_after n false h
 
 -- one plain byte more
-pub scanned-plain : (bytes : List ℕ) (s : Scan) (i : ℕ) → i < length bytes → IsPlain (get_or bytes i 0) → s.escaped ≡ false → IsScanned bytes (record s { at = i }) → IsScanned bytes (record s { at = i + 1 })
-scanned-plain bytes s i lt p e h =
-    scanned-more bytes s s i _ lt refl h (rw (e, p.no_backslash) refl) (rw (e, p.no_newline) refl) (rw (e, p.no_delimiter) (omega arith)) (λ n k. rw (e, p.no_return) (same_after n s.returned k))
+pub counted-plain : (delimiter : ℕ) (bytes : List ℕ) (s : Scan) (i : ℕ) → i < length bytes → IsPlain delimiter (get_or bytes i 0) → s.escaped ≡ false → IsCounted delimiter bytes (record s { at = i }) → IsCounted delimiter bytes (record s { at = i + 1 })
+counted-plain delimiter bytes s i lt p e h =
+    counted-more delimiter bytes s s i _ lt refl h (rw (e, p.no_backslash) refl) (rw (e, p.no_delimiter) (omega arith)) (λ n k. rw (e, p.no_return) (same_after n s.returned k)) (λ n k. rw (e, p.no_newline) (same_after n s.newlined k))
 
--- plain bytes more
-pub scanned-run : (bytes : List ℕ) (s : Scan) (at n : ℕ) → at + n ≤ length bytes → ((i : ℕ) → at ≤ i → i < at + n → IsPlain (get_or bytes i 0)) → s.escaped ≡ false → IsScanned bytes (record s { at = at }) → IsScanned bytes (record s { at = at + n })
-scanned-run bytes s at zero le plain e h = let same : at ≡ at + 0 = omega arith in subst (λ (i : ℕ). IsScanned bytes (record s { at = i })) same h
-scanned-run bytes s at (suc n) le plain e h =
-    let same : at + n + 1 ≡ at + suc n = omega arith in
-    subst (λ (i : ℕ). IsScanned bytes (record s { at = i })) same (scanned-plain bytes s (at + n) (omega arith) (plain (at + n) (omega arith) (omega arith)) e (scanned-run bytes s at n (omega arith) (λ i a b. plain i a (omega (arith, b))) e h))
-
--- one byte more, which ends no line
-pub scanned-after : (bytes : List ℕ) (s : Scan) (b : ℕ) → s.at < length bytes → get_or bytes s.at 0 ≡ b → (s.escaped ≡ false → eqb b newline ≡ false) → IsScanned bytes s → IsScanned bytes (after s b)
-scanned-after bytes s b lt is other h = go s.escaped refl
+-- one byte more
+pub counted-after : (delimiter : ℕ) (bytes : List ℕ) (s : Scan) (b : ℕ) → s.at < length bytes → get_or bytes s.at 0 ≡ b → IsCounted delimiter bytes s → IsCounted delimiter bytes (after delimiter s b)
+counted-after delimiter bytes s b lt is h = go s.escaped refl
   where
-    go : (t : Bool) → s.escaped ≡ t → IsScanned bytes (cond t (record { at = s.at + 1; escaped = false; delimiters = s.delimiters; returned = s.returned }) (record { at = s.at + 1; escaped = eqb b backslash; delimiters = s.delimiters + cond (eqb b delimiter) 1 0; returned = s.returned || eqb b carriage_return }))
-    go true e = scanned-more bytes s (record { at = s.at; escaped = false; delimiters = s.delimiters; returned = s.returned }) s.at b lt is h (rw e refl) (rw e refl) (rw e (omega arith)) (λ n k. rw e (same_after n s.returned k))
-    go false e = scanned-more bytes s (record { at = s.at; escaped = eqb b backslash; delimiters = s.delimiters + cond (eqb b delimiter) 1 0; returned = s.returned || eqb b carriage_return }) s.at b lt is h (rw e refl) (rw (e, other e) refl) (rw e (omega arith)) (λ n k. rw e (noted n s.returned (eqb b carriage_return) k))
+    go : (t : Bool) → s.escaped ≡ t → IsCounted delimiter bytes (cond t (record { at = s.at + 1; escaped = false; delimiters = s.delimiters; returned = s.returned; newlined = s.newlined }) (record { at = s.at + 1; escaped = eqb b backslash; delimiters = s.delimiters + cond (eqb b delimiter) 1 0; returned = s.returned || eqb b carriage_return; newlined = s.newlined || eqb b newline }))
+    go true e = counted-more delimiter bytes s (record { at = s.at; escaped = false; delimiters = s.delimiters; returned = s.returned; newlined = s.newlined }) s.at b lt is h (rw e refl) (rw e (omega arith)) (λ n k. rw e (same_after n s.returned k)) (λ n k. rw e (same_after n s.newlined k))
+    go false e = counted-more delimiter bytes s (record { at = s.at; escaped = eqb b backslash; delimiters = s.delimiters + cond (eqb b delimiter) 1 0; returned = s.returned || eqb b carriage_return; newlined = s.newlined || eqb b newline }) s.at b lt is h (rw e refl) (rw e (omega arith)) (λ n k. rw e (noted n s.returned (eqb b carriage_return) k)) (λ n k. rw e (noted n s.newlined (eqb b newline) k))
 
 -- ---- the first part
 
@@ -184,8 +177,8 @@ one_more : (n : ℕ) (t : Bool) → ltb 0 n ≡ t → ltb 1 (n + 1) ≡ t
 one_more zero t h = h
 one_more (suc n) t h = lt-ltb 1 (suc n + 1) (omega arith) ∙ sym (lt-ltb 0 (suc n) (omega arith)) ∙ h
 
-pub has_unit-is : (bytes : List ℕ) (t : Bool) → ltb 0 (units carriage_return bytes) ≡ t → has_unit carriage_return bytes ≡ t
-has_unit-is bytes t h = ap (ltb 1) (parts-length false carriage_return bytes (λ e. absurd (omega arith))) ∙ one_more (units carriage_return bytes) t h
+pub has_unit-is : (mark : ℕ) (bytes : List ℕ) (t : Bool) → (mark ≡ 92 → ⊥) → ltb 0 (units mark bytes) ≡ t → has_unit mark bytes ≡ t
+has_unit-is mark bytes t ne h = ap (ltb 1) (parts-length false mark bytes ne) ∙ one_more (units mark bytes) t h
 
 pub has_unit-none : (mark : ℕ) (bytes : List ℕ) → parts mark bytes ≡ bytes ∷ [] → has_unit mark bytes ≡ false
 has_unit-none mark bytes h = rw h refl

@@ -1,13 +1,15 @@
 -- The parts of bytes are one split.
-use Rattle.std.proofs.Common.{◌≡◌, ℕ, Bool, true, false, cond, eqb, List, [], ◌∷◌, ◌++◌, length, map, Option, Ok, Err, refl, sym, ap, subst, ◌∙◌, arith, inl, inr}
+use Rattle.std.proofs.Common.{◌≡◌, ℕ, Bool, true, false, cond, eqb, List, [], ◌∷◌, ◌++◌, length, map, Option, Ok, Err, refl, sym, ap, subst, ◌∙◌, inl, inr}
 use Rattle.std.specs.List.{onto_first}
 use Rattle.std.proofs.lemmas.Bool.{cases_eq, eq-eqb, ne_eqb, false≢true}
-use Rattle.pg_copy.specs.declared.fault.TextFault.TheVariants.{RawReturn, LoneBackslash, Columns}
+use Rattle.pg_copy.specs.declared.fault.TextFault.TheVariants.{RawReturn, RawNewline, LoneBackslash, Columns}
 use Rattle.pg_copy.specs.Row.{Row}
-use Rattle.pg_copy.specs.Text.{delimiter, carriage_return, parts_from, parts, has_unit, ends_escaped, field_value, fits_width, line_row}
+use Rattle.pg_copy.specs.Text.{Options, newline, carriage_return, parts_from, parts, has_unit, ends_escaped, field_value, fits_width, line_row}
 use Rattle.pg_copy.specs.TextLine.{AreUnits, nothing, byte, escape, AreParts, one, lone, more, AreFields}
 use Rattle.pg_copy.proofs.TextParts.{IsUncut, IsUncut-append, ends_escaped-append, parts-uncut, parts-cut}
+use Rattle.pg_copy.specs.TextOptions.{AreOptions}
 use Rattle.pg_copy.proofs.TextEscapes.{field-there}
+use Rattle.pg_copy.proofs.OptionFacts.{no-backslash}
 
 -- ---- units
 
@@ -83,22 +85,23 @@ parts-closed mark _ _ ne e (more p bytes ps h k) =
     let after : ends_escaped false bytes ≡ false = ap (λ (x : Bool). ends_escaped x bytes) (sym plain) ∙ ap (λ (x : Bool). ends_escaped x (mark ∷ bytes)) (sym u.1) ∙ sym (ends_escaped-append false p (mark ∷ bytes)) ∙ e in
     (u.1, parts-closed mark bytes ps ne after k)
 
-fields-there : (ps : List (List ℕ)) → AreClosed ps → AreFields ps (map field_value ps)
-fields-there [] h = tt
-fields-there (p ∷ ps) h = (field-there p h.0, fields-there ps h.1)
+fields-there : (o : Options) (ps : List (List ℕ)) → AreClosed ps → AreFields o ps (map (field_value o) ps)
+fields-there o [] h = tt
+fields-there o (p ∷ ps) h = (field-there o p h.0, fields-there o ps h.1)
 
 -- what a line that is read has
-line-has : (columns : Option ℕ) (line : List ℕ) (row : Row) → line_row columns line ≡ Ok row → (ends_escaped false line ≡ false) × (row ≡ map field_value (parts delimiter line))
-line-has columns line row e = go (has_unit carriage_return line) (ends_escaped false line) (fits_width columns (length (parts delimiter line))) e
+line-has : (o : Options) (columns : Option ℕ) (line : List ℕ) (row : Row) → line_row o columns line ≡ Ok row → (ends_escaped false line ≡ false) × (row ≡ map (field_value o) (parts o.delimiter line))
+line-has o columns line row e = go (has_unit carriage_return line) (has_unit newline line) (ends_escaped false line) (fits_width columns (length (parts o.delimiter line))) e
   where
-    go : (r l f : Bool) → cond r (Err RawReturn) (cond l (Err LoneBackslash) (cond f (Ok (map field_value (parts delimiter line))) (Err (Columns (length (parts delimiter line)))))) ≡ Ok row → (l ≡ false) × (row ≡ map field_value (parts delimiter line))
-    go true l f e = absurd cc
-    go false true f e = absurd cc
-    go false false true e = (refl, cc)
-    go false false false e = absurd cc
+    go : (r n l f : Bool) → cond r (Err RawReturn) (cond n (Err RawNewline) (cond l (Err LoneBackslash) (cond f (Ok (map (field_value o) (parts o.delimiter line))) (Err (Columns (length (parts o.delimiter line))))))) ≡ Ok row → (l ≡ false) × (row ≡ map (field_value o) (parts o.delimiter line))
+    go true n l f e = absurd cc
+    go false true l f e = absurd cc
+    go false false true f e = absurd cc
+    go false false false true e = (refl, cc)
+    go false false false false e = absurd cc
 
-pub line-fields : (columns : Option ℕ) (line : List ℕ) (row : Row) → line_row columns line ≡ Ok row → AreFields (parts delimiter line) row
-line-fields columns line row e =
-    let h = line-has columns line row e in
-    let tab : delimiter ≡ 92 → ⊥ = λ f. absurd (omega (arith, f)) in
-    subst (λ (r : Row). AreFields (parts delimiter line) r) (sym h.1) (fields-there (parts delimiter line) (parts-closed delimiter line (parts delimiter line) tab h.0 (split-there delimiter line tab)))
+pub line-fields : (o : Options) (columns : Option ℕ) (line : List ℕ) (row : Row) → AreOptions o → line_row o columns line ≡ Ok row → AreFields o (parts o.delimiter line) row
+line-fields o columns line row are e =
+    let h = line-has o columns line row e in
+    let ne = no-backslash o are in
+    subst (λ (r : Row). AreFields o (parts o.delimiter line) r) (sym h.1) (fields-there o (parts o.delimiter line) (parts-closed o.delimiter line (parts o.delimiter line) ne h.0 (split-there o.delimiter line ne)))

@@ -9,7 +9,7 @@ use Rattle.std.proofs.lemmas.List.{take_more, drop_more, drop-drop, length-drop,
 use Rattle.std.proofs.lemmas.List.Sums.{take_while-cons}
 use Rattle.std.specs.Str.{bytes_eq}
 use Rattle.pg_copy.specs.Private.Units.{LeadsWith, NoBackslash}
-use Rattle.pg_copy.specs.Text.{null_mark, field_value, digits_at, text_after, escape_at, digits_value, octal_escape, hex_escape}
+use Rattle.pg_copy.specs.Text.{Options, field_value, digits_at, text_after, escape_at, digits_value, octal_escape, hex_escape}
 
 -- the value is read up to at, but for a run from start on that is copied as it is
 pub record IsReadTo (bytes : List ℕ) (start at : ℕ) (text : List ℕ) : Type 0 where
@@ -143,9 +143,5 @@ plain-text : (bytes : List ℕ) → NoBackslash bytes → text_after 0 bytes ≡
 plain-text [] h = refl
 plain-text (b ∷ bs) h = rw h.0 (ap (λ (x : List ℕ). b ∷ x) (plain-text bs h.1))
 
-not_mark : (bytes : List ℕ) → NoBackslash bytes → bytes_eq bytes null_mark ≡ false
-not_mark [] h = refl
-not_mark (b ∷ bs) h = rw h.0 refl
-
-pub plain-field : (bytes : List ℕ) → NoBackslash bytes → field_value bytes ≡ Some bytes
-plain-field bytes h = cond-false _ _ _ (not_mark bytes h) ∙ ap (λ (x : List ℕ). Some x) (plain-text bytes h)
+pub plain-field : (o : Options) (bytes : List ℕ) → NoBackslash bytes → bytes_eq bytes o.null_mark ≡ false → field_value o bytes ≡ Some bytes
+plain-field o bytes h other = cond-false _ _ _ other ∙ ap (λ (x : List ℕ). Some x) (plain-text bytes h)

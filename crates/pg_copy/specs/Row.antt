@@ -30,10 +30,6 @@ width_fault count =
 abbrev pub field_fault : Option (List ℕ) → Option RowFault
 field_fault field = if is_long field then Some faults.FieldLong else None
 
--- why a row can't be written as text, if it can't: its number of fields
-abbrev pub text_fault : Row → Option RowFault
-text_fault row = if is_misfit row then Some (faults.Width (length row)) else None
-
 -- why a row can't be written in binary, if it can't: its number of fields, else a value that is too
 -- long
 abbrev pub binary_fault : Row → Option RowFault

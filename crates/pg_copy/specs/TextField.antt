@@ -3,7 +3,7 @@
 use Rattle.std.specs.Prelude.{◌≡◌, ℕ, ◌<◌, ◌≤◌, ◌%◌, ◌⊎◌, List, [], ◌∷◌, ◌++◌, length, Option, Some, None}
 use Rattle.std.specs.List.{AllByRecursion}
 use Rattle.std.specs.Char.{digit_value}
-use Rattle.pg_copy.specs.Text.{backslash, null_mark, letter_value, digits_value}
+use Rattle.pg_copy.specs.Text.{Options, backslash, letter_value, digits_value}
 
 -- The bytes don't begin with a digit of this base.
 abbrev pub NoDigit : ℕ → List ℕ → Type 0
@@ -37,6 +37,6 @@ pub data IsText : List ℕ → List ℕ → Type 0 where
       → IsText (backslash ∷ (escape ++ bs)) (b ∷ text)
 
 -- The field spells this value. Whether it is the null mark is looked at before any escape.
-abbrev pub IsField : List ℕ → Option (List ℕ) → Type 0
-IsField bytes None = bytes ≡ null_mark
-IsField bytes (Some text) = (bytes ≡ null_mark → ⊥) × IsText bytes text
+abbrev pub IsField : Options → List ℕ → Option (List ℕ) → Type 0
+IsField o bytes None = bytes ≡ o.null_mark
+IsField o bytes (Some text) = (bytes ≡ o.null_mark → ⊥) × IsText bytes text

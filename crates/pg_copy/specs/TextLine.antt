@@ -3,7 +3,9 @@
 use Rattle.std.specs.Prelude.{◌≡◌, ℕ, List, [], ◌∷◌, ◌++◌}
 use Rattle.pg_copy.specs.TextField.{IsField}
 use Rattle.pg_copy.specs.Row.{Row}
-use Rattle.pg_copy.specs.Text.{backslash}
+use Rattle.pg_copy.specs.Text.{Options, backslash, newline, carriage_return}
+use Rattle.pg_copy.specs.declared.line_end.LineEnd.{LineEnd}
+use Rattle.pg_copy.specs.declared.line_end.LineEnd.TheVariants.{Newline, Return, Both}
 
 -- No byte `mark` among these stands unescaped: they are bytes other than the mark and the
 -- backslash, and backslashes each with the byte after it.
@@ -22,9 +24,38 @@ pub data AreParts (mark : ℕ) : List ℕ → List (List ℕ) → Type 0 where
   more : (p bytes : List ℕ) (ps : List (List ℕ)) → AreUnits mark p → AreParts mark bytes ps
       → AreParts mark (p ++ mark ∷ bytes) (p ∷ ps)
 
+-- No newline stands first.
+abbrev pub NoNewlineFirst : List ℕ → Type 0
+NoNewlineFirst [] = Unit {0}
+NoNewlineFirst (b ∷ bs) = b ≡ newline → ⊥
+
+-- No return among these that stands unescaped has a newline directly after it: they are bytes other
+-- than the return and the backslash, such returns, and backslashes each with the byte after it.
+pub data AreUnpaired : List ℕ → Type 0 where
+  nothing : AreUnpaired []
+  byte : (b : ℕ) (bs : List ℕ) → (b ≡ backslash → ⊥) → (b ≡ carriage_return → ⊥) → AreUnpaired bs
+      → AreUnpaired (b ∷ bs)
+  return : (bs : List ℕ) → NoNewlineFirst bs → AreUnpaired bs → AreUnpaired (carriage_return ∷ bs)
+  escape : (b : ℕ) (bs : List ℕ) → AreUnpaired bs → AreUnpaired (backslash ∷ b ∷ bs)
+
+-- The bytes are these parts with an unescaped return and a newline between any two. The last part
+-- may end in a lone backslash.
+pub data ArePairs : List ℕ → List (List ℕ) → Type 0 where
+  one : (p : List ℕ) → AreUnpaired p → ArePairs p (p ∷ [])
+  lone : (p : List ℕ) → AreUnpaired p
+      → ArePairs (p ++ backslash ∷ []) ((p ++ backslash ∷ []) ∷ [])
+  more : (p bytes : List ℕ) (ps : List (List ℕ)) → AreUnpaired p → ArePairs bytes ps
+      → ArePairs (p ++ carriage_return ∷ newline ∷ bytes) (p ∷ ps)
+
+-- The bytes are these lines, and what stands after the last line end, where lines end so.
+abbrev pub AreLines : LineEnd → List ℕ → List (List ℕ) → Type 0
+AreLines Newline bytes ps = AreParts newline bytes ps
+AreLines Return bytes ps = AreParts carriage_return bytes ps
+AreLines Both bytes ps = ArePairs bytes ps
+
 -- Field k of a line spells value k of the row, and there are as many of both.
-abbrev pub AreFields : List (List ℕ) → Row → Type 0
-AreFields [] [] = Unit {0}
-AreFields [] (v ∷ vs) = ⊥
-AreFields (p ∷ ps) [] = ⊥
-AreFields (p ∷ ps) (v ∷ vs) = IsField p v × AreFields ps vs
+abbrev pub AreFields : Options → List (List ℕ) → Row → Type 0
+AreFields o [] [] = Unit {0}
+AreFields o [] (v ∷ vs) = ⊥
+AreFields o (p ∷ ps) [] = ⊥
+AreFields o (p ∷ ps) (v ∷ vs) = IsField o p v × AreFields o ps vs

@@ -3,40 +3,57 @@
 use Rattle.std.specs.Prelude.{◌≡◌, ℕ, ◌<◌, ◌⊎◌, Bool, false, List, [], ◌++◌, length, Option, Result, Ok, Err}
 use Rattle.pg_copy.specs.declared.fault.TextFault.{TextFault}
 use Rattle.pg_copy.specs.declared.fault.TextFault.TheVariants.{Memory}
+use Rattle.pg_copy.specs.declared.line_end.LineEnd.{LineEnd}
 use Rattle.pg_copy.specs.declared.text_reader.TextStage.{TextStage}
 use Rattle.pg_copy.specs.declared.text_reader.TextStage.TheVariants as stages
 use Rattle.pg_copy.specs.Row.{Row}
 use Rattle.pg_copy.specs.Reading.{RowsRead, RowsEnding, Open, Done, Ended, Bad, after_rows}
-use Rattle.pg_copy.specs.Text.{text_reading, text_at_end, text_file_reading}
+use Rattle.pg_copy.specs.Text.{Options, reading_after, text_reading, last_after, text_file_reading}
 
--- a reader's columns (None for any number), the bytes that it keeps since they are no whole row
--- yet, its stage, and whether `finish` has ended the input
+-- a reader's options, its columns (None for any number), how the lines of the rows that it gave
+-- ended (None before the first), the bytes that it keeps since they are no whole row yet, its stage,
+-- and whether `finish` has ended the input
 pub record TextState : Type 0 where
+  pub options : Options
   pub columns : Option ℕ
+  pub line_end : Option LineEnd
   pub kept : List ℕ
   pub stage : TextStage
   pub ended : Bool
 
 -- what a reader at this stage still gives of these bytes
-abbrev pub text_stage_reading : TextStage → Option ℕ → List ℕ → RowsRead TextFault
-text_stage_reading stages.Lines columns bytes = text_reading columns bytes
-text_stage_reading stages.Marked columns bytes = record { rows = []; ending = Done }
-text_stage_reading (stages.Failed fault) columns bytes = record { rows = []; ending = Bad fault }
+abbrev pub text_stage_reading : TextStage → Options → Option ℕ → Option LineEnd → List ℕ
+    → RowsRead TextFault
+text_stage_reading stages.Lines o columns before bytes = reading_after o columns before bytes
+text_stage_reading stages.Marked o columns before bytes = record { rows = []; ending = Done }
+text_stage_reading (stages.Failed fault) o columns before bytes = record { rows = []; ending = Bad fault }
 
 -- what the reader still gives, if these bytes are pushed next
 abbrev pub text_left : TextState → List ℕ → RowsRead TextFault
-text_left s more = text_stage_reading s.stage s.columns (s.kept ++ more)
+text_left s more =
+    text_stage_reading s.stage s.options s.columns s.line_end (s.kept ++ more)
+
+-- what a reader at this stage still gives of these bytes, if the input has ended
+abbrev pub text_stage_last : TextStage → Options → Option ℕ → Option LineEnd → List ℕ
+    → RowsRead TextFault
+text_stage_last stages.Lines o columns before bytes = last_after o columns before bytes
+text_stage_last stages.Marked o columns before bytes = record { rows = []; ending = Done }
+text_stage_last (stages.Failed fault) o columns before bytes =
+    record { rows = []; ending = Bad fault }
 
 -- what the reader still gives, if the input has ended
 abbrev pub text_last : TextState → RowsRead TextFault
-text_last s = text_at_end s.columns (text_left s [])
+text_last s = text_stage_last s.stage s.options s.columns s.line_end s.kept
 
 -- The reader was pushed these bytes in all, and has given these rows: they are the first that a
 -- file which begins so has, and what the reader still gives is the rest of that file's reading.
 pub record HasReadText (s : TextState) (pushed : List ℕ) (given : List Row) : Type 0 where
   pub so_far : s.ended ≡ false → (more : List ℕ)
-      → text_reading s.columns (pushed ++ more) ≡ after_rows given (text_left s more)
-  pub in_all : text_file_reading s.columns pushed ≡ after_rows given (text_last s)
+      → text_reading s.options s.columns (pushed ++ more) ≡ after_rows given (text_left s more)
+  pub to_end : s.ended ≡ false → (more : List ℕ)
+      → text_file_reading s.options s.columns (pushed ++ more)
+      ≡ after_rows given (text_last (record s { kept = s.kept ++ more }))
+  pub in_all : text_file_reading s.options s.columns pushed ≡ after_rows given (text_last s)
 
 -- what stands after all rows, of a reader at this stage that keeps these bytes, while the input
 -- goes on

@@ -6,7 +6,7 @@ use thiserror::Error;
 /// answers it for good; after Memory it is unchanged (PostgreSQL documentation, page COPY, "Text Format").
 #[derive(Clone, Copy, Debug, Drop, PartialEq, Eq, Error)]
 pub enum TextFault {
-    /// The line has a carriage return that isn't escaped.
+    /// The line has a carriage return that isn't escaped, in a file whose lines don't end by it alone.
     #[error("T1 RawReturn")]
     RawReturn,
     /// The input ends in a backslash that begins an escape. Only `finish` answers it.
@@ -15,8 +15,27 @@ pub enum TextFault {
     /// The line has this many fields, which isn't the number of columns, or is above 32,767 where none was given.
     #[error("T3 Columns {0}")]
     Columns(usize),
+    /// The line has a newline that isn't escaped, in a file whose lines don't end by it alone.
+    #[error("T5 RawNewline")]
+    RawNewline,
     /// Memory was refused.
     #[error("T4 Memory")]
+    Memory,
+}
+
+/// Why there are no such options of a text file: the first of these that holds (PostgreSQL documentation, page COPY, DELIMITER
+/// and NULL).
+#[derive(Clone, Copy, Debug, Drop, PartialEq, Eq, Error)]
+pub enum OptionFault {
+    /// This byte can't part fields: it is a newline, a return, a backslash, a dot, a letter from `a` to `z` or a digit.
+    #[error("O1 Delimiter {0}")]
+    Delimiter(u8),
+    /// These bytes can't stand for null: a newline, a return or the delimiter is among them, they are `\.`, or they end in a
+    /// lone backslash.
+    #[error("O2 NullMark")]
+    NullMark,
+    /// Memory was refused.
+    #[error("O3 Memory")]
     Memory,
 }
 
@@ -60,6 +79,9 @@ pub enum RowFault {
     /// A value is longer than a binary file can say: it has more than 2,147,483,647 bytes.
     #[error("R2 FieldLong")]
     FieldLong,
+    /// The field of this number, counted from 0, is the first text that would be written as the null mark is.
+    #[error("R4 LikeNull {0}")]
+    LikeNull(usize),
     /// The buffer could not grow.
     #[error("R3 Memory")]
     Memory,

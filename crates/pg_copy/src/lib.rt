@@ -13,11 +13,13 @@ mod binary_writer;
 mod fault;
 mod format;
 pub mod laws;
+mod line_end;
 mod plain;
 mod row_buffer;
 mod scan;
 mod text_field;
 mod text_line;
+mod text_options;
 mod text_reader;
 mod text_writer;
 
@@ -27,10 +29,11 @@ pub use binary_writer::{
     write_binary_count, write_binary_field, write_binary_head, write_binary_row,
     write_binary_trailer,
 };
-pub use fault::{BinaryFault, RowFault, TextFault};
+pub use fault::{BinaryFault, OptionFault, RowFault, TextFault};
 pub use pg_seq::Seq;
+pub use text_options::TextOptions;
 pub use text_reader::TextReader;
-pub use text_writer::{write_text_field, write_text_row};
+pub use text_writer::{write_text_field, write_text_row, write_text_row_with};
 
 /// The values of a row, in the order of its columns. None is null (PostgreSQL documentation, page COPY, "File Formats").
 pub type Row = Seq<Option<Seq<u8>>>;

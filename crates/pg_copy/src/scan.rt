@@ -1,10 +1,11 @@
 //! A walk over the units of a line: a backslash with the byte after it, or one other byte.
 
-ghost use Rattle.std.specs.Prelude.{◌≡◌, ◌+◌, ◌<◌, ◌≤◌, ◌^◌, length, true, false};
-ghost use Rattle.pg_copy.specs.Text.{newline};
-ghost use Rattle.pg_copy.specs.Private.Units.{IsScanned, IsUnitAt, after};
+ghost use Rattle.std.specs.Prelude.{◌≡◌, ◌+◌, ◌<◌, ◌≤◌, ◌^◌, length, Some, None, true, false};
+ghost use Rattle.pg_copy.specs.declared.line_end.LineEnd.{LineEnd};
+ghost use Rattle.pg_copy.specs.Private.Breaks.{end_len, IsFirstLine};
+ghost use Rattle.pg_copy.specs.Private.Units.{IsScanned, StandsAt, after};
 
-use crate::format::DELIMITER;
+use crate::line_end::{LineBreak, LineEnd, break_at, is_break};
 use crate::plain::{is_plain, plain_end};
 
 /// How far a line was walked over, and what is known of it.
@@ -18,25 +19,34 @@ pub struct Scan {
     pub delimiters: usize,
     /// A unit was a carriage return.
     pub returned: bool,
+    /// A unit was a newline.
+    pub newlined: bool,
 }
 
 impl Scan {
     pub fn start() -> Self
-        ensures { result ≡ record { at = 0; escaped = false; delimiters = 0; returned = false } }
+        ensures { result ≡ record {
+          at = 0;
+          escaped = false;
+          delimiters = 0;
+          returned = false;
+          newlined = false;
+        } }
     {
         Scan {
             at: 0,
             escaped: false,
             delimiters: 0,
             returned: false,
+            newlined: false,
         }
     }
 
     /// The walk after one byte more, which doesn't end the line.
-    fn after(self, byte: u8) -> Self
+    pub fn after(self, byte: u8, delimiter: u8) -> Self
         requires few { self.delimiters ≤ self.at }
         requires room { self.at + 1 < 2 ^ 64 }
-        ensures { result ≡ after self byte }
+        ensures { result ≡ after delimiter self byte }
     {
         if self.escaped {
             return Scan {
@@ -44,39 +54,56 @@ impl Scan {
                 escaped: false,
                 delimiters: self.delimiters,
                 returned: self.returned,
+                newlined: self.newlined,
             };
         }
         Scan {
             at: self.at + 1,
             escaped: byte == b'\\',
-            delimiters: self.delimiters + usize::from(byte == DELIMITER),
+            delimiters: self.delimiters + usize::from(byte == delimiter),
             returned: self.returned || byte == b'\r',
+            newlined: self.newlined || byte == b'\n',
         }
     }
 
-    /// Goes on to the newline that ends the line, and says whether it is there.
-    pub fn find_newline(&mut self, bytes: &[u8]) -> bool
-        requires { IsScanned bytes.now self.old }
-        ensures scanned { IsScanned bytes.now self.new }
-        ensures found { result ≡ true → IsUnitAt newline bytes.now self.new.at }
-        ensures room { result ≡ true → self.new.at + 1 < 2 ^ 64 }
-        ensures none { result ≡ false → self.new.at ≡ length bytes.now }
+    /// Goes on to what ends the line, where lines before it ended so, and says how it ends, if it does.
+    pub fn find_end(
+        &mut self,
+        bytes: &[u8],
+        delimiter: u8,
+        before: Option<LineEnd>,
+    ) -> Option<LineEnd>
+        requires { IsScanned delimiter before bytes.now self.old }
+        ensures scanned { IsScanned delimiter before bytes.now self.new }
+        ensures found { (e : LineEnd) → result ≡ Some e
+            → IsFirstLine before bytes.now e self.new.at (self.new.at + end_len e) }
+        ensures room { (e : LineEnd) → result ≡ Some e → self.new.at + end_len e < 2 ^ 64 }
+        ensures none { result ≡ None → StandsAt before bytes.now self.new }
     {
         let mut scan = *self;
         while scan.at < bytes.len() {
             let byte = bytes[scan.at];
             if scan.escaped {
-                scan = scan.after(byte);
-            } else if is_plain(byte) {
-                scan.at = plain_end(bytes, scan.at + 1);
-            } else if byte == b'\n' {
-                *self = scan;
-                return true;
+                scan = scan.after(byte, delimiter);
+            } else if is_plain(byte, delimiter) {
+                scan.at = plain_end(bytes, scan.at + 1, delimiter);
+            } else if is_break(byte) {
+                match break_at(before, &bytes[scan.at..]) {
+                    LineBreak::Ends(end) => {
+                        *self = scan;
+                        return Some(end);
+                    }
+                    LineBreak::Waits => {
+                        *self = scan;
+                        return None;
+                    }
+                    LineBreak::Stays => scan = scan.after(byte, delimiter),
+                }
             } else {
-                scan = scan.after(byte);
+                scan = scan.after(byte, delimiter);
             }
         }
         *self = scan;
-        false
+        None
     }
 }

@@ -4,7 +4,7 @@ ghost use Rattle.std.specs.Prelude.{◌≡◌, ◌≤◌, ◌<◌, ℕ, [], leng
 ghost use Rattle.pg_copy.specs.Text.{letter_value, digits_at, octal_escape, hex_escape, escape_at, text_after, field_value};
 ghost use Rattle.pg_copy.specs.Private.Units.{LeadsWith, NoBackslash};
 
-use crate::format::NULL_MARK;
+use crate::text_options::TextOptions;
 use pg_seq::Seq;
 use std::alloc::{AllocError, Global};
 
@@ -105,15 +105,20 @@ fn text_of(alloc: Global, bytes: &[u8]) -> Result<Vec<u8>, AllocError>
 }
 
 /// The value of a field, which is plain where it has no backslash. Null is looked at before any escape.
-pub fn field_value(alloc: Global, bytes: &[u8], plain: bool) -> Result<Option<Seq<u8>>, AllocError>
+pub fn field_value(
+    alloc: Global,
+    bytes: &[u8],
+    plain: bool,
+    options: &TextOptions,
+) -> Result<Option<Seq<u8>>, AllocError>
     requires { plain ≡ true → NoBackslash bytes.now }
-    ensures { IfOk result (λ value. value ≡ field_value bytes.now) }
+    ensures { IfOk result (λ value. value ≡ field_value options.now bytes.now) }
 {
+    if bytes == options.null_mark() {
+        return Ok(None);
+    }
     if plain {
         return Ok(Some(Seq::from_slice(alloc, bytes)?));
-    }
-    if bytes == NULL_MARK.as_slice() {
-        return Ok(None);
     }
     Ok(Some(Seq::new(text_of(alloc, bytes)?)))
 }

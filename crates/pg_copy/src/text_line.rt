@@ -1,15 +1,17 @@
 //! The row that a line of a text file spells.
 
 ghost use Rattle.std.specs.Prelude.{◌≡◌, ◌<◌, ◌+◌, length, map, IfOk};
-ghost use Rattle.pg_copy.specs.Text.{delimiter, parts, fits_width, field_value};
-ghost use Rattle.pg_copy.specs.Private.Units.{IsScanned, IsFieldEnd};
+ghost use Rattle.pg_copy.specs.Text.{parts, fits_width, field_value};
+ghost use Rattle.pg_copy.specs.TextOptions.{AreOptions};
+ghost use Rattle.pg_copy.specs.Private.Units.{IsCounted, IsFieldEnd};
 ghost use Rattle.pg_copy.specs.Private.TextLine.{IsJudged};
 
 use crate::fault::TextFault;
-use crate::format::{DELIMITER, END_MARK, MOST_FIELDS};
+use crate::format::{END_MARK, MOST_FIELDS};
 use crate::plain::plain_end;
 use crate::scan::Scan;
 use crate::text_field::field_value;
+use crate::text_options::TextOptions;
 use pg_seq::Seq;
 use std::alloc::{AllocError, Global};
 
@@ -33,16 +35,20 @@ fn fits_width(columns: Option<u16>, count: usize) -> bool
 }
 
 /// Judges a line that was walked over.
-pub fn judge(columns: Option<u16>, line: &[u8], scan: Scan) -> JudgedLine
-    requires scanned { IsScanned line.now scan }
+pub fn judge(options: &TextOptions, columns: Option<u16>, line: &[u8], scan: Scan) -> JudgedLine
+    requires options { AreOptions options.now }
+    requires counted { IsCounted options.now.delimiter line.now scan }
     requires whole { scan.at ≡ length line.now }
-    ensures { IsJudged columns line.now result }
+    ensures { IsJudged options.now columns line.now result }
 {
     if line == END_MARK.as_slice() {
         return JudgedLine::EndMark;
     }
     if scan.returned {
         return JudgedLine::Faulty(TextFault::RawReturn);
+    }
+    if scan.newlined {
+        return JudgedLine::Faulty(TextFault::RawNewline);
     }
     if scan.escaped {
         return JudgedLine::Faulty(TextFault::LoneBackslash);
@@ -66,16 +72,16 @@ pub struct FieldEnd {
 }
 
 /// Where the field at the front of a line's rest ends.
-fn field_end(rest: &[u8]) -> FieldEnd
-    ensures { IsFieldEnd rest.now result }
+fn field_end(rest: &[u8], delimiter: u8) -> FieldEnd
+    ensures { IsFieldEnd delimiter rest.now result }
 {
     let mut escaped = false;
     let mut plain = true;
-    for i in plain_end(rest, 0)..rest.len() {
+    for i in plain_end(rest, 0, delimiter)..rest.len() {
         let byte = rest[i];
         if escaped {
             escaped = false;
-        } else if byte == DELIMITER {
+        } else if byte == delimiter {
             return FieldEnd {
                 len: i,
                 plain,
@@ -98,19 +104,22 @@ pub fn fields_of(
     alloc: Global,
     line: &[u8],
     count: usize,
+    options: &TextOptions,
 ) -> Result<Vec<Option<Seq<u8>>>, AllocError>
-    ensures { IfOk result (λ fields. fields.items ≡ map field_value (parts delimiter line.now)) }
+    ensures { IfOk result (λ fields. fields.items
+        ≡ map (field_value options.now) (parts options.now.delimiter line.now)) }
 {
+    let delimiter = options.delimiter();
     let mut fields = Vec::with_capacity(alloc, count)?;
     let mut rest = line;
-    let mut end = field_end(rest);
+    let mut end = field_end(rest, delimiter);
     while !end.last {
         let (field, _) = rest.split_at(end.len);
-        fields.push(field_value(alloc, field, end.plain)?)?;
+        fields.push(field_value(alloc, field, end.plain, options)?)?;
         let (_, after) = rest.split_at(end.len + 1);
         rest = after;
-        end = field_end(rest);
+        end = field_end(rest, delimiter);
     }
-    fields.push(field_value(alloc, rest, end.plain)?)?;
+    fields.push(field_value(alloc, rest, end.plain, options)?)?;
     Ok(fields)
 }

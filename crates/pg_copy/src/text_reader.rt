@@ -1,20 +1,25 @@
 //! Reading a text file that comes in pieces.
 
-ghost use Rattle.std.specs.Prelude.{◌≡◌, ◌++◌, ◌≤◌, ◌+◌, ◌^◌, ◌<◌, ◌↔◌, ℕ, List, Ok, Err, [], true, false, length, IsTrue, OnOk, IfSome, ◌⊎◌};
+ghost use Rattle.std.specs.Prelude.{◌≡◌, ◌++◌, ◌≤◌, ◌+◌, ◌^◌, ◌<◌, ◌↔◌, ℕ, List, Some, None, Ok, Err, [], true, false, length, IsTrue, OnOk, IfSome, ◌⊎◌};
 ghost use Rattle.pg_copy.specs.declared.fault.TextFault.{TextFault};
 ghost use Rattle.pg_copy.specs.declared.fault.TextFault.TheVariants.{Memory};
+ghost use Rattle.pg_copy.specs.declared.line_end.LineEnd.{LineEnd};
 ghost use Rattle.pg_copy.specs.declared.text_reader.TextStage.TheVariants.{Lines, Marked, Failed};
 ghost use Rattle.pg_copy.specs.Row.{Row};
 ghost use Rattle.pg_copy.specs.Reading.{RowWaits, given_by, AnswersNext};
-ghost use Rattle.pg_copy.specs.Text.{newline, text_reading, text_file_reading};
+ghost use Rattle.pg_copy.specs.Text.{default_options, text_reading, text_file_reading};
 ghost use Rattle.pg_copy.specs.TextReader.{HasReadText, PushesText, text_left, text_last, text_ending, last_text_ending};
-ghost use Rattle.pg_copy.specs.Private.Units.{IsScanned, IsUnitAt};
+ghost use Rattle.pg_copy.specs.TextOptions.{AreOptions};
+ghost use Rattle.pg_copy.specs.Private.Breaks.{end_len, IsFirstLine};
+ghost use Rattle.pg_copy.specs.Private.Units.{IsCounted, IsScanned, StandsAt};
 ghost use Rattle.pg_copy.specs.Private.TextLine.{TakesLine, TakesLast, EndsInput};
 
 use crate::Row;
 use crate::fault::TextFault;
+use crate::line_end::LineEnd;
 use crate::scan::Scan;
 use crate::text_line::{JudgedLine, fields_of, judge};
+use crate::text_options::TextOptions;
 use pg_seq::{Buffer, Seq};
 use std::alloc::Global;
 use std::marker::Model;
@@ -33,13 +38,17 @@ pub enum TextStage {
 /// Takes a text file in any pieces, and gives exactly its rows.
 ///
 /// `push` keeps a piece, `next` gives the rows of the lines that are closed, one by one, and `finish` those that are left at the
-/// end of the input. A fault stands in the place of its row, and is answered for good from then on. The line `\.` ends the
-/// rows, and what follows it is dropped. Each byte is walked over once to find where its line ends, however the pieces are cut
-/// (PostgreSQL documentation, page COPY, "Text Format").
+/// end of the input. All lines end alike: by a newline, by a return, or by a return and a newline directly after it, as the first
+/// newline or return decides that isn't escaped. While that is a return and stands last, its line isn't whole. A fault stands in the
+/// place of its row, and is answered for good from then on. The line `\.` ends the rows, and what follows it is dropped. Each byte
+/// is walked over once to find where its line ends, however the pieces are cut (PostgreSQL documentation, page COPY, "Text Format").
 #[derive(Drop)]
 pub struct TextReader {
     alloc: Global,
+    options: TextOptions,
     columns: Option<u16>,
+    // how the lines of the rows that were given ended
+    line_end: Option<LineEnd>,
     buffer: Buffer,
     // how far the first line of the buffer was walked over
     scan: Scan,
@@ -53,22 +62,47 @@ impl Model for TextReader {
 
     ghost Value = { TextState };
 
-    ghost view = { λ r. record { columns = r.columns; kept = r.buffer; stage = r.stage; ended = r.ended } };
+    ghost view = { λ r. record { options = r.options; columns = r.columns; line_end = r.line_end; kept = r.buffer; stage = r.stage; ended = r.ended } };
 
-    ghost invariant = { λ r. IsTextReader r.buffer r.scan r.stage };
+    ghost invariant = { λ r. IsTextReader r.options.delimiter r.line_end r.buffer r.scan r.stage };
 }
 
 impl TextReader {
-    /// A reader of rows of so many columns, 1 to 32,767; or of any number up to 32,767, where None is given.
+    /// A reader of rows of so many columns, 1 to 32,767; or of any number up to 32,767, where None is given. A tab parts the fields,
+    /// and null is `\N`.
     pub fn new(alloc: Global, columns: Option<u16>) -> Self
         requires { IfSome columns (λ n. (0 < n) × (n ≤ 32767)) }
-        ensures state { result
-            ≡ record { columns = columns; kept = []; stage = Lines; ended = false } }
+        ensures state { result ≡ record {
+          options = default_options;
+          columns = columns;
+          line_end = None;
+          kept = [];
+          stage = Lines;
+          ended = false;
+        } }
+        ensures read { HasReadText result [] [] }
+    {
+        TextReader::with_options(alloc, columns, TextOptions::default())
+    }
+
+    /// The same, of a file whose fields the options' delimiter parts, and whose nulls are their null mark.
+    pub fn with_options(alloc: Global, columns: Option<u16>, options: TextOptions) -> Self
+        requires { IfSome columns (λ n. (0 < n) × (n ≤ 32767)) }
+        ensures state { result ≡ record {
+          options = options;
+          columns = columns;
+          line_end = None;
+          kept = [];
+          stage = Lines;
+          ended = false;
+        } }
         ensures read { HasReadText result [] [] }
     {
         TextReader {
             alloc,
+            options,
             columns,
+            line_end: None,
             buffer: Buffer::new(alloc),
             scan: Scan::start(),
             stage: TextStage::Lines,
@@ -119,8 +153,9 @@ impl TextReader {
         ensures read { (pushed : List ℕ) (given : List Row) → HasReadText self.old pushed given
             → HasReadText self.new pushed (given ++ given_by result) }
         ensures gives { (pushed : List ℕ) (given : List Row) → HasReadText self.old pushed given
-            → AnswersNext Memory (text_reading self.new.columns pushed) given
+            → AnswersNext Memory (text_reading self.new.options self.new.columns pushed) given
             (text_ending self.new.stage self.new.kept) result }
+        ensures options { self.new.options ≡ self.old.options }
         ensures columns { self.new.columns ≡ self.old.columns }
         ensures ended { self.new.ended ≡ false }
         ensures row { (row : Row) → result ≡ Ok (Some row) → self.new.stage ≡ Lines }
@@ -135,24 +170,25 @@ impl TextReader {
             TextStage::Marked => Ok(None),
             TextStage::Lines => {
                 let (scan, found) = self.walk();
-                if found {
-                    self.take_line(scan, scan.at + 1)
-                } else {
-                    Ok(None)
+                match found {
+                    Some(end) => self.take_line(scan, scan.at + end.len(), Some(end)),
+                    None => Ok(None),
                 }
             }
         }
     }
 
     /// Says that the input has ended, and gives the next row that is left, or None where none is: the last line need not be
-    /// closed, and no line stands there where it is empty. It is to be called until it answers None. Memory is answered only
+    /// closed, and no line stands there where it is empty; a return that stands last ends its line, where it is the first newline or
+    /// return that isn't escaped. It is to be called until it answers None. Memory is answered only
     /// where a row is left, and leaves the reader unchanged (PostgreSQL documentation, page COPY, "Text Format").
     pub fn finish(&mut self) -> Result<Option<Row>, TextFault>
         ensures read { (pushed : List ℕ) (given : List Row) → HasReadText self.old pushed given
             → HasReadText self.new pushed (given ++ given_by result) }
         ensures gives { (pushed : List ℕ) (given : List Row) → HasReadText self.old pushed given
-            → AnswersNext Memory (text_file_reading self.new.columns pushed) given
+            → AnswersNext Memory (text_file_reading self.new.options self.new.columns pushed) given
             (last_text_ending self.new.stage) result }
+        ensures options { self.new.options ≡ self.old.options }
         ensures columns { self.new.columns ≡ self.old.columns }
         ensures ended { result ≡ Err Memory ⊎ self.new.ended ≡ true }
         ensures row { (row : Row) → result ≡ Ok (Some row) → self.new.stage ≡ Lines }
@@ -180,27 +216,39 @@ impl TextReader {
         }
     }
 
-    /// Walks on over the first line, and says how far it goes and whether the newline that ends it stands there.
-    fn walk(&mut self) -> (Scan, bool)
-        ensures scanned { IsScanned self.old.kept result.0 }
-        ensures found { result.1 ≡ true → IsUnitAt newline self.old.kept result.0.at }
-        ensures room { result.1 ≡ true → result.0.at + 1 < 2 ^ 64 }
-        ensures none { result.1 ≡ false → result.0.at ≡ length self.old.kept }
+    /// Walks on over the first line, and says how far it goes and how the line ends, if it does.
+    fn walk(&mut self) -> (Scan, Option<LineEnd>)
+        ensures scanned { IsScanned self.old.options.delimiter self.old.line_end self.old.kept
+            result.0 }
+        ensures found { (e : LineEnd) → result.1 ≡ Some e → IsFirstLine self.old.line_end
+            self.old.kept e result.0.at (result.0.at + end_len e) }
+        ensures room { (e : LineEnd) → result.1 ≡ Some e → result.0.at + end_len e < 2 ^ 64 }
+        ensures none { result.1 ≡ None → StandsAt self.old.line_end self.old.kept result.0 }
         ensures state { self.new ≡ self.old }
+        ensures options { AreOptions self.old.options }
     {
-        let found = self.scan.find_newline(self.buffer.as_slice());
+        let delimiter = self.options.delimiter();
+        let found = self
+            .scan
+            .find_end(self.buffer.as_slice(), delimiter, self.line_end);
         (self.scan, found)
     }
 
-    /// Answers for the first line, which was walked over, and takes so many bytes with what ends it.
-    fn take_line(&mut self, scan: Scan, taken: usize) -> Result<Option<Row>, TextFault>
+    /// Answers for the first line, which was walked over, and takes so many bytes with what ends it. Lines end so from then on.
+    fn take_line(
+        &mut self,
+        scan: Scan,
+        taken: usize,
+        line_end: Option<LineEnd>,
+    ) -> Result<Option<Row>, TextFault>
         requires lines { self.old.stage ≡ Lines }
-        requires scanned { IsScanned self.old.kept scan }
+        requires options { AreOptions self.old.options }
+        requires counted { IsCounted self.old.options.delimiter self.old.kept scan }
         requires in_range { taken ≤ length self.old.kept }
-        ensures { TakesLine scan.at taken self.old result self.new }
+        ensures { TakesLine scan.at taken line_end self.old result self.new }
     {
         let line = &self.buffer.as_slice()[..scan.at];
-        match judge(self.columns, line, scan) {
+        match judge(&self.options, self.columns, line, scan) {
             JudgedLine::EndMark => {
                 self.stop(TextStage::Marked);
                 Ok(None)
@@ -209,9 +257,10 @@ impl TextReader {
                 self.stop(TextStage::Failed(fault));
                 Err(fault)
             }
-            JudgedLine::Row(count) => match fields_of(self.alloc, line, count) {
+            JudgedLine::Row(count) => match fields_of(self.alloc, line, count, &self.options) {
                 Ok(fields) => {
                     self.buffer.take(taken);
+                    self.line_end = line_end;
                     self.scan = Scan::start();
                     Ok(Some(Seq::new(fields)))
                 }
@@ -237,12 +286,35 @@ impl TextReader {
         ensures { TakesLast self.old result self.new }
     {
         let (scan, found) = self.walk();
-        if found {
-            self.take_line(scan, scan.at + 1)
-        } else if scan.at == 0 {
-            Ok(None)
-        } else {
-            self.take_line(scan, scan.at)
+        if let Some(end) = found {
+            return self.take_line(scan, scan.at + end.len(), Some(end));
+        }
+        if self.buffer.len() == 0 {
+            return Ok(None);
+        }
+        self.open_line(scan)
+    }
+
+    /// Answers for the last line, which is open and was walked over, but for a return that stands last.
+    fn open_line(&mut self, scan: Scan) -> Result<Option<Row>, TextFault>
+        requires lines { self.old.stage ≡ Lines }
+        requires options { AreOptions self.old.options }
+        requires scanned { IsScanned self.old.options.delimiter self.old.line_end self.old.kept
+            scan }
+        requires stands { StandsAt self.old.line_end self.old.kept scan }
+        requires some { 0 < length self.old.kept }
+        ensures { TakesLast self.old result self.new }
+    {
+        let len = self.buffer.len();
+        if scan.at == len {
+            return self.take_line(scan, len, self.line_end);
+        }
+        match self.line_end {
+            None => self.take_line(scan, len, Some(LineEnd::Return)),
+            Some(end) => {
+                let whole = scan.after(b'\r', self.options.delimiter());
+                self.take_line(whole, len, Some(end))
+            }
         }
     }
 

@@ -14,7 +14,7 @@ use Rattle.pg_copy.specs.BinaryReader.{BinaryState, HasReadBinary, binary_stage_
 use Rattle.pg_copy.specs.BinaryPart.{binary_file_reading, binary_reading}
 use Rattle.pg_copy.specs.Reading.{RowsRead, RowsEnding, Open, Done, Ended, Bad, IsGood, AnswersNext, after_rows, given_by}
 use Rattle.pg_copy.specs.Row.{Row}
-use Rattle.pg_copy.specs.Text.{text_file_reading, text_reading}
+use Rattle.pg_copy.specs.Text.{Options, text_file_reading, text_reading}
 use Rattle.pg_copy.specs.TextReader.{TextState, HasReadText, text_ending, last_text_ending}
 use Rattle.pgpipe_base.specs.declared.stop.Stop.{Stop}
 use Rattle.pgpipe_convert.specs.declared.convert.Converted.{Converted}
@@ -62,32 +62,36 @@ text_end (stages.Failed f) g = absurd g
 
 text_stops : (at_end : Bool) (old new : RowReader) (f : TextFault) → ((f ≡ text_fault.Memory → ⊥) → ComeNext at_end old [] (none_left (Bad (converted.Text f)))) → (f ≡ text_fault.Memory → new ≡ old) → GivesRow at_end old (Err (text_stop f)) new
 text_stops at_end old new text_fault.RawReturn come memory = come (λ e. absurd cc)
+text_stops at_end old new text_fault.RawNewline come memory = come (λ e. absurd cc)
 text_stops at_end old new text_fault.LoneBackslash come memory = come (λ e. absurd cc)
 text_stops at_end old new (text_fault.Columns n) come memory = come (λ e. absurd cc)
 text_stops at_end old new text_fault.Memory come memory = memory refl
 
-pub next_text : (old new : TextState) (r : Result (Option Row) TextFault) (bytes : List ℕ) (given : List Row) → HasReadText old bytes given → new.columns ≡ old.columns → new.ended ≡ false
+same_text : (old new : TextState) → new.options ≡ old.options → new.columns ≡ old.columns → file_by (reader.Text new) ≡ file_by (reader.Text old)
+same_text old new options columns = ap (λ (o : Options). text_file o new.columns) options ∙ ap (text_file old.options) columns
+
+pub next_text : (old new : TextState) (r : Result (Option Row) TextFault) (bytes : List ℕ) (given : List Row) → HasReadText old bytes given → new.options ≡ old.options → new.columns ≡ old.columns → new.ended ≡ false
     → ((p : List ℕ) (g : List Row) → HasReadText old p g → HasReadText new p (g ++ given_by r))
-    → ((p : List ℕ) (g : List Row) → HasReadText old p g → AnswersNext text_fault.Memory (text_reading new.columns p) g (text_ending new.stage new.kept) r)
+    → ((p : List ℕ) (g : List Row) → HasReadText old p g → AnswersNext text_fault.Memory (text_reading new.options new.columns p) g (text_ending new.stage new.kept) r)
     → (r ≡ Err text_fault.Memory → new ≡ old) → GivesRow false (reader.Text old) (stopped text_stop r) (reader.Text new)
-next_text old new (Ok row) bytes given h same on read gives memory =
-    gives_row text_fault.Memory converted.Text false (reader.Text old) (reader.Text new) (λ p. text_reading new.columns p) (text_ending new.stage new.kept) (λ p. ap (λ (c : Option ℕ). text_file c false p) same)
-    row bytes given h (ap text_file same) (λ e. on) read gives (λ e. good_answer converted.Text (text_ending new.stage new.kept))
-next_text old new (Err f) bytes given h same on read gives memory =
+next_text old new (Ok row) bytes given h options same on read gives memory =
+    gives_row text_fault.Memory converted.Text false (reader.Text old) (reader.Text new) (λ p. text_reading new.options new.columns p) (text_ending new.stage new.kept) (λ p. ap (λ (f : FileReading). f false p) (same_text old new options same))
+    row bytes given h (same_text old new options same) (λ e. on) read gives (λ e. good_answer converted.Text (text_ending new.stage new.kept))
+next_text old new (Err f) bytes given h options same on read gives memory =
     text_stops false (reader.Text old) (reader.Text new) f
-    (gives_fault text_fault.Memory converted.Text false (reader.Text old) (reader.Text new) (λ p. text_reading new.columns p) (text_ending new.stage new.kept) (λ p. ap (λ (c : Option ℕ). text_file c false p) same) f gives)
+    (gives_fault text_fault.Memory converted.Text false (reader.Text old) (reader.Text new) (λ p. text_reading new.options new.columns p) (text_ending new.stage new.kept) (λ p. ap (λ (f : FileReading). f false p) (same_text old new options same)) f gives)
     (λ e. ap reader.Text (memory (ap Err e)))
 
-pub finish_text : (old new : TextState) (r : Result (Option Row) TextFault) (bytes : List ℕ) (given : List Row) → HasReadText old bytes given → new.columns ≡ old.columns
+pub finish_text : (old new : TextState) (r : Result (Option Row) TextFault) (bytes : List ℕ) (given : List Row) → HasReadText old bytes given → new.options ≡ old.options → new.columns ≡ old.columns
     → ((p : List ℕ) (g : List Row) → HasReadText old p g → HasReadText new p (g ++ given_by r))
-    → ((p : List ℕ) (g : List Row) → HasReadText old p g → AnswersNext text_fault.Memory (text_file_reading new.columns p) g (last_text_ending new.stage) r)
+    → ((p : List ℕ) (g : List Row) → HasReadText old p g → AnswersNext text_fault.Memory (text_file_reading new.options new.columns p) g (last_text_ending new.stage) r)
     → (r ≡ Err text_fault.Memory → new ≡ old) → GivesRow true (reader.Text old) (stopped text_stop r) (reader.Text new)
-finish_text old new (Ok row) bytes given h same read gives memory =
-    gives_row text_fault.Memory converted.Text true (reader.Text old) (reader.Text new) (λ p. text_file_reading new.columns p) (last_text_ending new.stage) (λ p. ap (λ (c : Option ℕ). text_file c true p) same)
-    row bytes given h (ap text_file same) (λ e. absurd cc) read gives (λ e. text_end new.stage)
-finish_text old new (Err f) bytes given h same read gives memory =
+finish_text old new (Ok row) bytes given h options same read gives memory =
+    gives_row text_fault.Memory converted.Text true (reader.Text old) (reader.Text new) (λ p. text_file_reading new.options new.columns p) (last_text_ending new.stage) (λ p. ap (λ (f : FileReading). f true p) (same_text old new options same))
+    row bytes given h (same_text old new options same) (λ e. absurd cc) read gives (λ e. text_end new.stage)
+finish_text old new (Err f) bytes given h options same read gives memory =
     text_stops true (reader.Text old) (reader.Text new) f
-    (gives_fault text_fault.Memory converted.Text true (reader.Text old) (reader.Text new) (λ p. text_file_reading new.columns p) (last_text_ending new.stage) (λ p. ap (λ (c : Option ℕ). text_file c true p) same) f gives)
+    (gives_fault text_fault.Memory converted.Text true (reader.Text old) (reader.Text new) (λ p. text_file_reading new.options new.columns p) (last_text_ending new.stage) (λ p. ap (λ (f : FileReading). f true p) (same_text old new options same)) f gives)
     (λ e. ap reader.Text (memory (ap Err e)))
 
 -- ---- binary

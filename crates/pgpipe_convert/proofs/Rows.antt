@@ -5,7 +5,7 @@ use Rattle.pg_copy.specs.declared.fault.TextFault.TheVariants as text_fault
 use Rattle.pg_copy.specs.BinaryPart.{binary_reading}
 use Rattle.pg_copy.specs.BinaryPart as binary
 use Rattle.pg_copy.specs.Reading.{Done, Ended, Bad}
-use Rattle.pg_copy.specs.Text.{text_reading}
+use Rattle.pg_copy.specs.Text.{reading_after, last_after}
 use Rattle.pgpipe_convert.specs.declared.convert.Converted.TheVariants as converted
 use Rattle.pgpipe_convert.specs.declared.format.Format.TheVariants as format
 use Rattle.pgpipe_convert.specs.Convert.{IsOutput, file_of, none_left}
@@ -21,7 +21,7 @@ abbrev binary_file : List ℕ
 binary_file = after_head (0x00 ∷ 0x02 ∷ 0x00 ∷ 0x00 ∷ 0x00 ∷ 0x01 ∷ 0x31 ∷ 0xFF ∷ 0xFF ∷ 0xFF ∷ 0xFF ∷ 0xFF ∷ 0xFF ∷ [])
 
 pub text_to_binary : (ended : Type 0) → ended → IsOutput (file_of format.Text 2) format.Binary ended text_row converted.Whole binary_file
-unfolding text_reading
+unfolding reading_after last_after
 text_to_binary ended e = record {
   left = none_left Ended;
   answer = (Ended, tt, refl);
@@ -45,7 +45,7 @@ abbrev a_and_two : List ℕ
 a_and_two = 0x61 ∷ 0x0A ∷ 0x62 ∷ 0x09 ∷ 0x63 ∷ 0x0A ∷ []
 
 pub rows_before_a_fault : (ended : Type 0) → IsOutput (file_of format.Text 1) format.Text ended a_and_two (converted.Text (text_fault.Columns 2)) (0x61 ∷ 0x0A ∷ [])
-unfolding text_reading
+unfolding reading_after last_after
 rows_before_a_fault ended = record {
   left = none_left (Bad (converted.Text (text_fault.Columns 2)));
   answer = refl;
@@ -56,7 +56,7 @@ rows_before_a_fault ended = record {
 
 -- the same in binary: no trailer stands after the rows
 pub no_trailer_after_a_fault : (ended : Type 0) → IsOutput (file_of format.Text 1) format.Binary ended a_and_two (converted.Text (text_fault.Columns 2)) (after_head (0x00 ∷ 0x01 ∷ 0x00 ∷ 0x00 ∷ 0x00 ∷ 0x01 ∷ 0x61 ∷ []))
-unfolding text_reading
+unfolding reading_after last_after
 no_trailer_after_a_fault ended = record {
   left = none_left (Bad (converted.Text (text_fault.Columns 2)));
   answer = refl;

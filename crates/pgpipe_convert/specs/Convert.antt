@@ -5,8 +5,8 @@ use Rattle.pg_copy.specs.declared.fault.RowFault.{RowFault}
 use Rattle.pg_copy.specs.Binary.{binary_row, written_head, trailer}
 use Rattle.pg_copy.specs.BinaryPart.{binary_file_reading, binary_reading}
 use Rattle.pg_copy.specs.Reading.{RowsRead, RowsEnding, Open, Done, Ended, Bad, IsGood, after_rows}
-use Rattle.pg_copy.specs.Row.{Row, text_fault, binary_fault}
-use Rattle.pg_copy.specs.Text.{text_file_reading, text_reading, written_row}
+use Rattle.pg_copy.specs.Row.{Row, binary_fault}
+use Rattle.pg_copy.specs.Text.{Options, default_options, text_file_reading, text_reading, written_row, text_fault}
 use Rattle.pgpipe_convert.specs.declared.convert.Converted.{Converted}
 use Rattle.pgpipe_convert.specs.declared.convert.Converted.TheVariants as converted
 use Rattle.pgpipe_convert.specs.declared.format.Format.{Format}
@@ -34,10 +34,10 @@ answered answer r = record { rows = r.rows; ending = answered_ending answer r.en
 abbrev pub FileReading : Type 0
 FileReading = Bool → List ℕ → RowsRead Converted
 
--- how COPY text is read, with so many columns or with any number (None)
-abbrev pub text_file : Option ℕ → FileReading
-text_file columns false bytes = answered converted.Text (text_reading columns bytes)
-text_file columns true bytes = answered converted.Text (text_file_reading columns bytes)
+-- how COPY text is read, with these options and so many columns or any number (None)
+abbrev pub text_file : Options → Option ℕ → FileReading
+text_file o columns false bytes = answered converted.Text (text_reading o columns bytes)
+text_file o columns true bytes = answered converted.Text (text_file_reading o columns bytes)
 
 -- how COPY binary is read, with so many columns and values of at most `most` bytes
 abbrev pub binary_file : ℕ → ℕ → FileReading
@@ -51,7 +51,7 @@ value_limit = 1073741823
 
 -- how a file of this format and so many columns is read
 abbrev pub file_of : Format → ℕ → FileReading
-file_of format.Text columns = text_file (Some columns)
+file_of format.Text columns = text_file default_options (Some columns)
 file_of format.Binary columns = binary_file columns value_limit
 
 -- a reading without further rows, which ends so
@@ -74,7 +74,7 @@ IsReadAs file ended bytes r = (file false bytes ≡ r) ⊎ (ended × (file true 
 
 -- why a row can't be written in this format, if it can't
 abbrev pub row_fault : Format → Row → Option RowFault
-row_fault format.Text row = text_fault row
+row_fault format.Text row = text_fault default_options row
 row_fault format.Binary row = binary_fault row
 
 -- The row can be written in this format.
@@ -83,7 +83,7 @@ IsWritable to row = row_fault to row ≡ None
 
 -- the bytes of a row in this format
 abbrev pub row_of : Format → Row → List ℕ
-row_of format.Text row = written_row row
+row_of format.Text row = written_row default_options row
 row_of format.Binary row = binary_row row
 
 -- what is written before the rows: nothing in text, a head in binary

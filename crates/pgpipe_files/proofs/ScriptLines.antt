@@ -9,7 +9,7 @@ use Rattle.pgpipe_lines.specs.Arguments.{◌>>=◌}
 use Rattle.pgpipe_files.specs.AnswerFile.{answer_line}
 use Rattle.pgpipe_files.specs.ScriptFile.{ScriptSoFar, in_answer, script_line_by, no_script, script_line}
 use Rattle.pgpipe_lines.specs.Lines.{with_file, with_rows}
-use Rattle.pg_copy.specs.Text.{text_reading}
+use Rattle.pg_copy.specs.Text.{last_after}
 use Rattle.pgpipe_lines.proofs.Words.{no-answer_verb, no-script_verb}
 
 in_none : (s : ScriptSoFar) (begun : Option OpenAnswer) (n : ℕ) (word : List ℕ) (fields : Row) → (IsUtf8 word → ⊥) → in_answer s begun n word fields ≡ None
@@ -22,6 +22,6 @@ no_script_line s n word fields h = ap (λ (v : Option ScriptVerb). script_line_b
 
 -- where an answer has begun, there were bytes
 pub begun_bytes : (bytes : List ℕ) (s : ScriptSoFar) → with_file script_line no_script bytes ≡ Ok s → IsSome s.begun → 0 < length bytes
-unfolding with_rows text_reading
+unfolding with_rows last_after
 begun_bytes [] s e h = let none : no_script ≡ s = cc in let some = rw (← none) at h in cc
 begun_bytes (b ∷ bs) s e h = omega arith

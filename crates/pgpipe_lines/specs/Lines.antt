@@ -5,7 +5,7 @@ use Rattle.std.specs.Prelude.{ℕ, ◌+◌, Bool, true, false, if◌then◌else�
 use Rattle.pg_copy.specs.declared.fault.TextFault.{TextFault}
 use Rattle.pg_copy.specs.Row.{Row}
 use Rattle.pg_copy.specs.Reading.{RowsEnding, Bad}
-use Rattle.pg_copy.specs.Text.{text_file_reading}
+use Rattle.pg_copy.specs.Text.{default_options, text_file_reading}
 use Rattle.pgpipe_lines.specs.Arguments.{◌>>=◌, text_at}
 
 -- whether the row is that of an empty line: one empty field
@@ -38,8 +38,8 @@ with_rows line so_far n (row ∷ rows) ending =
 -- meaning
 abbrev pub with_file : {S : Type 0} → (S → ℕ → List ℕ → Row → Option S) → S → List ℕ → Result S ℕ
 with_file line so_far bytes =
-    with_rows line so_far 1 (text_file_reading None bytes).rows
-    (text_file_reading None bytes).ending
+    with_rows line so_far 1 (text_file_reading default_options None bytes).rows
+    (text_file_reading default_options None bytes).ending
 
 -- what the whole file is read as, by what `end` makes of all its lines, or the number of a row that
 -- is refused

@@ -5,7 +5,7 @@ use Rattle.std.proofs.lemmas.Bool.{lt-ltb, le-ltb, cond-true, cond-false}
 use Rattle.std.proofs.lemmas.List.{append-nil, map-append, take_more, length-drop, length-take-le}
 use Rattle.std.proofs.lemmas.Grind.{flat_map-append}
 use Rattle.pg_copy.specs.Row.{Row, most_fields}
-use Rattle.pg_copy.specs.Text.{delimiter, newline, written_field, written_fields}
+use Rattle.pg_copy.specs.Text.{default_options, delimiter, newline, written_field, written_fields}
 use Rattle.pg_backend.specs.script.Logged.{Logged}
 use Rattle.pgpipe_files.proofs.Lists.{take-least}
 use Rattle.pgpipe_loop.specs.Lines.{text_line, text_lines, most_chunks, loaded_row, loaded_rows_of, loaded_rows}
@@ -14,7 +14,7 @@ use Rattle.pgpipe_loop.specs.Private.Lines.{LineState, whole_lines, separator, w
 -- ---- one field
 
 pub with_field-open : (s : LineState) (field : Option (List ℕ)) → s.fields < most_fields
-    → with_field s field ≡ record { text = s.text ++ separator s.fields ++ written_field field; fields = s.fields + 1 }
+    → with_field s field ≡ record { text = s.text ++ separator s.fields ++ written_field default_options field; fields = s.fields + 1 }
 unfolding with_field
 with_field-open s field lt = cond-true _ _ _ (lt-ltb s.fields most_fields lt)
 
@@ -30,10 +30,10 @@ pub separator-none : (n : ℕ) → n ≤ 0 → separator n ≡ []
 separator-none zero le = refl
 separator-none (suc n) le = absurd (omega arith)
 
-pub field_put : (inside s : LineState) (field : Option (List ℕ)) (a b : List ℕ) → inside ≡ s → inside.fields < most_fields → a ≡ inside.text ++ separator inside.fields → b ≡ a ++ written_field field
+pub field_put : (inside s : LineState) (field : Option (List ℕ)) (a b : List ℕ) → inside ≡ s → inside.fields < most_fields → a ≡ inside.text ++ separator inside.fields → b ≡ a ++ written_field default_options field
     → record { text = b; fields = inside.fields + 1 } ≡ with_field s field
 field_put inside s field a b e lt h k =
-    let text : b ≡ inside.text ++ separator inside.fields ++ written_field field = k ∙ ap (λ (x : List ℕ). x ++ written_field field) h in
+    let text : b ≡ inside.text ++ separator inside.fields ++ written_field default_options field = k ∙ ap (λ (x : List ℕ). x ++ written_field default_options field) h in
     ap (λ (x : List ℕ). record { text = x; fields = inside.fields + 1 }) text ∙ sym (with_field-open inside field lt) ∙ ap (λ (t : LineState). with_field t field) e
 
 pub field_dropped : (inside s : LineState) (field : Option (List ℕ)) → inside ≡ s → most_fields ≤ inside.fields → s ≡ with_field s field
@@ -110,11 +110,11 @@ five_put old s1 s2 s3 s4 new first last xs ys zs h1 h2 h3 h4 h5 =
 -- the fields after the first, each after its delimiter
 abbrev tails : Row → List ℕ
 tails [] = []
-tails (field ∷ fields) = (delimiter ∷ written_field field) ++ tails fields
+tails (field ∷ fields) = (delimiter ∷ written_field default_options field) ++ tails fields
 
-written_fields-tails : (field : Option (List ℕ)) (fields : Row) → written_fields (field ∷ fields) ≡ written_field field ++ tails fields
-written_fields-tails field [] = sym (append-nil (written_field field))
-written_fields-tails field (next ∷ fields) = ap (λ (x : List ℕ). written_field field ++ (delimiter ∷ x)) (written_fields-tails next fields)
+written_fields-tails : (field : Option (List ℕ)) (fields : Row) → written_fields default_options (field ∷ fields) ≡ written_field default_options field ++ tails fields
+written_fields-tails field [] = sym (append-nil (written_field default_options field))
+written_fields-tails field (next ∷ fields) = ap (λ (x : List ℕ). written_field default_options field ++ (delimiter ∷ x)) (written_fields-tails next fields)
 
 -- a line with a field, and with room for so many more
 pub later_fields : (room : ℕ) (text : List ℕ) (n : ℕ) (fields : Row) → suc n + room ≡ most_fields
@@ -125,11 +125,11 @@ later_fields zero text n (field ∷ fields) e =
     let full : with_field (record { text = text; fields = suc n }) field ≡ record { text = text; fields = suc n } = with_field-full (record { text = text; fields = suc n }) field (omega arith) in
     ap (λ (s : LineState). (with_fields s fields).text) full ∙ later_fields zero text n fields e
 later_fields (suc room) text n (field ∷ fields) e =
-    let put : with_field (record { text = text; fields = suc n }) field ≡ record { text = text ++ (delimiter ∷ []) ++ written_field field; fields = suc n + 1 } = with_field-open (record { text = text; fields = suc n }) field (omega arith) in
+    let put : with_field (record { text = text; fields = suc n }) field ≡ record { text = text ++ (delimiter ∷ []) ++ written_field default_options field; fields = suc n + 1 } = with_field-open (record { text = text; fields = suc n }) field (omega arith) in
     let same : suc n + 1 ≡ suc (suc n) = omega arith in
     ap (λ (s : LineState). (with_fields s fields).text) put
-    ∙ ap (λ (k : ℕ). (with_fields (record { text = text ++ (delimiter ∷ []) ++ written_field field; fields = k }) fields).text) same
-    ∙ later_fields room (text ++ (delimiter ∷ []) ++ written_field field) (suc n) fields (omega arith)
+    ∙ ap (λ (k : ℕ). (with_fields (record { text = text ++ (delimiter ∷ []) ++ written_field default_options field; fields = k }) fields).text) same
+    ∙ later_fields room (text ++ (delimiter ∷ []) ++ written_field default_options field) (suc n) fields (omega arith)
     ∙ simp append_assoc
 
 regroup : (a b c d : List ℕ) → ((a ++ b) ++ c) ++ d ≡ a ++ ((b ++ c) ++ d)
@@ -139,16 +139,16 @@ pub line_of_row : (text : List ℕ) (row : Row) → with_row (whole_lines text) 
 unfolding with_end
 line_of_row text [] = refl
 line_of_row text (field ∷ fields) =
-    let put : with_field (whole_lines text) field ≡ record { text = text ++ [] ++ written_field field; fields = 0 + 1 } = with_field-open (whole_lines text) field (omega arith) in
+    let put : with_field (whole_lines text) field ≡ record { text = text ++ [] ++ written_field default_options field; fields = 0 + 1 } = with_field-open (whole_lines text) field (omega arith) in
     let same : 0 + 1 ≡ suc 0 = refl in
-    let first : text ++ [] ++ written_field field ≡ text ++ written_field field = ap (λ (x : List ℕ). x ++ written_field field) (append-nil text) in
-    let later : (with_fields (with_field (whole_lines text) field) fields).text ≡ (text ++ written_field field) ++ tails (take 32766 fields) =
+    let first : text ++ [] ++ written_field default_options field ≡ text ++ written_field default_options field = ap (λ (x : List ℕ). x ++ written_field default_options field) (append-nil text) in
+    let later : (with_fields (with_field (whole_lines text) field) fields).text ≡ (text ++ written_field default_options field) ++ tails (take 32766 fields) =
     ap (λ (s : LineState). (with_fields s fields).text) put
     ∙ ap (λ (x : List ℕ). (with_fields (record { text = x; fields = 1 }) fields).text) first
-    ∙ later_fields 32766 (text ++ written_field field) 0 fields refl in
+    ∙ later_fields 32766 (text ++ written_field default_options field) 0 fields refl in
     let all : (with_fields (with_field (whole_lines text) field) fields).text ++ newline ∷ [] ≡ text ++ text_line (field ∷ fields) =
     ap (λ (x : List ℕ). x ++ newline ∷ []) later
-    ∙ regroup text (written_field field) (tails (take 32766 fields)) (newline ∷ [])
+    ∙ regroup text (written_field default_options field) (tails (take 32766 fields)) (newline ∷ [])
     ∙ ap (λ (x : List ℕ). text ++ (x ++ newline ∷ [])) (sym (written_fields-tails field (take 32766 fields))) in
     ap whole_lines all
 

@@ -3,7 +3,7 @@ use Rattle.std.specs.Prelude.{ℕ, zero, suc, ◌+◌, Bool, true, false, List, 
 use Rattle.std.specs.Fmt.{decimal, signed_decimal}
 use Rattle.std.specs.List.{flat_map}
 use Rattle.pg_copy.specs.Row.{Row, most_fields}
-use Rattle.pg_copy.specs.Text.{written_row}
+use Rattle.pg_copy.specs.Text.{default_options, written_row}
 use Rattle.pg_wire.specs.Fault.{wire_code}
 use Rattle.pg_wire.specs.value.Column.{Column}
 use Rattle.pg_wire.specs.value.CopyHead.{CopyHead}
@@ -38,7 +38,7 @@ use Rattle.pg_pair.specs.declared.event.Applied.TheVariants as applied
 
 -- a row as its canonical line of COPY text, of at most 32,767 fields; further ones are dropped
 abbrev pub text_line : Row → List ℕ
-text_line row = written_row (take most_fields row)
+text_line row = written_row default_options (take most_fields row)
 
 -- rows as canonical lines, one each
 abbrev pub text_lines : List Row → List ℕ

@@ -3,7 +3,7 @@
 ghost use Rattle.std.specs.Prelude.{◌≡◌, ◌++◌, ℕ, List, Some, IfOk, OnOk};
 ghost use Rattle.std.specs.List.{flat_map};
 ghost use Rattle.pg_copy.specs.Row.{Row};
-ghost use Rattle.pg_copy.specs.Text.{written_row};
+ghost use Rattle.pg_copy.specs.Text.{default_options, written_row};
 ghost use Rattle.pg_copy.specs.Binary.{written_head, binary_row, trailer};
 
 use anyhow::{Result, bail};
@@ -56,7 +56,7 @@ pub trait File: Drop {
 
 /// Appends the canonical lines of rows.
 fn write_lines(rows: &[Row], buf: &mut Vec<u8>) -> Result<()>
-    ensures { OnOk result (buf.new.items ≡ buf.old.items ++ flat_map written_row rows.now) }
+    ensures { OnOk result (buf.new.items ≡ buf.old.items ++ flat_map (written_row default_options) rows.now) }
 {
     for row in rows {
         write_text_row(row, buf)?;
@@ -75,7 +75,7 @@ fn write_binary_rows(rows: &[Row], buf: &mut Vec<u8>) -> Result<()>
 }
 
 impl File for TextReader {
-    ghost file_of = { flat_map written_row };
+    ghost file_of = { flat_map (written_row default_options) };
 
     fn begin(alloc: Global) -> TextReader
         ensures { result.columns ≡ Some 3 }

@@ -4,6 +4,8 @@
 
 mod file;
 mod loops;
+#[cfg(test)]
+mod options;
 
 use anyhow::{Result, bail, ensure};
 use file::{File, FileCut, read, write};

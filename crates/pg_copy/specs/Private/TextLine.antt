@@ -2,50 +2,51 @@
 use Rattle.std.specs.Prelude.{◌≡◌, ℕ, ◌⊎◌, true, List, [], ◌∷◌, length, take, drop, map, Option, Some, None, Result, Ok, Err}
 use Rattle.pg_copy.specs.declared.fault.TextFault.{TextFault}
 use Rattle.pg_copy.specs.declared.fault.TextFault.TheVariants.{Memory}
+use Rattle.pg_copy.specs.declared.line_end.LineEnd.{LineEnd}
 use Rattle.pg_copy.specs.declared.text_line.JudgedLine.{JudgedLine}
 use Rattle.pg_copy.specs.declared.text_line.JudgedLine.TheVariants as judged
 use Rattle.pg_copy.specs.declared.text_reader.TextStage.TheVariants as stages
 use Rattle.pg_copy.specs.Row.{Row}
 use Rattle.pg_copy.specs.Reading.{RowsRead, Done, Bad, after_rows, RowWaits, IsGood}
-use Rattle.pg_copy.specs.Text.{delimiter, parts, field_value, line_reading}
+use Rattle.pg_copy.specs.Text.{Options, parts, field_value, line_reading}
 use Rattle.pg_copy.specs.declared.scan.Scan.{Scan}
 use Rattle.pg_copy.specs.declared.text_reader.TextStage.{TextStage}
 use Rattle.pg_copy.specs.TextReader.{TextState, text_last, last_text_ending}
 use Rattle.pg_copy.specs.Private.Units.{IsScanned}
 
 -- what a line is read as, whatever comes after it
-abbrev pub LineGives : Option ℕ → List ℕ → Row → Type 0
-LineGives columns line row = (after : RowsRead TextFault)
-    → line_reading columns line after ≡ after_rows (row ∷ []) after
+abbrev pub LineGives : Options → Option ℕ → List ℕ → Row → Type 0
+LineGives o columns line row = (after : RowsRead TextFault)
+    → line_reading o columns line after ≡ after_rows (row ∷ []) after
 
 -- the line is the end mark: no row comes after it
-abbrev pub LineEnds : Option ℕ → List ℕ → Type 0
-LineEnds columns line = (after : RowsRead TextFault)
-    → line_reading columns line after ≡ record { rows = []; ending = Done }
+abbrev pub LineEnds : Options → Option ℕ → List ℕ → Type 0
+LineEnds o columns line = (after : RowsRead TextFault)
+    → line_reading o columns line after ≡ record { rows = []; ending = Done }
 
 -- a fault of the line, which isn't want of memory
-pub record LineFails (columns : Option ℕ) (line : List ℕ) (fault : TextFault) : Type 0 where
+pub record LineFails (o : Options) (columns : Option ℕ) (line : List ℕ) (fault : TextFault) : Type 0 where
   pub is : (after : RowsRead TextFault)
-      → line_reading columns line after ≡ record { rows = []; ending = Bad fault }
+      → line_reading o columns line after ≡ record { rows = []; ending = Bad fault }
   pub not_memory : fault ≡ Memory → ⊥
 
 -- What a line was judged to be is what it is read as.
-abbrev pub IsJudged : Option ℕ → List ℕ → JudgedLine → Type 0
-IsJudged columns line judged.EndMark = LineEnds columns line
-IsJudged columns line (judged.Row n) = (n ≡ length (parts delimiter line))
-    × LineGives columns line (map field_value (parts delimiter line))
-IsJudged columns line (judged.Faulty fault) = LineFails columns line fault
+abbrev pub IsJudged : Options → Option ℕ → List ℕ → JudgedLine → Type 0
+IsJudged o columns line judged.EndMark = LineEnds o columns line
+IsJudged o columns line (judged.Row n) = (n ≡ length (parts o.delimiter line))
+    × LineGives o columns line (map (field_value o) (parts o.delimiter line))
+IsJudged o columns line (judged.Faulty fault) = LineFails o columns line fault
 
--- A line of so many bytes is taken off, with what ends it; or the reader stops at the end mark or at the line's fault; or memory
+-- A line of so many bytes is taken off, with what ends it, and lines end so from then on; or the reader stops at the end mark or at the line's fault; or memory
 -- for its row is refused, and nothing changes.
-abbrev pub TakesLine : ℕ → ℕ → TextState → Result (Option Row) TextFault → TextState → Type 0
-TakesLine len taken old (Ok (Some row)) new = LineGives old.columns (take len old.kept) row
-    × (new ≡ record old { kept = drop taken old.kept })
-TakesLine len taken old (Ok None) new = LineEnds old.columns (take len old.kept)
+abbrev pub TakesLine : ℕ → ℕ → Option LineEnd → TextState → Result (Option Row) TextFault → TextState → Type 0
+TakesLine len taken end old (Ok (Some row)) new = LineGives old.options old.columns (take len old.kept) row
+    × (new ≡ record old { kept = drop taken old.kept; line_end = end })
+TakesLine len taken end old (Ok None) new = LineEnds old.options old.columns (take len old.kept)
     × (new ≡ record old { kept = []; stage = stages.Marked })
-TakesLine len taken old (Err fault) new =
-    ((fault ≡ Memory) × (new ≡ old) × (row : Row) × LineGives old.columns (take len old.kept) row)
-    ⊎ (LineFails old.columns (take len old.kept) fault
+TakesLine len taken end old (Err fault) new =
+    ((fault ≡ Memory) × (new ≡ old) × (row : Row) × LineGives old.options old.columns (take len old.kept) row)
+    ⊎ (LineFails old.options old.columns (take len old.kept) fault
     × (new ≡ record old { kept = []; stage = stages.Failed fault }))
 
 -- the reader after an answer of finish: the input has ended, unless memory was refused
@@ -55,15 +56,15 @@ EndsInput (Err fault) mid new = ((fault ≡ Memory) × (new ≡ mid))
     ⊎ ((fault ≡ Memory → ⊥) × (new ≡ record mid { ended = true }))
 
 -- what is kept of a reader: the first line is walked over so far, and no fault is want of memory
-pub record IsTextReader (kept : List ℕ) (scan : Scan) (stage : TextStage) : Type 0 where
-  pub scanned : IsScanned kept scan
+pub record IsTextReader (delimiter : ℕ) (line_end : Option LineEnd) (kept : List ℕ) (scan : Scan) (stage : TextStage) : Type 0 where
+  pub scanned : IsScanned delimiter line_end kept scan
   pub not_memory : stage ≡ stages.Failed Memory → ⊥
 
 -- What a call answers at the end of the input, and how it leaves the reader: it gives the first row that is left, or what stands
 -- in its place, and memory is refused only where a row is left.
 abbrev pub TakesLast : TextState → Result (Option Row) TextFault → TextState → Type 0
 TakesLast old (Ok (Some row)) new = (text_last old ≡ after_rows (row ∷ []) (text_last new))
-    × (new ≡ record old { kept = new.kept })
+    × (new ≡ record old { kept = new.kept; line_end = new.line_end })
 TakesLast old (Ok None) new =
     (text_last old ≡ record { rows = []; ending = last_text_ending new.stage })
     × IsGood (last_text_ending new.stage) × (new ≡ record old { kept = []; stage = new.stage })

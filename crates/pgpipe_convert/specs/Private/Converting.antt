@@ -43,7 +43,7 @@ stopped stop_of (Err f) = Err (stop_of f)
 
 -- what it reads
 abbrev pub file_by : RowReader → FileReading
-file_by (reader.Text s) = text_file s.columns
+file_by (reader.Text s) = text_file s.options s.columns
 file_by (reader.Binary s) = binary_file s.columns s.limit
 
 -- whether it was told of the end of the input

@@ -1,7 +1,7 @@
 -- Lines that are written field by field.
 use Rattle.std.specs.Prelude.{ℕ, zero, suc, ◌+◌, nat_lt, if◌then◌else◌, List, [], ◌∷◌, ◌++◌, Option}
 use Rattle.pg_copy.specs.Row.{Row, most_fields}
-use Rattle.pg_copy.specs.Text.{delimiter, newline, written_field}
+use Rattle.pg_copy.specs.Text.{default_options, delimiter, newline, written_field}
 
 -- the text so far, and how many fields its open line has
 pub record LineState : Type 0 where
@@ -21,7 +21,7 @@ separator (suc n) = delimiter ∷ []
 unfoldable pub with_field : LineState → Option (List ℕ) → LineState
 with_field s field =
     if nat_lt s.fields most_fields then record {
-      text = s.text ++ separator s.fields ++ written_field field;
+      text = s.text ++ separator s.fields ++ written_field default_options field;
       fields = s.fields + 1;
     }
     else s

@@ -2,7 +2,7 @@
 
 ghost use Rattle.std.specs.Prelude.{◌≡◌, ◌++◌, [], OnOk, option_copied};
 ghost use Rattle.std.specs.Fmt.{decimal, signed_decimal};
-ghost use Rattle.pg_copy.specs.Text.{written_field};
+ghost use Rattle.pg_copy.specs.Text.{default_options, written_field};
 ghost use Rattle.pgpipe_loop.specs.Private.Lines.{separator, whole_lines, with_field, with_end, with_row, with_rows};
 
 use pg_copy::write_text_field;
@@ -25,7 +25,7 @@ fn put_separator(fields: usize, text: &mut Vec<u8>) -> Result<(), AllocError>
 
 fn put_value(field: Option<&[u8]>, text: &mut Vec<u8>) -> Result<(), AllocError>
     ensures { OnOk result (text.new.items
-        ≡ text.old.items ++ written_field (option_copied field.entry)) }
+        ≡ text.old.items ++ written_field default_options (option_copied field.entry)) }
 {
     match write_text_field(field, text) {
         Ok(()) => Ok(()),

@@ -19,6 +19,10 @@ fn faults_of_text_have_their_texts(rt: HostRuntime) -> Result<(), Fail> {
         "T3 Columns 2"
     );
     assert_eq!(rt; TextFault::Memory.to_string(alloc)?.as_str(), "T4 Memory");
+    assert_eq!(rt;
+        TextFault::RawNewline.to_string(alloc)?.as_str(),
+        "T5 RawNewline"
+    );
     Ok(())
 }
 
@@ -72,5 +76,9 @@ fn faults_of_rows_have_their_texts(rt: HostRuntime) -> Result<(), Fail> {
         "R2 FieldLong"
     );
     assert_eq!(rt; RowFault::Memory.to_string(alloc)?.as_str(), "R3 Memory");
+    assert_eq!(rt;
+        RowFault::LikeNull(0).to_string(alloc)?.as_str(),
+        "R4 LikeNull 0"
+    );
     Ok(())
 }

@@ -77,7 +77,7 @@ fn escapes_spell_their_bytes(rt: HostRuntime) -> Result<(), Fail> {
 fn faults_stand_in_the_place_of_rows(rt: HostRuntime) -> Result<(), Fail> {
     let alloc = rt.alloc();
     let returned = Some(TextFault::RawReturn);
-    assert!(rt; gives(alloc, 1, b"a\r\n", b"", returned)?);
+    assert!(rt; gives(alloc, 1, b"a\nb\r\n", b"a\n", returned)?);
     let lone = Some(TextFault::LoneBackslash);
     assert!(rt; gives(alloc, 1, b"a\\", b"", lone)?);
     let one = Some(TextFault::Columns(1));
@@ -105,11 +105,11 @@ fn rows_are_left_at_the_end(rt: HostRuntime) {
 /// Whether each call after a line with a fault answers it.
 fn fails_for_good(alloc: Global) -> bool {
     let mut reader = TextReader::new(alloc, Some(1));
-    let pushed = reader.push(b"a\r\nb\n");
+    let pushed = reader.push(b"a\tb\nb\n");
     let rows = [reader.next(), reader.next()];
     let refused = reader.push(b"c\n");
     let last = reader.finish();
-    let fault = TextFault::RawReturn;
+    let fault = TextFault::Columns(2);
     pushed == Ok(())
         && rows == [Err(fault), Err(fault)]
         && refused == Err(fault)

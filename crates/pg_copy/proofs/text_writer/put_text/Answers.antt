@@ -10,7 +10,7 @@ loop-at-init c =
     let p = c.plain_end-at.ensures in
     let n = c.plain_end-at.result in
     let all : 0 + n ≡ n = omega arith in
-    (subst (λ (i : ℕ). IsRunning old text 0 i old) all (IsRunning-run old text 0 0 n old (omega (arith, p.in_range)) (λ i a b. p.plain i a (omega (arith, b))) (IsRunning-none old text)), p.in_range)
+    (subst (λ (i : ℕ). IsRunning c.args.delimiter old text 0 i old) all (IsRunning-run c.args.delimiter old text 0 0 n old (omega (arith, p.in_range)) (λ i a b. p.plain i a (omega (arith, b))) (IsRunning-none c.args.delimiter old text)), p.in_range)
 
 pub loop-at-preserved : goal.loop-at-preserved
 loop-at-preserved c =
@@ -21,12 +21,12 @@ loop-at-preserved c =
     let p = c.plain_end-at-in-loop-at.ensures in
     let n = c.plain_end-at-in-loop-at.result - (l.at + 1) in
     let all : (l.at + 1) + n ≡ c.plain_end-at-in-loop-at.result = omega (arith, p.in_order) in
-    let one : IsRunning old text m.start (l.at + 1) m.buf.items = elim m.branch [
+    let one : IsRunning c.args.delimiter old text m.start (l.at + 1) m.buf.items = elim m.branch [
       | in-Some+in_ok-extend_from_slice+in_ok-extend_from_slice-2 w ↦
           rw (w.buf-is, w.start-is, w.in_ok-extend_from_slice-2.ensures.items, w.in_ok-extend_from_slice.ensures.items)
-          (IsRunning-letter old text l.start l.at l.buf.items _ w.in-Some.letter c.loop-at-test.true refl (sym c.letter_for.ensures ∙ w.in-Some.is) l.invariant.0)
+          (IsRunning-letter c.args.delimiter old text l.start l.at l.buf.items _ w.in-Some.letter c.loop-at-test.true refl (sym c.letter_for.ensures ∙ w.in-Some.is) l.invariant.0)
       | in_default w ↦
           rw (w.buf-is, w.start-is)
-          (IsRunning-plain old text l.start l.at l.buf.items _ c.loop-at-test.true refl (sym c.letter_for.ensures ∙ w.in_default.is) l.invariant.0)
+          (IsRunning-plain c.args.delimiter old text l.start l.at l.buf.items _ c.loop-at-test.true refl (sym c.letter_for.ensures ∙ w.in_default.is) l.invariant.0)
     ] in
-    (subst (λ (i : ℕ). IsRunning old text m.start i m.buf.items) all (IsRunning-run old text m.start (l.at + 1) n m.buf.items (omega (arith, all, p.in_range)) (λ i a b. p.plain i a (omega (arith, all, b))) one), p.in_range)
+    (subst (λ (i : ℕ). IsRunning c.args.delimiter old text m.start i m.buf.items) all (IsRunning-run c.args.delimiter old text m.start (l.at + 1) n m.buf.items (omega (arith, all, p.in_range)) (λ i a b. p.plain i a (omega (arith, all, b))) one), p.in_range)

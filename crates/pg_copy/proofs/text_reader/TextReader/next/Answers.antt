@@ -1,38 +1,47 @@
-use Rattle.std.proofs.Common.{◌≡◌, sym, ap, ◌∙◌, arith}
+use Rattle.std.proofs.Common.{◌≡◌, ◌+◌, sym, ap, ◌∙◌}
+use Rattle.pg_copy.specs.Private.Breaks.{end_len}
 use Rattle.pg_copy.specs.TextReader.{TextState}
-use Rattle.pg_copy.specs.declared.text_reader.TextStage.TheVariants.{Lines}
-use Rattle.pg_copy.proofs.TextReads.{Goes-line, HasReadText-goes, AnswersNext-line, AnswersNext-none, waits-line, units-whole}
+use Rattle.pg_copy.specs.declared.text_reader.TextStage.TheVariants.{Lines, Marked, Failed}
+use Rattle.pg_copy.proofs.TextReads.{Goes-line, HasReadText-goes, AnswersNext-line, AnswersNext-none, AnswersNext-failed-next, AnswersNext-marked-next, waits-line}
 use Rattle.pg_copy.proofs.text_reader.TextReader.next.Goals as goal
 
-pub overflow_add-scan : goal.overflow_add-scan
-overflow_add-scan c =
-    let room = c.walk-found.ensures.room c.if-found.true in
-    omega (arith, room)
+pub returns-in-Failed-clause-gives : goal.returns-in-Failed-clause-gives
+returns-in-Failed-clause-gives c = λ pushed given h.
+    let failed : c.args.self.now.stage ≡ Failed c.in-Failed.fault = ap (λ (s : TextState). s.stage) (sym c.self.view_is) ∙ c.in-Failed.is in
+    AnswersNext-failed-next c.args.self.now pushed given c.in-Failed.fault c.requires failed h
 
-pub returns-then-found-clause-read : goal.returns-then-found-clause-read
-returns-then-found-clause-read c = λ pushed given h.
+pub returns-in-Marked-clause-gives : goal.returns-in-Marked-clause-gives
+returns-in-Marked-clause-gives c = λ pushed given h.
+    let marked : c.args.self.now.stage ≡ Marked = ap (λ (s : TextState). s.stage) (sym c.self.view_is) ∙ c.in-Marked.is in
+    AnswersNext-marked-next c.args.self.now pushed given c.requires marked h
+
+pub returns-in-Some-clause-read : goal.returns-in-Some-clause-read
+returns-in-Some-clause-read c = λ pushed given h.
     let old = c.args.self.now in
     let lines : old.stage ≡ Lines = ap (λ (s : TextState). s.stage) (sym c.self.view_is) ∙ c.in-Lines.is in
-    let t = rw c.walk-found.ensures.state at c.take_line.ensures in
-    HasReadText-goes old c.take_line.new.self _ pushed given (Goes-line old c.take_line.new.self c.walk-found.result.0.at c.take_line.result lines (c.walk-found.ensures.found c.if-found.true) t) h
-
-pub returns-then-found-clause-gives : goal.returns-then-found-clause-gives
-returns-then-found-clause-gives c = λ pushed given h.
-    let old = c.args.self.now in
-    let lines : old.stage ≡ Lines = ap (λ (s : TextState). s.stage) (sym c.self.view_is) ∙ c.in-Lines.is in
-    let t = rw c.walk-found.ensures.state at c.take_line.ensures in
-    AnswersNext-line old c.take_line.new.self c.walk-found.result.0.at c.take_line.result pushed given lines c.requires (c.walk-found.ensures.found c.if-found.true) t h
-
-pub returns-then-found-clause-memory : goal.returns-then-found-clause-memory
-returns-then-found-clause-memory c =
-    let old = c.args.self.now in
-    let lines : old.stage ≡ Lines = ap (λ (s : TextState). s.stage) (sym c.self.view_is) ∙ c.in-Lines.is in
-    let t = rw c.walk-found.ensures.state at c.take_line.ensures in
-    waits-line old c.take_line.new.self c.walk-found.result.0.at c.take_line.result lines (c.walk-found.ensures.found c.if-found.true) t
-
-pub returns-else-found-clause-gives : goal.returns-else-found-clause-gives
-returns-else-found-clause-gives c = λ pushed given h.
-    let old = c.args.self.now in
-    let lines : old.stage ≡ Lines = ap (λ (s : TextState). s.stage) (sym c.self.view_is) ∙ c.in-Lines.is in
+    let t = rw (c.walk-found.ensures.state, c.len.ensures) at c.take_line.ensures in
     let s = c.walk-found.result.0 in
-    rw c.walk-found.ensures.state (AnswersNext-none old pushed given lines c.requires (units-whole old.kept s (c.walk-found.ensures.none c.if-found.false) c.walk-found.ensures.scanned) h)
+    HasReadText-goes old c.take_line.new.self _ pushed given (Goes-line old c.take_line.new.self c.in-Some.end s.at (s.at + end_len c.in-Some.end) c.take_line.result lines (c.walk-found.ensures.found c.in-Some.end c.in-Some.is) t) h
+
+pub returns-in-Some-clause-gives : goal.returns-in-Some-clause-gives
+returns-in-Some-clause-gives c = λ pushed given h.
+    let old = c.args.self.now in
+    let lines : old.stage ≡ Lines = ap (λ (s : TextState). s.stage) (sym c.self.view_is) ∙ c.in-Lines.is in
+    let t = rw (c.walk-found.ensures.state, c.len.ensures) at c.take_line.ensures in
+    let s = c.walk-found.result.0 in
+    AnswersNext-line old c.take_line.new.self c.in-Some.end s.at (s.at + end_len c.in-Some.end) c.take_line.result pushed given lines c.requires (c.walk-found.ensures.found c.in-Some.end c.in-Some.is) t h
+
+pub returns-in-Some-clause-memory : goal.returns-in-Some-clause-memory
+returns-in-Some-clause-memory c =
+    let old = c.args.self.now in
+    let lines : old.stage ≡ Lines = ap (λ (s : TextState). s.stage) (sym c.self.view_is) ∙ c.in-Lines.is in
+    let t = rw (c.walk-found.ensures.state, c.len.ensures) at c.take_line.ensures in
+    let s = c.walk-found.result.0 in
+    waits-line old c.take_line.new.self c.in-Some.end s.at (s.at + end_len c.in-Some.end) c.take_line.result lines (c.walk-found.ensures.found c.in-Some.end c.in-Some.is) t
+
+pub returns-in-None-clause-gives : goal.returns-in-None-clause-gives
+returns-in-None-clause-gives c = λ pushed given h.
+    let old = c.args.self.now in
+    let lines : old.stage ≡ Lines = ap (λ (s : TextState). s.stage) (sym c.self.view_is) ∙ c.in-Lines.is in
+    let w = c.walk-found.ensures in
+    rw w.state (AnswersNext-none old c.walk-found.result.0 pushed given lines c.requires w.scanned (w.none c.in-None.is) h)
