@@ -208,7 +208,7 @@ source_of ended old mid new pieces stop.Endless e s = absurd s
 
 -- nothing was read, and nothing is at fault
 pub nothing_read : (r : RowReader) → HasReadBy r [] [] → ended_of r ≡ false → (ending : RowsEnding Converted) × IsGood ending × (file_by r false [] ≡ after_rows [] (none_left ending))
-unfolding text.text_reading binary.binary_reading binary.head_at binary.fixed_at binary.signature_at
+unfolding text.reading_after binary.binary_reading binary.head_at binary.fixed_at binary.signature_at
 nothing_read (reader.Text s) h on = (Open [], tt, refl)
 nothing_read (reader.Binary s) h on = (Open [], tt, refl)
 
