@@ -287,6 +287,25 @@ impl ReadField for (Seq<u8>, Seq<u8>) {
     }
 }
 
+/// A parameter that is lent.
+impl Field for (&[u8], &[u8]) {
+    ghost layout = { λ p. parameter (p.0.now, p.1.now) };
+
+    fn has_zero(&self) -> bool {
+        text_has_zero(self.0) || text_has_zero(self.1)
+    }
+
+    fn room_after(&self, room: u32) -> Option<u32> {
+        let room = room_after_text(self.0, room)?;
+        room_after_text(self.1, room)
+    }
+
+    fn write(&self, out: &mut Appender) -> Result<(), AllocError> {
+        write_text(self.0, out)?;
+        write_text(self.1, out)
+    }
+}
+
 impl Field for ErrorField {
     ghost layout = { error_field };
 

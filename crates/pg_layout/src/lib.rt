@@ -28,5 +28,5 @@ pub use part::{
 pub use reader::{
     copy_head_at, copy_of, counted, ended, i32_at, status_at, terminated, text_at, u16_at,
 };
-pub use writer::text_has_zero;
 pub use value::{Column, CopyHead, ErrorField, Fields, Status, Target};
+pub use writer::text_has_zero;

@@ -106,7 +106,11 @@ pub fn copy_of(alloc: Global, bytes: &[u8]) -> Result<Seq<u8>, BodyFault>
 }
 
 /// So many fields, one after the other.
-fn times<T: ReadField>(alloc: Global, count: u16, bytes: &[u8]) -> Result<(Seq<T>, &[u8]), BodyFault>
+fn times<T: ReadField>(
+    alloc: Global,
+    count: u16,
+    bytes: &[u8],
+) -> Result<(Seq<T>, &[u8]), BodyFault>
     ensures { Gives (λ x. (x.0, x.1.now)) result (times_at T.reading count bytes.now) }
 {
     // a field has at least one byte, so a count that passes the bytes gets no more room than they need

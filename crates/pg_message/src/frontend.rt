@@ -11,10 +11,9 @@ mod reading;
 
 ghost use Rattle.std.specs.Prelude.{◌≡◌, false, option_copied};
 ghost use Rattle.pg_message.specs.declared.message.FrontMessage.TheVariants.{Query, Parse, Bind, Describe, Close, Execute, Sync, Flush, Terminate, CopyData, CopyDone, CopyFail, Password};
-ghost use Rattle.std.specs.List.{list_any};
 ghost use Rattle.pg_message.specs.declared.message.First.TheVariants.{Startup, Cancel, Ssl, Gss};
 ghost use Rattle.pg_message.specs.Frontend.{frontend, tag, target_byte};
-ghost use Rattle.pg_message.specs.First.{has_no_name, startup_parameters};
+ghost use Rattle.pg_message.specs.First.{startup_parameters};
 ghost use Rattle.pg_message.specs.Encoder.{Encodes, EncodesPacket, AppendsPacket};
 ghost use Rattle.pg_message.specs.Private.FrontReader.{front_reading};
 ghost use Rattle.pg_message.specs.Private.Reading.{ReadsWhole};
@@ -24,11 +23,10 @@ use crate::message::{First, FrontMessage};
 use judging::is_front_message;
 use kind::FrontKind;
 use pg_layout::{
-    BodyFault, BodyPart, Byte, Bytes, Counted, EncodeFault, Int32, Pair, Target, Terminated, Text,
-    append, append_packet,
+    BodyFault, BodyPart, Byte, Bytes, Counted, EncodeFault, Int32, Pair, Target, Text, append,
+    append_packet,
 };
-use pg_seq::Seq;
-use pg_values::{CountedValues, ValueList};
+use pg_values::{CountedValues, ParameterList, TerminatedParameters, ValueList};
 use reading::front_message;
 use std::alloc::Global;
 
@@ -39,13 +37,6 @@ fn target_byte(target: Target) -> u8
         Target::Statement => b'S',
         Target::Portal => b'P',
     }
-}
-
-/// Whether a name is empty.
-fn any_has_no_name(pairs: &[(Seq<u8>, Seq<u8>)]) -> bool
-    ensures { result ≡ list_any has_no_name pairs.now }
-{
-    pairs.iter().any(|pair| pair.0.as_slice().is_empty())
 }
 
 /// Appends the first packet of the protocol's version 3.0.
@@ -61,33 +52,33 @@ fn append_startup<P: BodyPart>(
     append_packet(196_608, has_no_name, content, buf)
 }
 
-/// Appends the startup packet of protocol 3.0 with these parameters, names and values ("Message Formats", StartupMessage). The
-/// fault is the first that holds of HasZero, EmptyName, TooLong (the packet would pass 10,000 bytes) and Memory.
-pub fn startup_message(pairs: &[(Seq<u8>, Seq<u8>)], buf: &mut Vec<u8>) -> Result<(), EncodeFault>
-    ensures { EncodesPacket (Startup pairs.now) buf.old.items result buf.new.items }
+/// Appends the startup packet of protocol 3.0 with these parameters, names and values, owned or lent ("Message Formats",
+/// StartupMessage). The fault is the first that holds of HasZero, EmptyName, TooLong (the packet would pass 10,000 bytes) and Memory.
+pub fn startup_message<P: ParameterList>(pairs: P, buf: &mut Vec<u8>) -> Result<(), EncodeFault>
+    ensures { EncodesPacket (Startup (P.pairs pairs)) buf.old.items result buf.new.items }
 {
-    append_startup(any_has_no_name(pairs), &Terminated(pairs), buf)
+    append_startup(pairs.has_no_name(), &TerminatedParameters(pairs), buf)
 }
 
-/// Appends the startup packet with `user`, `database` if one is given, and then these further parameters ("Start-up"). It makes no
-/// copy of them. The fault is as that of [`startup_message`].
-pub fn startup(
+/// Appends the startup packet with `user`, `database` if one is given, and then these further parameters, owned or lent ("Start-up"). It
+/// makes no copy of them. The fault is as that of [`startup_message`].
+pub fn startup<P: ParameterList>(
     user: &[u8],
     database: Option<&[u8]>,
-    pairs: &[(Seq<u8>, Seq<u8>)],
+    pairs: P,
     buf: &mut Vec<u8>,
 ) -> Result<(), EncodeFault>
     ensures { EncodesPacket
-        (Startup (startup_parameters user.now (option_copied database.entry) pairs.now))
+        (Startup (startup_parameters user.now (option_copied database.entry) (P.pairs pairs)))
         buf.old.items result buf.new.items }
 {
-    let no_name = any_has_no_name(pairs);
+    let no_name = pairs.has_no_name();
     let first = Pair(Text(b"user"), Text(user));
     match database {
-        None => append_startup(no_name, &Pair(first, Terminated(pairs)), buf),
+        None => append_startup(no_name, &Pair(first, TerminatedParameters(pairs)), buf),
         Some(name) => {
             let second = Pair(Text(b"database"), Text(name));
-            let rest = Pair(second, Terminated(pairs));
+            let rest = Pair(second, TerminatedParameters(pairs));
             append_startup(no_name, &Pair(first, rest), buf)
         }
     }

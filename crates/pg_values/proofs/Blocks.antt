@@ -120,12 +120,14 @@ module _ (places block : List ℕ) (b : IsBlock places block) where
       let same : values_left (length places + 1) (block ++ value_bytes v) ≡ more = sym (ap (λ (n : ℕ). values_left n (spelled more)) len ∙ ap (values_left (length places + 1)) bytes) ∙ back in
       let count : length (places ++ length block ∷ []) ≡ length places + 1 = length-append places (length block ∷ []) in
       let now : values_left (length (places ++ length block ∷ [])) (block ++ value_bytes v) ≡ more = ap (λ (n : ℕ). values_left n (block ++ value_bytes v)) count ∙ same in
-      let starts_now : starts 0 more ≡ places ++ length block ∷ [] = starts-append 0 Values v ∙ rw (zero_first (length (spelled Values)), b.whole, ← b.starts_are) refl in
-      (now, record {
-        whole = ap spelled now ∙ bytes;
-        starts_are = sym starts_now ∙ ap (starts 0) (sym now);
-        short = size;
-      })
+      let starts_now : starts 0 more ≡ places ++ length block ∷ [] = starts-append 0 Values v ∙ rw (zero_first (length (spelled Values)), b.whole, ← b.starts_are) refl in (
+        now,
+        record {
+          whole = ap spelled now ∙ bytes;
+          starts_are = sym starts_now ∙ ap (starts 0) (sym now);
+          short = size;
+        },
+      )
 
 -- ---- no value
 
@@ -243,12 +245,14 @@ module _ (count : ℕ) (bytes places rest : List ℕ) (r : IsRead count bytes pl
       let front : length bytes - length rest ≡ length (spelled r.values) = omega (arith, ap length r.parts, size) in
       let is : block ≡ spelled r.values = cut ∙ ap (λ (n : ℕ). take n bytes) front ∙ ap (take (length (spelled r.values))) r.parts ∙ take_at (spelled r.values) rest (length (spelled r.values)) refl in
       let len : length places ≡ length r.values = ap length r.starts_are ∙ length-starts 0 r.values in
-      let values : values_left (length places) block ≡ r.values = ap (λ (n : ℕ). values_left n block) len ∙ ap (values_left (length r.values)) is ∙ read_back r.values (omega (arith, short, ap length r.parts, size)) in
-      (r.read ∙ ap (λ (vs : List (Option (List ℕ))). Some (vs, rest)) (sym values), record {
-        whole = ap spelled values ∙ sym is;
-        starts_are = r.starts_are ∙ ap (starts 0) (sym values);
-        short = omega (arith, short, ap length is, ap length r.parts, size);
-      })
+      let values : values_left (length places) block ≡ r.values = ap (λ (n : ℕ). values_left n block) len ∙ ap (values_left (length r.values)) is ∙ read_back r.values (omega (arith, short, ap length r.parts, size)) in (
+        r.read ∙ ap (λ (vs : List (Option (List ℕ))). Some (vs, rest)) (sym values),
+        record {
+          whole = ap spelled values ∙ sym is;
+          starts_are = r.starts_are ∙ ap (starts 0) (sym values);
+          short = omega (arith, short, ap length is, ap length r.parts, size);
+        },
+      )
 
 -- ---- the block of a row
 

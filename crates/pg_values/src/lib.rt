@@ -4,11 +4,13 @@
 //! It stands between `pg_layout` and `pg_message`. Users name `pg_wire`, which passes on what they need of it.
 #![tactic(auto)]
 
+mod parameters;
 mod part;
 mod places;
 mod values;
 mod view;
 
+pub use parameters::{ParameterList, TerminatedParameters};
 pub use part::{CountedValues, ValueList};
 pub use values::{Values, values_at};
 pub use view::{FieldsView, LentFields, LentValues, RowView};

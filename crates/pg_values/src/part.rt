@@ -5,12 +5,11 @@ ghost use Rattle.pg_layout.specs.Field.{counted, exceeds_count, value};
 ghost use Rattle.pg_layout.specs.Private.Writer.{LeavesRoom};
 
 use crate::values::Values;
-use crate::view::RowView;
 use pg_layout::{Appender, BodyPart, Counted};
 use pg_seq::Seq;
 use std::alloc::AllocError;
 
-/// Values that an encoder takes: a slice of owned or of lent ones, a block of them, or a row that is lent.
+/// Values that an encoder takes: a slice of owned or of lent ones, an array of owned ones, or a block of them.
 pub trait ValueList: Drop {
     // the values
     ghost values: { Self → List (Option (List ℕ)) };
@@ -61,6 +60,22 @@ impl ValueList for &[Option<&[u8]>] {
 
     fn write(&self, out: &mut Appender) -> Result<(), AllocError> {
         Counted(*self).write(out)
+    }
+}
+
+impl<const N: usize> ValueList for &[Option<Seq<u8>>; N] {
+    ghost values = { λ list. list.now };
+
+    fn has_too_many(&self) -> bool {
+        self.as_slice().has_too_many()
+    }
+
+    fn room_after(&self, room: u32) -> Option<u32> {
+        self.as_slice().room_after(room)
+    }
+
+    fn write(&self, out: &mut Appender) -> Result<(), AllocError> {
+        self.as_slice().write(out)
     }
 }
 

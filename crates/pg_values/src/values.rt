@@ -11,14 +11,13 @@ ghost use Rattle.pg_layout.specs.Private.Reader.{Gives, counted_at, times_at, va
 ghost use Rattle.pg_values.specs.Private.Block.{IsBlock, IsRow, spelled, longest_block};
 ghost use Rattle.pg_values.specs.Private.View.{values_left};
 
+use crate::places::places_at;
+use crate::view::{LentValues, RowView};
 use pg_layout::{BodyFault, EncodeFault, LONGEST, lent_value_at, u16_at};
 use pg_seq::{AsText, ByElement, DebugElement, DebugForm};
 use std::alloc::{AllocError, Global};
 use std::fmt;
 use std::marker::Model;
-
-use crate::places::places_at;
-use crate::view::{LentValues, RowView};
 
 /// The values of a row, or those that a Bind gives to the parameters of a statement: each is null (None) or bytes. They stand in one
 /// block of memory. A clause sees the list of the values.

@@ -33,6 +33,8 @@ pub use pg_layout::{
 pub use pg_link::{LinkFault, Over, PATIENCE, Patient, Sink, Source};
 pub use pg_message::{BackMessage, First, FrontMessage, Lent, Message, backend, frontend};
 pub use pg_seq::Seq;
-pub use pg_values::{FieldsView, LentFields, LentValues, RowView, ValueList, Values};
+pub use pg_values::{
+    FieldsView, LentFields, LentValues, ParameterList, RowView, ValueList, Values,
+};
 pub use session::{Aside, ExecEnd, Outcome, Part, Request, Step};
 pub use spellings::Spellings;

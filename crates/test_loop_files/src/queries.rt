@@ -2,7 +2,7 @@ use crate::reading::{calls_refused, happens, script_refused};
 use pg_backend::{Answer, Auth, Key, Script, ScriptPart};
 use pg_client::Settings;
 use pg_pair::{Call, Event};
-use pg_wire::{Aside, Fields, Seq, Status};
+use pg_wire::{Aside, Fields, Seq, Status, Values};
 use pgpipe_files::{CallLine, Calls, LineFault, read_calls, read_script};
 use std::alloc::{AllocError, Global};
 use std::test::Fail;
@@ -84,7 +84,7 @@ fn answers(script: Script, before: Seq<Aside>, parts: Seq<ScriptPart>) -> bool {
 
 fn two_rows(alloc: Global) -> Result<ScriptPart, AllocError> {
     let columns = vec![in alloc; column(alloc, b"n")?, column(alloc, b"row")?]?;
-    let rows = vec![in alloc; row_and_null(alloc, b"1")?, none(alloc)]?;
+    let rows = vec![in alloc; row_and_null(alloc, b"1")?, Values::new(alloc)]?;
     Ok(ScriptPart::Rows {
         columns: Seq::new(columns),
         rows: Seq::new(rows),

@@ -57,7 +57,7 @@ fn compare_shown(client: &Client, settled: &Settled) -> Result<()> {
     let Some(Some(value)) = rows.get(0).and_then(|row| row.get(0)) else {
         bail!("SHOW gives a value");
     };
-    if client.parameter(name) != Some(value.as_slice()) {
+    if client.parameter(name) != Some(value) {
         bail!("the client knows another value");
     }
     Ok(())

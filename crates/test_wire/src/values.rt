@@ -1,6 +1,8 @@
 //! The values of a row, kept in one block of memory.
 
-use pg_wire::{BackDecoder, BackMessage, EncodeFault, FrontMessage, Seq, Values, backend, frontend};
+use pg_wire::{
+    BackDecoder, BackMessage, EncodeFault, FrontMessage, Seq, Values, backend, frontend,
+};
 use std::alloc::Global;
 use std::test::Fail;
 
@@ -61,9 +63,15 @@ fn owned_and_lent_values_are_written_alike(rt: HostRuntime) -> Result<(), Fail> 
     let block = Values::from_slice(alloc, &lent)?;
     let mut written = Vec::new(alloc);
     backend::data_row(owned.as_slice(), &mut written)?;
-    assert_eq!(rt; written.as_slice(), b"D\0\0\0\x0F\0\x02\0\0\0\x01a\xFF\xFF\xFF\xFF".as_slice());
+    assert_eq!(rt;
+        written.as_slice(),
+        b"D\0\0\0\x0F\0\x02\0\0\0\x01a\xFF\xFF\xFF\xFF".as_slice()
+    );
     let mut again = Vec::new(alloc);
     backend::data_row(lent.as_slice(), &mut again)?;
+    assert!(rt; again.as_slice() == written.as_slice());
+    again.clear();
+    backend::data_row(&owned, &mut again)?;
     assert!(rt; again.as_slice() == written.as_slice());
     again.clear();
     backend::data_row(&block, &mut again)?;
@@ -77,13 +85,44 @@ fn owned_and_lent_values_are_written_alike(rt: HostRuntime) -> Result<(), Fail> 
 }
 
 #[test]
+fn owned_and_lent_parameters_are_written_alike(rt: HostRuntime) -> Result<(), Fail> {
+    let alloc = rt.alloc();
+    let owned = [(
+        Seq::from_slice(alloc, b"user")?,
+        Seq::from_slice(alloc, b"u")?,
+    )];
+    let lent = [(b"user".as_slice(), b"u".as_slice())];
+    let mut written = Vec::new(alloc);
+    frontend::startup_message(owned.as_slice(), &mut written)?;
+    assert_eq!(rt;
+        written.as_slice(),
+        b"\0\0\0\x10\0\x03\0\0user\0u\0\0".as_slice()
+    );
+    let mut again = Vec::new(alloc);
+    frontend::startup_message(&owned, &mut again)?;
+    assert!(rt; again.as_slice() == written.as_slice());
+    again.clear();
+    frontend::startup_message(lent.as_slice(), &mut again)?;
+    assert!(rt; again.as_slice() == written.as_slice());
+    let unnamed = [(b"".as_slice(), b"u".as_slice())];
+    let refused = frontend::startup_message(unnamed.as_slice(), &mut again);
+    assert!(rt; matches!(refused, Err(EncodeFault::EmptyName)));
+    Ok(())
+}
+
+#[test]
 fn too_many_values_have_no_spelling(rt: HostRuntime) -> Result<(), Fail> {
     let mut values = Values::new(rt.alloc());
     for _ in 0..65_536u32 {
         values.push(None)?;
     }
     let mut written = Vec::new(rt.alloc());
-    assert!(rt; matches!(backend::data_row(&values, &mut written), Err(EncodeFault::TooMany)));
+    assert!(rt;
+        matches!(
+            backend::data_row(&values, &mut written),
+            Err(EncodeFault::TooMany)
+        )
+    );
     assert!(rt; written.is_empty());
     Ok(())
 }

@@ -3,7 +3,7 @@
 ghost use Rattle.std.specs.Prelude.{◌<◌};
 
 use super::{answer, begin, copy_in, run, silent};
-use crate::values::text;
+use crate::values::{row, text};
 use pg_backend::{BackPhase, Backend, Script, ScriptPart};
 use pg_wire::{Column, Seq};
 use std::alloc::{AllocError, Global};
@@ -35,7 +35,7 @@ fn column(alloc: Global) -> Result<Column, AllocError> {
 }
 
 fn script(alloc: Global) -> Result<Script, AllocError> {
-    let row = Seq::new(vec![in alloc; Some(text(alloc, b"1")?)]?);
+    let row = row(alloc, b"1")?;
     let rows = ScriptPart::Rows {
         columns: Seq::new(vec![in alloc; column(alloc)?]?),
         rows: Seq::new(vec![in alloc; row]?),

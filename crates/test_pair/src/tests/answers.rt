@@ -90,7 +90,7 @@ pub fn unnamed_group(alloc: Global) -> Result<Request, AllocError> {
         portal: text(alloc, b"")?,
         statement: text(alloc, b"")?,
         formats: Seq::new(Vec::new(alloc)),
-        values: Seq::new(Vec::new(alloc)),
+        values: Values::new(alloc),
         result_formats: Seq::new(Vec::new(alloc)),
     };
     let execute = Step::Execute {
