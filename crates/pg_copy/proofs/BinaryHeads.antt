@@ -42,20 +42,20 @@ needs_cond n false x y bytes h k = k
 needs_none : {A : Type 0} (a : A) (bytes : List ℕ) → Needs 0 (Ok (a, bytes)) bytes
 needs_none a bytes = (omega arith, refl)
 
-bytes_need : (n : ℕ) (bytes : List ℕ) → Needs n (bytes_at n bytes) bytes
+pub bytes_need : (n : ℕ) (bytes : List ℕ) → Needs n (bytes_at n bytes) bytes
 bytes_need n bytes = elim (cases_lt (length bytes) n) [
   | inl lt ↦ rw (lt-ltb (length bytes) n lt) lt
   | inr le ↦ rw (le-ltb (length bytes) n le) (le, refl)
 ]
 
-number_needs : (w : Width) (bytes : List ℕ) → Needs (byte_len w) (number_at w bytes) bytes
+pub number_needs : (w : Width) (bytes : List ℕ) → Needs (byte_len w) (number_at w bytes) bytes
 number_needs w bytes = elim (cases_lt (length bytes) (byte_len w)) [
   | inl lt ↦ rw (lt-ltb (length bytes) (byte_len w) lt) lt
   | inr le ↦ rw (le-ltb (length bytes) (byte_len w) le) (le, refl)
 ]
 
 -- the signature has 11 bytes, the flags have 4, and the extension's length has 4
-fixed_needs : (bytes : List ℕ) → Needs 19 (fixed_at bytes) bytes
+pub fixed_needs : (bytes : List ℕ) → Needs 19 (fixed_at bytes) bytes
 unfolding fixed_at signature_at flags_at extension_at
 fixed_needs bytes =
     needs_bind 11 8 (signature_at bytes) bytes _ (needs_bind 11 0 (bytes_at 11 bytes) bytes _ (bytes_need 11 bytes) (λ s. needs_cond 0 (bytes_eq s.0 signature) (Ok s) (Err (Faulty Signature)) s.1 (needs_none s.0 s.1) tt)) (λ s.
@@ -98,7 +98,7 @@ bytes-short n bytes e = elim (cases_lt (length bytes) n) [
     clash : {x : List ℕ × List ℕ} → ◌≡◌ {A = Result (List ℕ × List ℕ) NoPart} (Err Incomplete) (Ok x) → ⊥
     clash {x} f = cc
 
-head-of-fixed : (bytes : List ℕ) (r : Result (ℕ × List ℕ) NoPart) → fixed_at bytes ≡ r → head_at bytes ≡ (r >>= λ n. bytes_at n.0 n.1)
+pub head-of-fixed : (bytes : List ℕ) (r : Result (ℕ × List ℕ) NoPart) → fixed_at bytes ≡ r → head_at bytes ≡ (r >>= λ n. bytes_at n.0 n.1)
 unfolding head_at
 head-of-fixed bytes r e = ap (λ (x : Result (ℕ × List ℕ) NoPart). x >>= λ n. bytes_at n.0 n.1) e
 

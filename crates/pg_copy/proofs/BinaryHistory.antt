@@ -1,5 +1,5 @@
 -- What a reader of binary files has read.
-use Rattle.std.proofs.Common.{◌≡◌, ℕ, true, false, List, [], ◌∷◌, ◌++◌, Option, Some, None, Result, Ok, Err, refl, sym, ap, subst, ◌∙◌, arith, inl, inr}
+use Rattle.std.proofs.Common.{◌+◌, ◌≡◌, ℕ, true, false, List, [], ◌∷◌, ◌++◌, Option, Some, None, Result, Ok, Err, refl, sym, ap, subst, ◌∙◌, arith, inl, inr}
 use Rattle.std.specs.Prelude.{◌<◌}
 use Rattle.std.proofs.lemmas.List.{append-nil, length-append}
 use Rattle.std.proofs.lemmas.Bool.{false≢true, lt-ltb, cond-true}
@@ -14,9 +14,10 @@ use Rattle.pg_copy.specs.Row.{Row}
 use Rattle.pg_copy.specs.Reading.{RowsRead, RowsEnding, Open, Done, Bad, after_rows, RowWaits, given_by, IsGood, AnswersNext}
 use Rattle.pg_copy.specs.Binary.{open_head}
 use Rattle.pg_copy.specs.BinaryPart.{NoPart, Incomplete, Faulty, ◌>>=◌, bytes_at, fixed_at, head_at, row_at, part_reading, row_reading, body_reading, head_reading, binary_reading, trailer_reading, last_ending, binary_at_end, binary_file_reading}
-use Rattle.pg_copy.specs.BinaryReader.{BinaryState, binary_stage_reading, binary_left, HasReadBinary, WaitsWith, given_after, binary_ending}
-use Rattle.pg_copy.specs.Private.BinaryPart.{closed_at, row_or_trailer, body_at, part_at, extension_left, in_extension, after_head, waiting_at, let_go, option_rows, TakesPart}
+use Rattle.pg_copy.specs.BinaryReader.{BinaryState, binary_stage_reading, binary_left, HasReadBinary, WaitsWith, told, rows_begin, rows_size, IsPlaced, given_after, binary_ending}
+use Rattle.pg_copy.specs.Private.BinaryPart.{closed_at, row_or_trailer, body_at, part_at, extension_left, in_extension, after_head, waiting_at, let_go, row_offset, offset_after, option_rows, TakesPart}
 use Rattle.pg_copy.proofs.BinaryCounts.{told-rows}
+use Rattle.pg_copy.proofs.BinaryPlaces.{begins, begins-head, ends-none, ends-rows, at-part, placed-taken, fails-at}
 use Rattle.pg_copy.proofs.TextReads.{after-after, after-none}
 use Rattle.pg_copy.proofs.BinaryReads.{Grows, row_grows, head_grows, bytes_grow, body-step, part-rows}
 use Rattle.pg_copy.proofs.BinaryHeads.{head-open, open-few, open-many, skip-reads}
@@ -135,6 +136,7 @@ pub record ReadsRows (old new : BinaryState) (rows : List Row) : Type 0 where
   pub ended : new.ended ≡ old.ended
   pub left : (more : List ℕ) → binary_left old more ≡ after_rows rows (binary_left new more)
   pub given : new.given ≡ given_after old.given rows
+  pub placed : (pushed : List ℕ) (given : List Row) → IsPlaced old.stage old.kept old.offset pushed given → IsPlaced new.stage new.kept new.offset pushed (given ++ rows)
 
 pub whole-same : (old new : BinaryState) (bytes : List ℕ) → new.columns ≡ old.columns → new.limit ≡ old.limit → binary_reading new.columns new.limit bytes ≡ binary_reading old.columns old.limit bytes
 whole-same old new bytes e f = ap (λ (c : ℕ). binary_reading c new.limit bytes) e ∙ ap (λ (l : ℕ). binary_reading old.columns l bytes) f
@@ -145,23 +147,24 @@ HasReadBinary-goes old new rows pushed given g h =
       so_far = λ e more. whole-same old new (pushed ++ more) g.columns g.limit ∙ h.so_far (sym g.ended ∙ e) more ∙ ap (after_rows given) (g.left more) ∙ after-after given rows (binary_left new more);
       in_all = ap binary_at_end (whole-same old new pushed g.columns g.limit) ∙ h.in_all ∙ ap (λ (r : RowsRead BinaryFault). after_rows given (binary_at_end r)) (g.left []) ∙ after-after given rows (binary_at_end (binary_left new []));
       counted = g.given ∙ ap (λ (n : ℕ). given_after n rows) h.counted ∙ told-rows given rows;
+      placed = g.placed pushed given h.placed;
     }
 
 pub Goes-same : (old : BinaryState) → ReadsRows old old []
-Goes-same old = record { columns = refl; limit = refl; ended = refl; left = λ more. refl; given = refl }
+Goes-same old = record { columns = refl; limit = refl; ended = refl; left = λ more. refl; given = refl; placed = λ pushed given p. subst (λ (rows : List Row). IsPlaced old.stage old.kept old.offset pushed rows) (sym (append-nil given)) p }
 
 -- a head that lacks bytes of its extension alone goes off
 enters : (s : BinaryState) (kept : List ℕ) → head_at kept ≡ Err Incomplete →
     let old : BinaryState = record s { kept = kept; stage = Head } in
-    ReadsRows old (in_extension (extension_left (fixed_at kept)) old) []
+    ReadsRows old (in_extension (extension_left (fixed_at kept)) (record old { offset = rows_begin s.offset (fixed_at kept) })) []
 enters s kept short = go (fixed_at kept) refl
   where
     go : (r : Result (ℕ × List ℕ) NoPart) → fixed_at kept ≡ r →
         let old : BinaryState = record s { kept = kept; stage = Head } in
-        ReadsRows old (in_extension (extension_left r) old) []
+        ReadsRows old (in_extension (extension_left r) (record old { offset = rows_begin s.offset r })) []
     go (Ok n) e =
         let are = head-open kept (Ok n) short e in
-        record { columns = refl; limit = refl; ended = refl; left = λ more. skip-reads s.columns s.limit kept more n e are.0 are.1; given = refl }
+        record { columns = refl; limit = refl; ended = refl; left = λ more. skip-reads s.columns s.limit kept more n e are.0 are.1; given = refl; placed = λ pushed given p. ends-none (19 + n.0) pushed given (begins kept pushed given n e p.0 p.1) }
     go (Err stop) e = Goes-same (record s { kept = kept; stage = Head })
 
 faulty-head : (columns limit : ℕ) (kept : List ℕ) (fault : BinaryFault) → head_at kept ≡ Err (Faulty fault) → part_at Head columns limit kept ≡ Err Incomplete → ⊥
@@ -180,7 +183,7 @@ waits s kept Head short = go (head_at kept) refl
   where
     go : (r : Result (List ℕ × List ℕ) NoPart) → head_at kept ≡ r →
         let old : BinaryState = record s { kept = kept; stage = Head } in
-        ReadsRows old (after_head r (in_extension (extension_left (fixed_at kept)) old) old) []
+        ReadsRows old (after_head r (in_extension (extension_left (fixed_at kept)) (record old { offset = rows_begin s.offset (fixed_at kept) })) (record old { offset = rows_begin s.offset (fixed_at kept) })) []
     go (Ok h) e = record {
       columns = refl;
       limit = refl;
@@ -189,6 +192,7 @@ waits s kept Head short = go (head_at kept) refl
           let longer : head_at (kept ++ more) ≡ Ok (h.0, h.1 ++ more) = subst (λ t. Grows t (head_at (kept ++ more)) more) e (head_grows kept more) in
           ap (λ t. head_reading (open_head (kept ++ more)) t (body_reading s.columns s.limit)) longer;
       given = refl;
+      placed = λ pushed given p. ends-none (rows_begin s.offset (fixed_at kept)) pushed given (begins-head s.offset kept pushed given h e p.0 p.1);
     }
     go (Err Incomplete) e = enters s kept e
     go (Err (Faulty fault)) e = absurd (faulty-head s.columns s.limit kept fault e short)
@@ -205,6 +209,7 @@ waits s kept (Extension n) short = go (bytes_at n kept) refl
           let longer : bytes_at n (kept ++ more) ≡ Ok (h.0, h.1 ++ more) = subst (λ t. Grows t (bytes_at n (kept ++ more)) more) e (bytes_grow n kept more) in
           ap (λ t. head_reading [] t (body_reading s.columns s.limit)) longer;
       given = refl;
+      placed = λ pushed given p. ends-none s.offset pushed given p;
     }
     go (Err stop) e = Goes-same (record s { kept = kept; stage = Extension n })
 waits s kept Rows short = Goes-same (record s { kept = kept; stage = Rows })
@@ -220,17 +225,17 @@ due old p e = subst (λ q. Due old q) e (part-reads old.stage old.columns old.li
 
 -- what is lent is no part of what is left
 Goes-held : {new : BinaryState} {rows : List Row} (old : BinaryState) → ReadsRows (let_go old) new rows → ReadsRows old new rows
-Goes-held old g = record { columns = g.columns; limit = g.limit; ended = g.ended; left = g.left; given = g.given }
+Goes-held old g = record { columns = g.columns; limit = g.limit; ended = g.ended; left = g.left; given = g.given; placed = g.placed }
 
 pub Goes-part : (answer : Answer) (old new : BinaryState) → TakesPart answer old new → ReadsRows old new (answer_rows answer)
 Goes-part (Ok o) old new h =
     let r = due old (Ok ((o, new.stage), new.kept)) h.0 in
-    rw h.1 (record { columns = refl; limit = refl; ended = refl; left = λ more. r.1 more; given = refl })
+    rw h.1 (record { columns = refl; limit = refl; ended = refl; left = λ more. r.1 more; given = refl; placed = λ pushed given p. placed-taken o new.stage new.kept (offset_after (row_offset old.stage old.kept old.offset) (option_rows o)) pushed (given ++ option_rows o) (λ row e. part-rows old.stage old.columns old.limit old.kept row new.stage new.kept (h.0 ∙ ap (λ (q : Option Row). Ok ((q, new.stage), new.kept)) e)) (λ e. (r.0 e).0) (ends-rows (row_offset old.stage old.kept old.offset) (option_rows o) pushed given (at-part old.stage old.columns old.limit old.kept old.offset pushed given ((o, new.stage), new.kept) h.0 p)) })
 Goes-part (Err no_row.Memory) old new h = rw h.0 (Goes-same old)
 Goes-part (Err (no_row.NoPart stops.Incomplete)) old new h = rw h.1 (Goes-held old (waits (let_go old) old.kept old.stage h.0))
 Goes-part (Err (no_row.NoPart (stops.Faulty fault))) old new h =
     let r : (more : List ℕ) → binary_left old more ≡ record { rows = []; ending = Bad fault } = due old (Err (Faulty fault)) h.1 in
-    rw h.2 (record { columns = refl; limit = refl; ended = refl; left = r; given = refl })
+    rw h.2 (record { columns = refl; limit = refl; ended = refl; left = r; given = refl; placed = λ pushed given p. fails-at old.stage old.kept old.offset pushed given p ∙ ap (λ (rows : List Row). told (rows_begin 0 (fixed_at pushed) + rows_size rows)) (sym (append-nil given)) })
 
 -- what the bytes pushed give so far
 pub reading-now : (s : BinaryState) (pushed : List ℕ) (given : List Row) → s.ended ≡ false → HasReadBinary s pushed given → binary_reading s.columns s.limit pushed ≡ after_rows given (binary_left s [])
@@ -275,10 +280,10 @@ unfolding part_at
 open-ending s kept Head e = go (head_at kept) refl
   where
     go : (r : Result (List ℕ × List ℕ) NoPart) → head_at kept ≡ r →
-        let old : BinaryState = record s { kept = kept; stage = Head } in
+        let old : BinaryState = record s { kept = kept; stage = Head; offset = rows_begin s.offset (fixed_at kept) } in
         EndsOpen (after_head r (in_extension (extension_left (fixed_at kept)) old) old) (bytes_after r (open_head kept))
     go (Ok h) f = (refl, tt)
-    go (Err Incomplete) f = enters-open s kept f
+    go (Err Incomplete) f = enters-open (record s { offset = rows_begin s.offset (fixed_at kept) }) kept f
     go (Err (Faulty fault)) f = absurd (faulty-head s.columns s.limit kept fault f e)
 open-ending s kept (Extension n) e = go (bytes_at n kept)
   where
@@ -331,11 +336,11 @@ unfolding part_at
 waits-with s kept Head skips e = go (head_at kept) refl
   where
     go : (r : Result (List ℕ × List ℕ) NoPart) → head_at kept ≡ r →
-        let old : BinaryState = record s { kept = kept; stage = Head } in
+        let old : BinaryState = record s { kept = kept; stage = Head; offset = rows_begin s.offset (fixed_at kept) } in
         let new : BinaryState = after_head r (in_extension (extension_left (fixed_at kept)) old) old in
         WaitsWith new.stage new.kept
     go (Ok h) f = tt
-    go (Err Incomplete) f = enters-with s kept f
+    go (Err Incomplete) f = enters-with (record s { offset = rows_begin s.offset (fixed_at kept) }) kept f
     go (Err (Faulty fault)) f = absurd (faulty-head s.columns s.limit kept fault f e)
 waits-with s kept (Extension n) skips e = go (bytes_at n kept)
   where
@@ -383,7 +388,7 @@ HasReadBinary-next answer old new pushed given h k = rw (given-next answer) (Has
 -- ---- the end of the input
 
 pub HasReadBinary-ended : (mid new : BinaryState) (pushed : List ℕ) (given : List Row) → new ≡ record mid { ended = true } → HasReadBinary mid pushed given → HasReadBinary new pushed given
-HasReadBinary-ended mid new pushed given e h = subst (λ (s : BinaryState). HasReadBinary s pushed given) (sym e) (record { so_far = λ f. absurd (false≢true (sym f)); in_all = h.in_all; counted = h.counted })
+HasReadBinary-ended mid new pushed given e h = subst (λ (s : BinaryState). HasReadBinary s pushed given) (sym e) (record { so_far = λ f. absurd (false≢true (sym f)); in_all = h.in_all; counted = h.counted; placed = h.placed })
 
 all-from : (old new : BinaryState) (pushed : List ℕ) (given : List Row) (ending : RowsEnding BinaryFault) → new.columns ≡ old.columns → new.limit ≡ old.limit → HasReadBinary old pushed given
     → binary_left old [] ≡ record { rows = []; ending = ending } → binary_file_reading new.columns new.limit pushed ≡ record { rows = given; ending = last_ending ending }
@@ -407,6 +412,35 @@ AnswersNext-finish (Err (no_row.NoPart (stops.Faulty fault))) old mid new pushed
     let g = Goes-part (Err (no_row.NoPart (stops.Faulty fault))) old mid h in
     rw e (inr (ap (λ (s : BinaryState). binary_ending s.stage s.kept) h.2, all-from old mid pushed given (Bad fault) g.columns g.limit k (left-fault old mid fault h)))
 
+-- a reader that waits tells where the part begins that it waits for
+rests : (s : BinaryState) (kept : List ℕ) (stage : BinaryStage) → let new : BinaryState = waiting_at stage (record s { kept = kept; stage = stage }) in row_offset new.stage new.kept new.offset ≡ new.offset
+rests s kept Head = go (head_at kept)
+  where
+    by_fixed : (r : Result (ℕ × List ℕ) NoPart) → fixed_at kept ≡ r → let new : BinaryState = in_extension (extension_left r) (record s { kept = kept; stage = Head; offset = rows_begin s.offset r }) in row_offset new.stage new.kept new.offset ≡ new.offset
+    by_fixed (Ok n) e = refl
+    by_fixed (Err stop) e = ap (rows_begin s.offset) e
+
+    go : (r : Result (List ℕ × List ℕ) NoPart) →
+        let old : BinaryState = record s { kept = kept; stage = Head; offset = rows_begin s.offset (fixed_at kept) } in
+        let new : BinaryState = after_head r (in_extension (extension_left (fixed_at kept)) old) old in
+        row_offset new.stage new.kept new.offset ≡ new.offset
+    go (Ok h) = refl
+    go (Err stop) = by_fixed (fixed_at kept) refl
+rests s kept (Extension n) = go (bytes_at n kept)
+  where
+    go : (r : Result (List ℕ × List ℕ) NoPart) →
+        let old : BinaryState = record s { kept = kept; stage = Extension n } in
+        let new : BinaryState = after_head r old old in
+        row_offset new.stage new.kept new.offset ≡ new.offset
+    go (Ok h) = refl
+    go (Err stop) = refl
+rests s kept Rows = refl
+rests s kept Closed = refl
+rests s kept (Failed fault) = refl
+
+rests-at : (old mid : BinaryState) → TakesPart (Err (no_row.NoPart stops.Incomplete)) old mid → row_offset mid.stage mid.kept mid.offset ≡ mid.offset
+rests-at old mid h = rw h.1 (rests (let_go old) old.kept old.stage)
+
 pub HasReadBinary-finish : (answer : Answer) (old mid new : BinaryState) (pushed : List ℕ) (given : List Row) → TakesPart answer old mid → new ≡ finished answer mid → HasReadBinary old pushed given → HasReadBinary new pushed (given ++ given_by (last_answer answer))
 HasReadBinary-finish (Ok (Some row)) old mid new pushed given h e k = HasReadBinary-ended mid new pushed (given ++ row ∷ []) e (HasReadBinary-goes old mid (row ∷ []) pushed given (Goes-part (Ok (Some row)) old mid h) k)
 HasReadBinary-finish (Ok None) old mid new pushed given h e k = HasReadBinary-ended mid new pushed (given ++ []) e (HasReadBinary-goes old mid [] pushed given (Goes-part (Ok None) old mid h) k)
@@ -414,7 +448,7 @@ HasReadBinary-finish (Err no_row.Memory) old mid new pushed given h e k = rw e (
 HasReadBinary-finish (Err (no_row.NoPart stops.Incomplete)) old mid new pushed given h e k =
     let g = Goes-part (Err (no_row.NoPart stops.Incomplete)) old mid h in
     let all = all-from old mid pushed given (Open (open_bytes old.stage old.kept)) g.columns g.limit k (left-open old mid h) in
-    rw e (record { so_far = λ f. absurd (false≢true (sym f)); in_all = all ∙ ap (λ (rows : List Row). record { rows = rows; ending = Bad Truncated }) (sym (append-nil given) ∙ sym (append-nil (given ++ []))); counted = (HasReadBinary-goes old mid [] pushed given g k).counted })
+    rw e (record { so_far = λ f. absurd (false≢true (sym f)); in_all = all ∙ ap (λ (rows : List Row). record { rows = rows; ending = Bad Truncated }) (sym (append-nil given) ∙ sym (append-nil (given ++ []))); counted = (HasReadBinary-goes old mid [] pushed given g k).counted; placed = sym (rests-at old mid h) ∙ fails-at mid.stage mid.kept mid.offset pushed (given ++ []) (HasReadBinary-goes old mid [] pushed given g k).placed })
 HasReadBinary-finish (Err (no_row.NoPart (stops.Faulty fault))) old mid new pushed given h e k = HasReadBinary-ended mid new pushed (given ++ []) e (HasReadBinary-goes old mid [] pushed given (Goes-part (Err (no_row.NoPart (stops.Faulty fault))) old mid h) k)
 
 pub finish-closed : (answer : Answer) (old mid new : BinaryState) → TakesPart answer old mid → new ≡ finished answer mid → last_answer answer ≡ Ok None → new.stage ≡ Closed

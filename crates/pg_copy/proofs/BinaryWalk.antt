@@ -23,7 +23,7 @@ rest-cons : (v : Option (List ℕ)) (r : Result (Row × List ℕ) NoPart) → re
 rest-cons v (Ok x) = refl
 rest-cons v (Err e) = refl
 
-rest-is : {A : Type 0} (r : Result (A × List ℕ) NoPart) (rest : List ℕ) → rest_of r ≡ Ok rest → (a : A) × (r ≡ Ok (a, rest))
+pub rest-is : {A : Type 0} (r : Result (A × List ℕ) NoPart) (rest : List ℕ) → rest_of r ≡ Ok rest → (a : A) × (r ≡ Ok (a, rest))
 rest-is {A} (Ok x) rest e =
     let is : x.1 ≡ rest = cc in
     (x.0, ap (λ (y : List ℕ). Ok (x.0, y)) is)

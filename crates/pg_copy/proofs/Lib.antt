@@ -19,6 +19,8 @@ pub mod BinaryReads
 pub mod BinaryHeads
 pub mod BinaryLoop
 pub mod BinaryCounts
+pub mod BinaryPlaces
+pub mod BinarySizes
 pub mod BinaryHistory
 pub mod BinaryFewer
 pub mod BinaryHolds

@@ -1,17 +1,19 @@
 -- A reader of a binary file as its callers see it, what its calls do, and what it was given and has
 -- given.
-use Rattle.std.specs.Prelude.{◌≡◌, ℕ, suc, ◌-◌, ◌<◌, ◌⊎◌, nat_lt, if◌then◌else◌, Bool, false, List, [], ◌∷◌, ◌++◌, length, drop, Option, None, Result, Ok, Err}
+use Rattle.std.specs.Prelude.{◌≡◌, ℕ, suc, ◌+◌, ◌-◌, ◌<◌, ◌⊎◌, nat_lt, if◌then◌else◌, Bool, false, List, [], ◌∷◌, ◌++◌, length, drop, Option, None, Result, Ok, Err}
+use Rattle.std.specs.List.{flat_map}
 use Rattle.pg_copy.specs.declared.fault.BinaryFault.{BinaryFault}
 use Rattle.pg_copy.specs.declared.fault.BinaryFault.TheVariants.{AfterTrailer, Memory}
 use Rattle.pg_copy.specs.declared.binary_reader.BinaryStage.{BinaryStage}
 use Rattle.pg_copy.specs.declared.binary_reader.BinaryStage.TheVariants as stages
 use Rattle.pg_copy.specs.Row.{Row}
 use Rattle.pg_copy.specs.Reading.{RowsRead, RowsEnding, Open, Done, Bad, after_rows}
-use Rattle.pg_copy.specs.BinaryPart.{bytes_at, head_reading, binary_reading, body_reading, trailer_reading, binary_at_end, binary_file_reading}
+use Rattle.pg_copy.specs.Binary.{binary_row}
+use Rattle.pg_copy.specs.BinaryPart.{NoPart, bytes_at, fixed_at, head_reading, binary_reading, body_reading, trailer_reading, binary_at_end, binary_file_reading}
 
 -- a reader's columns, the most bytes that a value may have, the bytes that it keeps since they are
 -- no whole part yet, its stage, whether `finish` has ended the input, how many rows it has given,
--- and the row that it lends, if it lends one
+-- the row that it lends, if it lends one, and where in the file the row begins that comes next
 pub record BinaryState : Type 0 where
   pub columns : ℕ
   pub limit : ℕ
@@ -20,10 +22,11 @@ pub record BinaryState : Type 0 where
   pub ended : Bool
   pub given : ℕ
   pub held : Option Row
+  pub offset : ℕ
 
--- the number of rows that a reader tells, of so many: the number itself, or the last one of 64 bits
-abbrev pub told_rows : ℕ → ℕ
-told_rows n = if nat_lt n 18446744073709551615 then n else 18446744073709551615
+-- the number that a reader tells, of rows or bytes: the number itself, or the last one of 64 bits
+abbrev pub told : ℕ → ℕ
+told n = if nat_lt n 18446744073709551615 then n else 18446744073709551615
 
 -- the number of rows that is told after one row more: it stays at the last one of 64 bits
 abbrev pub one_more : ℕ → ℕ
@@ -33,6 +36,32 @@ one_more n = if nat_lt n 18446744073709551615 then suc n else n
 abbrev pub given_after : ℕ → List Row → ℕ
 given_after n [] = n
 given_after n (row ∷ rows) = given_after (one_more n) rows
+
+-- where the rows of a file begin, by what was read of the 19 bytes that every head has: after the
+-- extension, of this length; and at `none` where these bytes aren't there
+abbrev pub rows_begin : ℕ → Result (ℕ × List ℕ) NoPart → ℕ
+rows_begin none (Ok n) = 19 + n.0
+rows_begin none (Err stop) = none
+
+-- how many bytes these rows have in a file
+abbrev pub rows_size : List Row → ℕ
+rows_size rows = length (flat_map binary_row rows)
+
+-- The offset is where these rows end, after the head of a file that begins with these bytes.
+abbrev pub EndsAt : ℕ → List ℕ → List Row → Type 0
+EndsAt offset pushed given = (n : ℕ × List ℕ) × (fixed_at pushed ≡ Ok n)
+    × (offset ≡ told (19 + n.0 + rows_size given))
+
+-- A reader at this stage, which keeps these bytes, tells where the row begins that comes next, of a
+-- file of which it was pushed these bytes and has given these rows: after the head, of which it
+-- needs the first 19 bytes, and the rows. Until it has read a head it tells 0.
+abbrev pub IsPlaced : BinaryStage → List ℕ → ℕ → List ℕ → List Row → Type 0
+IsPlaced stages.Head kept offset pushed given = (kept ≡ pushed) × (given ≡ []) × (offset ≡ 0)
+IsPlaced (stages.Extension n) kept offset pushed given = EndsAt offset pushed given
+IsPlaced stages.Rows kept offset pushed given = EndsAt offset pushed given
+IsPlaced stages.Closed kept offset pushed given = EndsAt offset pushed given
+IsPlaced (stages.Failed fault) kept offset pushed given = offset
+    ≡ told (rows_begin 0 (fixed_at pushed) + rows_size given)
 
 -- what a reader at this stage still gives of these bytes; of an extension n bytes are to come
 abbrev pub binary_stage_reading : BinaryStage → ℕ → ℕ → List ℕ → RowsRead BinaryFault
@@ -54,12 +83,13 @@ binary_last s = binary_at_end (binary_left s [])
 
 -- The reader was pushed these bytes in all, and has given these rows: they are the first that a
 -- file which begins so has, what the reader still gives is the rest of that file's reading, and it
--- tells how many they are.
+-- tells how many they are and where the next one begins.
 pub record HasReadBinary (s : BinaryState) (pushed : List ℕ) (given : List Row) : Type 0 where
   pub so_far : s.ended ≡ false → (more : List ℕ)
       → binary_reading s.columns s.limit (pushed ++ more) ≡ after_rows given (binary_left s more)
   pub in_all : binary_file_reading s.columns s.limit pushed ≡ after_rows given (binary_last s)
-  pub counted : s.given ≡ told_rows (length given)
+  pub counted : s.given ≡ told (length given)
+  pub placed : IsPlaced s.stage s.kept s.offset pushed given
 
 -- what stands after all rows, of a reader at this stage that keeps these bytes, while the input
 -- goes on
@@ -101,7 +131,11 @@ stage_after (stages.Failed fault) piece = stages.Failed fault
 -- the reader after a push that took this piece: it lends no row
 abbrev pub pushed_after : BinaryState → List ℕ → BinaryState
 pushed_after s piece =
-    record s { kept = s.kept ++ kept_of s.stage piece; stage = stage_after s.stage piece; held = None }
+    record s {
+      kept = s.kept ++ kept_of s.stage piece;
+      stage = stage_after s.stage piece;
+      held = None;
+    }
 
 -- The reader is in the head or among the rows, and has found neither trailer nor fault.
 abbrev pub IsReading : BinaryStage → Type 0

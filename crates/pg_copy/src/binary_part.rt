@@ -259,8 +259,8 @@ impl Look {
 /// Where a row stands in the bytes that are kept.
 #[derive(Clone, Copy, Debug, Drop, PartialEq, Eq)]
 pub struct Place {
-    /// Where its values begin: after their number.
-    pub values: usize,
+    /// Where it begins, with the number of its values.
+    pub start: usize,
     pub end: usize,
 }
 

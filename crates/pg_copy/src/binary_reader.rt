@@ -1,15 +1,15 @@
 //! Reading a binary file that comes in pieces.
 
-ghost use Rattle.std.specs.Prelude.{◌≡◌, ◌++◌, ◌≤◌, ◌<◌, ◌↔◌, ◌⊎◌, ℕ, List, length, None, Ok, Err, [], true, false, IsTrue, IfOk, OnOk};
+ghost use Rattle.std.specs.Prelude.{◌≡◌, ◌+◌, ◌++◌, ◌≤◌, ◌<◌, ◌↔◌, ◌⊎◌, ℕ, List, length, None, Ok, Err, [], true, false, IsTrue, IfOk, OnOk};
 ghost use Rattle.pg_copy.specs.declared.fault.BinaryFault.{BinaryFault};
 ghost use Rattle.pg_copy.specs.declared.fault.BinaryFault.TheVariants.{Memory};
 ghost use Rattle.pg_copy.specs.declared.binary_reader.BinaryStage.TheVariants.{Head, Extension, Rows, Closed, Failed};
 ghost use Rattle.pg_copy.specs.Row.{Row};
 ghost use Rattle.pg_copy.specs.Reading.{RowWaits, given_by, AnswersNext};
 ghost use Rattle.pg_copy.specs.BinaryPart.{Incomplete, fixed_at, head_at, binary_reading, binary_file_reading};
-ghost use Rattle.pg_copy.specs.BinaryReader.{HasReadBinary, PushesBinary, IsReading, WaitsWith, one_more, given_after, binary_left, binary_ending};
+ghost use Rattle.pg_copy.specs.BinaryReader.{HasReadBinary, PushesBinary, IsReading, WaitsWith, one_more, told, rows_begin, given_after, binary_left, binary_ending};
 ghost use Rattle.pg_copy.specs.BinaryLent.{as_next, Lends};
-ghost use Rattle.pg_copy.specs.Private.BinaryPart.{IsRowAt, HasRowAt, lending, let_go, TakesPart, FindsNext, stage_of, extension_left, in_extension};
+ghost use Rattle.pg_copy.specs.Private.BinaryPart.{IsRowAt, HasRowAt, lending, let_go, start_offset, TakesPart, FindsNext, stage_of, extension_left, in_extension};
 
 use crate::Row;
 use crate::binary_part::{
@@ -44,6 +44,20 @@ fn one_more(given: u64) -> u64
     given.saturating_add(1)
 }
 
+/// Where a row begins that stands so many bytes after the first of those that are kept: only a head stands before it.
+fn start_offset(offset: u64, start: usize) -> u64
+    ensures { result ≡ start_offset offset start }
+{
+    if start > 0 { start as u64 } else { offset }
+}
+
+/// The number after so many bytes more.
+fn later(offset: u64, size: usize) -> u64
+    ensures { result ≡ told (offset + size) }
+{
+    offset.saturating_add(size as u64)
+}
+
 /// Takes a binary file in any pieces, and gives exactly its rows.
 ///
 /// `push` keeps a piece, `next` gives the rows that are whole, one by one, and `finish` those that are left at the end of the
@@ -63,6 +77,7 @@ pub struct BinaryReader {
     stage: BinaryStage,
     ended: bool,
     given: u64,
+    offset: u64,
 }
 
 impl Model for BinaryReader {
@@ -72,7 +87,16 @@ impl Model for BinaryReader {
 
     ghost Value = { BinaryState };
 
-    ghost view = { λ r. record { columns = r.columns; limit = r.limit; kept = r.buffer.kept; stage = r.stage; ended = r.ended; given = r.given; held = held_row r.columns r.limit r.buffer.front } };
+    ghost view = { λ r. record {
+      columns = r.columns;
+      limit = r.limit;
+      kept = r.buffer.kept;
+      stage = r.stage;
+      ended = r.ended;
+      given = r.given;
+      held = held_row r.columns r.limit r.buffer.front;
+      offset = r.offset;
+    } };
 
     ghost invariant = { λ r. IsBinaryReader r.columns r.limit r.buffer r.look r.stage };
 }
@@ -83,7 +107,7 @@ impl BinaryReader {
         requires columns { (0 < columns) × (columns ≤ 32767) }
         requires limit { (0 < limit) × (limit ≤ 2147483647) }
         ensures state { result
-            ≡ record { columns = columns; limit = limit; kept = []; stage = Head; ended = false; given = 0; held = None } }
+            ≡ record { columns = columns; limit = limit; kept = []; stage = Head; ended = false; given = 0; held = None; offset = 0 } }
         ensures read { HasReadBinary result [] [] }
     {
         BinaryReader {
@@ -95,6 +119,7 @@ impl BinaryReader {
             stage: BinaryStage::Head,
             ended: false,
             given: 0,
+            offset: 0,
         }
     }
 
@@ -118,6 +143,15 @@ impl BinaryReader {
         ensures { result ≡ self.now.given }
     {
         self.given
+    }
+
+    /// Where in the file the row begins that comes next: how many bytes stand before it, those of the head and of the rows that were
+    /// given. So after a fault it tells where the row begins that the fault stands in the place of, and 0 where that is the head.
+    /// Within the head's extension it tells where the first row will begin. The number stays at `u64::MAX`.
+    pub fn offset(&self) -> u64
+        ensures { result ≡ self.now.offset }
+    {
+        self.offset
     }
 
     /// Takes the next piece of the file, all of it. What it has of the head's extension is dropped, once a call of `next` has
@@ -186,8 +220,8 @@ impl BinaryReader {
     }
 
     /// Whether a next row waits, which is then lent until the next change of the reader: [`BinaryReader::held`] gives it. It counts as
-    /// given. A fault is answered as `next` answers it, and no memory is asked for (PostgreSQL documentation, page COPY, "Binary
-    /// Format").
+    /// given, and the reader has its bytes until then. A fault is answered as `next` answers it, and no memory is asked for (PostgreSQL
+    /// documentation, page COPY, "Binary Format").
     pub fn next_lent(&mut self) -> Result<bool, BinaryFault>
         requires { self.old.ended ≡ false }
         ensures read { (pushed : List ℕ) (given : List Row) → HasReadBinary self.old pushed given
@@ -347,15 +381,17 @@ impl BinaryReader {
         let bytes = self.buffer.kept();
         match find_part(in_head, self.columns, self.limit, bytes, &mut self.look) {
             Ok(RowOrTrailer::Row) => Ok(Some(Place {
-                values: self.look.start + 2,
+                start: self.look.start,
                 end: self.look.start + self.look.walk.at,
             })),
             Ok(RowOrTrailer::Trailer) => {
+                self.offset = start_offset(self.offset, self.look.start);
                 self.close();
                 Ok(None)
             }
             Err(NoPart::Incomplete) => {
                 if self.look.start > 0 {
+                    self.offset = self.look.start as u64;
                     self.buffer.take(self.look.start);
                     self.look.start = 0;
                     self.stage = BinaryStage::Rows;
@@ -367,6 +403,7 @@ impl BinaryReader {
                 Err(NoPart::Incomplete)
             }
             Err(NoPart::Faulty(fault)) => {
+                self.offset = start_offset(self.offset, self.look.start);
                 self.stop(fault);
                 Err(NoPart::Faulty(fault))
             }
@@ -378,7 +415,7 @@ impl BinaryReader {
         requires { HasRowAt self.now place }
         ensures { IfOk result (λ row. IsRowAt self.now place row) }
     {
-        let (_, values) = self.buffer.kept().split_at(place.values);
+        let (_, values) = self.buffer.kept().split_at(place.start + 2);
         let values = values_of(self.alloc, self.limit, self.columns, values)?;
         Ok(Seq::new(values))
     }
@@ -389,7 +426,9 @@ impl BinaryReader {
         ensures { (row : Row) → IsRowAt self.old place row
             → self.new ≡ lending row place self.old }
     {
-        self.buffer.hold(place.values, place.end);
+        self.buffer.hold(place.start + 2, place.end);
+        let start = start_offset(self.offset, place.start);
+        self.offset = later(start, place.end - place.start);
         self.look = Look::start();
         self.stage = BinaryStage::Rows;
         self.given = one_more(self.given);
@@ -406,9 +445,12 @@ impl BinaryReader {
     fn enter_extension(&mut self)
         requires stage { self.old.stage ≡ Head }
         requires open { head_at self.old.kept ≡ Err Incomplete }
-        ensures { self.new ≡ in_extension (extension_left (fixed_at self.old.kept)) (let_go self.old) }
+        ensures { self.new ≡ in_extension (extension_left (fixed_at self.old.kept))
+            (record self.old { held = None; offset = rows_begin self.old.offset (fixed_at self.old.kept) }) }
     {
-        if let Some(missing) = extension_left(self.buffer.kept()) {
+        let kept = self.buffer.kept();
+        if let Some(missing) = extension_left(kept) {
+            self.offset = kept.len() as u64 + u64::from(missing);
             self.buffer.clear();
             self.look = Look::start();
             self.stage = BinaryStage::Extension(missing);

@@ -9,7 +9,7 @@ use std::alloc::{AllocError, Global};
 use std::test::Fail;
 
 /// These bytes, as a value.
-fn text(alloc: Global, bytes: &[u8]) -> Result<Seq<u8>, AllocError> {
+fn bytes_of(alloc: Global, bytes: &[u8]) -> Result<Seq<u8>, AllocError> {
     Seq::from_slice(alloc, bytes)
 }
 

@@ -5,7 +5,7 @@ ghost use Rattle.std.specs.Prelude.{◌≡◌, false, OnOk};
 use crate::file::{COLUMNS, LIMIT};
 use anyhow::{Result, bail, ensure};
 use pg_copy::{
-    BinaryReader, Row, write_binary_count, write_binary_field, write_binary_head,
+    BinaryFault, BinaryReader, Row, write_binary_count, write_binary_field, write_binary_head,
     write_binary_trailer,
 };
 use std::alloc::Global;
@@ -72,6 +72,36 @@ pub fn written_again(alloc: Global, bytes: &[u8], rows: usize) -> Result<Vec<u8>
     }
     ensure!(reader.finish()?.is_none(), "a row is left");
     ensure!(reader.rows_given() == rows as u64, "another number of rows");
+    ensure!(
+        reader.offset() == bytes.len().saturating_sub(2) as u64,
+        "the trailer stands elsewhere"
+    );
     write_binary_trailer(&mut out)?;
     Ok(out)
+}
+
+/// Passes the rows by that wait, and says why none stands after them.
+fn fault_after(reader: &mut BinaryReader) -> Option<BinaryFault>
+    requires { reader.old.ended ≡ false }
+{
+    loop {
+        match reader.next_lent() {
+            Ok(true) => {}
+            Ok(false) => return None,
+            Err(fault) => return Some(fault),
+        }
+    }
+}
+
+/// Where the row begins in place of which a fault stands, of a file whose trailer has another number of fields.
+pub fn place_of_fault(alloc: Global, bytes: &[u8]) -> Result<u64> {
+    ensure!(bytes.len() >= 2, "there is no trailer");
+    let mut reader = BinaryReader::new(alloc, COLUMNS, LIMIT);
+    reader.push(&bytes[..bytes.len() - 2])?;
+    reader.push(&[0, 9])?;
+    ensure!(
+        fault_after(&mut reader) == Some(BinaryFault::FieldCount(9)),
+        "another fault"
+    );
+    Ok(reader.offset())
 }

@@ -53,6 +53,10 @@ fn main(rt: HostRuntime) -> Result<()> {
         loops::written_again(alloc, binary.as_slice(), of_binary.len())? == binary,
         "another binary file is written of rows that are lent"
     );
+    ensure!(
+        loops::place_of_fault(alloc, binary.as_slice())? == binary.len().saturating_sub(2) as u64,
+        "a fault is told at another place"
+    );
     println!(rt;
         "{} rows, {} bytes in text, {} in binary",
         of_text.len(),

@@ -1,5 +1,5 @@
 -- The next part of a binary file, as private functions read it.
-use Rattle.std.specs.Prelude.{◌≡◌, ℕ, ◌<◌, ◌≤◌, ◌-◌, ◌⊎◌, Bool, true, false, List, [], ◌∷◌, length, drop, Option, Some, None, Result, Ok, Err}
+use Rattle.std.specs.Prelude.{◌≡◌, ℕ, zero, suc, ◌+◌, ◌<◌, ◌≤◌, ◌-◌, ◌⊎◌, Bool, true, false, List, [], ◌∷◌, length, drop, Option, Some, None, Result, Ok, Err}
 use Rattle.std.specs.Int.{w16}
 use Rattle.pg_copy.specs.declared.fault.BinaryFault.TheVariants.{AfterTrailer, Memory}
 use Rattle.pg_copy.specs.declared.binary_part.NoPart.{NoPart as Stop}
@@ -16,7 +16,8 @@ use Rattle.pg_copy.specs.declared.binary_reader.BinaryStage.TheVariants.{Head, E
 use Rattle.pg_copy.specs.Row.{Row}
 use Rattle.pg_copy.specs.Reading.{RowWaits}
 use Rattle.pg_copy.specs.BinaryPart.{NoPart, Incomplete, Faulty, ◌>>=◌, number_at, bytes_at, fixed_at, head_at, values_at, row_at}
-use Rattle.pg_copy.specs.BinaryReader.{BinaryState, one_more, given_after, binary_left}
+use Rattle.pg_copy.specs.BinaryReader.{BinaryState, one_more, told, given_after, rows_begin, binary_left}
+use Rattle.pg_copy.specs.Binary.{binary_row}
 use Rattle.pg_copy.specs.Private.RowBuffer.{RowBytes}
 
 -- a function's reason why it read no part, as reading has it
@@ -115,7 +116,8 @@ abbrev pub FindsPart : Bool → ℕ → ℕ → List ℕ → Result RowOrTrailer
 FindsPart in_head columns limit bytes (Ok parts.Row) l = (0 < l.walk.at) × (l.walk.left ≡ 0)
     × IsAfterHead in_head bytes (drop l.start bytes)
 FindsPart in_head columns limit bytes (Ok parts.Trailer) l =
-    part_at (stage_of in_head) columns limit bytes ≡ Ok ((None, Closed), [])
+    (part_at (stage_of in_head) columns limit bytes ≡ Ok ((None, Closed), []))
+    × IsAfterHead in_head bytes (drop l.start bytes)
 FindsPart in_head columns limit bytes (Err stop) l = (part_at (stage_of in_head) columns limit bytes
     ≡ Err (no_part stop)) × (in_head ≡ true → l.start ≡ 0 → head_at bytes ≡ Err (no_part stop))
 
@@ -149,6 +151,25 @@ abbrev pub in_extension : Option ℕ → BinaryState → BinaryState
 in_extension None s = s
 in_extension (Some n) s = record s { kept = []; stage = Extension n }
 
+-- where the row begins at which a reader stands
+abbrev pub row_offset : BinaryStage → List ℕ → ℕ → ℕ
+row_offset Head kept offset = rows_begin offset (fixed_at kept)
+row_offset (Extension n) kept offset = offset
+row_offset Rows kept offset = offset
+row_offset Closed kept offset = offset
+row_offset (Failed fault) kept offset = offset
+
+-- the same, of a row that begins so many bytes after the first of those that are kept: only a head
+-- stands before it
+abbrev pub start_offset : ℕ → ℕ → ℕ
+start_offset offset zero = offset
+start_offset offset (suc n) = suc n
+
+-- where the next row begins, after these
+abbrev pub offset_after : ℕ → List Row → ℕ
+offset_after n [] = n
+offset_after n (row ∷ rows) = offset_after (told (n + length (binary_row row))) rows
+
 -- where a reader waits for the rest of a part: a head that is whole is taken off, and an extension
 abbrev pub after_head : Result (List ℕ × List ℕ) NoPart → BinaryState → BinaryState → BinaryState
 after_head (Ok h) stays s = record s { kept = h.1; stage = Rows }
@@ -157,7 +178,10 @@ after_head (Err stop) stays s = stays
 -- a reader that stands there and waits for more bytes
 abbrev pub waiting_at : BinaryStage → BinaryState → BinaryState
 waiting_at Head s =
-    after_head (head_at s.kept) (in_extension (extension_left (fixed_at s.kept)) s) s
+    after_head (head_at s.kept)
+    (in_extension (extension_left (fixed_at s.kept))
+    (record s { offset = rows_begin s.offset (fixed_at s.kept) }))
+    (record s { offset = rows_begin s.offset (fixed_at s.kept) })
 waiting_at (Extension n) s = after_head (bytes_at n s.kept) s s
 waiting_at Rows s = s
 waiting_at Closed s = s
@@ -178,10 +202,13 @@ option_rows (Some row) = row ∷ []
 
 -- At this place of what is kept stands this row, which is the next part.
 pub record IsRowAt (s : BinaryState) (place : Place) (row : Row) : Type 0 where
-  pub in_order : place.values ≤ place.end
+  pub in_order : place.start + 2 ≤ place.end
   pub in_range : place.end ≤ length s.kept
-  pub values : values_at s.limit s.columns (drop place.values s.kept) ≡ Ok (row, drop place.end s.kept)
-  pub part : part_at s.stage s.columns s.limit s.kept ≡ Ok ((Some row, Rows), drop place.end s.kept)
+  pub values : values_at s.limit s.columns (drop (place.start + 2) s.kept)
+      ≡ Ok (row, drop place.end s.kept)
+  pub begins : row_offset s.stage s.kept s.offset ≡ start_offset s.offset place.start
+  pub part : part_at s.stage s.columns s.limit s.kept
+      ≡ Ok ((Some row, Rows), drop place.end s.kept)
 
 -- At this place of what is kept stands a row, which is the next part.
 abbrev pub HasRowAt : BinaryState → Place → Type 0
@@ -189,24 +216,47 @@ HasRowAt s place = (row : Row) × IsRowAt s place row
 
 -- the reader, once it lends the row at this place
 abbrev pub lending : Row → Place → BinaryState → BinaryState
-lending row place s = record s { kept = drop place.end s.kept; stage = Rows; given = one_more s.given; held = Some row }
+lending row place s = record s {
+  kept = drop place.end s.kept;
+  stage = Rows;
+  given = one_more s.given;
+  held = Some row;
+  offset = offset_after (row_offset s.stage s.kept s.offset) (row ∷ []);
+}
 
--- a row is found, and nothing changes; or the trailer is taken, or the next part is waited for, or the
--- reader stops at a fault in its place
+-- A row is found, and nothing changes; or the trailer is taken, or the next part is waited for, or
+-- the reader stops at a fault in its place.
 abbrev pub FindsNext : Result (Option Place) Stop → BinaryState → BinaryState → Type 0
 FindsNext (Ok (Some place)) old new = HasRowAt old place × (new ≡ old)
-FindsNext (Ok None) old new = (part_at old.stage old.columns old.limit old.kept ≡ Ok ((None, Closed), []))
-    × (new ≡ record old { kept = []; stage = Closed; held = None })
+FindsNext (Ok None) old new =
+    (part_at old.stage old.columns old.limit old.kept ≡ Ok ((None, Closed), []))
+    × (new ≡ record old {
+      kept = [];
+      stage = Closed;
+      held = None;
+      offset = row_offset old.stage old.kept old.offset;
+    })
 FindsNext (Err stops.Incomplete) old new =
     (part_at old.stage old.columns old.limit old.kept ≡ Err Incomplete) × (new ≡ waiting old)
 FindsNext (Err (stops.Faulty fault)) old new = (fault ≡ Memory → ⊥)
     × (part_at old.stage old.columns old.limit old.kept ≡ Err (Faulty fault))
-    × (new ≡ record old { kept = []; stage = Failed fault; held = None })
+    × (new ≡ record old {
+      kept = [];
+      stage = Failed fault;
+      held = None;
+      offset = row_offset old.stage old.kept old.offset;
+    })
 
 -- the next part is taken, or it is waited for, or the reader stops at a fault in its place
 abbrev pub TakesPart : Result (Option Row) NoRow → BinaryState → BinaryState → Type 0
 TakesPart (Ok row) old new = (part_at old.stage old.columns old.limit old.kept
     ≡ Ok ((row, new.stage), new.kept))
-    × (new ≡ record old { kept = new.kept; stage = new.stage; given = given_after old.given (option_rows row); held = None })
+    × (new ≡ record old {
+      kept = new.kept;
+      stage = new.stage;
+      given = given_after old.given (option_rows row);
+      held = None;
+      offset = offset_after (row_offset old.stage old.kept old.offset) (option_rows row);
+    })
 TakesPart (Err no_row.Memory) old new = (new ≡ old) × RowWaits (binary_left old [])
 TakesPart (Err (no_row.NoPart stop)) old new = FindsNext (Err stop) old new

@@ -11,7 +11,8 @@ value_then next (Err stop) = []
 -- the values that are still to come: so many, or fewer where the bytes have no more
 unfoldable pub values_left : ℕ → ℕ → List ℕ → Row
 values_left limit zero bytes = []
-values_left limit (suc n) bytes = value_then (λ rest. values_left limit n rest) (value_at limit bytes)
+values_left limit (suc n) bytes =
+    value_then (λ rest. values_left limit n rest) (value_at limit bytes)
 
 -- the row that is lent, whose values these bytes begin with
 abbrev pub held_row : ℕ → ℕ → Option (List ℕ) → Option Row

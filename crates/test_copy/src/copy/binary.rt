@@ -1,6 +1,6 @@
 //! Binary files.
 
-use super::{is_row, text, write_file};
+use super::{bytes_of, is_row, write_file};
 use pg_copy::{
     BinaryFault, BinaryReader, Row, RowFault, Seq, write_binary_head, write_binary_row,
     write_binary_trailer,
@@ -202,7 +202,7 @@ fn a_byte_after_the_trailer_is_refused_for_good(rt: HostRuntime) {
 
 /// A row of the value `1` and a null.
 fn row(alloc: Global) -> Result<Row, AllocError> {
-    let values = vec![in alloc; Some(text(alloc, b"1")?), None]?;
+    let values = vec![in alloc; Some(bytes_of(alloc, b"1")?), None]?;
     Ok(Seq::new(values))
 }
 

@@ -2,7 +2,7 @@
 
 ghost use Rattle.std.specs.Prelude.{◌<◌, ◌≤◌};
 
-use super::{is_row, text, write_file};
+use super::{bytes_of, is_row, write_file};
 use pg_copy::{Row, RowFault, Seq, TextFault, TextReader, write_text_field, write_text_row};
 use std::alloc::{AllocError, Global};
 use std::test::Fail;
@@ -162,10 +162,10 @@ fn a_reader_ends(rt: HostRuntime) {
 /// A row of a tab between letters, a null, an empty value and the value `\N`.
 fn row(alloc: Global) -> Result<Row, AllocError> {
     let values = vec![in alloc;
-        Some(text(alloc, b"a\tb")?),
+        Some(bytes_of(alloc, b"a\tb")?),
         None,
-        Some(text(alloc, b"")?),
-        Some(text(alloc, b"\\N")?),
+        Some(bytes_of(alloc, b"")?),
+        Some(bytes_of(alloc, b"\\N")?),
     ]?;
     Ok(Seq::new(values))
 }

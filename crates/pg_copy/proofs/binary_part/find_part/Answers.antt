@@ -21,7 +21,7 @@ returns-in_err-find_row-clause-found c =
 pub returns-then-rest-eq2-clause-found : goal.returns-then-rest-eq2-clause-found
 returns-then-rest-eq2-clause-found c =
     let found = rw (c.in-Trailer.is, c.split_at.ensures.back) at c.in_ok-find_row.ensures.found in
-    part-closed c.args.in_head c.args.columns c.args.limit c.args.bytes.now (drop c.in_ok-look.field-0 c.args.bytes.now) c.in_ok-look.ensures.1 found (ap length (sym c.split_at.ensures.back) ∙ c.if-rest-eq2.true)
+    (part-closed c.args.in_head c.args.columns c.args.limit c.args.bytes.now (drop c.in_ok-look.field-0 c.args.bytes.now) c.in_ok-look.ensures.1 found (ap length (sym c.split_at.ensures.back) ∙ c.if-rest-eq2.true), c.in_ok-look.ensures.1)
 
 pub returns-else-rest-eq2-clause-found : goal.returns-else-rest-eq2-clause-found
 returns-else-rest-eq2-clause-found c =
