@@ -2,7 +2,7 @@
 
 mod feed;
 
-ghost use Rattle.std.specs.Prelude.{◌≡◌, ◌≤◌, ◌∷◌, [], false, IfErr, IfNone, IfSome, None, OnErr, OnOk, option_copied, Some};
+ghost use Rattle.std.specs.Prelude.{◌≡◌, ◌≢◌, ◌≤◌, ◌∷◌, ◌↔◌, [], false, IfErr, IfNone, IfSome, IsTrue, None, OnErr, OnOk, option_copied, Some};
 ghost use Rattle.pg_wire.specs.Direction.{IsLimit};
 ghost use Rattle.pg_client.specs.declared.call.Call.TheVariants as call;
 ghost use Rattle.pg_client.specs.Client.{IsOpenPhase, phase_of, value_of};
@@ -256,6 +256,13 @@ impl Client {
         ensures none { IfNone result ((self.old.settled ≡ []) × (self.new ≡ self.old)) }
     {
         self.settled.pop_front()
+    }
+
+    /// Whether a settled group waits to be taken.
+    pub fn has_settled(&self) -> bool
+        ensures { IsTrue result ↔ (self.now.settled ≢ []) }
+    {
+        !self.settled.is_empty()
     }
 
     /// Says that the connection is gone. It hands back the request that isn't settled, and says whether an error came for it.

@@ -1,0 +1,172 @@
+-- What `drive` does: it sends, receives and feeds, until there is something to answer.
+use Rattle.std.specs.Prelude.{◌≡◌, ◌≢◌, ℕ, ◌<◌, ◌≤◌, ◌⊎◌, List, [], length, codes, Option, Some, None, Result, Ok, Err}
+use Rattle.std.specs.List.{FoldsTo}
+use Rattle.pg_wire.specs.Link.{HasRisen}
+use Rattle.pg_client.specs.declared.phase.Cause.TheVariants as cause
+use Rattle.pg_client.specs.declared.phase.Phase.{Phase}
+use Rattle.pg_client.specs.declared.phase.Phase.TheVariants as phase
+use Rattle.pg_client.specs.declared.fault.FeedFault.{FeedFault}
+use Rattle.pg_client.specs.declared.settled.Loss.{Loss}
+use Rattle.pg_client.specs.Client.{ClientView, phase_of}
+use Rattle.pg_client.specs.Feed.{Feeds}
+use Rattle.pg_client.specs.History.{Carries, with_handed_back}
+use Rattle.pg_client.specs.Lost.{HandsBack, first_cause}
+use Rattle.pg_drive.specs.declared.answer.DriveFault.{DriveFault}
+use Rattle.pg_drive.specs.declared.answer.DriveFault.TheVariants as fault
+use Rattle.pg_drive.specs.declared.answer.Driven.{Driven}
+use Rattle.pg_drive.specs.declared.answer.Driven.TheVariants as driven
+use Rattle.pg_drive.specs.Sending.{FailsToSend, Sends}
+
+-- The code of the fault with which a client can't be driven.
+abbrev pub drive_code : DriveFault → List ℕ
+drive_code (fault.Feed f) = codes "D1"
+drive_code (fault.Link loss) = codes "D2"
+
+-- The most bytes that are received at once.
+abbrev pub longest_piece : ℕ
+longest_piece = 4096
+
+-- ---- the client
+
+-- The client's `lost` was called and answered this: the client is closed, with the cause Lost
+-- unless it had one before, and handed back the request that isn't settled. Its settled groups
+-- stay.
+pub record IsLost (old : ClientView) (loss : Loss) (new : ClientView) : Type 0 where
+  pub settings : new.settings ≡ old.settings
+  pub closed : new.closed ≡ Some (first_cause old.closed cause.Lost)
+  pub settled : new.settled ≡ old.settled
+  pub says : HandsBack old loss
+  pub history : Carries old new with_handed_back
+
+-- The startup has ended in this call: the client stood in phase Starting when the call began, and
+-- is Ready now.
+abbrev pub HasStarted : Phase → ClientView → Type 0
+HasStarted began client = (began ≡ phase.Starting) × (phase_of client ≡ phase.Ready)
+
+-- After a piece there is nothing to answer: no settled group waits, the startup hasn't ended in
+-- this call, and the server doesn't wait for a copy's data.
+pub record GoesOn (began : Phase) (client : ClientView) : Type 0 where
+  pub none_waits : client.settled ≡ []
+  pub not_started : HasStarted began client → ⊥
+  pub no_copy : phase_of client ≢ phase.CopyingIn
+
+-- What is answered after a piece, the first of these that holds: a settled group waits, the startup
+-- has ended in this call, the server waits for a copy's data; or that it goes on (None).
+abbrev pub IsSeen : Phase → ClientView → Option Driven → Type 0
+IsSeen began client None = GoesOn began client
+IsSeen began client (Some driven.Settled) = client.settled ≢ []
+IsSeen began client (Some driven.Ready) = (client.settled ≡ []) × HasStarted began client
+IsSeen began client (Some driven.CopyIn) = (client.settled ≡ [])
+    × (phase_of client ≡ phase.CopyingIn)
+IsSeen began client (Some _) = ⊥
+
+-- ---- the link, and the client over it
+
+-- What is driven: a link, the client over it, and the bytes that wait to be sent.
+pub record Connection (L : Type 0) : Type 0 where
+  pub link : L
+  pub client : ClientView
+  pub out : List ℕ
+
+-- this client over this link, and the bytes that wait
+abbrev pub connected : {L : Type 0} → L → ClientView → List ℕ → Connection L
+connected link client out = record { link = link; client = client; out = out }
+
+-- `gives`, `has_ended` and `receive_failures` are those of the link as a source, `takes` and
+-- `send_failures` as a sink. `began` is the client's phase when the call began.
+module _ {L : Type 0} (gives takes : L → List ℕ → L → Type 0) (has_ended : L → Type 0)
+    (receive_failures send_failures : L → ℕ) where
+  -- A turn: this piece was received, just this piece was fed, and all that the client put out was
+  -- sent.
+  pub record Turn (old : Connection L) (piece : List ℕ) (new : Connection L) : Type 0 where
+    -- the link when the piece was received, and the bytes that waited when it was fed
+    pub between : L
+    pub put : List ℕ
+    pub received : gives old.link piece between
+    pub has_some : 0 < length piece
+    pub within : length piece ≤ longest_piece
+    pub fed : Feeds old.client piece (Ok tt) new.client old.out put
+    pub sent : Sends takes send_failures between put new.link
+    pub none_left : new.out ≡ []
+
+  -- A turn after which there is nothing to answer.
+  abbrev pub TurnsOn : Phase → Connection L → List ℕ → Connection L → Type 0
+  TurnsOn began old piece new = Turn old piece new × GoesOn began new.client
+
+  -- The client refused a piece, and was fed nothing after it. What it put out before isn't sent.
+  pub record Refuses (old : Connection L) (f : FeedFault) (new : Connection L) : Type 0 where
+    pub piece : List ℕ
+    pub received : gives old.link piece new.link
+    pub has_some : 0 < length piece
+    pub within : length piece ≤ longest_piece
+    pub fed : Feeds old.client piece (Err f) new.client old.out new.out
+
+  -- A call of `receive` failed, which gave nothing.
+  pub record FailsToReceive (old : Connection L) (loss : Loss) (new : Connection L) : Type 0 where
+    pub gave_none : gives old.link [] new.link
+    pub counted : HasRisen (receive_failures old.link) (receive_failures new.link)
+    pub lost : IsLost old.client loss new.client
+    pub out : new.out ≡ old.out
+
+  -- A piece was received and fed, and then a call of `send` failed.
+  pub record FailsToAnswer (old : Connection L) (loss : Loss) (new : Connection L) : Type 0 where
+    pub piece : List ℕ
+    pub between : L
+    pub put : List ℕ
+    -- the client that was fed, before it was told that the link failed
+    pub client : ClientView
+    pub received : gives old.link piece between
+    pub has_some : 0 < length piece
+    pub within : length piece ≤ longest_piece
+    pub fed : Feeds old.client piece (Ok tt) client old.out put
+    pub sent : FailsToSend takes send_failures between put new.out new.link
+    pub lost : IsLost client loss new.client
+
+  -- A call of `receive` found the end of the server's bytes.
+  pub record Ends (old : Connection L) (loss : Loss) (new : Connection L) : Type 0 where
+    pub gave_none : gives old.link [] new.link
+    pub ended : has_ended new.link
+    pub lost : IsLost old.client loss new.client
+    pub out : new.out ≡ old.out
+
+  -- The last turn, by what was answered in it. TurnsUsed isn't answered in a turn.
+  abbrev pub LastTurn : Phase → Connection L → Result Driven DriveFault → Connection L → Type 0
+  LastTurn began old (Ok driven.TurnsUsed) new = ⊥
+  LastTurn began old (Ok (driven.Lost loss)) new = Ends old loss new
+  LastTurn began old (Ok answer) new = (piece : List ℕ) × Turn old piece new
+      × IsSeen began new.client (Some answer)
+  LastTurn began old (Err (fault.Feed f)) new = Refuses old f new
+  LastTurn began old (Err (fault.Link loss)) new = FailsToReceive old loss new
+      ⊎ FailsToAnswer old loss new
+
+  -- After so many turns with nothing to answer, this was answered: TurnsUsed where as many were
+  -- wanted, and else something in one more turn.
+  abbrev pub Answers : Phase → ℕ → ℕ → Connection L → Result Driven DriveFault → Connection L
+      → Type 0
+  Answers began turns count old (Ok driven.TurnsUsed) new = (count ≡ turns) × (new ≡ old)
+  Answers began turns count old result new = (count < turns) × LastTurn began old result new
+
+  -- All that waited was sent, then these pieces were received and fed, one after the other, with
+  -- nothing to answer, and then this was answered.
+  pub record TakesTurns (turns : ℕ) (old : Connection L) (result : Result Driven DriveFault)
+      (new : Connection L) : Type 0 where
+    -- the link when all that waited was sent
+    pub begun : L
+    pub sent : Sends takes send_failures old.link old.out begun
+    pub pieces : List (List ℕ)
+    pub last : Connection L
+    pub went_on : FoldsTo (TurnsOn (phase_of old.client)) (connected begun old.client []) pieces
+        last
+    pub answered : Answers (phase_of old.client) turns (length pieces) last result new
+
+  -- What waited couldn't all be sent, and nothing was received.
+  pub record FailsAtFirst (old : Connection L) (result : Result Driven DriveFault)
+      (new : Connection L) : Type 0 where
+    pub loss : Loss
+    pub is_fault : result ≡ Err (fault.Link loss)
+    pub sent : FailsToSend takes send_failures old.link old.out new.out new.link
+    pub lost : IsLost old.client loss new.client
+
+  -- What `drive` does with so many turns.
+  abbrev pub Drives : ℕ → Connection L → Result Driven DriveFault → Connection L → Type 0
+  Drives turns old result new = FailsAtFirst old result new ⊎ TakesTurns turns old result new

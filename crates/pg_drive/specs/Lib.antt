@@ -1,0 +1,7 @@
+-- What a reader must believe: how bytes are sent over a link, and what `drive` does.
+pub mod Sending
+pub mod Drive
+-- What becomes of the history of a client that is driven.
+pub mod Carried
+-- Words of private functions, which no public contract cites.
+pub mod Private

@@ -1,0 +1,18 @@
+-- One turn, by its result.
+use Rattle.std.specs.Prelude.{ℕ, List, Option, Some, None, Result, Ok, Err}
+use Rattle.pg_client.specs.declared.phase.Phase.{Phase}
+use Rattle.pg_drive.specs.declared.answer.DriveFault.{DriveFault}
+use Rattle.pg_drive.specs.declared.answer.Driven.{Driven}
+use Rattle.pg_drive.specs.Drive.{Connection, LastTurn, TurnsOn}
+
+-- A turn, by its result: it goes on (None), or this is answered.
+abbrev pub TakesTurn : {L : Type 0} (gives takes : L → List ℕ → L → Type 0)
+    (has_ended : L → Type 0) (receive_failures send_failures : L → ℕ)
+    → Phase → Connection L → Result (Option Driven) DriveFault → Connection L → Type 0
+TakesTurn gives takes has_ended receive_failures send_failures began old (Ok None) new =
+    (piece : List ℕ)
+    × TurnsOn gives takes has_ended receive_failures send_failures began old piece new
+TakesTurn gives takes has_ended receive_failures send_failures began old (Ok (Some answer)) new =
+    LastTurn gives takes has_ended receive_failures send_failures began old (Ok answer) new
+TakesTurn gives takes has_ended receive_failures send_failures began old (Err f) new =
+    LastTurn gives takes has_ended receive_failures send_failures began old (Err f) new

@@ -1,0 +1,109 @@
+//! A link in memory, which fails where a test wants it, and the clients that are driven over it.
+
+use pg_client::{Client, Loss, Settings};
+use pg_wire::{LinkFault, Seq, Sink, Source};
+use std::alloc::{AllocError, Global};
+use std::test::Fail;
+
+/// The startup packet of the user `u`.
+pub(crate) const STARTUP: [u8; 16] = [
+    0, 0, 0, 16, 0, 3, 0, 0, b'u', b's', b'e', b'r', 0, b'u', 0, 0,
+];
+
+/// AuthenticationOk and ReadyForQuery.
+pub(crate) const WELCOME: [u8; 15] = [0x52, 0, 0, 0, 8, 0, 0, 0, 0, 0x5A, 0, 0, 0, 5, 0x49];
+
+/// A link that gives these bytes and takes what is sent, both so many at a time. One receive and one send fail, or none where
+/// their number is 0.
+#[derive(Drop)]
+pub(crate) struct Line<'a> {
+    pub(crate) gives: &'a [u8],
+    pub(crate) taken: Vec<u8>,
+    most: usize,
+    receives: u64,
+    sends: u64,
+    pub(crate) fails_at_receive: u64,
+    pub(crate) fails_at_send: u64,
+    pub(crate) failures: u64,
+}
+
+impl<'a> Source for Line<'a> {
+    ghost failures = { λ s. s.failures };
+
+    ghost gives = { λ _ _ _. Unit {0} };
+
+    ghost has_ended = { λ _. Unit {0} };
+
+    fn receive(&mut self, into: &mut [u8]) -> Result<usize, LinkFault> {
+        self.receives = self.receives.saturating_add(1);
+        if self.receives == self.fails_at_receive {
+            self.failures = self.failures.saturating_add(1);
+            return Err(LinkFault);
+        }
+        let count = self.gives.len().min(into.len()).min(self.most);
+        let (piece, rest) = self.gives.split_at(count);
+        into.split_at_mut(count).0.copy_from_slice(piece);
+        self.gives = rest;
+        Ok(count)
+    }
+}
+
+impl<'a> Sink for Line<'a> {
+    ghost failures = { λ s. s.failures };
+
+    ghost takes = { λ _ _ _. Unit {0} };
+
+    fn send(&mut self, piece: &[u8]) -> Result<usize, LinkFault> {
+        self.sends = self.sends.saturating_add(1);
+        let count = piece.len().min(self.most.max(1));
+        if self.sends == self.fails_at_send
+            || self.taken.extend_from_slice(&piece[..count]).is_err()
+        {
+            self.failures = self.failures.saturating_add(1);
+            return Err(LinkFault);
+        }
+        Ok(count)
+    }
+}
+
+/// A link that doesn't fail.
+pub(crate) fn line_of(alloc: Global, gives: &[u8], most: usize) -> Line<'_> {
+    Line {
+        gives,
+        taken: Vec::new(alloc),
+        most,
+        receives: 0,
+        sends: 0,
+        fails_at_receive: 0,
+        fails_at_send: 0,
+        failures: 0,
+    }
+}
+
+/// A client of the user `u` and of this password, in phase New.
+fn fresh(alloc: Global, password: Option<Seq<u8>>) -> Result<Client, AllocError> {
+    let settings = Settings {
+        user: Seq::from_slice(alloc, b"u")?,
+        database: None,
+        pairs: Seq::new(Vec::new(alloc)),
+        password,
+        limit: 65_536,
+    };
+    Ok(Client::new(alloc, settings))
+}
+
+/// A client that was started, and the startup packet.
+pub(crate) fn started(alloc: Global, password: Option<Seq<u8>>) -> Result<(Client, Vec<u8>), Fail> {
+    let mut client = fresh(alloc, password)?;
+    let mut out = Vec::new(alloc);
+    client.start(&mut out)?;
+    Ok((client, out))
+}
+
+/// No request is lost.
+pub(crate) fn nothing_lost() -> Loss {
+    Loss {
+        unsettled: None,
+        seen_error: false,
+    }
+}
