@@ -4,6 +4,7 @@ use Rattle.std.specs.List.{FoldsTo, concat, flat_map, AllByRecursion}
 use Rattle.std.proofs.lemmas.Grind.{flat_map-append}
 use Rattle.pg_copy.specs.Reading.{RowsRead, RowsEnding, Open, Bad, IsGood, after_rows}
 use Rattle.pg_copy.specs.Row.{Row}
+use Rattle.pg_copy.specs.Text.{Options}
 use Rattle.pg_copy.specs.Text as text
 use Rattle.pg_copy.specs.BinaryPart as binary
 use Rattle.pg_copy.specs.BinaryReader.{binary_left}
@@ -18,7 +19,7 @@ use Rattle.pgpipe_convert.specs.declared.copy_rows.RowReader.{RowReader}
 use Rattle.pgpipe_convert.specs.declared.copy_rows.RowReader.TheVariants as reader
 use Rattle.pgpipe_convert.specs.declared.format.Format.{Format}
 use Rattle.pgpipe_convert.specs.declared.format.Format.TheVariants as format
-use Rattle.pgpipe_convert.specs.Convert.{FileReading, answered, none_left, IsReadAs, IsWritable, row_of, head_of, trailer_for, AreConverted, AreAllConverted, AreConvertedBefore}
+use Rattle.pgpipe_convert.specs.Convert.{FileReading, FileWriting, answered, none_left, IsReadAs, IsWritable, writing_with, trailer_for, AreConverted, AreAllConverted, AreConvertedBefore}
 use Rattle.pgpipe_convert.specs.Private.Converting.{file_by, ended_of, HasReadBy, ComeNext, TakesPiece, RowsArePut, PutsRows, EndConverts, IsAtStep, HasConverted, ArePut, Stops, StepConverts, StepsSource, StopsSource, HasRun}
 use Rattle.pgpipe_base.specs.Outbox.{most_collected, Puts}
 use Rattle.pgpipe_base.specs.Receiving.{longest_piece, most_receives}
@@ -28,7 +29,7 @@ abbrev at : FileReading → Bool → List ℕ → RowsRead Converted
 at file at_end bytes = file at_end bytes
 
 -- all of one list, and all of another
-pub both_writable : (to : Format) (xs ys : List Row) → AllByRecursion (IsWritable to) xs → AllByRecursion (IsWritable to) ys → AllByRecursion (IsWritable to) (xs ++ ys)
+pub both_writable : (to : FileWriting) (xs ys : List Row) → AllByRecursion (IsWritable to) xs → AllByRecursion (IsWritable to) ys → AllByRecursion (IsWritable to) (xs ++ ys)
 both_writable to [] ys all more = more
 both_writable to (x ∷ xs) ys all more = (all.0, both_writable to xs ys all.1 more)
 
@@ -43,16 +44,16 @@ reads_more (reader.Text s) bytes given more on h = ap (answered converted.Text) 
 reads_more (reader.Binary s) bytes given more on h = ap (answered converted.Binary) (h.so_far on more)
 
 -- the reader was given more, and goes on
-pub at_step : {K : Type 0} (takes : K → List ℕ → K → Type 0) (failures : K → ℕ) (file : FileReading) (to : Format) (start : K) (bytes : List ℕ) (r : RowReader) (out : List ℕ) (sink : K) → HasConverted takes failures file to start bytes r out sink → IsAtStep r
+pub at_step : {K : Type 0} (takes : K → List ℕ → K → Type 0) (failures : K → ℕ) (file : FileReading) (to : FileWriting) (start : K) (bytes : List ℕ) (r : RowReader) (out : List ℕ) (sink : K) → HasConverted takes failures file to start bytes r out sink → IsAtStep r
 at_step takes failures file to start bytes r out sink st = (st.not_ended, bytes, st.rows, st.read)
 
-module _ {K : Type 0} (takes : K → List ℕ → K → Type 0) (failures : K → ℕ) (file : FileReading) (to : Format) (start : K) (bytes : List ℕ) (r : RowReader) (out : List ℕ) (sink : K) (st : HasConverted takes failures file to start bytes r out sink) where
+module _ {K : Type 0} (takes : K → List ℕ → K → Type 0) (failures : K → ℕ) (file : FileReading) (to : FileWriting) (start : K) (bytes : List ℕ) (r : RowReader) (out : List ℕ) (sink : K) (st : HasConverted takes failures file to start bytes r out sink) where
   -- the text with more rows after it
-  text_more : (rows : List Row) → st.text ++ flat_map (row_of to) rows ≡ head_of to ++ flat_map (row_of to) (st.rows ++ rows)
-  text_more rows = ap (λ (t : List ℕ). t ++ flat_map (row_of to) rows) st.each_row ∙ append_assoc (head_of to) (flat_map (row_of to) st.rows) (flat_map (row_of to) rows) ∙ ap (λ (t : List ℕ). head_of to ++ t) (sym (flat_map-append (row_of to) st.rows rows))
+  text_more : (rows : List Row) → st.text ++ flat_map to.row rows ≡ to.head ++ flat_map to.row (st.rows ++ rows)
+  text_more rows = ap (λ (t : List ℕ). t ++ flat_map to.row rows) st.each_row ∙ append_assoc to.head (flat_map to.row st.rows) (flat_map to.row rows) ∙ ap (λ (t : List ℕ). to.head ++ t) (sym (flat_map-append to.row st.rows rows))
 
   -- The text with these rows after it is converted, if they come next.
-  pub converted_more : (at_end : Bool) (ended : Type 0) (more : List ℕ) (rows : List Row) (left : RowsRead Converted) → AllByRecursion (IsWritable to) rows → IsReadAs file ended more (after_rows (st.rows ++ rows) left) → AreConverted file to ended more left (st.text ++ flat_map (row_of to) rows)
+  pub converted_more : (at_end : Bool) (ended : Type 0) (more : List ℕ) (rows : List Row) (left : RowsRead Converted) → AllByRecursion (IsWritable to) rows → IsReadAs file ended more (after_rows (st.rows ++ rows) left) → AreConverted file to ended more left (st.text ++ flat_map to.row rows)
   converted_more at_end ended more rows left each read = record {
     rows = st.rows ++ rows;
     read = read;
@@ -77,15 +78,15 @@ module _ {K : Type 0} (takes : K → List ℕ → K → Type 0) (failures : K �
   source_failed ended = subst (λ (b : List ℕ). StepConverts takes failures file to ended start b st.text (Err stop.SourceFailed) r out sink) (sym (append-nil bytes)) (st.ending, st.good, stands_put)
 
   -- after the piece that the reader took
-  abbrev piece_text : {A : Type 0} (rows : List Row) (result : Result A LinkFault) (out' : List ℕ) (sink' : K) → Puts {A = A} takes failures out sink (flat_map (row_of to) rows) result out' sink' → Puts {A = A} takes failures [] start ((st.text ++ flat_map (row_of to) rows) ++ []) result out' sink'
-  piece_text {A} rows result out' sink' p = puts_as takes failures [] start (st.text ++ flat_map (row_of to) rows) ((st.text ++ flat_map (row_of to) rows) ++ []) result out' sink' (sym (append-nil (st.text ++ flat_map (row_of to) rows))) (puts_then takes failures [] start st.text out sink (flat_map (row_of to) rows) result out' sink' st.put p)
+  abbrev piece_text : {A : Type 0} (rows : List Row) (result : Result A LinkFault) (out' : List ℕ) (sink' : K) → Puts {A = A} takes failures out sink (flat_map to.row rows) result out' sink' → Puts {A = A} takes failures [] start ((st.text ++ flat_map to.row rows) ++ []) result out' sink'
+  piece_text {A} rows result out' sink' p = puts_as takes failures [] start (st.text ++ flat_map to.row rows) ((st.text ++ flat_map to.row rows) ++ []) result out' sink' (sym (append-nil (st.text ++ flat_map to.row rows))) (puts_then takes failures [] start st.text out sink (flat_map to.row rows) result out' sink' st.put p)
 
   put_after : {A : Type 0} (at_end : Bool) (ended : Type 0) (more : List ℕ) (r' : RowReader) (left : RowsRead Converted) (result : Result A LinkFault) (out' : List ℕ) (sink' : K) (p : RowsArePut {A = A} takes failures at_end to r' out sink left result out' sink') → IsReadAs file ended more (after_rows (st.rows ++ p.rows) left) → ArePut {A = A} takes failures file to ended start more st.text left [] result out' sink'
   put_after at_end ended more r' left result out' sink' p read = record {
-    text = st.text ++ flat_map (row_of to) p.rows;
+    text = st.text ++ flat_map to.row p.rows;
     are_converted = converted_more at_end ended more p.rows left p.each_writable read;
     put = piece_text p.rows result out' sink' p.put;
-    at_once = sent_at_once takes failures start st.text st.text out sink (flat_map (row_of to) p.rows) result out' sink' st.put p.put (prefix_of_itself st.text) st.within;
+    at_once = sent_at_once takes failures start st.text st.text out sink (flat_map to.row p.rows) result out' sink' st.put p.put (prefix_of_itself st.text) st.within;
   }
 
   -- ---- a piece, which the reader took
@@ -106,7 +107,7 @@ module _ {K : Type 0} (takes : K → List ℕ → K → Type 0) (failures : K �
         let put = p.2 in
         record {
           rows = st.rows ++ put.rows;
-          text = st.text ++ flat_map (row_of to) put.rows;
+          text = st.text ++ flat_map to.row put.rows;
           is_file = p.3.same ∙ same ∙ st.is_file;
           not_ended = p.3.may_go_on refl;
           read = p.3.read (bytes ++ piece) st.rows read_piece;
@@ -115,7 +116,7 @@ module _ {K : Type 0} (takes : K → List ℕ → K → Type 0) (failures : K �
           all = come_piece put.rows (none_left p.0) put.come_next;
           each_writable = both_writable to st.rows put.rows st.each_writable put.each_writable;
           each_row = text_more put.rows;
-          put = puts_then takes failures [] start st.text out sink (flat_map (row_of to) put.rows) (Ok tt) out' sink' st.put put.put;
+          put = puts_then takes failures [] start st.text out sink (flat_map to.row put.rows) (Ok tt) out' sink' st.put put.put;
           within = put.within st.within;
         }
     piece_steps (Err (stop.Answer converted.Whole)) r'' out' sink' p = absurd p
@@ -124,7 +125,7 @@ module _ {K : Type 0} (takes : K → List ℕ → K → Type 0) (failures : K �
     piece_steps (Err (stop.Answer (converted.Row f))) r'' out' sink' p = (p.0, p.1, put_after false ended (bytes ++ piece) r' p.0 (Ok tt) out' sink' p.2 (inl (come_piece p.2.rows p.0 p.2.come_next)))
     piece_steps (Err stop.Memory) r'' out' sink' p =
         let put = put_after false ended (bytes ++ piece) r' p.0 (Ok tt) out' sink' p.1 (inl (come_piece p.1.rows p.0 p.1.come_next)) in
-        (p.0, put, (flat_map (row_of to) p.1.rows, refl))
+        (p.0, put, (flat_map to.row p.1.rows, refl))
     piece_steps (Err stop.SourceFailed) r'' out' sink' p = absurd p
     piece_steps (Err stop.SinkFailed) r'' out' sink' p = (p.0, p.1, put_after false ended (bytes ++ piece) r' p.0 (Err p.1) out' sink' p.2 (inl (come_piece p.2.rows p.0 p.2.come_next)))
     piece_steps (Err stop.Endless) r'' out' sink' p = absurd p
@@ -162,34 +163,34 @@ module _ {K : Type 0} (takes : K → List ℕ → K → Type 0) (failures : K �
   pub end_steps : (ended : Type 0) (is_ended : ended) (s : Stop Converted) (r'' : RowReader) (out' : List ℕ) (sink' : K) → EndConverts takes failures to r out sink s out' sink' → StepConverts takes failures file to ended start (bytes ++ []) st.text (Err s) r'' out' sink'
   unfolding put_after
   end_steps ended is_ended (stop.Answer c) r'' out' sink' p =
-      let text = st.text ++ flat_map (row_of to) p.3.rows in
-      let puts = puts_then takes failures [] start st.text out sink (flat_map (row_of to) p.3.rows) (Ok tt) p.2 sink' st.put p.3.put in (
+      let text = st.text ++ flat_map to.row p.3.rows in
+      let puts = puts_then takes failures [] start st.text out sink (flat_map to.row p.3.rows) (Ok tt) p.2 sink' st.put p.3.put in (
         p.0,
         p.1,
         record {
           text = text;
           are_converted = converted_more true ended (bytes ++ []) p.3.rows p.0 p.3.each_writable (come_last ended is_ended p.3.rows p.0 p.3.come_next);
           put = puts_then takes failures [] start text p.2 sink' (trailer_for to c) (Ok tt) out' sink' puts (puts_collected takes failures p.2 sink' (trailer_for to c) out' p.4);
-          at_once = sent_at_once takes failures start st.text text p.2 sink' (trailer_for to c) (Ok tt) out' sink' puts (puts_collected takes failures p.2 sink' (trailer_for to c) out' p.4) (flat_map (row_of to) p.3.rows, refl) (p.3.within st.within);
+          at_once = sent_at_once takes failures start st.text text p.2 sink' (trailer_for to c) (Ok tt) out' sink' puts (puts_collected takes failures p.2 sink' (trailer_for to c) out' p.4) (flat_map to.row p.3.rows, refl) (p.3.within st.within);
         },
       )
   end_steps ended is_ended stop.Memory r'' out' sink' p =
       let put = put_after true ended (bytes ++ []) r p.0 (Ok tt) out' sink' p.1 (come_last ended is_ended p.1.rows p.0 p.1.come_next) in
-      (p.0, put, (flat_map (row_of to) p.1.rows, refl))
+      (p.0, put, (flat_map to.row p.1.rows, refl))
   end_steps ended is_ended stop.SourceFailed r'' out' sink' p = absurd p
   end_steps ended is_ended stop.SinkFailed r'' out' sink' p = (p.0, p.1, put_after true ended (bytes ++ []) r p.0 (Err p.1) out' sink' p.2 (come_last ended is_ended p.2.rows p.0 p.2.come_next))
   end_steps ended is_ended stop.Endless r'' out' sink' p = absurd p
 
 -- where a step leads from every place where the work stands
-abbrev pub StepsAnywhere : {K : Type 0} → (K → List ℕ → K → Type 0) → (K → ℕ) → Type 0 → RowReader → List ℕ → K → List ℕ → Result Unit (Stop Converted) → RowReader → List ℕ → K → Format → Type 0
+abbrev pub StepsAnywhere : {K : Type 0} → (K → List ℕ → K → Type 0) → (K → ℕ) → Type 0 → RowReader → List ℕ → K → List ℕ → Result Unit (Stop Converted) → RowReader → List ℕ → K → FileWriting → Type 0
 StepsAnywhere {K} takes failures ended r out sink piece result r' out' sink' to = (file : FileReading) (start : K) (bytes : List ℕ) (stands : HasConverted takes failures file to start bytes r out sink) → StepConverts takes failures file to ended start (bytes ++ piece) stands.text result r' out' sink'
 
-pub steps_for : {K : Type 0} (takes : K → List ℕ → K → Type 0) (failures : K → ℕ) (ended : Type 0) (r : RowReader) (out : List ℕ) (sink : K) (piece : List ℕ) (result : Result Unit (Stop Converted)) (r' : RowReader) (out' : List ℕ) (sink' : K) (to to' : Format) → to ≡ to'
+pub steps_for : {K : Type 0} (takes : K → List ℕ → K → Type 0) (failures : K → ℕ) (ended : Type 0) (r : RowReader) (out : List ℕ) (sink : K) (piece : List ℕ) (result : Result Unit (Stop Converted)) (r' : RowReader) (out' : List ℕ) (sink' : K) (to to' : FileWriting) → to ≡ to'
     → StepsAnywhere takes failures ended r out sink piece result r' out' sink' to → StepsAnywhere takes failures ended r out sink piece result r' out' sink' to'
-steps_for takes failures ended r out sink piece result r' out' sink' to to' e s = subst (λ (t : Format). StepsAnywhere takes failures ended r out sink piece result r' out' sink' t) e s
+steps_for takes failures ended r out sink piece result r' out' sink' to to' e s = subst (λ (t : FileWriting). StepsAnywhere takes failures ended r out sink piece result r' out' sink' t) e s
 
 -- So many pieces were received, and the work stands where it can go on.
-pub record Runs {S K : Type 0} (gives : S → List ℕ → S → Type 0) (source_failures : S → ℕ) (takes : K → List ℕ → K → Type 0) (failures : K → ℕ) (file : FileReading) (to : Format) (source : S) (sink : K) (count : ℕ) (source' : S) (r : RowReader) (out : List ℕ) (sink' : K) : Type 0 where
+pub record Runs {S K : Type 0} (gives : S → List ℕ → S → Type 0) (source_failures : S → ℕ) (takes : K → List ℕ → K → Type 0) (failures : K → ℕ) (file : FileReading) (to : FileWriting) (source : S) (sink : K) (count : ℕ) (source' : S) (r : RowReader) (out : List ℕ) (sink' : K) : Type 0 where
   pub pieces : List (List ℕ)
   pub received : FoldsTo gives source pieces source'
   pub counted : length pieces ≡ count
@@ -213,12 +214,12 @@ nothing_read (reader.Text s) h on = (Open [], tt, refl)
 nothing_read (reader.Binary s) h on = (Open [], tt, refl)
 
 -- no more is collected at first than there is room for
-head_within : (to : Format) → length (head_of to) ≤ most_collected
-head_within format.Text = omega arith
-head_within format.Binary = omega arith
+pub head_within : (o : Options) (to : Format) → length (writing_with o to).head ≤ most_collected
+head_within o format.Text = omega arith
+head_within o format.Binary = omega arith
 
-pub stands_first : {K : Type 0} (takes : K → List ℕ → K → Type 0) (failures : K → ℕ) (to : Format) (start : K) (r : RowReader) (out : List ℕ) → out ≡ head_of to → HasReadBy r [] [] → ended_of r ≡ false → HasConverted takes failures (file_by r) to start [] r out start
-stands_first takes failures to start r out e h on =
+pub stands_first : {K : Type 0} (takes : K → List ℕ → K → Type 0) (failures : K → ℕ) (to : FileWriting) (start : K) (r : RowReader) (out : List ℕ) → length to.head ≤ most_collected → out ≡ to.head → HasReadBy r [] [] → ended_of r ≡ false → HasConverted takes failures (file_by r) to start [] r out start
+stands_first takes failures to start r out fits e h on =
     let nothing = nothing_read r h on in
     record {
       rows = [];
@@ -230,12 +231,12 @@ stands_first takes failures to start r out e h on =
       good = nothing.1;
       all = nothing.2;
       each_writable = tt;
-      each_row = e ∙ sym (append-nil (head_of to));
+      each_row = e ∙ sym (append-nil to.head);
       put = puts_collected takes failures [] start out out refl;
-      within = subst (λ (l : List ℕ). length l ≤ most_collected) (sym e) (head_within to);
+      within = subst (λ (l : List ℕ). length l ≤ most_collected) (sym e) fits;
     }
 
-module _ {S K : Type 0} (gives : S → List ℕ → S → Type 0) (source_failures : S → ℕ) (takes : K → List ℕ → K → Type 0) (failures : K → ℕ) (file : FileReading) (to : Format) where
+module _ {S K : Type 0} (gives : S → List ℕ → S → Type 0) (source_failures : S → ℕ) (takes : K → List ℕ → K → Type 0) (failures : K → ℕ) (file : FileReading) (to : FileWriting) where
   pub runs_none : (source : S) (sink : K) (r : RowReader) (out : List ℕ) → HasConverted takes failures file to sink [] r out sink → Runs gives source_failures takes failures file to source sink 0 source r out sink
   runs_none source sink r out st = record { pieces = []; received = refl; counted = refl; sound = refl; stands = st }
 

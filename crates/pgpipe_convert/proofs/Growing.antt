@@ -11,8 +11,7 @@ use Rattle.pgpipe_base.specs.declared.stop.Stop.{Stop}
 use Rattle.pgpipe_base.specs.declared.stop.Stop.TheVariants as stop
 use Rattle.pgpipe_convert.specs.declared.copy_rows.RowReader.{RowReader}
 use Rattle.pgpipe_convert.specs.declared.copy_rows.RowReader.TheVariants as reader
-use Rattle.pgpipe_convert.specs.declared.format.Format.{Format}
-use Rattle.pgpipe_convert.specs.Convert.{FileReading, answered, none_left, IsWritable, row_of}
+use Rattle.pgpipe_convert.specs.Convert.{FileReading, FileWriting, answered, none_left, IsWritable}
 use Rattle.pgpipe_convert.specs.Private.Converting.{file_by, ended_of, rows_left, HasReadBy, ComeNext, ReadsOn, GivesRow, PutsRow, RowsArePut, PutsRows}
 use Rattle.pgpipe_base.specs.Outbox.{StaysWithin}
 use Rattle.pgpipe_base.specs.Outbox.{Puts}
@@ -20,7 +19,7 @@ use Rattle.pgpipe_base.proofs.Pieces.{puts_none, puts_then}
 use Rattle.pgpipe_convert.proofs.Readers.{reading_of}
 
 -- All rows of a list, and one more.
-pub one_more_writable : (to : Format) (rows : List Row) (row : Row) → AllByRecursion (IsWritable to) rows → IsWritable to row → AllByRecursion (IsWritable to) (rows ++ row ∷ [])
+pub one_more_writable : (to : FileWriting) (rows : List Row) (row : Row) → AllByRecursion (IsWritable to) rows → IsWritable to row → AllByRecursion (IsWritable to) (rows ++ row ∷ [])
 one_more_writable to [] row all one = (one, tt)
 one_more_writable to (r ∷ rows) row all one = (all.0, one_more_writable to rows row all.1 one)
 
@@ -32,11 +31,11 @@ is_first false (reader.Binary s) bytes given begun h = ap (λ (l : List ℕ). fi
 is_first true (reader.Binary s) bytes given begun h = ap (answered converted.Binary) h.in_all
 
 -- Rows were put, and the reader goes on after them.
-pub record Grows {K : Type 0} (takes : K → List ℕ → K → Type 0) (failures : K → ℕ) (at_end : Bool) (to : Format) (r : RowReader) (out : List ℕ) (sink : K) (r' : RowReader) (out' : List ℕ) (sink' : K) : Type 0 where
+pub record Grows {K : Type 0} (takes : K → List ℕ → K → Type 0) (failures : K → ℕ) (at_end : Bool) (to : FileWriting) (r : RowReader) (out : List ℕ) (sink : K) (r' : RowReader) (out' : List ℕ) (sink' : K) : Type 0 where
   pub rows : List Row
   pub each_writable : AllByRecursion (IsWritable to) rows
   pub goes_on : ReadsOn at_end r rows r'
-  pub put : Puts {A = Unit {0}} takes failures out sink (flat_map (row_of to) rows) (Ok tt) out' sink'
+  pub put : Puts {A = Unit {0}} takes failures out sink (flat_map to.row rows) (Ok tt) out' sink'
   pub within : StaysWithin out out'
 
 abbrev in_front : List Row → RowsRead Converted → RowsRead Converted
@@ -71,20 +70,20 @@ fewer_left at_end r row r' bytes given begun h on =
     let after = left_next at_end r (row ∷ []) r' begun on bytes given h in
     omega (arith, ap (λ (x : RowsRead Converted). length x.rows) (sym before ∙ after), length-append given (rows_left at_end r).rows, length-append (given ++ row ∷ []) (rows_left at_end r').rows, length-append given (row ∷ []))
 
-module _ {K : Type 0} (takes : K → List ℕ → K → Type 0) (failures : K → ℕ) (at_end : Bool) (to : Format) (r : RowReader) (out : List ℕ) (sink : K) where
-  spelled-append : (xs ys : List Row) → flat_map (row_of to) xs ++ flat_map (row_of to) ys ≡ flat_map (row_of to) (xs ++ ys)
-  spelled-append xs ys = sym (flat_map-append (row_of to) xs ys)
+module _ {K : Type 0} (takes : K → List ℕ → K → Type 0) (failures : K → ℕ) (at_end : Bool) (to : FileWriting) (r : RowReader) (out : List ℕ) (sink : K) where
+  spelled-append : (xs ys : List Row) → flat_map to.row xs ++ flat_map to.row ys ≡ flat_map to.row (xs ++ ys)
+  spelled-append xs ys = sym (flat_map-append to.row xs ys)
 
   pub grows_none : (at_end ≡ false → ended_of r ≡ false) → Grows takes failures at_end to r out sink r out sink
   grows_none begun = record { rows = []; each_writable = tt; goes_on = goes_on_none at_end r begun; put = puts_none takes failures out sink; within = λ w. w }
 
-  spelled_one : (rows : List Row) (row : Row) → flat_map (row_of to) rows ++ row_of to row ≡ flat_map (row_of to) (rows ++ row ∷ [])
-  spelled_one rows row = ap (λ (l : List ℕ). flat_map (row_of to) rows ++ l) (sym (append-nil (row_of to row))) ∙ spelled-append rows (row ∷ [])
+  spelled_one : (rows : List Row) (row : Row) → flat_map to.row rows ++ to.row row ≡ flat_map to.row (rows ++ row ∷ [])
+  spelled_one rows row = ap (λ (l : List ℕ). flat_map to.row rows ++ l) (sym (append-nil (to.row row))) ∙ spelled-append rows (row ∷ [])
 
   -- a row more is put
-  put_more : {A : Type 0} (rows : List Row) (row : Row) (out' : List ℕ) (sink' : K) (result : Result A LinkFault) (out'' : List ℕ) (sink'' : K) → Puts {A = Unit {0}} takes failures out sink (flat_map (row_of to) rows) (Ok tt) out' sink' → Puts {A = A} takes failures out' sink' (row_of to row) result out'' sink''
-      → Puts {A = A} takes failures out sink (flat_map (row_of to) (rows ++ row ∷ [])) result out'' sink''
-  put_more {A} rows row out' sink' result out'' sink'' p q = subst (λ (t : List ℕ). Puts {A = A} takes failures out sink t result out'' sink'') (spelled_one rows row) (puts_then takes failures out sink (flat_map (row_of to) rows) out' sink' (row_of to row) result out'' sink'' p q)
+  put_more : {A : Type 0} (rows : List Row) (row : Row) (out' : List ℕ) (sink' : K) (result : Result A LinkFault) (out'' : List ℕ) (sink'' : K) → Puts {A = Unit {0}} takes failures out sink (flat_map to.row rows) (Ok tt) out' sink' → Puts {A = A} takes failures out' sink' (to.row row) result out'' sink''
+      → Puts {A = A} takes failures out sink (flat_map to.row (rows ++ row ∷ [])) result out'' sink''
+  put_more {A} rows row out' sink' result out'' sink'' p q = subst (λ (t : List ℕ). Puts {A = A} takes failures out sink t result out'' sink'') (spelled_one rows row) (puts_then takes failures out sink (flat_map to.row rows) out' sink' (to.row row) result out'' sink'' p q)
 
   pub grows_more : (r' : RowReader) (out' : List ℕ) (sink' : K) (row : Row) (r'' : RowReader) (out'' : List ℕ) (sink'' : K) → Grows takes failures at_end to r out sink r' out' sink' → ReadsOn at_end r' (row ∷ []) r'' → PutsRow takes failures to row out' sink' (Ok tt) out'' sink''
       → Grows takes failures at_end to r out sink r'' out'' sink''

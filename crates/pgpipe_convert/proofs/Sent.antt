@@ -8,8 +8,7 @@ use Rattle.pgpipe_convert.specs.declared.convert.Converted.{Converted}
 use Rattle.pgpipe_convert.specs.declared.convert.Converted.TheVariants as converted
 use Rattle.pgpipe_base.specs.declared.stop.Stop.{Stop}
 use Rattle.pgpipe_base.specs.declared.stop.Stop.TheVariants as stop
-use Rattle.pgpipe_convert.specs.declared.format.Format.{Format}
-use Rattle.pgpipe_convert.specs.Convert.{FileReading, IsReadAs, none_left, trailer_for, AreConverted, AreConvertedBefore, ArePartlyConverted, IsConvertedAtOnce, ConvertAnswers}
+use Rattle.pgpipe_convert.specs.Convert.{FileReading, FileWriting, IsReadAs, none_left, trailer_for, AreConverted, AreConvertedBefore, ArePartlyConverted, IsConvertedAtOnce, ConversionAnswers}
 use Rattle.pgpipe_convert.specs.Private.Converting.{ArePut, Stops, StopsSource}
 use Rattle.pgpipe_base.specs.Outbox.{most_collected, Puts}
 use mathlib.Core.List.{IsPrefix}
@@ -17,7 +16,7 @@ use Rattle.pgpipe_base.specs.Receiving.{HasStopped}
 use Rattle.pgpipe_base.specs.Stop.{Settles, answer_of}
 use Rattle.pgpipe_base.proofs.Pieces.{puts_then, sent_within}
 
-module _ {K : Type 0} (takes : K → List ℕ → K → Type 0) (failures : K → ℕ) (file : FileReading) (to : Format) where
+module _ {K : Type 0} (takes : K → List ℕ → K → Type 0) (failures : K → ℕ) (file : FileReading) (to : FileWriting) where
   -- the text for which this holds was sent
   abbrev pub Sends : K → (List ℕ → Type 0) → K → Type 0
   Sends start P s = (pieces : List (List ℕ)) × FoldsTo takes start pieces s × P (concat pieces)
@@ -57,7 +56,7 @@ module _ {K : Type 0} (takes : K → List ℕ → K → Type 0) (failures : K �
 
   -- what a stop leaves, all of which was sent
   pub settled : (pieces : List (List ℕ)) (old new : ℕ) (broke ended : Type 0) (start : K) (bytes before : List ℕ) (s : Stop Converted) (c : List ℕ) (k k' : K) → AreConvertedBefore file to bytes before → Stops takes failures file to ended start bytes before s c k → StopsSource ended old new pieces s → Settles takes failures s c k (Ok tt) k'
-      → Sends start (λ text. ConvertAnswers (HasStopped old new pieces) broke ended file to bytes text (answer_of s)) k' × (failures k' ≡ failures start)
+      → Sends start (λ text. ConversionAnswers (HasStopped old new pieces) broke ended file to bytes text (answer_of s)) k' × (failures k' ≡ failures start)
   settled pieces old new broke ended start bytes before (stop.Answer a) c k k' b hs why st =
       let w = whole ended start bytes before hs.0 (trailer_for to a) c k [] k' hs.2 st refl in
       ((w.0.0, w.0.1, record { left = hs.0; answer = hs.1; before = hs.2.text; are_converted = hs.2.are_converted; with_trailer = w.0.2 }), w.1)

@@ -49,10 +49,14 @@ binary_file columns most true bytes =
 abbrev pub value_limit : ℕ
 value_limit = 1073741823
 
--- how a file of this format and so many columns is read
+-- how a file of this format and so many columns is read, COPY text with these options
+abbrev pub file_with : Options → Format → ℕ → FileReading
+file_with o format.Text columns = text_file o (Some columns)
+file_with o format.Binary columns = binary_file columns value_limit
+
+-- the same with the default options
 abbrev pub file_of : Format → ℕ → FileReading
-file_of format.Text columns = text_file default_options (Some columns)
-file_of format.Binary columns = binary_file columns value_limit
+file_of from columns = file_with default_options from columns
 
 -- a reading without further rows, which ends so
 abbrev pub none_left : RowsEnding Converted → RowsRead Converted
@@ -72,57 +76,64 @@ IsReadAs file ended bytes r = (file false bytes ≡ r) ⊎ (ended × (file true 
 
 -- ---- the file that is written
 
--- why a row can't be written in this format, if it can't
-abbrev pub row_fault : Format → Row → Option RowFault
-row_fault format.Text row = text_fault default_options row
-row_fault format.Binary row = binary_fault row
+-- how a file is written: what stands before its rows, why a row can't be written, if it can't, the
+-- bytes of a row, and what stands after the rows
+pub record FileWriting : Type 0 where
+  pub head : List ℕ
+  pub row_fault : Row → Option RowFault
+  pub row : Row → List ℕ
+  pub trailer : List ℕ
 
--- The row can be written in this format.
-abbrev pub IsWritable : Format → Row → Type 0
-IsWritable to row = row_fault to row ≡ None
+-- how COPY text with these options is written: a line for each row, and nothing else
+abbrev pub text_writing : Options → FileWriting
+text_writing o =
+    record { head = []; row_fault = text_fault o; row = written_row o; trailer = [] }
 
--- the bytes of a row in this format
-abbrev pub row_of : Format → Row → List ℕ
-row_of format.Text row = written_row default_options row
-row_of format.Binary row = binary_row row
+-- how COPY binary is written: a head, the rows and a trailer
+abbrev pub binary_writing : FileWriting
+binary_writing = record {
+  head = written_head;
+  row_fault = binary_fault;
+  row = binary_row;
+  trailer = trailer;
+}
 
--- what is written before the rows: nothing in text, a head in binary
-abbrev pub head_of : Format → List ℕ
-head_of format.Text = []
-head_of format.Binary = written_head
+-- how a file of this format is written, COPY text with these options
+abbrev pub writing_with : Options → Format → FileWriting
+writing_with o format.Text = text_writing o
+writing_with o format.Binary = binary_writing
 
--- what is written after the rows: nothing in text, the trailer in binary
-abbrev pub trailer_of : Format → List ℕ
-trailer_of format.Text = []
-trailer_of format.Binary = trailer
+-- The row can be written so.
+abbrev pub IsWritable : FileWriting → Row → Type 0
+IsWritable to row = to.row_fault row ≡ None
 
 -- what is written last, by the answer: a trailer only where the file was whole
-abbrev pub trailer_for : Format → Converted → List ℕ
-trailer_for to converted.Whole = trailer_of to
+abbrev pub trailer_for : FileWriting → Converted → List ℕ
+trailer_for to converted.Whole = to.trailer
 trailer_for to _ = []
 
 -- ---- how much is converted
 
 -- The text is the head and the first rows of these bytes, all of which can be written, and `left`
 -- is what the file has after those rows.
-pub record AreConverted (file : FileReading) (to : Format) (ended : Type 0) (bytes : List ℕ)
+pub record AreConverted (file : FileReading) (to : FileWriting) (ended : Type 0) (bytes : List ℕ)
     (left : RowsRead Converted) (text : List ℕ) : Type 0 where
   pub rows : List Row
   pub read : IsReadAs file ended bytes (after_rows rows left)
   pub each_writable : AllByRecursion (IsWritable to) rows
-  pub each_row : text ≡ head_of to ++ flat_map (row_of to) rows
+  pub each_row : text ≡ to.head ++ flat_map to.row rows
 
 -- The answer where `left` is what the file has after the rows written: Whole at its end; Row for a
 -- next row that can't be written; else the fault that stands there.
-abbrev pub IsAnswerFor : Format → RowsRead Converted → Converted → Type 0
+abbrev pub IsAnswerFor : FileWriting → RowsRead Converted → Converted → Type 0
 IsAnswerFor to left converted.Whole = (ending : RowsEnding Converted) × IsEnd ending
     × (left ≡ none_left ending)
 IsAnswerFor to left (converted.Row f) = (row : Row) × (later : RowsRead Converted)
-    × (left ≡ after_rows (row ∷ []) later) × (row_fault to row ≡ Some f)
+    × (left ≡ after_rows (row ∷ []) later) × (to.row_fault row ≡ Some f)
 IsAnswerFor to left c = left ≡ none_left (Bad c)
 
 -- The text is all that `convert` writes for these bytes where c is its answer.
-pub record IsOutput (file : FileReading) (to : Format) (ended : Type 0) (bytes : List ℕ)
+pub record IsOutput (file : FileReading) (to : FileWriting) (ended : Type 0) (bytes : List ℕ)
     (c : Converted) (text : List ℕ) : Type 0 where
   pub left : RowsRead Converted
   pub answer : IsAnswerFor to left c
@@ -131,14 +142,15 @@ pub record IsOutput (file : FileReading) (to : Format) (ended : Type 0) (bytes :
   pub with_trailer : text ≡ before ++ trailer_for to c
 
 -- The text is the head and all rows of these bytes, and no fault comes after the rows.
-pub record AreAllConverted (file : FileReading) (to : Format) (bytes text : List ℕ) : Type 0 where
+pub record AreAllConverted (file : FileReading) (to : FileWriting)
+    (bytes text : List ℕ) : Type 0 where
   pub ending : RowsEnding Converted
   pub good : IsGood ending
   pub are_converted : AreConverted file to ⊥ bytes (none_left ending) text
 
 -- The text is the head and all rows of these bytes without the last piece, a piece being at most
 -- 65,536 bytes.
-pub record AreConvertedBefore (file : FileReading) (to : Format)
+pub record AreConvertedBefore (file : FileReading) (to : FileWriting)
     (bytes text : List ℕ) : Type 0 where
   pub earlier : List ℕ
   pub last : List ℕ
@@ -148,7 +160,7 @@ pub record AreConvertedBefore (file : FileReading) (to : Format)
 
 -- The text is the head and whole rows of these bytes, and no row of those before the last piece is
 -- missing.
-pub record AreMostlyConverted (file : FileReading) (to : Format) (ended : Type 0)
+pub record AreMostlyConverted (file : FileReading) (to : FileWriting) (ended : Type 0)
     (bytes text : List ℕ) : Type 0 where
   pub before : List ℕ
   pub converted_before : AreConvertedBefore file to bytes before
@@ -157,31 +169,38 @@ pub record AreMostlyConverted (file : FileReading) (to : Format) (ended : Type 0
   pub are_converted : AreConverted file to ended bytes left text
 
 -- The text is a prefix of what is written for these bytes, and may end within a row.
-abbrev pub ArePartlyConverted : FileReading → Format → Type 0 → List ℕ → List ℕ → Type 0
+abbrev pub ArePartlyConverted : FileReading → FileWriting → Type 0 → List ℕ → List ℕ → Type 0
 ArePartlyConverted file to ended bytes text = (all : List ℕ) × IsPrefix text all
     × (((left : RowsRead Converted) × AreConverted file to ended bytes left all)
     ⊎ IsOutput file to ended bytes converted.Whole all)
 
 -- At most 65,536 bytes of what is written for the bytes before the last piece weren't sent: so a
 -- failed sink is noticed soon.
-abbrev pub IsConvertedAtOnce : FileReading → Format → List ℕ → List ℕ → Type 0
+abbrev pub IsConvertedAtOnce : FileReading → FileWriting → List ℕ → List ℕ → Type 0
 IsConvertedAtOnce file to bytes text = (before : List ℕ) × AreConvertedBefore file to bytes before
     × (length before ≤ most_collected + length text)
 
 -- ---- the answer
 
--- What `convert` answers, by the bytes received and the text sent. Memory: no row before the last
--- piece is missing, or nothing was received or sent. Device: the sink broke (a prefix was sent), or
--- the source stopped (the head and all rows were sent).
-abbrev pub ConvertAnswers : Type 0 → Type 0 → Type 0 → FileReading → Format → List ℕ → List ℕ
-    → Result Converted ToolFault → Type 0
-ConvertAnswers stopped broke ended file to bytes text (Ok c) = IsOutput file to ended bytes c text
-ConvertAnswers stopped broke ended file to bytes text (Err fault.Memory) =
+-- What a conversion answers, by the bytes received and the text sent. Memory: no row before the
+-- last piece is missing, or nothing was received or sent. Device: the sink broke (a prefix was
+-- sent), or the source stopped (the head and all rows were sent).
+abbrev pub ConversionAnswers : Type 0 → Type 0 → Type 0 → FileReading → FileWriting → List ℕ
+    → List ℕ → Result Converted ToolFault → Type 0
+ConversionAnswers stopped broke ended file to bytes text (Ok c) =
+    IsOutput file to ended bytes c text
+ConversionAnswers stopped broke ended file to bytes text (Err fault.Memory) =
     ((bytes ≡ []) × (text ≡ []))
     ⊎ AreMostlyConverted file to ended bytes text
-ConvertAnswers stopped broke ended file to bytes text (Err fault.Device) = (broke
+ConversionAnswers stopped broke ended file to bytes text (Err fault.Device) = (broke
     × ArePartlyConverted file to ended bytes text × IsConvertedAtOnce file to bytes text)
     ⊎ (stopped × AreAllConverted file to bytes text)
+
+-- What `convert` answers: the same, where a text file is written with the default options.
+abbrev pub ConvertAnswers : Type 0 → Type 0 → Type 0 → FileReading → Format → List ℕ → List ℕ
+    → Result Converted ToolFault → Type 0
+ConvertAnswers stopped broke ended file to bytes text result =
+    ConversionAnswers stopped broke ended file (writing_with default_options to) bytes text result
 
 -- Where the answer is Whole, the source has ended.
 abbrev pub EndsFile : Type 0 → Result Converted ToolFault → Type 0

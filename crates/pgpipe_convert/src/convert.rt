@@ -4,12 +4,12 @@ ghost use Rattle.std.specs.Prelude.{◌≡◌, ◌<◌, ◌≤◌, ◌++◌, ℕ
 ghost use Rattle.std.specs.List.{FoldsTo, concat};
 ghost use Rattle.pg_wire.specs.Link.{HasRisen};
 ghost use Rattle.pgpipe_base.specs.Receiving.{longest_piece, HasStopped, CountsNoFailure};
-ghost use Rattle.pgpipe_convert.specs.Convert.{FileReading, file_of, head_of, ConvertAnswers, EndsFile};
-ghost use Rattle.pgpipe_convert.specs.Private.Converting.{file_by, ended_of, HasReadBy, HasConverted, IsAtStep, StepConverts, StepsSource, EndConverts, HasRun};
+ghost use Rattle.pgpipe_convert.specs.Convert.{FileReading, file_of, file_with, writing_with, ConvertAnswers, ConversionAnswers, EndsFile};
+ghost use Rattle.pgpipe_convert.specs.Private.Converting.{file_by, writing_by, ended_of, HasReadBy, HasConverted, IsAtStep, StepConverts, StepsSource, EndConverts, HasRun};
 
 use crate::copy_rows::{RowReader, put_rows};
-use crate::format::Format;
-use pg_copy::{BinaryFault, RowFault, TextFault};
+use crate::format::{Format, RowWriter};
+use pg_copy::{BinaryFault, RowFault, TextFault, TextOptions};
 use pg_wire::{Sink, Source};
 use pgpipe_base::receiving::{MOST_RECEIVES, PIECE};
 use pgpipe_base::{Stop, ToolFault};
@@ -30,9 +30,9 @@ pub enum Converted {
 
 // What the work is done with.
 #[derive(Drop)]
-struct Converting {
+struct Converting<'a> {
     reader: RowReader,
-    to: Format,
+    to: RowWriter<'a>,
     // what is to be sent
     out: Vec<u8>,
     // where pieces are received
@@ -40,7 +40,7 @@ struct Converting {
     ghost a_piece: { length into.items ≡ longest_piece },
 }
 
-impl Converting {
+impl Converting<'_> {
     // Receives a piece, and puts the rows that wait then.
     fn step<S: Source, K: Sink>(
         &mut self,
@@ -52,10 +52,10 @@ impl Converting {
         ensures steps { (piece : List ℕ) × (length piece ≤ longest_piece)
             × S.gives source.old piece source.new
             × ((file : FileReading) (start : K) (bytes : List ℕ)
-            (stands : HasConverted K.takes K.failures file self.old.to start bytes self.old.reader
-            self.old.out.items sink.old)
-            → StepConverts K.takes K.failures file self.old.to (S.has_ended source.new) start (bytes
-            ++ piece) stands.text result self.new.reader self.new.out.items sink.new) }
+            (stands : HasConverted K.takes K.failures file (writing_by self.old.to) start bytes
+            self.old.reader self.old.out.items sink.old)
+            → StepConverts K.takes K.failures file (writing_by self.old.to) (S.has_ended source.new)
+            start (bytes ++ piece) stands.text result self.new.reader self.new.out.items sink.new) }
         ensures source { StepsSource (S.has_ended source.new) (S.failures source.old)
             (S.failures source.new) result }
     {
@@ -65,17 +65,17 @@ impl Converting {
             Err(_) => return Err(Stop::SourceFailed),
         };
         self.reader.push(&self.into[..count])?;
-        put_rows(&mut self.reader, false, self.to, &mut self.out, sink)
+        put_rows(&mut self.reader, false, &self.to, &mut self.out, sink)
     }
 
     // Puts what is left at the end of the input.
     fn end<K: Sink>(&mut self, sink: &mut K) -> Stop<Converted>
         requires at { IsAtStep self.old.reader }
         ensures to { self.new.to ≡ self.old.to }
-        ensures ends { EndConverts K.takes K.failures self.old.to self.old.reader self.old.out.items
-            sink.old result self.new.out.items sink.new }
+        ensures ends { EndConverts K.takes K.failures (writing_by self.old.to) self.old.reader
+            self.old.out.items sink.old result self.new.out.items sink.new }
     {
-        match put_rows(&mut self.reader, true, self.to, &mut self.out, sink) {
+        match put_rows(&mut self.reader, true, &self.to, &mut self.out, sink) {
             Ok(()) => match self.to.write_trailer(&mut self.out) {
                 Ok(()) => Stop::Answer(Converted::Whole),
                 Err(_) => Stop::Memory,
@@ -87,10 +87,10 @@ impl Converting {
     // Goes on until there is no more to do.
     fn run<S: Source, K: Sink>(&mut self, source: &mut S, sink: &mut K) -> Stop<Converted>
         requires { HasConverted K.takes K.failures
-            (file_by self.old.reader) self.old.to sink.old [] self.old.reader self.old.out.items
-            sink.old }
+            (file_by self.old.reader) (writing_by self.old.to) sink.old [] self.old.reader
+            self.old.out.items sink.old }
         ensures { HasRun S.gives S.failures (S.has_ended source.new) K.takes K.failures
-            (file_by self.old.reader) self.old.to source.old sink.old result source.new
+            (file_by self.old.reader) (writing_by self.old.to) source.old sink.old result source.new
             self.new.out.items sink.new }
     {
         for _ in 0..MOST_RECEIVES {
@@ -103,13 +103,25 @@ impl Converting {
 }
 
 // What stands before the first piece.
-fn begin(alloc: Global, from: Format, to: Format, columns: u16) -> Result<Converting, ToolFault>
+fn begin<'a>(
+    alloc: Global,
+    from: Format,
+    to: Format,
+    columns: u16,
+    options: &'a TextOptions,
+) -> Result<Converting<'a>, ToolFault>
     requires { (0 < columns) × (columns ≤ 32767) }
-    ensures begun { IfOk result (λ work. (work.to ≡ to) × (work.out.items ≡ head_of to)
-        × (file_by work.reader ≡ file_of from columns) × HasReadBy work.reader [] []
-        × (ended_of work.reader ≡ false)) }
+    ensures begun { IfOk result (λ work. (writing_by work.to ≡ writing_with options.now to)
+        × (work.out.items ≡ (writing_with options.now to).head)
+        × (file_by work.reader ≡ file_with options.now from columns)
+        × HasReadBy work.reader [] [] × (ended_of work.reader ≡ false)) }
     ensures refused { (fault : ToolFault) → result ≡ Err fault → fault ≡ ToolFault.Memory }
 {
+    let to = RowWriter::new(to, options);
+    let reader = match RowReader::new(alloc, from, columns, options) {
+        Ok(reader) => reader,
+        Err(fault) => return Err(fault),
+    };
     let mut out = Vec::new(alloc);
     match to.write_head(&mut out) {
         Ok(()) => {}
@@ -117,7 +129,7 @@ fn begin(alloc: Global, from: Format, to: Format, columns: u16) -> Result<Conver
     }
     match vec![in alloc; 0; PIECE] {
         Ok(into) => Ok(Converting {
-            reader: RowReader::new(alloc, from, columns),
+            reader,
             to,
             out,
             into,
@@ -160,7 +172,36 @@ pub fn convert<S: Source, K: Sink>(
     ensures source { CountsNoFailure (S.failures source.old) result (S.failures source.new) }
     ensures sink { CountsNoFailure (K.failures sink.old) result (K.failures sink.new) }
 {
-    let mut work = begin(alloc, from, to, columns)?;
+    let options = TextOptions::default();
+    convert_with(alloc, from, to, columns, &options, source, sink)
+}
+
+/// The same with options: each text side, the file that is read, the file that is written, or both, uses these. A row whose text would
+/// be written as the null mark is can't be written (`LikeNull`).
+pub fn convert_with<S: Source, K: Sink>(
+    alloc: Global,
+    from: Format,
+    to: Format,
+    columns: u16,
+    options: &TextOptions,
+    source: &mut S,
+    sink: &mut K,
+) -> Result<Converted, ToolFault>
+    requires { (0 < columns) × (columns ≤ 32767) }
+    // what was received, what was sent, and the answer for them, where the source may have stopped and the sink broken
+    ensures converted { (received sent : List (List ℕ))
+        × FoldsTo S.gives source.old received source.new
+        × FoldsTo K.takes sink.old sent sink.new × ConversionAnswers
+        (HasStopped (S.failures source.old) (S.failures source.new) received)
+        (HasRisen (K.failures sink.old) (K.failures sink.new)) (S.has_ended source.new)
+        (file_with options.now from columns) (writing_with options.now to) (concat received)
+        (concat sent) result }
+    ensures ended { EndsFile (S.has_ended source.new) result }
+    // where the answer isn't Device, neither failed
+    ensures source { CountsNoFailure (S.failures source.old) result (S.failures source.new) }
+    ensures sink { CountsNoFailure (K.failures sink.old) result (K.failures sink.new) }
+{
+    let mut work = begin(alloc, from, to, columns, options)?;
     let stop = work.run(source, sink);
     match stop.settle(work.out.as_slice(), sink) {
         Ok(()) => stop.answer(),

@@ -1,19 +1,19 @@
 //! The rows of a file of either format, read from pieces and written after what is to be sent.
 
-ghost use Rattle.std.specs.Prelude.{◌≡◌, ◌<◌, ◌≤◌, [], ℕ, List, false, true};
+ghost use Rattle.std.specs.Prelude.{◌≡◌, ◌<◌, ◌≤◌, [], ℕ, List, false, true, IfOk};
 ghost use Rattle.pg_copy.specs.Row.{Row};
 ghost use Rattle.pg_copy.specs.BinaryReader.{HasReadBinary};
 ghost use Rattle.pg_copy.specs.TextReader.{HasReadText};
-ghost use Rattle.pgpipe_convert.specs.Convert.{file_of};
+ghost use Rattle.pgpipe_convert.specs.Convert.{file_with};
 ghost use Rattle.pgpipe_convert.specs.declared.copy_rows.RowReader.TheVariants.{Text, Binary};
-ghost use Rattle.pgpipe_convert.specs.Private.Converting.{file_by, ended_of, HasReadBy, text_stop, binary_stop, stopped, TakesPiece, GivesRow, PutsRow, PutsRows};
+ghost use Rattle.pgpipe_convert.specs.Private.Converting.{file_by, writing_by, ended_of, HasReadBy, text_stop, binary_stop, stopped, TakesPiece, GivesRow, PutsRow, PutsRows};
 
 use crate::convert::Converted;
-use crate::format::Format;
-use pg_copy::{BinaryFault, BinaryReader, Row, RowFault, TextFault, TextReader};
+use crate::format::{Format, RowWriter};
+use pg_copy::{BinaryFault, BinaryReader, Row, RowFault, TextFault, TextOptions, TextReader};
 use pg_wire::Sink;
-use pgpipe_base::Stop;
 use pgpipe_base::outbox::{ROOM, send};
+use pgpipe_base::{Stop, ToolFault};
 use std::alloc::Global;
 
 // The most bytes that a value of a binary file may have.
@@ -46,17 +46,41 @@ fn binary_stop(fault: BinaryFault) -> Stop<Converted>
     }
 }
 
+// The same options again.
+fn copy_of(alloc: Global, options: &TextOptions) -> Result<TextOptions, ToolFault>
+    ensures copied { IfOk result (λ copy. copy ≡ options.now) }
+    ensures refused { (fault : ToolFault) → result ≡ Err fault → fault ≡ ToolFault.Memory }
+{
+    match TextOptions::new(alloc, options.delimiter(), options.null_mark()) {
+        Ok(copy) => Ok(copy),
+        // options have no other fault
+        Err(_) => Err(ToolFault::Memory),
+    }
+}
+
 impl RowReader {
     /// Nothing was read yet.
-    pub fn new(alloc: Global, from: Format, columns: u16) -> RowReader
+    pub fn new(
+        alloc: Global,
+        from: Format,
+        columns: u16,
+        options: &TextOptions,
+    ) -> Result<RowReader, ToolFault>
         requires { (0 < columns) × (columns ≤ 32767) }
-        ensures file { file_by result ≡ file_of from columns }
-        ensures read { HasReadBy result [] [] }
-        ensures ended { ended_of result ≡ false }
+        ensures begun { IfOk result (λ reader. (file_by reader ≡ file_with options.now from columns)
+            × HasReadBy reader [] [] × (ended_of reader ≡ false)) }
+        ensures refused { (fault : ToolFault) → result ≡ Err fault → fault ≡ ToolFault.Memory }
     {
         match from {
-            Format::Text => RowReader::Text(TextReader::new(alloc, Some(columns))),
-            Format::Binary => RowReader::Binary(BinaryReader::new(alloc, columns, VALUE_LIMIT)),
+            Format::Text => match copy_of(alloc, options) {
+                Ok(copy) => Ok(RowReader::Text(TextReader::with_options(
+                    alloc,
+                    Some(columns),
+                    copy,
+                ))),
+                Err(fault) => Err(fault),
+            },
+            Format::Binary => Ok(RowReader::Binary(BinaryReader::new(alloc, columns, VALUE_LIMIT))),
         }
     }
 
@@ -128,13 +152,13 @@ fn binary_row(answer: Result<Option<Row>, BinaryFault>) -> Result<Option<Row>, S
 
 // Puts a row, and sends what was put where it is much.
 fn put_row<K: Sink>(
-    to: Format,
+    to: &RowWriter<'_>,
     row: &Row,
     out: &mut Vec<u8>,
     sink: &mut K,
 ) -> Result<(), Stop<Converted>>
-    ensures { PutsRow K.takes K.failures to row.now out.old.items sink.old result out.new.items
-        sink.new }
+    ensures { PutsRow K.takes K.failures (writing_by to.now) row.now out.old.items sink.old result
+        out.new.items sink.new }
 {
     match to.write_row(row, out) {
         Ok(()) => {}
@@ -154,14 +178,14 @@ fn put_row<K: Sink>(
 pub fn put_rows<K: Sink>(
     reader: &mut RowReader,
     at_end: bool,
-    to: Format,
+    to: &RowWriter<'_>,
     out: &mut Vec<u8>,
     sink: &mut K,
 ) -> Result<(), Stop<Converted>>
     requires begun { at_end ≡ false → ended_of reader.old ≡ false }
     requires read { (bytes : List ℕ) × (given : List Row) × HasReadBy reader.old bytes given }
-    ensures { PutsRows K.takes K.failures at_end to reader.old out.old.items sink.old result
-        reader.new out.new.items sink.new }
+    ensures { PutsRows K.takes K.failures at_end (writing_by to.now) reader.old out.old.items
+        sink.old result reader.new out.new.items sink.new }
 {
     loop {
         match reader.next(at_end)? {

@@ -1,8 +1,9 @@
-//! Converting a COPY file from the one format to the other, from any source to any sink ([`convert`]).
+//! Converting a COPY file from the one format to the other, from any source to any sink ([`convert`], [`convert_with`]).
 #![tactic(auto)]
 
 pub mod convert;
 mod copy_rows;
 mod format;
 
+pub use convert::convert_with;
 pub use format::Format;

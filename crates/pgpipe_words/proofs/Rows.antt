@@ -1,5 +1,5 @@
 -- Worked examples of words and their tasks, computed from the definitions alone.
-use Rattle.std.proofs.Common.{◌≡◌, ℕ, Bool, rules, true, false, List, [], ◌∷◌, Option, codes, refl, arith, string_bytes}
+use Rattle.std.proofs.Common.{◌≡◌, ℕ, Bool, rules, true, false, List, [], ◌∷◌, ◌++◌, Option, codes, refl, arith, string_bytes}
 use Rattle.clap.specs.Words.{Row, Text, fault_of, subcommand_of}
 use Rattle.clap.specs.declared.builder.value_parser.ValueParser.TheVariants as parser
 use Rattle.clap.specs.declared.error.kind.ErrorKind.TheVariants as kind
@@ -7,6 +7,7 @@ use Rattle.clap.proofs.OnLiterals.{clap_on_literals}
 use Rattle.std.specs.Borrow.{Bor}
 use Rattle.pgpipe_convert.specs.declared.format.Format.{Format}
 use Rattle.pgpipe_convert.specs.declared.format.Format.TheVariants as format
+use Rattle.pgpipe_words.specs.declared.tasks.Conversion.{Conversion}
 use Rattle.pgpipe_words.specs.declared.tasks.Task.{Task}
 use Rattle.pgpipe_words.specs.declared.tasks.Task.TheVariants as task
 use Rattle.pgpipe_words.specs.CommandLine.{command_line}
@@ -32,9 +33,17 @@ module _ (names : Bor (List (Bor (List ℕ)))) where
   abbrev conversion : List Text
   conversion = codes "pgpipe" ∷ codes "convert" ∷ codes "--from" ∷ codes "text" ∷ codes "--to" ∷ codes "binary" ∷ codes "--columns" ∷ codes "2" ∷ []
 
-  pub a_conversion : (from to : Format) (columns : ℕ) → IsAskedFor (met conversion) (task.Convert from to columns) → (from ≡ format.Text) × (to ≡ format.Binary) × (columns ≡ 2)
+  pub a_conversion : (c : Conversion) → IsAskedFor (met conversion) (task.Convert c) → (c.from ≡ format.Text) × (c.to ≡ format.Binary) × (c.columns ≡ 2)
   unfolding clap_on_literals
-  a_conversion from to columns asked = let named = asked.convert refl in (named.0, named.1, named.2 2 ((omega arith, search rules), refl) (omega arith) (omega arith))
+  a_conversion c asked = let named = asked.convert refl in (named.from, named.to, named.columns 2 ((omega arith, search rules), refl) (omega arith) (omega arith))
+
+  pub default_options : (c : Conversion) → IsAskedFor (met conversion) (task.Convert c) → (string_bytes c.delimiter ≡ 9 ∷ []) × (string_bytes c.null_mark ≡ codes "\\N")
+  unfolding clap_on_literals
+  default_options c asked = let named = asked.convert refl in (named.delimiter, named.null_mark)
+
+  pub other_options : (c : Conversion) → IsAskedFor (met (conversion ++ codes "--delimiter" ∷ codes "," ∷ codes "--null" ∷ [] ∷ [])) (task.Convert c) → (string_bytes c.delimiter ≡ codes ",") × (string_bytes c.null_mark ≡ [])
+  unfolding clap_on_literals
+  other_options c asked = let named = asked.convert refl in (named.delimiter, named.null_mark)
 
   pub a_conversion_shows_nothing : (front : Bool) → IsAskedFor (met conversion) (task.Show front) → ⊥
   unfolding clap_on_literals

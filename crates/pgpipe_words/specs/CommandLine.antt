@@ -15,10 +15,13 @@ IsFormats _ = ⊥
 abbrev pub front : Rule
 front = record (new_rule (codes "front")) { long = Some (codes "front"); action = Some SetTrue }
 
--- an option with one value that this parser takes: `--name VALUE`
+-- an option with one value, which may be any text: `--name VALUE`
+abbrev pub text_option : Text → Rule
+text_option name = record (new_rule name) { long = Some name; value_names = 1 }
+
+-- an option with one value that this parser takes
 abbrev pub option : Text → ValueParser → Rule
-option name values =
-    record (new_rule name) { long = Some name; value_names = 1; parser = Some values }
+option name values = record (text_option name) { parser = Some values }
 
 -- an argument that must be given
 abbrev pub required : Rule → Rule
@@ -28,12 +31,23 @@ required rule = record rule { required = true }
 abbrev pub show : Shape
 show = (with_rule (new_app (codes "show")) front).top
 
--- the subcommand `convert`: `--from`, `--to` and `--columns` (1 to 32,767), which must all be given
-abbrev pub convert : ValueParser → Shape
-convert formats = (with_rule (with_rule (with_rule (new_app (codes "convert"))
+-- the subcommand `convert` without its options: `--from`, `--to` and `--columns` (1 to 32,767), which
+-- must all be given
+abbrev pub plain_convert : ValueParser → Shape
+plain_convert formats = (with_rule (with_rule (with_rule (new_app (codes "convert"))
     (required (option (codes "from") formats)))
     (required (option (codes "to") formats)))
     (required (option (codes "columns") (parser.Signed (pos 1) (pos 32767))))).top
+
+-- a subcommand with the options of COPY text, too: `--delimiter` and `--null`, which may be left out
+abbrev pub with_text_options : Shape → Shape
+with_text_options command =
+    (with_rule (with_rule (record { top = command; subs = [] }) (text_option (codes "delimiter")))
+    (text_option (codes "null"))).top
+
+-- the subcommand `convert`
+abbrev pub convert : ValueParser → Shape
+convert formats = with_text_options (plain_convert formats)
 
 -- the subcommand `loop`: `--cut` (1 to 4,096), which may be left out, and the paths SCRIPT and
 -- CALLS

@@ -1,6 +1,7 @@
 -- What is done for a task, and how it ends.
 use Rattle.std.specs.Prelude.{ℕ, ◌≡◌, Bool, List, Result, Ok, Err, string_bytes}
 use Rattle.std.specs.List.{FoldsTo, concat}
+use Rattle.pg_copy.specs.Text.{Options}
 use Rattle.pg_wire.specs.Link.{HasRisen}
 use Rattle.pg_backend.specs.fault.ScriptFault.{ScriptFault}
 use Rattle.pg_backend.specs.script.Script.{Script}
@@ -19,10 +20,12 @@ use Rattle.pgpipe_loop.specs.RunLoop as loop
 use Rattle.pgpipe_show.specs.declared.show.Shown.{Shown}
 use Rattle.pgpipe_show.specs.Show as show
 use Rattle.pgpipe_words.specs.declared.failure.Failure.{Failure}
+use Rattle.pgpipe_words.specs.declared.tasks.Conversion.{Conversion}
 use Rattle.pgpipe_words.specs.declared.tasks.Task.{Task}
 use Rattle.pgpipe_words.specs.declared.tasks.Task.TheVariants as task
 use Rattle.pgpipe_words.specs.Failure.{ShowResults, ConversionResults, LoopResults, check_failure}
 use Rattle.pgpipe_words.specs.LoopFiles.{ReadsScript, ReadsCalls}
+use Rattle.pgpipe_words.specs.TextOptions.{only_byte, ReadsOptions}
 
 -- ---- a tool's run, by what it received, sent and answered
 
@@ -43,20 +46,21 @@ pub record WasShown {S K : Type 0} (gives : S → List ℕ → S → Type 0) (so
   pub source_counts : CountsNoFailure (source_failures source) answer (source_failures source')
   pub sink_counts : CountsNoFailure (failures sink) answer (failures sink')
 
--- `convert` was run, with these formats and columns, and answered this. It received these pieces
--- from `source` and sent these to `sink`, and what it promises holds of them.
+-- `convert_with` was run, with these formats, columns and options, and answered this. It received
+-- these pieces from `source` and sent these to `sink`, and what it promises holds of them.
 pub record WasConverted {S K : Type 0} (gives : S → List ℕ → S → Type 0) (source_failures : S → ℕ)
     (has_ended : S → Type 0) (takes : K → List ℕ → K → Type 0) (failures : K → ℕ) (from to : Format)
-    (columns : ℕ) (source : S) (sink : K) (answer : Result Converted ToolFault) (source' : S)
+    (columns : ℕ) (o : Options) (source : S) (sink : K) (answer : Result Converted ToolFault) (source' : S)
     (sink' : K) : Type 0 where
   pub received : List (List ℕ)
   pub sent : List (List ℕ)
   pub was_received : FoldsTo gives source received source'
   pub was_sent : FoldsTo takes sink sent sink'
-  pub answers : convert.ConvertAnswers
+  pub answers : convert.ConversionAnswers
       (HasStopped (source_failures source) (source_failures source') received)
-      (HasRisen (failures sink) (failures sink')) (has_ended source') (convert.file_of from columns)
-      to (concat received) (concat sent) answer
+      (HasRisen (failures sink) (failures sink')) (has_ended source')
+      (convert.file_with o from columns) (convert.writing_with o to) (concat received) (concat sent)
+      answer
   pub ended : convert.EndsFile (has_ended source') answer
   pub source_counts : CountsNoFailure (source_failures source) answer (source_failures source')
   pub sink_counts : CountsNoFailure (failures sink) answer (failures sink')
@@ -122,12 +126,21 @@ module _ {S K : Type 0} (gives : S → List ℕ → S → Type 0) (source_failur
       sink'
       × ShowResults answer result
 
-  -- `convert` was run, and the task's result is what its answer means for the program.
-  abbrev pub DoesConvert : Format → Format → ℕ → S → K → Result Unit Failure → S → K → Type 0
-  DoesConvert from to columns source sink result source' sink' =
-      (answer : Result Converted ToolFault)
-      × WasConverted gives source_failures has_ended takes failures from to columns source sink
-      answer source' sink' × ConversionResults answer result
+  -- By what came of the options: `convert_with` was run with them, and the task's result is what its
+  -- answer means for the program; or their failure is the result, and nothing was received or sent.
+  abbrev pub DoesWith : Result Options Failure → Conversion → S → K → Result Unit Failure → S → K
+      → Type 0
+  DoesWith (Ok o) c source sink result source' sink' = (answer : Result Converted ToolFault)
+      × WasConverted gives source_failures has_ended takes failures c.from c.to c.columns o source
+      sink answer source' sink' × ConversionResults answer result
+  DoesWith (Err f) c source sink result source' sink' = (result ≡ Err f) × (source' ≡ source)
+      × (sink' ≡ sink)
+
+  -- The file was converted with the options of this conversion, which are judged first.
+  abbrev pub DoesConvert : Conversion → S → K → Result Unit Failure → S → K → Type 0
+  DoesConvert c source sink result source' sink' = (options : Result Options Failure)
+      × ReadsOptions (only_byte (string_bytes c.delimiter)) (string_bytes c.null_mark) options
+      × DoesWith options c source sink result source' sink'
 
   module _ {C : Type 0} (holds : List ℕ → List ℕ → Type 0) (fails : List ℕ → Failure → Type 0)
       (carries : Carrying C) (carrier : C) where
@@ -137,8 +150,8 @@ module _ {S K : Type 0} (gives : S → List ℕ → S → Type 0) (source_failur
     abbrev pub DoesTask : Task → S → K → Result Unit Failure → S → K → Type 0
     DoesTask (task.Show front) source sink result source' sink' =
         DoesShow front source sink result source' sink'
-    DoesTask (task.Convert from to columns) source sink result source' sink' =
-        DoesConvert from to columns source sink result source' sink'
+    DoesTask (task.Convert c) source sink result source' sink' =
+        DoesConvert c source sink result source' sink'
     DoesTask (task.Loop cut script calls) source sink result source' sink' =
         (source' ≡ source)
         × RunsFiles carries takes failures carrier cut sink result sink' holds fails

@@ -19,10 +19,12 @@ use Rattle.pgpipe_show.specs.declared.show.Shown.TheVariants as shown
 use Rattle.pgpipe_base.specs.declared.fault.ToolFault.{ToolFault}
 use Rattle.pgpipe_base.specs.declared.fault.ToolFault.TheVariants as fault
 
--- the exit status: 1 for a wrong word, 2 for a fault of what was read, 3 for a failed file, stream
--- or carrier, 4 for want of memory
+-- the exit status: 1 for a wrong word, 2 for wrong options and for a fault of what was read, 3 for a
+-- failed file, stream or carrier, 4 for want of memory
 abbrev pub failure_status : Failure → ℕ
 failure_status failure.NotUtf8 = 1
+failure_status failure.Delimiter = 1
+failure_status (failure.Options f) = 2
 failure_status (failure.Rest n) = 2
 failure_status (failure.Fault f) = 2
 failure_status (failure.Text f) = 2
@@ -43,7 +45,7 @@ ShowResults (Ok (shown.Fault f)) r = r ≡ Err (failure.Fault f)
 ShowResults (Err fault.Device) r = r ≡ Err failure.Device
 ShowResults (Err fault.Memory) r = r ≡ Err failure.Memory
 
--- What the answer of `convert` means for the program: success where the file is whole, and else a
+-- What the answer of `convert_with` means for the program: success where the file is whole, and else a
 -- failure.
 abbrev pub ConversionResults : Result Converted ToolFault → Result Unit Failure → Type 0
 ConversionResults (Ok converted.Whole) r = r ≡ Ok tt

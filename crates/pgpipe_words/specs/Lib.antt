@@ -1,9 +1,10 @@
--- What a reader must believe: the command line, the tasks that its words ask for, how a loop's
--- files are read, what is done for a task, and how it ends.
+-- What a reader must believe: the command line, the tasks that its words ask for, which
+-- options they say, how a loop's files are read, what is done for a task, and how it ends.
 pub mod CommandLine
 pub mod Tasks
 pub mod Failure
 pub mod LoopFiles
+pub mod TextOptions
 pub mod Doing
 -- Words of private functions, which no public contract cites.
 pub mod Private

@@ -1,12 +1,14 @@
 -- The task that the words of a command line ask for.
-use Rattle.std.specs.Prelude.{◌≡◌, ◌<◌, ◌≤◌, ℕ, true, false, Bool, List, [], Option, Some, None, Result, IfOk, if◌then◌else◌, codes, unwrap_or, string_bytes}
+use Rattle.std.specs.Prelude.{◌≡◌, ◌<◌, ◌≤◌, ℕ, true, false, Bool, List, [], ◌∷◌, Option, Some, None, Result, IfOk, if◌then◌else◌, codes, unwrap_or, string_bytes}
 use Rattle.std.specs.Str.{bytes_eq}
 use Rattle.std.specs.Str.Parse.{IsNumeral, digits_value, without_leading_plus}
 use Rattle.clap.specs.Words.{FailsBy, Row, Text, fault_of, first_of, one_of, subcommand_of}
 use Rattle.clap.specs.declared.builder.value_parser.ValueParser.{ValueParser}
 use Rattle.clap.specs.declared.error.Error.{Error}
+use Rattle.pg_copy.specs.Text as copy
 use Rattle.pgpipe_convert.specs.declared.format.Format.{Format}
 use Rattle.pgpipe_convert.specs.declared.format.Format.TheVariants as format
+use Rattle.pgpipe_words.specs.declared.tasks.Conversion.{Conversion}
 use Rattle.pgpipe_words.specs.declared.tasks.Task.{Task}
 use Rattle.pgpipe_words.specs.declared.tasks.Task.TheVariants as task
 use Rattle.pgpipe_words.specs.CommandLine.{IsFormats, command_line}
@@ -14,7 +16,7 @@ use Rattle.pgpipe_words.specs.CommandLine.{IsFormats, command_line}
 -- The numbers of the task are in range: 1 to 32,767 columns, and deliveries of 1 to 4,096 bytes.
 abbrev pub IsTask : Task → Type 0
 IsTask (task.Show front) = Unit {0}
-IsTask (task.Convert from to columns) = (0 < columns) × (columns ≤ 32767)
+IsTask (task.Convert c) = (0 < c.columns) × (c.columns ≤ 32767)
 IsTask (task.Loop cut script calls) = (0 < cut) × (cut ≤ 4096)
 
 -- ---- what was found for an argument
@@ -43,12 +45,21 @@ abbrev pub IsShowOf : List Row → Task → Type 0
 IsShowOf found (task.Show front) = IsFlag (one_of (codes "front") found) front
 IsShowOf found _ = ⊥
 
--- The task is a conversion with the formats and the number of columns that were given.
+-- The conversion has the formats and the number of columns that were given, and the
+-- delimiter and the null mark, which are a tab and \N where they were left out.
+pub record HasConversion (found : List Row) (c : Conversion) : Type 0 where
+  pub from : c.from ≡ format_named (first_of (codes "from") found)
+  pub to : c.to ≡ format_named (first_of (codes "to") found)
+  pub columns : (n : ℕ) → IsNumber (one_of (codes "columns") found) n → 0 < n → n ≤ 32767
+      → c.columns ≡ n
+  pub delimiter : string_bytes c.delimiter
+      ≡ unwrap_or (first_of (codes "delimiter") found) (copy.delimiter ∷ [])
+  pub null_mark : string_bytes c.null_mark
+      ≡ unwrap_or (first_of (codes "null") found) copy.null_mark
+
+-- The task is a conversion as it was asked for.
 abbrev pub IsConversionOf : List Row → Task → Type 0
-IsConversionOf found (task.Convert from to columns) =
-    (from ≡ format_named (first_of (codes "from") found))
-    × (to ≡ format_named (first_of (codes "to") found))
-    × ((n : ℕ) → IsNumber (one_of (codes "columns") found) n → 0 < n → n ≤ 32767 → columns ≡ n)
+IsConversionOf found (task.Convert c) = HasConversion found c
 IsConversionOf found _ = ⊥
 
 -- The task is a loop over the files that were given, with deliveries of as many bytes as `--cut`

@@ -1,13 +1,32 @@
 //! The command line, as it is built.
 
-ghost use Rattle.std.specs.Prelude.{◌≡◌, IfOk};
-ghost use Rattle.clap.specs.Words.{app_of, new_rule};
-ghost use Rattle.pgpipe_words.specs.CommandLine.{front, show, convert, loop, command_line, option, required};
+ghost use Rattle.std.specs.Prelude.{◌≡◌, IfOk, false};
+ghost use Rattle.clap.specs.Words.{app_of, new_rule, shape_of};
+ghost use Rattle.clap.specs.declared.builder.command.Command.TheViews.{out-Command};
+ghost use Rattle.pgpipe_words.specs.CommandLine.{front, show, plain_convert, with_text_options, convert, loop, command_line, text_option, option, required};
 ghost use Rattle.pgpipe_words.specs.Private.CommandLine.{IsArg, IsCommand};
 
 use clap::builder::ValueParser;
 use clap::{Arg, ArgAction, Command, value_parser};
 use std::alloc::{AllocError, Global};
+
+// What a conversion does with types.
+const CONVERT_HELP: &str =
+    "Convert the COPY file on standard input between the text and the binary format
+
+A value is bytes, whatever its type: it is copied as it is from text to binary and back. So of a binary \
+file that is made from text only text columns come out as a server expects; an integer, for one, has \
+another form there.";
+
+// What the delimiter is.
+const DELIMITER_HELP: &str =
+    "The byte between two fields of a text file, read or written; no newline, return, \
+backslash, dot, letter from a to z or digit [default: a tab]";
+
+// What the null mark is.
+const NULL_HELP: &str =
+    "What stands for null in a text file, read or written; it has no newline, return or \
+delimiter, isn't \\., and doesn't end in a lone backslash [default: \\N]";
 
 // The flag of a client's side.
 fn front_arg<'a>(alloc: Global) -> Arg<'a>
@@ -17,6 +36,16 @@ fn front_arg<'a>(alloc: Global) -> Arg<'a>
         .long("front")
         .action(ArgAction::SetTrue)
         .help("Read a client's side: its first packets, and then its messages")
+}
+
+// An option with one value, of any text.
+fn text_arg<'a>(alloc: Global, name: &'a str, value: &'a str, help: &'a str) -> Arg<'a>
+    ensures { IsArg (text_option name.now) result }
+{
+    Arg::new(alloc, name)
+        .long(name)
+        .value_name(value)
+        .help(help)
 }
 
 // An option with one value.
@@ -65,9 +94,12 @@ fn show_command<'a>(alloc: Global) -> Result<Command<'a>, AllocError>
         .arg(front_arg(alloc))
 }
 
-// The subcommand that converts a file.
-fn convert_command<'a>(alloc: Global, formats: ValueParser<'a>) -> Result<Command<'a>, AllocError>
-    ensures { IfOk result (IsCommand (convert formats.entry)) }
+// The subcommand that converts a file, without its options.
+fn plain_convert_command<'a>(
+    alloc: Global,
+    formats: ValueParser<'a>,
+) -> Result<Command<'a>, AllocError>
+    ensures { IfOk result (IsCommand (plain_convert formats.entry)) }
 {
     let from = required_arg(alloc, "from", "FORMAT", formats, "The format to read");
     let to = required_arg(alloc, "to", "FORMAT", formats, "The format to write");
@@ -78,6 +110,24 @@ fn convert_command<'a>(alloc: Global, formats: ValueParser<'a>) -> Result<Comman
         .arg(from)?
         .arg(to)?
         .arg(columns)
+}
+
+// The same subcommand with the options of COPY text, too, and with the help for both.
+fn with_text_options<'a>(alloc: Global, command: Command<'a>) -> Result<Command<'a>, AllocError>
+    requires { (out-Command command).has_globals ≡ false }
+    ensures { IfOk result (IsCommand (with_text_options (shape_of command.entry))) }
+{
+    command
+        .long_about(CONVERT_HELP)
+        .arg(text_arg(alloc, "delimiter", "C", DELIMITER_HELP))?
+        .arg(text_arg(alloc, "null", "S", NULL_HELP))
+}
+
+// The subcommand that converts a file.
+fn convert_command<'a>(alloc: Global, formats: ValueParser<'a>) -> Result<Command<'a>, AllocError>
+    ensures { IfOk result (IsCommand (convert formats.entry)) }
+{
+    with_text_options(alloc, plain_convert_command(alloc, formats)?)
 }
 
 // The subcommand that runs a loop.

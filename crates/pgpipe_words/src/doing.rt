@@ -1,21 +1,22 @@
 //! Doing a task, and how the program ends.
 
-ghost use Rattle.std.specs.Prelude.{◌≡◌, ◌<◌, ◌≤◌, MatchResult};
+ghost use Rattle.std.specs.Prelude.{◌≡◌, MatchResult};
 ghost use Rattle.std.specs.Process.{exit_status};
 ghost use Rattle.clap.specs.Words.{kind_of};
 ghost use Rattle.pgpipe_words.specs.Doing.{DoesTask, DoesShow, DoesConvert};
 ghost use Rattle.pgpipe_words.specs.Failure.{failure_status, Explains};
 ghost use Rattle.pgpipe_words.specs.Tasks.{IsTask};
+ghost use Rattle.pgpipe_words.specs.declared.tasks.Task.TheVariants as task;
 
 use crate::failure::{Failure, conversion_result_of, show_result_of};
 use crate::files::FileStore;
 use crate::loop_files::run_files;
-use crate::tasks::Task;
+use crate::tasks::{Conversion, Task};
+use crate::text_options::options_of;
 use clap::error::ErrorKind;
 use pg_pair::Carry;
 use pg_wire::{Sink, Source};
-use pgpipe_convert::Format;
-use pgpipe_convert::convert::convert;
+use pgpipe_convert::convert_with;
 use pgpipe_show::show::show;
 use std::alloc::Global;
 use std::process::ExitCode;
@@ -33,20 +34,26 @@ fn do_show<S: Source, K: Sink>(
     show_result_of(show(alloc, front, source, sink))
 }
 
-// Converts what the source gives.
+// Converts what the source gives, once the options are judged.
 fn do_convert<S: Source, K: Sink>(
     alloc: Global,
-    from: Format,
-    to: Format,
-    columns: u16,
+    conversion: Conversion,
     source: &mut S,
     sink: &mut K,
 ) -> Result<(), Failure>
-    requires { (0 < columns) × (columns ≤ 32767) }
-    ensures { DoesConvert S.gives S.failures S.has_ended K.takes K.failures from to columns
-        source.old sink.old result source.new sink.new }
+    requires { IsTask (task.Convert conversion) }
+    ensures { DoesConvert S.gives S.failures S.has_ended K.takes K.failures conversion source.old
+        sink.old result source.new sink.new }
 {
-    conversion_result_of(convert(alloc, from, to, columns, source, sink))
+    let Conversion {
+        from,
+        to,
+        columns,
+        delimiter,
+        null_mark,
+    } = conversion;
+    let options = options_of(alloc, delimiter.as_str(), null_mark.as_str())?;
+    conversion_result_of(convert_with(alloc, from, to, columns, &options, source, sink))
 }
 
 /// Does a task: shows or converts what the source gives, or runs a loop of two files, over a carrier; what comes of it is sent.
@@ -64,7 +71,7 @@ pub fn do_task<F: FileStore, C: Carry, S: Source, K: Sink>(
 {
     match task {
         Task::Show { front } => do_show(alloc, front, source, sink),
-        Task::Convert { from, to, columns } => do_convert(alloc, from, to, columns, source, sink),
+        Task::Convert(conversion) => do_convert(alloc, conversion, source, sink),
         Task::Loop { cut, script, calls } => run_files(
             alloc,
             cut,

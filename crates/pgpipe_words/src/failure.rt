@@ -5,7 +5,7 @@ ghost use Rattle.std.specs.IoError.{error_kind};
 ghost use Rattle.pgpipe_words.specs.Failure.{failure_status, ShowResults, ConversionResults, LoopResults, script_failure, calls_failure, check_failure};
 
 use pg_backend::ScriptFault;
-use pg_copy::{BinaryFault, RowFault, TextFault};
+use pg_copy::{BinaryFault, OptionFault, RowFault, TextFault};
 use pg_wire::WireFault;
 use pgpipe_base::ToolFault;
 use pgpipe_convert::convert::Converted;
@@ -22,6 +22,12 @@ pub enum Failure {
     /// A word of the command line isn't UTF-8.
     #[error("a word is not UTF-8")]
     NotUtf8,
+    /// The delimiter isn't one byte.
+    #[error("delimiter")]
+    Delimiter,
+    /// There are no such options of COPY text, for this reason.
+    #[error("{0}")]
+    Options(OptionFault),
     /// The stream ends with so many bytes that are no whole message, or come after a Cancel.
     #[error("rest {0}")]
     Rest(usize),
@@ -57,13 +63,15 @@ pub enum Failure {
 }
 
 impl Failure {
-    /// The program's exit status: 1 for a wrong word, 2 for a rest or a fault of what was read, 3
-    /// for Device, 4 for Memory.
+    /// The program's exit status: 1 for a wrong word, 2 for wrong options and for a rest or a fault
+    /// of what was read, 3 for Device, 4 for Memory.
     pub fn status(&self) -> u8
         ensures { result ≡ failure_status self.now }
     {
         match self {
             Failure::NotUtf8 => 1,
+            Failure::Delimiter => 1,
+            Failure::Options(_) => 2,
             Failure::Rest(_) => 2,
             Failure::Fault(_) => 2,
             Failure::Text(_) => 2,
@@ -102,7 +110,7 @@ pub fn show_result_of(answer: Result<Shown, ToolFault>) -> Result<(), Failure>
     }
 }
 
-/// What an answer of `convert` means for the program: only a whole file is a success.
+/// What an answer of `convert_with` means for the program: only a whole file is a success.
 pub fn conversion_result_of(answer: Result<Converted, ToolFault>) -> Result<(), Failure>
     ensures { ConversionResults answer result }
 {

@@ -7,9 +7,10 @@ mod failure;
 mod files;
 mod loop_files;
 mod tasks;
+mod text_options;
 
 pub use doing::{do_task, exit_code, explain};
 pub use failure::{Failure, words_failure};
 pub use files::{Disk, FileStore};
 pub use loop_files::run_files;
-pub use tasks::{Task, task_of};
+pub use tasks::{Conversion, Task, task_of};

@@ -10,6 +10,21 @@ use clap::{ArgMatches, Error};
 use pgpipe_convert::Format;
 use std::alloc::{AllocError, Global};
 
+/// A conversion of a COPY file.
+#[derive(Debug, PartialEq, Eq, Drop)]
+pub struct Conversion {
+    /// The format that is read.
+    pub from: Format,
+    /// The format that is written.
+    pub to: Format,
+    /// How many fields a row has, 1 to 32,767.
+    pub columns: u16,
+    /// The delimiter of each text side. It may be none.
+    pub delimiter: String,
+    /// The null mark of each text side. It may be none.
+    pub null_mark: String,
+}
+
 /// What the program is asked to do.
 #[derive(Debug, PartialEq, Eq, Drop)]
 pub enum Task {
@@ -19,14 +34,7 @@ pub enum Task {
         front: bool,
     },
     /// Convert the COPY file on standard input.
-    Convert {
-        /// The format that is read.
-        from: Format,
-        /// The format that is written.
-        to: Format,
-        /// How many fields a row has, 1 to 32,767.
-        columns: u16,
-    },
+    Convert(Conversion),
     /// Run a loop.
     Loop {
         /// How many bytes a flow delivers at a time, 1 to 4,096.
@@ -61,17 +69,19 @@ fn show_of(matches: &ArgMatches<'_>) -> Task
 }
 
 // The conversion that the words ask for.
-fn conversion_of(matches: &ArgMatches<'_>) -> Task
-    ensures task { IsTask result }
-    ensures named { IsConversionOf (rows_of (found_of matches.now)) result }
+fn conversion_of(alloc: Global, matches: &ArgMatches<'_>) -> Result<Task, AllocError>
+    ensures task { IfOk result IsTask }
+    ensures named { IfOk result (IsConversionOf (rows_of (found_of matches.now))) }
 {
     let columns = matches.get_one::<u16>("columns").unwrap_or(1);
-    Task::Convert {
+    Ok(Task::Convert(Conversion {
         from: format_of(matches, "from"),
         to: format_of(matches, "to"),
         // the parser took no number but these
         columns: columns.clamp(1, 32_767),
-    }
+        delimiter: String::from_str(alloc, matches.get_str("delimiter").unwrap_or("\t"))?,
+        null_mark: String::from_str(alloc, matches.get_str("null").unwrap_or("\\N"))?,
+    }))
 }
 
 // The loop that the words ask for.
@@ -94,7 +104,7 @@ fn named_task(alloc: Global, matches: &ArgMatches<'_>) -> Result<Task, AllocErro
     ensures asked_for { IfOk result (IsAskedFor (subcommand_rows_of matches.now)) }
 {
     match matches.subcommand() {
-        Some(("convert", convert)) => Ok(conversion_of(convert)),
+        Some(("convert", convert)) => conversion_of(alloc, convert),
         Some(("loop", words)) => loop_of(alloc, words),
         Some((_, show)) => Ok(show_of(show)),
         None => Ok(Task::Show { front: false }),

@@ -1,8 +1,8 @@
 use crate::links::{Paper, broke_after, sheet, source_of};
-use pg_copy::{BinaryFault, TextFault};
+use pg_copy::{BinaryFault, RowFault, TextFault, TextOptions};
 use pgpipe_base::ToolFault;
-use pgpipe_convert::Format;
 use pgpipe_convert::convert::{Converted, convert};
+use pgpipe_convert::{Format, convert_with};
 use std::alloc::Global;
 use std::test::Fail;
 
@@ -71,6 +71,76 @@ fn rows_converted(rt: HostRuntime) {
     assert!(rt; becomes(alloc, from_text, Format::Binary, whole, BINARY_ROW));
     assert!(rt; becomes(alloc, from_binary, Format::Text, whole, TEXT_ROW));
     assert!(rt; becomes(alloc, from_binary, Format::Binary, whole, BINARY_ROW));
+}
+
+/// Whether they come of it with these options.
+fn becomes_with(
+    alloc: Global,
+    file: File<'_>,
+    to: Format,
+    options: &TextOptions,
+    answer: Converted,
+    bytes: &[u8],
+) -> bool {
+    let columns = file.columns.clamp(1, 32_767);
+    for most in 1..40 {
+        let mut source = source_of(file.bytes, most, 0);
+        let mut sink = sheet(alloc, 0);
+        let (from, into) = (&mut source, &mut sink);
+        let given = convert_with(alloc, file.format, to, columns, options, from, into);
+        if given != Ok(answer) || sink.text.as_slice() != bytes {
+            return false;
+        }
+    }
+    true
+}
+
+#[test]
+fn rows_converted_with_options(rt: HostRuntime) -> Result<(), Fail> {
+    let (alloc, whole) = (rt.alloc(), Converted::Whole);
+    let options = TextOptions::new(alloc, b',', b"x")?;
+    let (from_text, from_binary) = (text(2, b"1,x\n"), binary(2, BINARY_ROW));
+    assert!(rt;
+        becomes_with(
+            alloc,
+            from_text,
+            Format::Binary,
+            &options,
+            whole,
+            BINARY_ROW
+        )
+    );
+    assert!(rt; becomes_with(alloc, from_binary, Format::Text, &options, whole, b"1,x\n"));
+    // both sides have them, or none
+    let spelled = text(2, b"\\x31,x");
+    assert!(rt; becomes_with(alloc, spelled, Format::Text, &options, whole, b"1,x\n"));
+    assert!(rt;
+        becomes_with(
+            alloc,
+            from_binary,
+            Format::Binary,
+            &options,
+            whole,
+            BINARY_ROW
+        )
+    );
+    Ok(())
+}
+
+#[test]
+fn a_row_like_null(rt: HostRuntime) -> Result<(), Fail> {
+    let options = TextOptions::new(rt.alloc(), b',', b"x")?;
+    let file = text(2, b"1,x\n1,\\x78\n");
+    let fault = Converted::Row(RowFault::LikeNull(1));
+    assert!(rt; becomes_with(rt.alloc(), file, Format::Text, &options, fault, b"1,x\n"));
+    Ok(())
+}
+
+#[test]
+fn lines_that_end_otherwise(rt: HostRuntime) {
+    let (alloc, to, whole) = (rt.alloc(), Format::Binary, Converted::Whole);
+    assert!(rt; becomes(alloc, text(2, b"1\t\\N\r\n"), to, whole, BINARY_ROW));
+    assert!(rt; becomes(alloc, text(2, b"1\t\\N\r"), to, whole, BINARY_ROW));
 }
 
 #[test]

@@ -13,12 +13,12 @@ use Rattle.pg_wire.specs.link.LinkFault.{LinkFault}
 use Rattle.pg_wire.specs.Link.{HasRisen}
 use Rattle.pgpipe_convert.specs.declared.convert.Converted.{Converted}
 use Rattle.pgpipe_convert.specs.declared.convert.Converted.TheVariants as converted
-use Rattle.pgpipe_convert.specs.declared.format.Format.{Format}
+use Rattle.pgpipe_convert.specs.declared.format.RowWriter.{RowWriter}
 use Rattle.pgpipe_convert.specs.declared.copy_rows.RowReader.{RowReader}
 use Rattle.pgpipe_convert.specs.declared.copy_rows.RowReader.TheVariants as reader
 use Rattle.pgpipe_base.specs.declared.stop.Stop.{Stop}
 use Rattle.pgpipe_base.specs.declared.stop.Stop.TheVariants as stop
-use Rattle.pgpipe_convert.specs.Convert.{FileReading, text_file, binary_file, answered, none_left, IsEnd, IsWritable, row_fault, row_of, head_of, trailer_for, AreConverted, IsAnswerFor, AreConvertedBefore}
+use Rattle.pgpipe_convert.specs.Convert.{FileReading, text_file, binary_file, answered, none_left, IsEnd, FileWriting, writing_with, IsWritable, trailer_for, AreConverted, IsAnswerFor, AreConvertedBefore}
 use Rattle.pgpipe_base.specs.Outbox.{most_collected, Puts, StaysWithin}
 use mathlib.Core.List.{IsPrefix}
 use Rattle.pgpipe_base.specs.Receiving.{most_receives}
@@ -106,36 +106,40 @@ GivesRow at_end r (Err _) r' = ⊥
 
 -- ---- rows that are put
 
+-- how a writer of either format writes
+abbrev pub writing_by : RowWriter → FileWriting
+writing_by w = writing_with w.options.now w.format
+
 -- A row is put, and no more is collected than there is room for; or it can't be written, or memory for it was refused, and then
 -- nothing was put; or the sink failed.
-abbrev pub PutsRow : {K : Type 0} → (K → List ℕ → K → Type 0) → (K → ℕ) → Format → Row → List ℕ → K
-    → Result Unit (Stop Converted) → List ℕ → K → Type 0
+abbrev pub PutsRow : {K : Type 0} → (K → List ℕ → K → Type 0) → (K → ℕ) → FileWriting → Row
+    → List ℕ → K → Result Unit (Stop Converted) → List ℕ → K → Type 0
 PutsRow takes failures to row out sink (Ok x) out' sink' = IsWritable to row
-    × Puts {A = Unit {0}} takes failures out sink (row_of to row) (Ok tt) out' sink'
+    × Puts {A = Unit {0}} takes failures out sink (to.row row) (Ok tt) out' sink'
     × (length out' ≤ most_collected)
 PutsRow takes failures to row out sink (Err (stop.Answer (converted.Row f))) out' sink' =
-    (row_fault to row ≡ Some f) × (out' ≡ out) × (sink' ≡ sink)
+    (to.row_fault row ≡ Some f) × (out' ≡ out) × (sink' ≡ sink)
 PutsRow takes failures to row out sink (Err stop.Memory) out' sink' = IsWritable to row
     × (out' ≡ out) × (sink' ≡ sink)
 PutsRow takes failures to row out sink (Err stop.SinkFailed) out' sink' = IsWritable to row
     × (fault : LinkFault)
-    × Puts {A = Unit {0}} takes failures out sink (row_of to row) (Err fault) out' sink'
+    × Puts {A = Unit {0}} takes failures out sink (to.row row) (Err fault) out' sink'
 PutsRow takes failures to row out sink (Err _) out' sink' = ⊥
 
 -- The rows that come next were put, so far as the result says, and this is left of the file.
 pub record RowsArePut {K A : Type 0} (takes : K → List ℕ → K → Type 0) (failures : K → ℕ)
-    (at_end : Bool) (to : Format) (r : RowReader) (out : List ℕ) (sink : K)
+    (at_end : Bool) (to : FileWriting) (r : RowReader) (out : List ℕ) (sink : K)
     (left : RowsRead Converted) (result : Result A LinkFault) (out' : List ℕ)
     (sink' : K) : Type 0 where
   pub rows : List Row
   pub each_writable : AllByRecursion (IsWritable to) rows
   pub come_next : ComeNext at_end r rows left
-  pub put : Puts takes failures out sink (flat_map (row_of to) rows) result out' sink'
+  pub put : Puts takes failures out sink (flat_map to.row rows) result out' sink'
   pub within : OnOk result (StaysWithin out out')
 
 -- All the rows that wait are put, or those before what stopped the work.
-abbrev pub PutsRows : {K : Type 0} → (K → List ℕ → K → Type 0) → (K → ℕ) → Bool → Format → RowReader
-    → List ℕ → K → Result Unit (Stop Converted) → RowReader → List ℕ → K → Type 0
+abbrev pub PutsRows : {K : Type 0} → (K → List ℕ → K → Type 0) → (K → ℕ) → Bool → FileWriting
+    → RowReader → List ℕ → K → Result Unit (Stop Converted) → RowReader → List ℕ → K → Type 0
 PutsRows takes failures at_end to r out sink (Ok x) r' out' sink' =
     (ending : RowsEnding Converted) × EndsAs at_end ending
     × (put : RowsArePut {A = Unit {0}} takes failures at_end to r out sink (none_left ending)
@@ -153,9 +157,8 @@ PutsRows takes failures at_end to r out sink (Err stop.SinkFailed) r' out' sink'
 PutsRows takes failures at_end to r out sink (Err _) r' out' sink' = ⊥
 
 -- All the rows that are left were put, and the trailer after them; or those before what stopped the work.
-abbrev pub EndConverts : {K : Type 0} → (K → List ℕ → K → Type 0) → (K → ℕ) → Format → RowReader
-    → List ℕ
-    → K → Stop Converted → List ℕ → K → Type 0
+abbrev pub EndConverts : {K : Type 0} → (K → List ℕ → K → Type 0) → (K → ℕ) → FileWriting
+    → RowReader → List ℕ → K → Stop Converted → List ℕ → K → Type 0
 EndConverts takes failures to r out sink (stop.Answer c) out' sink' = (left : RowsRead Converted)
     × IsAnswerFor to left c × (rows_out : List ℕ)
     × RowsArePut {A = Unit {0}} takes failures true to r out sink left (Ok tt) rows_out sink'
@@ -175,8 +178,8 @@ IsAtStep r = (ended_of r ≡ false) × (bytes : List ℕ) × (given : List Row) 
 
 -- The head and all rows of the bytes received are put, and the reader keeps what is left.
 pub record HasConverted {K : Type 0} (takes : K → List ℕ → K → Type 0) (failures : K → ℕ)
-    (file : FileReading) (to : Format) (start : K) (bytes : List ℕ) (r : RowReader) (out : List ℕ)
-    (sink : K) : Type 0 where
+    (file : FileReading) (to : FileWriting) (start : K) (bytes : List ℕ) (r : RowReader)
+    (out : List ℕ) (sink : K) : Type 0 where
   pub rows : List Row
   pub text : List ℕ
   pub is_file : file_by r ≡ file
@@ -186,14 +189,14 @@ pub record HasConverted {K : Type 0} (takes : K → List ℕ → K → Type 0) (
   pub good : IsGood ending
   pub all : file false bytes ≡ after_rows rows (none_left ending)
   pub each_writable : AllByRecursion (IsWritable to) rows
-  pub each_row : text ≡ head_of to ++ flat_map (row_of to) rows
+  pub each_row : text ≡ to.head ++ flat_map to.row rows
   pub put : Puts {A = Unit {0}} takes failures [] start text (Ok tt) out sink
   pub within : length out ≤ most_collected
 
 -- The head and rows of the bytes received were put, so far as the result says, with more after them, and what was put before is
 -- no more than what was sent and what may be collected.
 pub record ArePut {K A : Type 0} (takes : K → List ℕ → K → Type 0) (failures : K → ℕ)
-    (file : FileReading) (to : Format) (ended : Type 0) (start : K) (bytes before : List ℕ)
+    (file : FileReading) (to : FileWriting) (ended : Type 0) (start : K) (bytes before : List ℕ)
     (left : RowsRead Converted) (more : List ℕ) (result : Result A LinkFault) (out : List ℕ)
     (sink : K) : Type 0 where
   pub text : List ℕ
@@ -202,7 +205,7 @@ pub record ArePut {K A : Type 0} (takes : K → List ℕ → K → Type 0) (fail
   pub at_once : length before ≤ most_collected + length (concat put.pieces)
 
 -- What stands where the work stops, in a step before which this text was put.
-abbrev pub Stops : {K : Type 0} → (K → List ℕ → K → Type 0) → (K → ℕ) → FileReading → Format
+abbrev pub Stops : {K : Type 0} → (K → List ℕ → K → Type 0) → (K → ℕ) → FileReading → FileWriting
     → Type 0 → K → List ℕ → List ℕ → Stop Converted → List ℕ → K → Type 0
 Stops takes failures file to ended start bytes before (stop.Answer c) out sink =
     (left : RowsRead Converted) × IsAnswerFor to left c
@@ -222,8 +225,9 @@ Stops takes failures file to ended start bytes before _ out sink =
     (Ok tt) out sink
 
 -- Where a step of the work leads, before which this text was put.
-abbrev pub StepConverts : {K : Type 0} → (K → List ℕ → K → Type 0) → (K → ℕ) → FileReading → Format
-    → Type 0 → K → List ℕ → List ℕ → Result Unit (Stop Converted) → RowReader → List ℕ → K → Type 0
+abbrev pub StepConverts : {K : Type 0} → (K → List ℕ → K → Type 0) → (K → ℕ) → FileReading
+    → FileWriting → Type 0 → K → List ℕ → List ℕ → Result Unit (Stop Converted) → RowReader
+    → List ℕ → K → Type 0
 StepConverts takes failures file to ended start bytes before (Ok x) r out sink =
     HasConverted takes failures file to start bytes r out sink
 StepConverts takes failures file to ended start bytes before (Err s) r out sink =
@@ -246,7 +250,7 @@ StopsSource ended old new pieces _ = new ≡ old
 -- Pieces were received until the work stopped, and this is what stands then.
 pub record HasRun {S K : Type 0} (gives : S → List ℕ → S → Type 0) (source_failures : S → ℕ)
     (ended : Type 0) (takes : K → List ℕ → K → Type 0) (failures : K → ℕ) (file : FileReading)
-    (to : Format) (source : S) (start : K) (s : Stop Converted) (source' : S) (out : List ℕ)
+    (to : FileWriting) (source : S) (start : K) (s : Stop Converted) (source' : S) (out : List ℕ)
     (sink : K) : Type 0 where
   pub pieces : List (List ℕ)
   pub received : FoldsTo gives source pieces source'
