@@ -1,6 +1,11 @@
-//! Does one work on the stream of a backend that stands on standard input, in pieces of so many bytes, and prints how many bytes the values of
-//! its rows have: to be timed (`bench/wire`). The words are the work and the number of bytes of a piece.
+//! Does one work, to be timed (`bench/wire`), and prints a number that it comes to. The words are the work and a number:
+//! - `owned` and `lent` read the stream of a backend on standard input in pieces of so many bytes: how many bytes the values of its rows have;
+//! - `feed` feeds it to a client, as the rows of a query: how many bytes were fed;
+//! - `bind` writes a Bind of so many values, a million values in all: how many bytes were written.
 #![tactic(auto)]
+
+mod bind;
+mod feed;
 
 use anyhow::{Context, bail};
 use pg_wire::{BackDecoder, BackMessage, Cut, LONGEST, Lent, RowView};
@@ -84,15 +89,17 @@ fn main(rt: HostRuntime) -> anyhow::Result<()> {
     let alloc = rt.alloc();
     let words: Vec<String> = env::args(&rt)?.collect(alloc)?;
     let [_, work, piece] = words.as_slice() else {
-        bail!("the words are a work and the bytes of a piece");
+        bail!("the words are a work and a number");
     };
-    let piece: usize = piece.parse().context("no number of bytes")?;
+    let piece: usize = piece.parse().context("no number")?;
     let mut stream = Vec::new(alloc);
     rt.reader().read_to_end(&mut stream)?;
     let size = match work.as_str() {
         "read" => stream.len() as u64,
         "owned" => decode(alloc, stream.as_slice(), piece, false)?,
         "lent" => decode(alloc, stream.as_slice(), piece, true)?,
+        "feed" => feed::feed(alloc, stream.as_slice(), piece)?,
+        "bind" => bind::bind(alloc, piece)?,
         other => bail!("no work: {other}"),
     };
     println!(rt; "{size}")?;
