@@ -8,7 +8,7 @@ mod bind;
 mod feed;
 
 use anyhow::{Context, bail};
-use pg_wire::{BackDecoder, BackMessage, Cut, LONGEST, Lent, RowView};
+use pg_wire::{BackDecoder, BackMessage, Cut, LONGEST, Lent, RowView, WireFault};
 use std::alloc::Global;
 use std::env;
 use std::io::Read;
@@ -38,7 +38,7 @@ fn size_of_lent(row: &RowView<'_>) -> u64 {
 }
 
 /// Takes the messages that are whole, each owned.
-fn take_owned(decoder: &mut BackDecoder) -> anyhow::Result<u64> {
+fn take_owned(decoder: &mut BackDecoder) -> Result<u64, WireFault> {
     let mut size = 0u64;
     for _ in 0..u64::MAX {
         let Some(message) = decoder.next()? else {
@@ -50,7 +50,7 @@ fn take_owned(decoder: &mut BackDecoder) -> anyhow::Result<u64> {
 }
 
 /// Takes the messages that are whole, the rows lent.
-fn take_lent(decoder: &mut BackDecoder) -> anyhow::Result<u64> {
+fn take_lent(decoder: &mut BackDecoder) -> Result<u64, WireFault> {
     let mut size = 0u64;
     for _ in 0..u64::MAX {
         match decoder.next_lent()? {

@@ -1,7 +1,7 @@
 //! Reading the bodies of the backend's messages.
 
 ghost use Rattle.pg_layout.specs.Private.Reader.{Gives};
-ghost use Rattle.pg_message.specs.declared.backend.kind.BackKind.TheVariants.{Auth};
+ghost use Rattle.pg_message.specs.declared.backend.kind.BackKind.TheVariants.{Auth, DataRow};
 ghost use Rattle.pg_message.specs.Backend.{backend};
 ghost use Rattle.pg_message.specs.Private.BackReader.{back_reading};
 ghost use Rattle.pg_message.specs.Private.Reading.{AsksFor};
@@ -34,8 +34,31 @@ fn auth(alloc: Global, bytes: &[u8]) -> Result<BackMessage, BodyFault>
     }
 }
 
+/// A row.
+fn row(alloc: Global, bytes: &[u8]) -> Result<BackMessage, BodyFault>
+    ensures read { Gives (λ m. m) result ((back_reading DataRow).message bytes.now) }
+    ensures memory { AsksFor backend.holds_list result ((back_reading DataRow).message bytes.now) }
+{
+    match values_at(alloc, bytes)? {
+        (values, []) => Ok(BackMessage::DataRow(values)),
+        _ => Err(BodyFault::Bad),
+    }
+}
+
 /// The message of this kind and this body. Memory is asked for where it holds a list.
 pub fn back_message(alloc: Global, kind: BackKind, body: &[u8]) -> Result<BackMessage, BodyFault>
+    ensures read { Gives (λ m. m) result ((back_reading kind).message body.now) }
+    ensures memory { AsksFor backend.holds_list result ((back_reading kind).message body.now) }
+{
+    // a row goes first and alone: a function makes room for the locals of all its arms, which costs more than to read a row
+    match kind {
+        BackKind::DataRow => row(alloc, body),
+        other => other_message(alloc, other, body),
+    }
+}
+
+/// The same, of the other kinds.
+fn other_message(alloc: Global, kind: BackKind, body: &[u8]) -> Result<BackMessage, BodyFault>
     ensures read { Gives (λ m. m) result ((back_reading kind).message body.now) }
     ensures memory { AsksFor backend.holds_list result ((back_reading kind).message body.now) }
 {
@@ -59,10 +82,7 @@ pub fn back_message(alloc: Global, kind: BackKind, body: &[u8]) -> Result<BackMe
             let (columns, rest) = counted(alloc, body)?;
             ended(BackMessage::RowDescription(columns), rest)
         }
-        BackKind::DataRow => {
-            let (values, rest) = values_at(alloc, body)?;
-            ended(BackMessage::DataRow(values), rest)
-        }
+        BackKind::DataRow => row(alloc, body),
         BackKind::CommandComplete => {
             let (text, rest) = text_at(alloc, body)?;
             ended(BackMessage::CommandComplete(text), rest)
