@@ -1,5 +1,6 @@
 mod first;
 mod frontend;
+mod great;
 mod lent;
 mod link;
 mod password;
