@@ -1,7 +1,8 @@
 //! A link in memory, which fails where a test wants it, and the clients that are driven over it.
 
 use pg_client::{Client, Loss, Settings};
-use pg_wire::{LinkFault, Seq, Sink, Source};
+use pg_drive::{DriveFault, Driven, drive};
+use pg_wire::{LinkFault, Request, Seq, Sink, Source};
 use std::alloc::{AllocError, Global};
 use std::test::Fail;
 
@@ -92,12 +93,46 @@ fn fresh(alloc: Global, password: Option<Seq<u8>>) -> Result<Client, AllocError>
     Ok(Client::new(alloc, settings))
 }
 
-/// A client that was started, and the startup packet.
-pub(crate) fn started(alloc: Global, password: Option<Seq<u8>>) -> Result<(Client, Vec<u8>), Fail> {
-    let mut client = fresh(alloc, password)?;
-    let mut out = Vec::new(alloc);
-    client.start(&mut out)?;
-    Ok((client, out))
+/// A client, what it has put out, and the link that it is driven over.
+#[derive(Drop)]
+pub(crate) struct Driving<'a> {
+    pub(crate) client: Client,
+    pub(crate) out: Vec<u8>,
+    pub(crate) link: Line<'a>,
+}
+
+impl<'a> Driving<'a> {
+    /// A client that was started, and whose startup packet waits to be sent.
+    pub(crate) fn started(
+        alloc: Global,
+        password: Option<Seq<u8>>,
+        link: Line<'a>,
+    ) -> Result<Driving<'a>, Fail> {
+        let mut client = fresh(alloc, password)?;
+        let mut out = Vec::new(alloc);
+        client.start(&mut out)?;
+        Ok(Driving { client, out, link })
+    }
+
+    /// A client that has made a request, whose message waits to be sent.
+    pub(crate) fn asked(
+        alloc: Global,
+        request: Request,
+        link: Line<'a>,
+    ) -> Result<Driving<'a>, Fail> {
+        let mut driving = Driving::started(alloc, None, link)?;
+        driving.client.feed(&WELCOME, &mut driving.out)?;
+        driving.out.clear();
+        match driving.client.request(request, &mut driving.out) {
+            Ok(()) => Ok(driving),
+            Err((_, fault)) => Err(fault.into()),
+        }
+    }
+
+    /// Drives the client, with at most so many receives.
+    pub(crate) fn drive(&mut self, turns: u32) -> Result<Driven, DriveFault> {
+        drive(&mut self.client, &mut self.out, &mut self.link, turns)
+    }
 }
 
 /// No request is lost.

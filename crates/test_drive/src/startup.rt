@@ -1,110 +1,85 @@
-use crate::line::{STARTUP, WELCOME, line_of, nothing_lost, started};
+use crate::line::{Driving, STARTUP, WELCOME, line_of, nothing_lost};
 use pg_client::{Cause, FeedFault, Phase};
-use pg_drive::{DriveFault, Driven, drive};
+use pg_drive::{DriveFault, Driven};
 use pg_wire::Seq;
 use std::test::Fail;
 
 #[test]
 fn it_ends_at_its_last_byte(rt: HostRuntime) -> Result<(), Fail> {
-    let (mut client, mut out) = started(rt.alloc(), None)?;
-    let mut link = line_of(rt.alloc(), &WELCOME, 1);
-    assert_eq!(rt;
-        drive(&mut client, &mut out, &mut link, 15),
-        Ok(Driven::Ready)
-    );
-    assert_eq!(rt; client.phase(), Phase::Ready);
-    assert_eq!(rt; link.taken.as_slice(), STARTUP.as_slice());
-    assert!(rt; out.is_empty());
-    assert_eq!(rt; link.failures, 0);
+    let mut it = Driving::started(rt.alloc(), None, line_of(rt.alloc(), &WELCOME, 1))?;
+    assert_eq!(rt; it.drive(15), Ok(Driven::Ready));
+    assert_eq!(rt; it.client.phase(), Phase::Ready);
+    assert_eq!(rt; it.link.taken.as_slice(), STARTUP.as_slice());
+    assert!(rt; it.out.is_empty());
+    assert_eq!(rt; it.link.failures, 0);
     Ok(())
 }
 
 #[test]
 fn the_turns_are_used_before(rt: HostRuntime) -> Result<(), Fail> {
-    let (mut client, mut out) = started(rt.alloc(), None)?;
-    let mut link = line_of(rt.alloc(), &WELCOME, 1);
-    assert_eq!(rt;
-        drive(&mut client, &mut out, &mut link, 14),
-        Ok(Driven::TurnsUsed)
-    );
-    assert_eq!(rt; client.phase(), Phase::Starting);
-    assert_eq!(rt; link.gives.len(), 1);
+    let mut it = Driving::started(rt.alloc(), None, line_of(rt.alloc(), &WELCOME, 1))?;
+    assert_eq!(rt; it.drive(14), Ok(Driven::TurnsUsed));
+    assert_eq!(rt; it.client.phase(), Phase::Starting);
+    assert_eq!(rt; it.link.gives.len(), 1);
     // it goes on by the next call
-    assert_eq!(rt;
-        drive(&mut client, &mut out, &mut link, 1),
-        Ok(Driven::Ready)
-    );
+    assert_eq!(rt; it.drive(1), Ok(Driven::Ready));
     // and Ready isn't answered once more
-    assert_eq!(rt;
-        drive(&mut client, &mut out, &mut link, 0),
-        Ok(Driven::TurnsUsed)
-    );
+    assert_eq!(rt; it.drive(0), Ok(Driven::TurnsUsed));
     Ok(())
 }
 
 #[test]
 fn without_turns_it_is_sent_alone(rt: HostRuntime) -> Result<(), Fail> {
-    let (mut client, mut out) = started(rt.alloc(), None)?;
-    let mut link = line_of(rt.alloc(), &WELCOME, 3);
-    assert_eq!(rt;
-        drive(&mut client, &mut out, &mut link, 0),
-        Ok(Driven::TurnsUsed)
-    );
-    assert_eq!(rt; link.taken.as_slice(), STARTUP.as_slice());
-    assert_eq!(rt; link.gives, WELCOME.as_slice());
+    let mut it = Driving::started(rt.alloc(), None, line_of(rt.alloc(), &WELCOME, 3))?;
+    assert_eq!(rt; it.drive(0), Ok(Driven::TurnsUsed));
+    assert_eq!(rt; it.link.taken.as_slice(), STARTUP.as_slice());
+    assert_eq!(rt; it.link.gives, WELCOME.as_slice());
     Ok(())
 }
 
 #[test]
 fn however_many_bytes_are_taken_at_once(rt: HostRuntime) -> Result<(), Fail> {
     for most in 1..20 {
-        let (mut client, mut out) = started(rt.alloc(), None)?;
-        let mut link = line_of(rt.alloc(), &WELCOME, most);
-        assert_eq!(rt;
-            drive(&mut client, &mut out, &mut link, 15),
-            Ok(Driven::Ready)
-        );
-        assert_eq!(rt; link.taken.as_slice(), STARTUP.as_slice());
-        assert!(rt; out.is_empty());
+        let mut it = Driving::started(rt.alloc(), None, line_of(rt.alloc(), &WELCOME, most))?;
+        assert_eq!(rt; it.drive(15), Ok(Driven::Ready));
+        assert_eq!(rt; it.link.taken.as_slice(), STARTUP.as_slice());
+        assert!(rt; it.out.is_empty());
     }
     Ok(())
 }
 
 #[test]
 fn the_bytes_end_before(rt: HostRuntime) -> Result<(), Fail> {
-    let (mut client, mut out) = started(rt.alloc(), None)?;
-    let mut link = line_of(rt.alloc(), &WELCOME[..14], 1);
+    let mut it = Driving::started(rt.alloc(), None, line_of(rt.alloc(), &WELCOME[..14], 1))?;
     let lost = Ok(Driven::Lost(nothing_lost()));
-    assert_eq!(rt; drive(&mut client, &mut out, &mut link, 20), lost);
-    assert_eq!(rt; client.phase(), Phase::Closed(Cause::Lost));
-    assert_eq!(rt; link.failures, 0);
+    assert_eq!(rt; it.drive(20), lost);
+    assert_eq!(rt; it.client.phase(), Phase::Closed(Cause::Lost));
+    assert_eq!(rt; it.link.failures, 0);
     Ok(())
 }
 
 #[test]
 fn a_receive_fails_before(rt: HostRuntime) -> Result<(), Fail> {
-    let (mut client, mut out) = started(rt.alloc(), None)?;
-    let mut link = line_of(rt.alloc(), &WELCOME, 1);
-    link.fails_at_receive = 15;
+    let mut it = Driving::started(rt.alloc(), None, line_of(rt.alloc(), &WELCOME, 1))?;
+    it.link.fails_at_receive = 15;
     let failed = Err(DriveFault::Link(nothing_lost()));
-    assert_eq!(rt; drive(&mut client, &mut out, &mut link, 20), failed);
-    assert_eq!(rt; client.phase(), Phase::Closed(Cause::Lost));
-    assert_eq!(rt; link.failures, 1);
+    assert_eq!(rt; it.drive(20), failed);
+    assert_eq!(rt; it.client.phase(), Phase::Closed(Cause::Lost));
+    assert_eq!(rt; it.link.failures, 1);
     Ok(())
 }
 
 #[test]
 fn a_send_fails(rt: HostRuntime) -> Result<(), Fail> {
     for sent in 0..16usize {
-        let (mut client, mut out) = started(rt.alloc(), None)?;
-        let mut link = line_of(rt.alloc(), &WELCOME, 1);
-        link.fails_at_send = sent as u64 + 1;
+        let mut it = Driving::started(rt.alloc(), None, line_of(rt.alloc(), &WELCOME, 1))?;
+        it.link.fails_at_send = sent as u64 + 1;
         let failed = Err(DriveFault::Link(nothing_lost()));
-        assert_eq!(rt; drive(&mut client, &mut out, &mut link, 20), failed);
-        assert_eq!(rt; client.phase(), Phase::Closed(Cause::Lost));
-        assert_eq!(rt; link.taken.as_slice(), &STARTUP[..sent]);
-        assert_eq!(rt; out.as_slice(), &STARTUP[sent..]);
-        assert_eq!(rt; link.gives, WELCOME.as_slice());
+        assert_eq!(rt; it.drive(20), failed);
+        assert_eq!(rt; it.client.phase(), Phase::Closed(Cause::Lost));
+        assert_eq!(rt; it.link.taken.as_slice(), &STARTUP[..sent]);
+        assert_eq!(rt; it.out.as_slice(), &STARTUP[sent..]);
+        assert_eq!(rt; it.link.gives, WELCOME.as_slice());
     }
     Ok(())
 }
@@ -118,55 +93,63 @@ const PASSWORD: [u8; 7] = [0x70, 0, 0, 0, 6, b'p', 0];
 #[test]
 fn a_password_is_sent(rt: HostRuntime) -> Result<(), Fail> {
     let password = Seq::from_slice(rt.alloc(), b"p")?;
-    let (mut client, mut out) = started(rt.alloc(), Some(password))?;
-    let mut link = line_of(rt.alloc(), &QUESTION, 2);
-    assert_eq!(rt;
-        drive(&mut client, &mut out, &mut link, 5),
-        Ok(Driven::TurnsUsed)
-    );
-    assert!(rt; link.taken.starts_with(&STARTUP));
-    assert!(rt; link.taken.ends_with(&PASSWORD));
-    assert!(rt; out.is_empty());
+    let mut it = Driving::started(
+        rt.alloc(),
+        Some(password),
+        line_of(rt.alloc(), &QUESTION, 2),
+    )?;
+    assert_eq!(rt; it.drive(5), Ok(Driven::TurnsUsed));
+    assert!(rt; it.link.taken.starts_with(&STARTUP));
+    assert!(rt; it.link.taken.ends_with(&PASSWORD));
+    assert!(rt; it.out.is_empty());
     Ok(())
 }
 
 #[test]
 fn a_password_is_sent_in_part(rt: HostRuntime) -> Result<(), Fail> {
     let password = Seq::from_slice(rt.alloc(), b"p")?;
-    let (mut client, mut out) = started(rt.alloc(), Some(password))?;
-    let mut link = line_of(rt.alloc(), &QUESTION, 4);
-    link.fails_at_send = 6;
+    let mut it = Driving::started(
+        rt.alloc(),
+        Some(password),
+        line_of(rt.alloc(), &QUESTION, 4),
+    )?;
+    it.link.fails_at_send = 6;
     let failed = Err(DriveFault::Link(nothing_lost()));
-    assert_eq!(rt; drive(&mut client, &mut out, &mut link, 9), failed);
-    assert_eq!(rt; out.as_slice(), &PASSWORD[4..]);
+    assert_eq!(rt; it.drive(9), failed);
+    assert_eq!(rt; it.out.as_slice(), &PASSWORD[4..]);
     Ok(())
 }
 
 #[test]
 fn a_closed_client_sends_and_takes_nothing(rt: HostRuntime) -> Result<(), Fail> {
-    let (mut client, mut out) = started(rt.alloc(), None)?;
-    let _ = client.lost();
-    let mut link = line_of(rt.alloc(), &WELCOME, 40);
+    let mut it = Driving::started(rt.alloc(), None, line_of(rt.alloc(), &WELCOME, 40))?;
+    let _ = it.client.lost();
     let closed = Err(DriveFault::Feed(FeedFault::Closed));
-    assert_eq!(rt; drive(&mut client, &mut out, &mut link, 2), closed);
-    assert_eq!(rt; link.taken.as_slice(), STARTUP.as_slice());
-    assert!(rt; link.gives.is_empty());
+    assert_eq!(rt; it.drive(2), closed);
+    assert_eq!(rt; it.link.taken.as_slice(), STARTUP.as_slice());
+    assert!(rt; it.link.gives.is_empty());
     Ok(())
 }
 
 #[test]
 fn nothing_may_come_before_it(rt: HostRuntime) -> Result<(), Fail> {
     let alloc = rt.alloc();
-    let (mut client, mut out) = started(alloc, None)?;
-    let mut link = line_of(alloc, &WELCOME[9..], 40);
+    let mut it = Driving::started(alloc, None, line_of(alloc, &WELCOME[9..], 40))?;
+    let refused = DriveFault::Feed(FeedFault::Unexpected(b'Z'));
+    assert_eq!(rt; it.drive(2), Err(refused));
+    assert_eq!(rt; it.client.phase(), Phase::Closed(Cause::Unexpected));
+    Ok(())
+}
+
+#[test]
+fn faults_have_their_codes_and_texts(rt: HostRuntime) -> Result<(), Fail> {
+    let alloc = rt.alloc();
     let refused = DriveFault::Feed(FeedFault::Unexpected(b'Z'));
     assert_eq!(rt; refused.code(), "D1");
     assert_eq!(rt;
         refused.to_string(alloc)?.as_str(),
         "D1 Feed F2 Unexpected 90"
     );
-    assert_eq!(rt; drive(&mut client, &mut out, &mut link, 2), Err(refused));
-    assert_eq!(rt; client.phase(), Phase::Closed(Cause::Unexpected));
     let failed = DriveFault::Link(nothing_lost());
     assert_eq!(rt; failed.code(), "D2");
     assert_eq!(rt; failed.to_string(alloc)?.as_str(), "D2 Link");
