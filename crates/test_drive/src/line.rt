@@ -1,6 +1,6 @@
 //! A link in memory, which fails where a test wants it, and the clients that are driven over it.
 
-use pg_client::{Client, Loss, Settings};
+use pg_client::{Client, FeedFault, Loss, Settings};
 use pg_drive::{DriveFault, Driven, drive};
 use pg_wire::{LinkFault, Request, Seq, Sink, Source};
 use std::alloc::{AllocError, Global};
@@ -101,6 +101,14 @@ pub(crate) struct Driving<'a> {
     pub(crate) link: Line<'a>,
 }
 
+/// A client that was started, and the startup packet.
+fn started(alloc: Global, password: Option<Seq<u8>>) -> Result<(Client, Vec<u8>), Fail> {
+    let mut client = fresh(alloc, password)?;
+    let mut out = Vec::new(alloc);
+    client.start(&mut out)?;
+    Ok((client, out))
+}
+
 impl<'a> Driving<'a> {
     /// A client that was started, and whose startup packet waits to be sent.
     pub(crate) fn started(
@@ -108,9 +116,7 @@ impl<'a> Driving<'a> {
         password: Option<Seq<u8>>,
         link: Line<'a>,
     ) -> Result<Driving<'a>, Fail> {
-        let mut client = fresh(alloc, password)?;
-        let mut out = Vec::new(alloc);
-        client.start(&mut out)?;
+        let (client, out) = started(alloc, password)?;
         Ok(Driving { client, out, link })
     }
 
@@ -120,13 +126,18 @@ impl<'a> Driving<'a> {
         request: Request,
         link: Line<'a>,
     ) -> Result<Driving<'a>, Fail> {
-        let mut driving = Driving::started(alloc, None, link)?;
-        driving.client.feed(&WELCOME, &mut driving.out)?;
-        driving.out.clear();
-        match driving.client.request(request, &mut driving.out) {
-            Ok(()) => Ok(driving),
+        let (mut client, mut out) = started(alloc, None)?;
+        client.feed(&WELCOME, &mut out)?;
+        out.clear();
+        match client.request(request, &mut out) {
+            Ok(()) => Ok(Driving { client, out, link }),
             Err((_, fault)) => Err(fault.into()),
         }
+    }
+
+    /// Feeds the client.
+    pub(crate) fn feed(&mut self, piece: &[u8]) -> Result<(), FeedFault> {
+        self.client.feed(piece, &mut self.out)
     }
 
     /// Drives the client, with at most so many receives.

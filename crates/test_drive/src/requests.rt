@@ -35,7 +35,7 @@ fn a_group_settles(rt: HostRuntime) -> Result<(), Fail> {
 #[test]
 fn a_group_that_waits_is_seen_after_a_piece(rt: HostRuntime) -> Result<(), Fail> {
     let mut it = asked(rt.alloc(), b"N\0\0\0\x05\0", 3)?;
-    it.client.feed(ANSWER, &mut it.out)?;
+    it.feed(ANSWER)?;
     assert_eq!(rt; it.drive(9), Ok(Driven::Settled));
     assert_eq!(rt; it.link.gives.len(), 3);
     Ok(())
