@@ -3,7 +3,7 @@
 ghost use Rattle.std.specs.Prelude.{◌≡◌, IfOk, false};
 ghost use Rattle.clap.specs.Words.{app_of, new_rule, shape_of};
 ghost use Rattle.clap.specs.declared.builder.command.Command.TheViews.{out-Command};
-ghost use Rattle.pgpipe_words.specs.CommandLine.{front, show, plain_convert, with_text_options, convert, loop, command_line, text_option, option, required};
+ghost use Rattle.pgpipe_words.specs.CommandLine.{flag, show, plain_convert, with_text_options, convert, loop, command_line, text_option, option, required};
 ghost use Rattle.pgpipe_words.specs.Private.CommandLine.{IsArg, IsCommand};
 
 use clap::builder::ValueParser;
@@ -28,14 +28,20 @@ const NULL_HELP: &str =
     "What stands for null in a text file, read or written; it has no newline, return or \
 delimiter, isn't \\., and doesn't end in a lone backslash [default: \\N]";
 
-// The flag of a client's side.
-fn front_arg<'a>(alloc: Global) -> Arg<'a>
-    ensures { IsArg front result }
+// What is carried over a connection.
+const TCP_HELP: &str = "Carry over a TCP connection of this process to itself, on 127.0.0.1";
+
+// How many bytes are delivered.
+const CUT_HELP: &str = "How many bytes a flow delivers at a time [default: 4096]";
+
+// A flag.
+fn flag_arg<'a>(alloc: Global, name: &'a str, help: &'a str) -> Arg<'a>
+    ensures { IsArg (flag name.now) result }
 {
-    Arg::new(alloc, "front")
-        .long("front")
+    Arg::new(alloc, name)
+        .long(name)
         .action(ArgAction::SetTrue)
-        .help("Read a client's side: its first packets, and then its messages")
+        .help(help)
 }
 
 // An option with one value, of any text.
@@ -89,9 +95,10 @@ fn path_arg<'a>(alloc: Global, name: &'a str, help: &'a str) -> Arg<'a>
 fn show_command<'a>(alloc: Global) -> Result<Command<'a>, AllocError>
     ensures { IfOk result (IsCommand show) }
 {
+    let help = "Read a client's side: its first packets, and then its messages";
     Command::new(alloc, "show")
         .about("Print a line for each message of a backend's stream on standard input")
-        .arg(front_arg(alloc))
+        .arg(flag_arg(alloc, "front", help))
 }
 
 // The subcommand that converts a file, without its options.
@@ -135,10 +142,10 @@ fn loop_command<'a>(alloc: Global) -> Result<Command<'a>, AllocError>
     ensures { IfOk result (IsCommand loop) }
 {
     let numbers = value_parser!(u32).range(1..=4_096);
-    let help = "How many bytes a flow delivers at a time [default: 4096]";
     Command::new(alloc, "loop")
         .about("Run a client's calls against a scripted backend, and print what comes of them")
-        .arg(option_arg(alloc, "cut", "N", numbers, help))?
+        .arg(flag_arg(alloc, "tcp", TCP_HELP))?
+        .arg(option_arg(alloc, "cut", "N", numbers, CUT_HELP))?
         .arg(path_arg(alloc, "SCRIPT", "The file of what the backend answers"))?
         .arg(path_arg(alloc, "CALLS", "The file of what happens to the client"))
 }
