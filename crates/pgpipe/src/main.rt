@@ -3,8 +3,11 @@
 #![tactic(auto)]
 
 use pg_pair::Direct;
-use pg_wire::Over;
-use pgpipe_words::{Disk, Failure, do_task, exit_code, explain, task_of, words_failure};
+use pg_wire::{Over, Patient};
+use pgpipe_words::{
+    Disk, Failure, connect_to_itself, do_task, exit_code, explain, task_of, words_failure,
+};
+use std::net::Net;
 use std::process::ExitCode;
 use std::rt::{Env, Files};
 use std::{env, io};
@@ -19,7 +22,9 @@ fn main(rt: HostRuntime) -> ExitCode {
 }
 
 // Does what the words ask for.
-fn run<R: Env + Files + Input + Print + Eprint + AllocGlobal>(rt: &R) -> Result<ExitCode, Failure> {
+fn run<R: Env + Files + Net + Input + Print + Eprint + AllocGlobal>(
+    rt: &R,
+) -> Result<ExitCode, Failure> {
     let words: Vec<String> = env::args(rt)
         .map_err(|error| words_failure(&error))?
         .collect(rt.alloc())
@@ -28,15 +33,14 @@ fn run<R: Env + Files + Input + Print + Eprint + AllocGlobal>(rt: &R) -> Result<
         Ok(task) => task,
         Err(error) => return explain(rt, &error),
     };
-    let mut source = Over::new(rt.reader());
-    let mut sink = Over::new(io::writer(rt));
-    do_task(
-        rt.alloc(),
-        task,
-        &Disk::new(rt),
-        Direct,
-        &mut source,
-        &mut sink,
-    )?;
+    let files = Disk::new(rt);
+    let mut source = Over::new(Patient::new(rt.reader()));
+    let mut sink = Over::new(Patient::new(io::writer(rt)));
+    if task.is_over_tcp() {
+        let carrier = connect_to_itself(rt)?;
+        do_task(rt.alloc(), task, &files, carrier, &mut source, &mut sink)?;
+    } else {
+        do_task(rt.alloc(), task, &files, Direct, &mut source, &mut sink)?;
+    }
     Ok(ExitCode::SUCCESS)
 }

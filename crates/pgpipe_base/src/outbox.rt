@@ -16,8 +16,8 @@ pub const ROOM: usize = 65_536;
 // The most bytes before a line's hexadecimal: a name of 7 letters, a number of 10 digits, and a space after each.
 const LONGEST_HEAD: usize = 7 + 1 + 10 + 1;
 
-// Sends all the bytes. Where the sink fails a prefix of them was sent.
-pub(crate) fn send_all<K: Sink>(bytes: &[u8], sink: &mut K) -> Result<(), LinkFault>
+/// Sends all the bytes. Where the sink fails a prefix of them was sent.
+pub fn send_all<K: Sink>(bytes: &[u8], sink: &mut K) -> Result<(), LinkFault>
     ensures { Puts K.takes K.failures bytes.now sink.old [] result [] sink.new }
 {
     let mut rest = bytes;

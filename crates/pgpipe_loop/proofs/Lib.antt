@@ -4,3 +4,4 @@ pub mod LoopGroups
 pub mod LoopEnds
 pub mod LoopRows
 pub mod Rows
+pub mod Crossing

@@ -1,8 +1,10 @@
 //! Running a loop: a client's calls against a scripted backend, over any carrier ([`run_loop`]), and the lines of what comes of them
-//! ([`event_lines`]).
+//! ([`event_lines`]). [`Across`] is a carrier over two ends, each of which sends and receives, as those of a connection do.
 #![tactic(auto)]
 
+mod across;
 mod lines;
 pub mod run_loop;
 
+pub use across::Across;
 pub use lines::{closing_lines, event_lines};

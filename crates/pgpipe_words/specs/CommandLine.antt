@@ -11,9 +11,9 @@ IsFormats (parser.Names names) =
     map (λ name. name.now) names.now ≡ codes "text" ∷ codes "binary" ∷ []
 IsFormats _ = ⊥
 
--- the flag `--front`
-abbrev pub front : Rule
-front = record (new_rule (codes "front")) { long = Some (codes "front"); action = Some SetTrue }
+-- a flag, which stands without a value: `--name`
+abbrev pub flag : Text → Rule
+flag name = record (new_rule name) { long = Some name; action = Some SetTrue }
 
 -- an option with one value, which may be any text: `--name VALUE`
 abbrev pub text_option : Text → Rule
@@ -29,7 +29,7 @@ required rule = record rule { required = true }
 
 -- the subcommand `show`: a flag `--front`
 abbrev pub show : Shape
-show = (with_rule (new_app (codes "show")) front).top
+show = (with_rule (new_app (codes "show")) (flag (codes "front"))).top
 
 -- the option `--columns`, from 1 to 32,767
 abbrev pub columns : Rule
@@ -45,12 +45,15 @@ convert formats =
     (required columns))
     (text_option (codes "delimiter"))) (text_option (codes "null"))).top
 
--- the subcommand `loop`: `--cut` (1 to 4,096), which may be left out, and the paths SCRIPT and
+-- the option `--cut`, from 1 to 4,096
+abbrev pub cut : Rule
+cut = option (codes "cut") (parser.Signed (pos 1) (pos 4096))
+
+-- the subcommand `loop`: a flag `--tcp` and `--cut`, which may be left out, and the paths SCRIPT and
 -- CALLS
 abbrev pub loop : Shape
-loop = (with_rule (with_rule (with_rule (new_app (codes "loop"))
-    (option (codes "cut") (parser.Signed (pos 1) (pos 4096))))
-    (required (new_rule (codes "SCRIPT"))))
+loop = (with_rule (with_rule (with_rule (with_rule (new_app (codes "loop")) (flag (codes "tcp")))
+    cut) (required (new_rule (codes "SCRIPT"))))
     (required (new_rule (codes "CALLS")))).top
 
 -- the whole command line: `pgpipe`, with its three subcommands

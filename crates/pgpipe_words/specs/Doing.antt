@@ -152,7 +152,7 @@ module _ {S K : Type 0} (gives : S → List ℕ → S → Type 0) (source_failur
         DoesShow front source sink result source' sink'
     DoesTask (task.Convert c) source sink result source' sink' =
         DoesConvert c source sink result source' sink'
-    DoesTask (task.Loop cut script calls) source sink result source' sink' =
+    DoesTask (task.Loop tcp cut script calls) source sink result source' sink' =
         (source' ≡ source)
         × RunsFiles carries takes failures carrier cut sink result sink' holds fails
         (string_bytes script) (string_bytes calls)

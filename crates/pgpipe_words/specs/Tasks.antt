@@ -17,7 +17,12 @@ use Rattle.pgpipe_words.specs.CommandLine.{IsFormats, command_line}
 abbrev pub IsTask : Task → Type 0
 IsTask (task.Show front) = Unit {0}
 IsTask (task.Convert c) = (0 < c.columns) × (c.columns ≤ 32767)
-IsTask (task.Loop cut script calls) = (0 < cut) × (cut ≤ 4096)
+IsTask (task.Loop tcp cut script calls) = (0 < cut) × (cut ≤ 4096)
+
+-- whether the task is a loop that is carried over TCP
+abbrev pub is_over_tcp : Task → Bool
+is_over_tcp (task.Loop tcp cut script calls) = tcp
+is_over_tcp _ = false
 
 -- ---- what was found for an argument
 
@@ -62,11 +67,12 @@ abbrev pub IsConversionOf : List Row → Task → Type 0
 IsConversionOf found (task.Convert c) = HasConversion found c
 IsConversionOf found _ = ⊥
 
--- The task is a loop over the files that were given, with deliveries of as many bytes as `--cut`
--- says, or 4,096 without it.
+-- The task is a loop over the files that were given, carried over TCP if `--tcp` was given, with
+-- deliveries of as many bytes as `--cut` says, or 4,096 without it.
 abbrev pub IsLoopOf : List Row → Task → Type 0
-IsLoopOf found (task.Loop cut script calls) =
-    (string_bytes script ≡ unwrap_or (first_of (codes "SCRIPT") found) [])
+IsLoopOf found (task.Loop tcp cut script calls) =
+    IsFlag (one_of (codes "tcp") found) tcp
+    × (string_bytes script ≡ unwrap_or (first_of (codes "SCRIPT") found) [])
     × (string_bytes calls ≡ unwrap_or (first_of (codes "CALLS") found) [])
     × ((n : ℕ) → IsNumber (one_of (codes "cut") found) n → 0 < n → n ≤ 4096 → cut ≡ n)
     × (one_of (codes "cut") found ≡ None → cut ≡ 4096)

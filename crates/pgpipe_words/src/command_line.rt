@@ -2,7 +2,7 @@
 
 ghost use Rattle.std.specs.Prelude.{◌≡◌, IfOk, [], codes};
 ghost use Rattle.clap.specs.Words.{Rule, Shape, app_of, new_app, new_rule, with_rule};
-ghost use Rattle.pgpipe_words.specs.CommandLine.{front, show, columns, convert, loop, command_line, text_option, option, required};
+ghost use Rattle.pgpipe_words.specs.CommandLine.{flag, show, columns, cut, convert, loop, command_line, text_option, option, required};
 ghost use Rattle.pgpipe_words.specs.Private.CommandLine.{IsArg, IsCommand};
 
 use clap::builder::ValueParser;
@@ -27,14 +27,20 @@ const NULL_HELP: &str =
     "What stands for null in a text file, read or written; it has no newline, return or \
 delimiter, isn't \\., and doesn't end in a lone backslash [default: \\N]";
 
-// The flag of a client's side.
-fn front_arg<'a>(alloc: Global) -> Arg<'a>
-    ensures { IsArg front result }
+// What is carried over a connection.
+const TCP_HELP: &str = "Carry over a TCP connection of this process to itself, on 127.0.0.1";
+
+// How many bytes are delivered.
+const CUT_HELP: &str = "How many bytes a flow delivers at a time [default: 4096]";
+
+// A flag.
+fn flag_arg<'a>(alloc: Global, name: &'a str, help: &'a str) -> Arg<'a>
+    ensures { IsArg (flag name.now) result }
 {
-    Arg::new(alloc, "front")
-        .long("front")
+    Arg::new(alloc, name)
+        .long(name)
         .action(ArgAction::SetTrue)
-        .help("Read a client's side: its first packets, and then its messages")
+        .help(help)
 }
 
 // An option with one value, of any text.
@@ -88,9 +94,10 @@ fn path_arg<'a>(alloc: Global, name: &'a str, help: &'a str) -> Arg<'a>
 fn show_command<'a>(alloc: Global) -> Result<Command<'a>, AllocError>
     ensures { IfOk result (IsCommand show) }
 {
+    let help = "Read a client's side: its first packets, and then its messages";
     Command::new(alloc, "show")
         .about("Print a line for each message of a backend's stream on standard input")
-        .arg(front_arg(alloc))
+        .arg(flag_arg(alloc, "front", help))
 }
 
 // The command with one more argument.
@@ -132,17 +139,34 @@ fn convert_command<'a>(alloc: Global, formats: ValueParser<'a>) -> Result<Comman
     with_arg(with_arg(command, delimiter)?, null)
 }
 
+// The option `--cut N`.
+fn cut_arg<'a>(alloc: Global) -> Arg<'a>
+    ensures { IsArg cut result }
+{
+    let numbers = value_parser!(u32).range(1..=4_096);
+    option_arg(alloc, "cut", "N", numbers, CUT_HELP)
+}
+
+// The subcommand that runs a loop, without its arguments.
+fn bare_loop_command<'a>(alloc: Global) -> Command<'a>
+    ensures { IsCommand (new_app (codes "loop")).top result }
+{
+    Command::new(alloc, "loop").about(
+        "Run a client's calls against a scripted backend, and print what comes of them",
+    )
+}
+
 // The subcommand that runs a loop.
 fn loop_command<'a>(alloc: Global) -> Result<Command<'a>, AllocError>
     ensures { IfOk result (IsCommand loop) }
 {
-    let numbers = value_parser!(u32).range(1..=4_096);
-    let help = "How many bytes a flow delivers at a time [default: 4096]";
-    Command::new(alloc, "loop")
-        .about("Run a client's calls against a scripted backend, and print what comes of them")
-        .arg(option_arg(alloc, "cut", "N", numbers, help))?
-        .arg(path_arg(alloc, "SCRIPT", "The file of what the backend answers"))?
-        .arg(path_arg(alloc, "CALLS", "The file of what happens to the client"))
+    let tcp = flag_arg(alloc, "tcp", TCP_HELP);
+    let cut = cut_arg(alloc);
+    let script = path_arg(alloc, "SCRIPT", "The file of what the backend answers");
+    let calls = path_arg(alloc, "CALLS", "The file of what happens to the client");
+    let command = bare_loop_command(alloc);
+    let command = with_arg(with_arg(command, tcp)?, cut)?;
+    with_arg(with_arg(command, script)?, calls)
 }
 
 /// The command line, with the parser for the names of the formats.

@@ -72,7 +72,12 @@ pub fn do_task<F: FileStore, C: Carry, S: Source, K: Sink>(
     match task {
         Task::Show { front } => do_show(alloc, front, source, sink),
         Task::Convert(conversion) => do_convert(alloc, conversion, source, sink),
-        Task::Loop { cut, script, calls } => run_files(
+        Task::Loop {
+            tcp: _,
+            cut,
+            script,
+            calls,
+        } => run_files(
             alloc,
             cut,
             script.as_str(),

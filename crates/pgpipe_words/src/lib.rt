@@ -1,4 +1,5 @@
-//! The program pgpipe without its streams: the task that its words ask for, the task done, and how the program ends.
+//! The program pgpipe without its streams: the task that its words ask for, the task done, and how the program ends; and the files and
+//! the connection of a loop.
 #![tactic(auto)]
 
 mod command_line;
@@ -6,6 +7,7 @@ mod doing;
 mod failure;
 mod files;
 mod loop_files;
+mod network;
 mod tasks;
 mod text_options;
 
@@ -13,4 +15,5 @@ pub use doing::{do_task, exit_code, explain};
 pub use failure::{Failure, words_failure};
 pub use files::{Disk, FileStore};
 pub use loop_files::run_files;
+pub use network::{TcpEnd, connect_to_itself};
 pub use tasks::{Conversion, Task, task_of};

@@ -2,7 +2,7 @@
 
 ghost use Rattle.std.specs.Prelude.{◌≡◌, map, IfOk, string_bytes};
 ghost use Rattle.clap.specs.Words.{first_value, found_of, rows_of, subcommand_rows_of};
-ghost use Rattle.pgpipe_words.specs.Tasks.{IsTask, IsReadOf, IsAskedFor, IsShowOf, IsConversionOf, IsLoopOf, format_named};
+ghost use Rattle.pgpipe_words.specs.Tasks.{IsTask, IsReadOf, IsAskedFor, IsShowOf, IsConversionOf, IsLoopOf, format_named, is_over_tcp};
 
 use crate::command_line::command_line;
 use clap::builder::ValueParser;
@@ -37,6 +37,8 @@ pub enum Task {
     Convert(Conversion),
     /// Run a loop.
     Loop {
+        /// Whether it is carried over TCP; else it is carried directly.
+        tcp: bool,
         /// How many bytes a flow delivers at a time, 1 to 4,096.
         cut: u32,
         /// The path of the backend's script.
@@ -44,6 +46,18 @@ pub enum Task {
         /// The path of the calls.
         calls: String,
     },
+}
+
+impl Task {
+    /// Whether it is a loop that is carried over TCP.
+    pub fn is_over_tcp(&self) -> bool
+        ensures { result ≡ is_over_tcp self.now }
+    {
+        match self {
+            Task::Loop { tcp, .. } => *tcp,
+            _ => false,
+        }
+    }
 }
 
 // The names of the formats.
@@ -91,6 +105,7 @@ fn loop_of(alloc: Global, matches: &ArgMatches<'_>) -> Result<Task, AllocError>
 {
     let cut = matches.get_one::<u32>("cut").unwrap_or(4_096);
     Ok(Task::Loop {
+        tcp: matches.get_flag("tcp"),
         // the parser took no number but these, and both paths are there
         cut: cut.clamp(1, 4_096),
         script: String::from_str(alloc, matches.get_str("SCRIPT").unwrap_or(""))?,

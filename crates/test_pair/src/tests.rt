@@ -5,6 +5,7 @@ mod carriers;
 mod claims;
 mod copies;
 mod drawn;
+mod everywhere;
 mod groups;
 mod outside;
 mod passwords;

@@ -2,6 +2,10 @@
 #![tactic(auto)]
 
 #[cfg(test)]
+mod across;
+#[cfg(test)]
+mod carriers;
+#[cfg(test)]
 mod convert;
 #[cfg(test)]
 mod lines;

@@ -8,7 +8,7 @@ use std::alloc::Global;
 pub(crate) struct Pieces<'a> {
     bytes: &'a [u8],
     most: usize,
-    calls: u64,
+    pub(crate) calls: u64,
     fails_at: u64,
     pub(crate) failures: u64,
 }

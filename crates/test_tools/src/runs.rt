@@ -33,7 +33,7 @@ fn run<C: Carry>(
 }
 
 /// The same of a whole script and all calls.
-fn run_whole<C: Carry>(
+pub(crate) fn run_whole<C: Carry>(
     alloc: Global,
     files: (&[u8], &[u8]),
     cut: u32,

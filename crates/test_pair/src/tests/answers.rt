@@ -6,7 +6,7 @@ ghost use Rattle.pg_wire.specs.Direction.{IsLimit};
 
 use pg_backend::{Answer, Auth, Load, Script, ScriptPart};
 use pg_client::Settings;
-use pg_pair::{Carry, Direct, Pair};
+use pg_pair::{Carry, Pair};
 use pg_wire::{
     Aside, Column, CopyHead, ErrorField, ExecEnd, Fields, Request, Seq, Status, Step, Target,
     Values,
@@ -321,9 +321,14 @@ pub fn pair<C: Carry>(alloc: Global, replies: &[Reply], carrier: C) -> Result<Pa
 }
 
 // A pair of a client with these settings and a backend that asks so and answers a row.
-pub fn asking_pair(alloc: Global, auth: Auth, settings: Settings) -> Result<Pair<Direct>, Fail>
+pub fn asking_pair<C: Carry>(
+    alloc: Global,
+    auth: Auth,
+    settings: Settings,
+    carrier: C,
+) -> Result<Pair<C>, Fail>
     requires { IsLimit settings.limit }
 {
     let script = checked(alloc, auth, &[Reply::Row])?;
-    Ok(Pair::new(alloc, settings, script, Direct))
+    Ok(Pair::new(alloc, settings, script, carrier))
 }

@@ -24,6 +24,9 @@ pub enum Claim<'a, 'b> {
     Settled(usize),
     // These groups are settled, which are all that the backend has answered.
     Groups(&'b [Settled]),
+    // The way is broken after so many bytes, and the groups that are settled are, in order, the first of what the backend has answered,
+    // which is one more at most.
+    CutOff(Way, usize),
     // The one group is settled with an error, or without one.
     Failed(bool),
     // A client outside the pair, with the calls of these events, settles the same of the same bytes.
@@ -64,6 +67,12 @@ fn is_broken<C: Carry>(pair: &Pair<C>, to_backend: bool, to_client: bool) -> boo
 
 fn is_settled<C: Carry>(pair: &Pair<C>, count: usize) -> bool {
     pair.settled().len() == count && begins(pair.settled(), pair.backend().log())
+}
+
+fn is_cut_off<C: Carry>(pair: &Pair<C>, way: Way, count: usize) -> bool {
+    let (groups, log) = (pair.settled(), pair.backend().log());
+    let one_more = log.len() <= groups.len().saturating_add(1);
+    pair.broken(way) && pair.reached(way) == count && begins(groups, log) && one_more
 }
 
 fn gives<C: Carry>(pair: &Pair<C>, groups: &[Settled]) -> bool {
@@ -133,6 +142,7 @@ fn holds<C: Carry>(alloc: Global, pair: &mut Pair<C>, claim: Claim<'_, '_>) -> R
         Claim::Broken(to_backend, to_client) => Ok(is_broken(pair, to_backend, to_client)),
         Claim::Settled(count) => Ok(is_settled(pair, count)),
         Claim::Groups(groups) => Ok(gives(pair, groups)),
+        Claim::CutOff(way, count) => Ok(is_cut_off(pair, way, count)),
         Claim::Failed(fails) => Ok(is_failed(pair.settled(), fails)),
         Claim::Alike(calls) => settles_alike(alloc, pair, calls),
         Claim::Loaded(all, taken) => Ok(is_loaded(pair, all, taken)),

@@ -7,7 +7,7 @@ use super::claims::Claim;
 use super::{ASKED, Plan, asks, carried_out, happened, judge, start};
 use pg_backend::{Auth, BackPhase};
 use pg_client::{Cause, FeedFault, Phase, Settings};
-use pg_pair::{Applied, Event, Way};
+use pg_pair::{Applied, Direct, Event, Way};
 use pg_wire::{Fields, Seq};
 use std::alloc::{AllocError, Global};
 use std::test::Fail;
@@ -60,7 +60,12 @@ fn comes_to(
     plan: Plan<'_>,
     claims: &[Claim<'_, '_>],
 ) -> Result<bool, Fail> {
-    let pair = asking_pair(alloc, auth(alloc, question)?, settings(alloc, password)?)?;
+    let pair = asking_pair(
+        alloc,
+        auth(alloc, question)?,
+        settings(alloc, password)?,
+        Direct,
+    )?;
     judge(alloc, pair, plan, claims)
 }
 
@@ -229,6 +234,7 @@ fn a_user_named_twice_is_refused_by_md5(rt: HostRuntime) -> Result<(), Fail> {
             rt.alloc(),
             auth(rt.alloc(), question)?,
             named_twice(rt.alloc())?,
+            Direct,
         )?;
         let events = [start(), Event::Step];
         let claims = [Claim::Stand(client, backend)];

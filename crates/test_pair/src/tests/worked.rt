@@ -44,7 +44,7 @@ fn holds(
 // ---- a refused copy, whose other chunks are dropped before the next request
 
 // Two chunks reach the backend, which refuses the second, and three more and the end don't.
-fn refused(alloc: Global) -> Result<Vec<Event>, AllocError> {
+pub fn refused(alloc: Global) -> Result<Vec<Event>, AllocError> {
     let mut events = vec![in alloc; chunk(alloc, b"a")?, chunk(alloc, b"b")?]?;
     events.push(Event::ToBackend(100))?;
     events.push(Event::Step)?;
@@ -128,7 +128,7 @@ fn done(alloc: Global) -> Result<Settled, AllocError> {
 }
 
 // A copy of one chunk, which the client ends so.
-fn copied(alloc: Global, end: Event) -> Result<[Event; 4], AllocError> {
+pub fn copied(alloc: Global, end: Event) -> Result<[Event; 4], AllocError> {
     Ok([start(), asks(alloc, b"COPY")?, chunk(alloc, b"a")?, end])
 }
 

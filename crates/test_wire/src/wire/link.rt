@@ -59,6 +59,16 @@ fn failing_at(call: u8) -> Over<Flaky> {
     })
 }
 
+// It would block at its first call.
+fn would_block() -> Patient<Flaky> {
+    Patient::new(Flaky {
+        calls: 0,
+        first: 1,
+        last: 1,
+        kind: ErrorKind::WouldBlock,
+    })
+}
+
 fn interrupted(first: u8, last: u8) -> Patient<Flaky> {
     Patient::new(Flaky {
         calls: 0,
@@ -130,6 +140,19 @@ fn an_interrupted_read_is_made_again(rt: HostRuntime) {
 }
 
 #[test]
+fn an_interruption_at_each_call(rt: HostRuntime) {
+    for call in 1..=3 {
+        let mut source = Over::new(interrupted(call, call));
+        let mut into = [0u8; 4];
+        for _ in 0..3 {
+            assert_eq!(rt; source.receive(&mut into), Ok(1));
+        }
+        assert_eq!(rt; source.failures(), 0);
+        assert_eq!(rt; source.get_ref().get_ref().calls, 4);
+    }
+}
+
+#[test]
 fn an_interrupted_write_is_made_again(rt: HostRuntime) {
     let mut sink = Over::new(interrupted(1, 2));
     assert_eq!(rt; sink.send(b"ab"), Ok(1));
@@ -171,6 +194,22 @@ fn another_error_is_not_tried_again(rt: HostRuntime) {
     assert_eq!(rt; said(&link), Some(ErrorKind::BrokenPipe));
     assert_eq!(rt; link.get_ref().get_ref().calls, 1);
     assert_eq!(rt; link.send(b"a"), Ok(1));
+}
+
+#[test]
+fn what_would_block_is_a_failure(rt: HostRuntime) {
+    let mut source = Over::new(would_block());
+    let mut into = [0u8; 4];
+    assert_eq!(rt; source.receive(&mut into), Err(LinkFault));
+    assert_eq!(rt; source.failures(), 1);
+    assert_eq!(rt; said(&source), Some(ErrorKind::WouldBlock));
+    assert_eq!(rt; source.get_ref().get_ref().calls, 1);
+    assert_eq!(rt; source.receive(&mut into), Ok(1));
+    let mut sink = Over::new(would_block());
+    assert_eq!(rt; sink.send(b"a"), Err(LinkFault));
+    assert_eq!(rt; sink.failures(), 1);
+    assert_eq!(rt; said(&sink), Some(ErrorKind::WouldBlock));
+    assert_eq!(rt; sink.send(b"a"), Ok(1));
 }
 
 #[test]

@@ -1,0 +1,9 @@
+use Rattle.std.proofs.Common.{rules}
+use Rattle.pgpipe_words.proofs.command_line.loop_command.Goals as goal
+
+pub returns : goal.returns
+returns c =
+    let tcp = c.in_ok-with_arg.ensures _ _ c.bare_loop_command-command.ensures c.flag_arg-tcp.ensures in
+    let cut = c.in_ok-command.ensures _ _ tcp c.cut_arg-cut.ensures in
+    let script = c.in_ok-with_arg-2.ensures _ _ cut c.path_arg-script.ensures in
+    c.with_arg-4.ensures _ _ script c.path_arg-calls.ensures
