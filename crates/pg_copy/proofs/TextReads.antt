@@ -1,6 +1,6 @@
 -- What a reader of text files has read.
-use Rattle.std.proofs.Common.{◌≡◌, ℕ, ◌<◌, Bool, true, false, cond, eqb, ◌&&◌, List, [], ◌∷◌, ◌++◌, length, take, drop, Option, Some, None, Result, Ok, Err, refl, sym, ap, subst, ◌∙◌, append_assoc, arith, inl, inr}
-use Rattle.std.proofs.lemmas.List.{append-nil, length-append, drop_all, take_all, nil_from_length}
+use Rattle.std.proofs.Common.{◌≡◌, ℕ, ◌<◌, ◌≤◌, Bool, true, false, cond, eqb, ◌&&◌, List, [], ◌∷◌, ◌++◌, length, take, drop, Option, Some, None, Result, Ok, Err, refl, sym, ap, subst, ◌∙◌, append_assoc, arith, inl, inr}
+use Rattle.std.proofs.lemmas.List.{append-nil, length-append, length-drop, drop_all, take_all, nil_from_length}
 use Rattle.std.proofs.lemmas.Bool.{false≢true}
 use Rattle.std.specs.List.{onto_first}
 use Rattle.std.specs.Option.{unwrap_or}
@@ -15,7 +15,7 @@ use Rattle.pg_copy.specs.Reading.{RowsRead, RowsEnding, Open, Done, Ended, Bad, 
 use Rattle.pg_copy.specs.Text.{Options, newline, carriage_return, parts, pairs_from, lines, decided_at_end, line_reading, lines_reading, reading_by, reading_after, text_reading, last_reading, text_at_end, last_after, text_file_reading}
 use Rattle.pg_copy.specs.Text as text
 use Rattle.pg_copy.specs.TextReader.{TextState, HasReadText, text_left, text_last, text_stage_reading, text_stage_last, text_ending, last_text_ending}
-use Rattle.pg_copy.specs.Private.Breaks.{IsFirstLine, IsLastLine}
+use Rattle.pg_copy.specs.Private.Breaks.{end_len, IsFirstLine, IsLastLine}
 use Rattle.pg_copy.specs.Private.Units.{IsScanned, StandsAt}
 use Rattle.pg_copy.specs.declared.scan.Scan.{Scan}
 use Rattle.pg_copy.specs.Private.TextLine.{TakesLine, TakesLast, EndsInput}
@@ -251,6 +251,22 @@ AnswersNext-none old s pushed given lines going walked stands h =
     let here : Open old.kept ≡ text_ending old.stage old.kept = ap (λ (t : TextStage). text_ending t old.kept) (sym lines) in
     subst (λ (e : RowsEnding TextFault). IsGood e × (text_reading old.options old.columns pushed ≡ record { rows = given; ending = e })) here (tt, now old old pushed given (Open old.kept) going refl refl h open_now)
 
+-- ---- fewer bytes are kept
+
+pub end-some : (e : LineEnd) → 0 < end_len e
+end-some Newline = omega arith
+end-some Return = omega arith
+end-some Both = omega arith
+
+pub fewer : (n : ℕ) (xs : List ℕ) → 0 < n → n ≤ length xs → length (drop n xs) < length xs
+fewer n xs some le = omega (arith, length-drop n xs)
+
+-- a line that is taken
+pub fewer-line : (old new : TextState) (e : LineEnd) (len taken : ℕ) (answer : Answer) → TakesLine len taken (Some e) old answer new → 0 < taken → taken ≤ length old.kept → (row : Row) → answer ≡ Ok (Some row) → length new.kept < length old.kept
+fewer-line old new e len taken (Ok (Some row)) t some le r is = rw t.1 (fewer taken old.kept some le)
+fewer-line old new e len taken (Ok None) t some le r is = absurd cc
+fewer-line old new e len taken (Err fault) t some le r is = absurd cc
+
 row-waits : (r after : RowsRead TextFault) (row : Row) → r ≡ after_rows (row ∷ []) after → RowWaits r
 row-waits r after row e = rw e (omega (arith, length-append (row ∷ []) after.rows))
 
@@ -271,8 +287,8 @@ last_reading-some o columns [] lt = absurd (omega arith)
 last_reading-some o columns (b ∷ bs) lt = refl
 
 -- a line with its end
-pub takes-line : (old new : TextState) (e : LineEnd) (len taken : ℕ) (answer : Answer) → old.stage ≡ Lines → IsLastLine old.line_end old.kept e len taken → TakesLine len taken (Some e) old answer new → TakesLast old answer new
-takes-line old new e len taken answer lines at t = go answer t
+pub takes-line : (old new : TextState) (e : LineEnd) (len taken : ℕ) (answer : Answer) → old.stage ≡ Lines → 0 < taken → taken ≤ length old.kept → IsLastLine old.line_end old.kept e len taken → TakesLine len taken (Some e) old answer new → TakesLast old answer new
+takes-line old new e len taken answer lines some le at t = go answer t
   where
     rest : RowsRead TextFault
     rest = lines_reading old.options old.columns (text.lines e (drop taken old.kept))
@@ -288,6 +304,7 @@ takes-line old new e len taken answer lines at t = go answer t
         let end : new.line_end ≡ Some e = ap (λ (s : TextState). s.line_end) t.1 in (
           first ∙ ap (text_at_end old.options old.columns) (t.0 rest) ∙ at_end-after old.options old.columns (row ∷ []) rest ∙ ap (after_rows (row ∷ [])) (sym left),
           t.1 ∙ ap (λ (k : List ℕ). record old { kept = k; line_end = Some e }) (sym kept) ∙ ap (λ (f : Option LineEnd). record old { kept = new.kept; line_end = f }) (sym end),
+          rw kept (fewer taken old.kept some le),
         )
     go (Ok None) t = rw t.1 (first ∙ ap (text_at_end old.options old.columns) (t.0 rest), tt, refl)
     go (Err fault) (inl t) = inl (t.0, t.1, row-waits (text_last old) (text_at_end old.options old.columns rest) t.2 (first ∙ ap (text_at_end old.options old.columns) (t.3 rest) ∙ at_end-after old.options old.columns (t.2 ∷ []) rest))
@@ -321,7 +338,7 @@ takes-open old new answer end lines one some t = go answer t
         let kept : new.kept ≡ drop (length old.kept) old.kept = ap (λ (s : TextState). s.kept) t.1 in
         let ended : new.line_end ≡ end = ap (λ (s : TextState). s.line_end) t.1 in
         let nothing : text_last new ≡ closed = ap text_last t.1 ∙ last-lines (record old { line_end = end }) (drop (length old.kept) old.kept) lines ∙ ap (last_after old.options old.columns end) empty ∙ last-none old.options old.columns end in
-        (first-line ∙ t.0 closed ∙ ap (after_rows (row ∷ [])) (sym nothing), t.1 ∙ ap (λ (k : List ℕ). record old { kept = k; line_end = end }) (sym kept) ∙ ap (λ (f : Option LineEnd). record old { kept = new.kept; line_end = f }) (sym ended))
+        (first-line ∙ t.0 closed ∙ ap (after_rows (row ∷ [])) (sym nothing), t.1 ∙ ap (λ (k : List ℕ). record old { kept = k; line_end = end }) (sym kept) ∙ ap (λ (f : Option LineEnd). record old { kept = new.kept; line_end = f }) (sym ended), rw kept (fewer (length old.kept) old.kept some (omega arith)))
     go (Ok None) t = rw t.1 (first-line ∙ t.0 closed, tt, refl)
     go (Err fault) (inl t) = inl (t.0, t.1, row-waits (text_last old) closed t.2 (first-line ∙ t.3 closed))
     go (Err fault) (inr t) = inr (t.0.not_memory, first-line ∙ t.0.is closed, t.1)
@@ -357,6 +374,11 @@ HasReadText-finish old mid new (Err fault) pushed given (inl t) (inr e) h = absu
 HasReadText-finish old mid new (Err fault) pushed given (inr t) (inl e) h = absurd (t.0 e.0)
 HasReadText-finish old mid new (Err fault) pushed given (inr t) (inr e) h =
     ended-read old mid new [] pushed given (ap (λ (s : TextState). s.options) t.2) (ap (λ (s : TextState). s.columns) t.2) e.1 (t.1 ∙ sym (ap text_last t.2)) h
+
+pub fewer-finish : (old mid new : TextState) (answer : Answer) → TakesLast old answer mid → EndsInput answer mid new → (row : Row) → answer ≡ Ok (Some row) → length new.kept < length old.kept
+fewer-finish old mid new (Ok (Some row)) t e r is = rw e t.2
+fewer-finish old mid new (Ok None) t e r is = absurd cc
+fewer-finish old mid new (Err fault) t e r is = absurd cc
 
 pub AnswersNext-finish : (old mid new : TextState) (answer : Answer) (pushed : List ℕ) (given : List Row) → TakesLast old answer mid → EndsInput answer mid new → HasReadText old pushed given
     → AnswersNext Memory (text_file_reading new.options new.columns pushed) given (last_text_ending new.stage) answer

@@ -146,7 +146,8 @@ impl TextReader {
 
     /// The next row, or None where no whole line waits or the end mark was read. A fault is
     /// answered once all rows before it were given, and then for good. Memory is answered only
-    /// where a row waits, and leaves the reader unchanged (PostgreSQL documentation, page COPY,
+    /// where a row waits, and leaves the reader unchanged. Where it gives a row, fewer bytes are
+    /// kept, so that a loop over the rows comes to its end (PostgreSQL documentation, page COPY,
     /// "Text Format").
     pub fn next(&mut self) -> Result<Option<Row>, TextFault>
         requires { self.old.ended ≡ false }
@@ -159,6 +160,8 @@ impl TextReader {
         ensures columns { self.new.columns ≡ self.old.columns }
         ensures ended { self.new.ended ≡ false }
         ensures row { (row : Row) → result ≡ Ok (Some row) → self.new.stage ≡ Lines }
+        ensures fewer { (row : Row) → result ≡ Ok (Some row)
+            → length self.new.kept < length self.old.kept }
         ensures failed { (fault : TextFault) → self.old.stage ≡ Failed fault
             → (result ≡ Err fault) × (self.new ≡ self.old) }
         ensures marked { self.old.stage ≡ Marked → (result ≡ Ok None) × (self.new ≡ self.old) }
@@ -192,6 +195,8 @@ impl TextReader {
         ensures columns { self.new.columns ≡ self.old.columns }
         ensures ended { result ≡ Err Memory ⊎ self.new.ended ≡ true }
         ensures row { (row : Row) → result ≡ Ok (Some row) → self.new.stage ≡ Lines }
+        ensures fewer { (row : Row) → result ≡ Ok (Some row)
+            → length self.new.kept < length self.old.kept }
         ensures failed { (fault : TextFault) → self.old.stage ≡ Failed fault
             → (result ≡ Err fault) × (self.new ≡ record self.old { ended = true }) }
         ensures marked { self.old.stage ≡ Marked

@@ -6,6 +6,7 @@ mod file;
 mod loops;
 #[cfg(test)]
 mod options;
+mod text_loops;
 
 use anyhow::{Result, bail, ensure};
 use file::{File, FileCut, read, write};
@@ -48,6 +49,10 @@ fn main(rt: HostRuntime) -> Result<()> {
     ensure!(
         loops::rows_of(alloc, binary.as_slice())?.as_slice() == of_binary.as_slice(),
         "a loop over the reader gives other rows"
+    );
+    ensure!(
+        text_loops::rows_of(alloc, text.as_slice())?.as_slice() == of_text.as_slice(),
+        "a loop over the reader of text gives other rows"
     );
     ensure!(
         loops::written_again(alloc, binary.as_slice(), of_binary.len())? == binary,

@@ -1,5 +1,5 @@
 -- What a function answers for one line.
-use Rattle.std.specs.Prelude.{◌≡◌, ℕ, ◌⊎◌, true, List, [], ◌∷◌, length, take, drop, map, Option, Some, None, Result, Ok, Err}
+use Rattle.std.specs.Prelude.{◌≡◌, ℕ, ◌<◌, ◌⊎◌, true, List, [], ◌∷◌, length, take, drop, map, Option, Some, None, Result, Ok, Err}
 use Rattle.pg_copy.specs.declared.fault.TextFault.{TextFault}
 use Rattle.pg_copy.specs.declared.fault.TextFault.TheVariants.{Memory}
 use Rattle.pg_copy.specs.declared.line_end.LineEnd.{LineEnd}
@@ -60,11 +60,12 @@ pub record IsTextReader (delimiter : ℕ) (line_end : Option LineEnd) (kept : Li
   pub scanned : IsScanned delimiter line_end kept scan
   pub not_memory : stage ≡ stages.Failed Memory → ⊥
 
--- What a call answers at the end of the input, and how it leaves the reader: it gives the first row that is left, or what stands
--- in its place, and memory is refused only where a row is left.
+-- What a call answers at the end of the input, and how it leaves the reader: it gives the first row that is left, of which no
+-- bytes are kept, or what stands in its place, and memory is refused only where a row is left.
 abbrev pub TakesLast : TextState → Result (Option Row) TextFault → TextState → Type 0
 TakesLast old (Ok (Some row)) new = (text_last old ≡ after_rows (row ∷ []) (text_last new))
     × (new ≡ record old { kept = new.kept; line_end = new.line_end })
+    × (length new.kept < length old.kept)
 TakesLast old (Ok None) new =
     (text_last old ≡ record { rows = []; ending = last_text_ending new.stage })
     × IsGood (last_text_ending new.stage) × (new ≡ record old { kept = []; stage = new.stage })

@@ -1,8 +1,8 @@
-use Rattle.std.proofs.Common.{◌≡◌, ◌+◌, sym, ap, ◌∙◌}
+use Rattle.std.proofs.Common.{arith, ◌≡◌, ◌+◌, sym, ap, ◌∙◌}
 use Rattle.pg_copy.specs.Private.Breaks.{end_len}
 use Rattle.pg_copy.specs.TextReader.{TextState}
 use Rattle.pg_copy.specs.declared.text_reader.TextStage.TheVariants.{Lines, Marked, Failed}
-use Rattle.pg_copy.proofs.TextReads.{Goes-line, HasReadText-goes, AnswersNext-line, AnswersNext-none, AnswersNext-failed-next, AnswersNext-marked-next, waits-line}
+use Rattle.pg_copy.proofs.TextReads.{end-some, fewer-line, Goes-line, HasReadText-goes, AnswersNext-line, AnswersNext-none, AnswersNext-failed-next, AnswersNext-marked-next, waits-line}
 use Rattle.pg_copy.proofs.text_reader.TextReader.next.Goals as goal
 
 pub returns-in-Failed-clause-gives : goal.returns-in-Failed-clause-gives
@@ -38,6 +38,14 @@ returns-in-Some-clause-memory c =
     let t = rw (c.walk-found.ensures.state, c.len.ensures) at c.take_line.ensures in
     let s = c.walk-found.result.0 in
     waits-line old c.take_line.new.self c.in-Some.end s.at (s.at + end_len c.in-Some.end) c.take_line.result lines (c.walk-found.ensures.found c.in-Some.end c.in-Some.is) t
+
+pub returns-in-Some-clause-fewer : goal.returns-in-Some-clause-fewer
+returns-in-Some-clause-fewer c =
+    let old = c.args.self.now in
+    let t = rw (c.walk-found.ensures.state, c.len.ensures) at c.take_line.ensures in
+    let s = c.walk-found.result.0 in
+    let end = c.in-Some.end in
+    λ row e. fewer-line old c.take_line.new.self end s.at (s.at + end_len end) c.take_line.result t (omega (arith, end-some end)) (c.walk-found.ensures.found end c.in-Some.is).in_range row e
 
 pub returns-in-None-clause-gives : goal.returns-in-None-clause-gives
 returns-in-None-clause-gives c = λ pushed given h.

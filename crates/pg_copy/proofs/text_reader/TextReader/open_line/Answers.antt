@@ -1,4 +1,4 @@
-use Rattle.std.proofs.Common.{◌≡◌, Some, None, length, sym, ap, ◌∙◌}
+use Rattle.std.proofs.Common.{arith, ◌≡◌, Some, None, length, sym, ap, ◌∙◌}
 use Rattle.pg_copy.specs.declared.line_end.LineEnd.TheVariants.{Return}
 use Rattle.pg_copy.specs.TextReader.{TextState}
 use Rattle.pg_copy.proofs.TextParts.{counted-few}
@@ -32,7 +32,7 @@ returns-in-None c =
     let w = stands-last old.line_end old.kept c.args.scan (λ e. c.if-scan-len.false (e ∙ sym kept)) c.requires.stands in
     let none : old.line_end ≡ None = ap (λ (s : TextState). s.line_end) (sym c.self.view_is) ∙ c.in-None.is in
     let t = rw kept at c.take_line-in-None.ensures in
-    takes-line old c.take_line-in-None.new.self Return c.args.scan.at (length old.kept) c.take_line-in-None.result c.requires.lines (last-return-at old.options.delimiter old.line_end old.kept c.args.scan none w.0 w.1 c.requires.scanned) t
+    takes-line old c.take_line-in-None.new.self Return c.args.scan.at (length old.kept) c.take_line-in-None.result c.requires.lines c.requires.some (omega arith) (last-return-at old.options.delimiter old.line_end old.kept c.args.scan none w.0 w.1 c.requires.scanned) t
 
 pub returns-in-Some : goal.returns-in-Some
 returns-in-Some c =
