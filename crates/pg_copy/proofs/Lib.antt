@@ -6,7 +6,9 @@ pub mod TextEscapes
 pub mod TextSplit
 pub mod TextPairs
 pub mod TextBreaks
+pub mod TextPlaces
 pub mod TextReads
+pub mod TextEnds
 pub mod TextRound
 pub mod Rows
 pub mod OptionRows
@@ -18,7 +20,7 @@ pub mod Writing
 pub mod BinaryReads
 pub mod BinaryHeads
 pub mod BinaryLoop
-pub mod BinaryCounts
+pub mod Numbers
 pub mod BinaryPlaces
 pub mod BinarySizes
 pub mod BinaryHistory

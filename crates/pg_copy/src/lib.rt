@@ -10,6 +10,7 @@ mod binary_part;
 mod binary_reader;
 mod binary_row;
 mod binary_writer;
+mod counts;
 mod fault;
 mod format;
 pub mod laws;

@@ -6,15 +6,16 @@ ghost use Rattle.pg_copy.specs.declared.fault.TextFault.TheVariants.{Memory};
 ghost use Rattle.pg_copy.specs.declared.line_end.LineEnd.{LineEnd};
 ghost use Rattle.pg_copy.specs.declared.text_reader.TextStage.TheVariants.{Lines, Marked, Failed};
 ghost use Rattle.pg_copy.specs.Row.{Row};
-ghost use Rattle.pg_copy.specs.Reading.{RowWaits, given_by, AnswersNext};
-ghost use Rattle.pg_copy.specs.Text.{default_options, text_reading, text_file_reading};
+ghost use Rattle.pg_copy.specs.Reading.{RowWaits, given_by, given_after, AnswersNext};
+ghost use Rattle.pg_copy.specs.Text.{end_len, default_options, text_reading, text_file_reading};
 ghost use Rattle.pg_copy.specs.TextReader.{HasReadText, PushesText, text_left, text_last, text_ending, last_text_ending};
 ghost use Rattle.pg_copy.specs.TextOptions.{AreOptions};
-ghost use Rattle.pg_copy.specs.Private.Breaks.{end_len, IsFirstLine};
+ghost use Rattle.pg_copy.specs.Private.Breaks.{IsFirstLine};
 ghost use Rattle.pg_copy.specs.Private.Units.{IsCounted, IsScanned, StandsAt};
-ghost use Rattle.pg_copy.specs.Private.TextLine.{TakesLine, TakesLast, EndsInput};
+ghost use Rattle.pg_copy.specs.Private.TextLine.{passed, TakesLine, TakesLast, EndsInput};
 
 use crate::Row;
+use crate::counts::{later, one_more};
 use crate::fault::TextFault;
 use crate::line_end::LineEnd;
 use crate::scan::Scan;
@@ -54,6 +55,8 @@ pub struct TextReader {
     scan: Scan,
     stage: TextStage,
     ended: bool,
+    given: u64,
+    offset: u64,
 }
 
 impl Model for TextReader {
@@ -62,7 +65,16 @@ impl Model for TextReader {
 
     ghost Value = { TextState };
 
-    ghost view = { λ r. record { options = r.options; columns = r.columns; line_end = r.line_end; kept = r.buffer; stage = r.stage; ended = r.ended } };
+    ghost view = { λ r. record {
+      options = r.options;
+      columns = r.columns;
+      line_end = r.line_end;
+      kept = r.buffer;
+      stage = r.stage;
+      ended = r.ended;
+      given = r.given;
+      offset = r.offset;
+    } };
 
     ghost invariant = { λ r. IsTextReader r.options.delimiter r.line_end r.buffer r.scan r.stage };
 }
@@ -79,6 +91,8 @@ impl TextReader {
           kept = [];
           stage = Lines;
           ended = false;
+          given = 0;
+          offset = 0;
         } }
         ensures read { HasReadText result [] [] }
     {
@@ -95,6 +109,8 @@ impl TextReader {
           kept = [];
           stage = Lines;
           ended = false;
+          given = 0;
+          offset = 0;
         } }
         ensures read { HasReadText result [] [] }
     {
@@ -107,6 +123,8 @@ impl TextReader {
             scan: Scan::start(),
             stage: TextStage::Lines,
             ended: false,
+            given: 0,
+            offset: 0,
         }
     }
 
@@ -122,6 +140,23 @@ impl TextReader {
         ensures { result ≡ self.now.ended }
     {
         self.ended
+    }
+
+    /// How many rows were given, so that a caller can say which row a fault stands in the place of. The number stays at
+    /// `u64::MAX`.
+    pub fn rows_given(&self) -> u64
+        ensures { result ≡ self.now.given }
+    {
+        self.given
+    }
+
+    /// Where in the file the line begins that comes next: how many bytes stand before it, those of the rows that were given, with
+    /// what ends their lines. So after a fault it tells where the line begins that the fault stands in, and after the end mark where
+    /// that begins. The number stays at `u64::MAX`.
+    pub fn offset(&self) -> u64
+        ensures { result ≡ self.now.offset }
+    {
+        self.offset
     }
 
     /// Takes the next piece of the file, all of it, and drops it after the end mark. A fault that was found is answered again.
@@ -160,6 +195,7 @@ impl TextReader {
         ensures columns { self.new.columns ≡ self.old.columns }
         ensures ended { self.new.ended ≡ false }
         ensures row { (row : Row) → result ≡ Ok (Some row) → self.new.stage ≡ Lines }
+        ensures given { self.new.given ≡ given_after self.old.given (given_by result) }
         ensures fewer { (row : Row) → result ≡ Ok (Some row)
             → length self.new.kept < length self.old.kept }
         ensures failed { (fault : TextFault) → self.old.stage ≡ Failed fault
@@ -195,6 +231,7 @@ impl TextReader {
         ensures columns { self.new.columns ≡ self.old.columns }
         ensures ended { result ≡ Err Memory ⊎ self.new.ended ≡ true }
         ensures row { (row : Row) → result ≡ Ok (Some row) → self.new.stage ≡ Lines }
+        ensures given { self.new.given ≡ given_after self.old.given (given_by result) }
         ensures fewer { (row : Row) → result ≡ Ok (Some row)
             → length self.new.kept < length self.old.kept }
         ensures failed { (fault : TextFault) → self.old.stage ≡ Failed fault
@@ -264,14 +301,24 @@ impl TextReader {
             }
             JudgedLine::Row(count) => match fields_of(self.alloc, line, count, &self.options) {
                 Ok(fields) => {
-                    self.buffer.take(taken);
-                    self.line_end = line_end;
-                    self.scan = Scan::start();
+                    self.pass(taken, line_end);
                     Ok(Some(Seq::new(fields)))
                 }
                 Err(_) => Err(TextFault::Memory),
             },
         }
+    }
+
+    /// Takes so many bytes off, which are a line whose row is given, with what ends it. Lines end so from then on.
+    fn pass(&mut self, taken: usize, line_end: Option<LineEnd>)
+        requires { taken ≤ length self.old.kept }
+        ensures { self.new ≡ passed taken line_end self.old }
+    {
+        self.buffer.take(taken);
+        self.line_end = line_end;
+        self.scan = Scan::start();
+        self.offset = later(self.offset, taken);
+        self.given = one_more(self.given);
     }
 
     /// Reads no more.

@@ -1,5 +1,5 @@
 -- What a function answers for one line.
-use Rattle.std.specs.Prelude.{◌≡◌, ℕ, ◌<◌, ◌⊎◌, true, List, [], ◌∷◌, length, take, drop, map, Option, Some, None, Result, Ok, Err}
+use Rattle.std.specs.Prelude.{◌≡◌, ℕ, suc, ◌+◌, ◌<◌, ◌⊎◌, true, List, [], ◌∷◌, length, take, drop, map, Option, Some, None, Result, Ok, Err}
 use Rattle.pg_copy.specs.declared.fault.TextFault.{TextFault}
 use Rattle.pg_copy.specs.declared.fault.TextFault.TheVariants.{Memory}
 use Rattle.pg_copy.specs.declared.line_end.LineEnd.{LineEnd}
@@ -7,11 +7,11 @@ use Rattle.pg_copy.specs.declared.text_line.JudgedLine.{JudgedLine}
 use Rattle.pg_copy.specs.declared.text_line.JudgedLine.TheVariants as judged
 use Rattle.pg_copy.specs.declared.text_reader.TextStage.TheVariants as stages
 use Rattle.pg_copy.specs.Row.{Row}
-use Rattle.pg_copy.specs.Reading.{RowsRead, Done, Bad, after_rows, RowWaits, IsGood}
+use Rattle.pg_copy.specs.Reading.{RowsRead, Done, Bad, after_rows, RowWaits, IsGood, told, one_more}
 use Rattle.pg_copy.specs.Text.{Options, parts, field_value, line_reading}
 use Rattle.pg_copy.specs.declared.scan.Scan.{Scan}
 use Rattle.pg_copy.specs.declared.text_reader.TextStage.{TextStage}
-use Rattle.pg_copy.specs.TextReader.{TextState, text_last, last_text_ending}
+use Rattle.pg_copy.specs.TextReader.{TextState, lines_end, text_last, last_text_ending}
 use Rattle.pg_copy.specs.Private.Units.{IsScanned}
 
 -- what a line is read as, whatever comes after it
@@ -37,11 +37,20 @@ IsJudged o columns line (judged.Row n) = (n ≡ length (parts o.delimiter line))
     × LineGives o columns line (map (field_value o) (parts o.delimiter line))
 IsJudged o columns line (judged.Faulty fault) = LineFails o columns line fault
 
+-- the reader after a line of so many bytes with what ends it, whose row it gives: lines end so from then on
+abbrev pub passed : ℕ → Option LineEnd → TextState → TextState
+passed taken end s = record s {
+  kept = drop taken s.kept;
+  line_end = end;
+  given = one_more s.given;
+  offset = told (s.offset + taken);
+}
+
 -- A line of so many bytes is taken off, with what ends it, and lines end so from then on; or the reader stops at the end mark or at the line's fault; or memory
 -- for its row is refused, and nothing changes.
 abbrev pub TakesLine : ℕ → ℕ → Option LineEnd → TextState → Result (Option Row) TextFault → TextState → Type 0
 TakesLine len taken end old (Ok (Some row)) new = LineGives old.options old.columns (take len old.kept) row
-    × (new ≡ record old { kept = drop taken old.kept; line_end = end })
+    × (new ≡ passed taken end old)
 TakesLine len taken end old (Ok None) new = LineEnds old.options old.columns (take len old.kept)
     × (new ≡ record old { kept = []; stage = stages.Marked })
 TakesLine len taken end old (Err fault) new =
@@ -60,15 +69,28 @@ pub record IsTextReader (delimiter : ℕ) (line_end : Option LineEnd) (kept : Li
   pub scanned : IsScanned delimiter line_end kept scan
   pub not_memory : stage ≡ stages.Failed Memory → ⊥
 
+-- The first line that is kept goes off with what ends it, and the reader tells where it ends.
+pub record PassesLine (old new : TextState) : Type 0 where
+  pub taken : ℕ
+  pub offset : new.offset ≡ told (old.offset + taken)
+  pub lines : (n : ℕ) → lines_end old.line_end old.kept (suc n)
+      ≡ taken + lines_end new.line_end new.kept n
+
 -- What a call answers at the end of the input, and how it leaves the reader: it gives the first row that is left, of which no
 -- bytes are kept, or what stands in its place, and memory is refused only where a row is left.
 abbrev pub TakesLast : TextState → Result (Option Row) TextFault → TextState → Type 0
 TakesLast old (Ok (Some row)) new = (text_last old ≡ after_rows (row ∷ []) (text_last new))
-    × (new ≡ record old { kept = new.kept; line_end = new.line_end })
-    × (length new.kept < length old.kept)
+    × (new ≡ record old {
+      kept = new.kept;
+      line_end = new.line_end;
+      given = one_more old.given;
+      offset = new.offset;
+    })
+    × (length new.kept < length old.kept) × PassesLine old new
 TakesLast old (Ok None) new =
     (text_last old ≡ record { rows = []; ending = last_text_ending new.stage })
     × IsGood (last_text_ending new.stage) × (new ≡ record old { kept = []; stage = new.stage })
+    × (new.stage ≡ stages.Lines → old.kept ≡ [])
 TakesLast old (Err fault) new =
     ((fault ≡ Memory) × (new ≡ old) × RowWaits (text_last old))
     ⊎ ((fault ≡ Memory → ⊥) × (text_last old ≡ record { rows = []; ending = Bad fault })

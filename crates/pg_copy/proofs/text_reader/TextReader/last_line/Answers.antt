@@ -1,8 +1,9 @@
-use Rattle.std.proofs.Common.{arith, ◌≡◌, ◌+◌, length, sym, ap, ◌∙◌}
-use Rattle.pg_copy.specs.Private.Breaks.{end_len}
+use Rattle.std.proofs.Common.{arith, ◌≡◌, ◌+◌, length, refl, sym, ap, ◌∙◌}
+use Rattle.pg_copy.specs.Text.{end_len}
 use Rattle.pg_copy.specs.TextReader.{TextState}
 use Rattle.pg_copy.proofs.TextBreaks.{first-is-last}
-use Rattle.pg_copy.proofs.TextReads.{end-some, takes-line, takes-none}
+use Rattle.pg_copy.proofs.TextPlaces.{end-some}
+use Rattle.pg_copy.proofs.TextEnds.{takes-line, takes-none}
 use Rattle.pg_copy.proofs.text_reader.TextReader.last_line.Goals as goal
 
 pub returns-in-Some : goal.returns-in-Some
@@ -11,7 +12,7 @@ returns-in-Some c =
     let t = rw (c.walk-found.ensures.state, c.len.ensures) at c.take_line.ensures in
     let s = c.walk-found.result.0 in
     let found = c.walk-found.ensures.found c.in-Some.end c.in-Some.is in
-    takes-line old c.take_line.new.self c.in-Some.end s.at (s.at + end_len c.in-Some.end) c.take_line.result c.requires (omega (arith, end-some c.in-Some.end)) found.in_range (first-is-last old.line_end old.kept c.in-Some.end s.at (s.at + end_len c.in-Some.end) found) t
+    takes-line old c.take_line.new.self c.in-Some.end s.at (s.at + end_len c.in-Some.end) c.take_line.result c.requires (omega (arith, end-some c.in-Some.end)) found.in_range refl (first-is-last old.line_end old.kept c.in-Some.end s.at (s.at + end_len c.in-Some.end) found) t
 
 pub returns-then-len-eq0 : goal.returns-then-len-eq0
 returns-then-len-eq0 c =

@@ -1,8 +1,10 @@
-use Rattle.std.proofs.Common.{arith, ◌≡◌, ◌+◌, sym, ap, ◌∙◌}
-use Rattle.pg_copy.specs.Private.Breaks.{end_len}
+use Rattle.std.proofs.Common.{arith, ◌≡◌, ◌+◌, refl, sym, ap, ◌∙◌}
+use Rattle.pg_copy.specs.Text.{end_len}
 use Rattle.pg_copy.specs.TextReader.{TextState}
 use Rattle.pg_copy.specs.declared.text_reader.TextStage.TheVariants.{Lines, Marked, Failed}
-use Rattle.pg_copy.proofs.TextReads.{end-some, fewer-line, Goes-line, HasReadText-goes, AnswersNext-line, AnswersNext-none, AnswersNext-failed-next, AnswersNext-marked-next, waits-line}
+use Rattle.pg_copy.proofs.TextPlaces.{end-some}
+use Rattle.pg_copy.proofs.TextReads.{fewer-line, given-line, Goes-line, HasReadText-goes, AnswersNext-line, AnswersNext-none, waits-line}
+use Rattle.pg_copy.proofs.TextEnds.{AnswersNext-failed-next, AnswersNext-marked-next}
 use Rattle.pg_copy.proofs.text_reader.TextReader.next.Goals as goal
 
 pub returns-in-Failed-clause-gives : goal.returns-in-Failed-clause-gives
@@ -21,7 +23,7 @@ returns-in-Some-clause-read c = λ pushed given h.
     let lines : old.stage ≡ Lines = ap (λ (s : TextState). s.stage) (sym c.self.view_is) ∙ c.in-Lines.is in
     let t = rw (c.walk-found.ensures.state, c.len.ensures) at c.take_line.ensures in
     let s = c.walk-found.result.0 in
-    HasReadText-goes old c.take_line.new.self _ pushed given (Goes-line old c.take_line.new.self c.in-Some.end s.at (s.at + end_len c.in-Some.end) c.take_line.result lines (c.walk-found.ensures.found c.in-Some.end c.in-Some.is) t) h
+    HasReadText-goes old c.take_line.new.self _ pushed given (Goes-line old c.take_line.new.self c.in-Some.end s.at (s.at + end_len c.in-Some.end) c.take_line.result lines (c.walk-found.ensures.found c.in-Some.end c.in-Some.is) refl t) h
 
 pub returns-in-Some-clause-gives : goal.returns-in-Some-clause-gives
 returns-in-Some-clause-gives c = λ pushed given h.
@@ -38,6 +40,12 @@ returns-in-Some-clause-memory c =
     let t = rw (c.walk-found.ensures.state, c.len.ensures) at c.take_line.ensures in
     let s = c.walk-found.result.0 in
     waits-line old c.take_line.new.self c.in-Some.end s.at (s.at + end_len c.in-Some.end) c.take_line.result lines (c.walk-found.ensures.found c.in-Some.end c.in-Some.is) t
+
+pub returns-in-Some-clause-given : goal.returns-in-Some-clause-given
+returns-in-Some-clause-given c =
+    let t = rw (c.walk-found.ensures.state, c.len.ensures) at c.take_line.ensures in
+    let s = c.walk-found.result.0 in
+    given-line c.args.self.now c.take_line.new.self c.in-Some.end s.at (s.at + end_len c.in-Some.end) c.take_line.result t
 
 pub returns-in-Some-clause-fewer : goal.returns-in-Some-clause-fewer
 returns-in-Some-clause-fewer c =

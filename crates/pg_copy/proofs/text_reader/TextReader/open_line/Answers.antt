@@ -3,7 +3,7 @@ use Rattle.pg_copy.specs.declared.line_end.LineEnd.TheVariants.{Return}
 use Rattle.pg_copy.specs.TextReader.{TextState}
 use Rattle.pg_copy.proofs.TextParts.{counted-few}
 use Rattle.pg_copy.proofs.TextBreaks.{last-one, last-return-at, last-lone, after-at, stands-last, counted-return, return-place}
-use Rattle.pg_copy.proofs.TextReads.{takes-line, takes-open}
+use Rattle.pg_copy.proofs.TextEnds.{takes-line, takes-open}
 use Rattle.pg_copy.proofs.text_reader.TextReader.open_line.Goals as goal
 
 pub returns-then-scan-len : goal.returns-then-scan-len
@@ -32,7 +32,7 @@ returns-in-None c =
     let w = stands-last old.line_end old.kept c.args.scan (λ e. c.if-scan-len.false (e ∙ sym kept)) c.requires.stands in
     let none : old.line_end ≡ None = ap (λ (s : TextState). s.line_end) (sym c.self.view_is) ∙ c.in-None.is in
     let t = rw kept at c.take_line-in-None.ensures in
-    takes-line old c.take_line-in-None.new.self Return c.args.scan.at (length old.kept) c.take_line-in-None.result c.requires.lines c.requires.some (omega arith) (last-return-at old.options.delimiter old.line_end old.kept c.args.scan none w.0 w.1 c.requires.scanned) t
+    takes-line old c.take_line-in-None.new.self Return c.args.scan.at (length old.kept) c.take_line-in-None.result c.requires.lines c.requires.some (omega arith) (sym (return-place old.kept c.args.scan.at w.1)) (last-return-at old.options.delimiter old.line_end old.kept c.args.scan none w.0 w.1 c.requires.scanned) t
 
 pub returns-in-Some : goal.returns-in-Some
 returns-in-Some c =
