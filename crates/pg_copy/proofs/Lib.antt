@@ -15,6 +15,7 @@ pub mod OptionRows
 pub mod LineEndRows
 pub mod BinaryRound
 pub mod BinaryFields
+pub mod TextFields
 pub mod BinaryFiles
 pub mod Writing
 pub mod BinaryReads
