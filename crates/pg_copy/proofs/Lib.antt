@@ -3,12 +3,14 @@ pub mod TextParts
 pub mod TextValues
 pub mod TextLines
 pub mod TextEscapes
+pub mod TextLent
 pub mod TextSplit
 pub mod TextPairs
 pub mod TextBreaks
 pub mod TextPlaces
 pub mod TextReads
 pub mod TextEnds
+pub mod TextHolds
 pub mod TextRound
 pub mod Rows
 pub mod OptionRows

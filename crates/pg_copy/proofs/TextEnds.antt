@@ -6,15 +6,15 @@ use Rattle.std.specs.Prelude.{◌⊎◌}
 use Rattle.pg_copy.specs.declared.fault.TextFault.{TextFault}
 use Rattle.pg_copy.specs.declared.fault.TextFault.TheVariants.{Memory}
 use Rattle.pg_copy.specs.declared.line_end.LineEnd.{LineEnd}
-use Rattle.pg_copy.specs.declared.text_reader.TextStage.{TextStage}
-use Rattle.pg_copy.specs.declared.text_reader.TextStage.TheVariants.{Lines, Marked, Failed}
+use Rattle.pg_copy.specs.declared.text_stage.TextStage.{TextStage}
+use Rattle.pg_copy.specs.declared.text_stage.TextStage.TheVariants.{Lines, Marked, Failed}
 use Rattle.pg_copy.specs.Row.{Row}
 use Rattle.pg_copy.specs.Reading.{RowsRead, RowsEnding, Open, Done, Ended, Bad, after_rows, given_by, IsGood, AnswersNext, told, one_more, given_after}
 use Rattle.pg_copy.specs.Text.{end_len, Options, lines, decided_at_end, line_reading, lines_reading, text_reading, last_reading, text_at_end, last_after, text_file_reading}
 use Rattle.pg_copy.specs.Text as text
 use Rattle.pg_copy.specs.TextReader.{TextState, lines_end, HasReadText, text_left, text_last, text_stage_reading, text_stage_last, text_ending, last_text_ending}
 use Rattle.pg_copy.specs.Private.Breaks.{IsLastLine}
-use Rattle.pg_copy.specs.Private.TextLine.{passed, PassesLine, TakesLine, TakesLast, EndsInput}
+use Rattle.pg_copy.specs.Private.TextLine.{passed, let_go, PassesLine, TakesLine, TakesLast, EndsInput}
 use Rattle.pg_copy.proofs.Numbers.{told-rows, told-add}
 use Rattle.pg_copy.proofs.TextPlaces.{lines_end-zero, lines_end-none, lines_end-last, lines_end-open}
 use Rattle.pg_copy.proofs.TextReads.{one-more, good_ending, ending_is, last-line, last-of, last-none, after-after, after-none, at_end-after, clash, Passes-none, Passes-stop, file_reading-same, lines-so-far, goes-further, HasReadText-same, last-lines, Answer, now, fewer, row-waits, Passes}
@@ -26,8 +26,8 @@ last_reading-some : (o : Options) (columns : Option ℕ) (line : List ℕ) → 0
 last_reading-some o columns [] lt = absurd (omega arith)
 last_reading-some o columns (b ∷ bs) lt = refl
 
-passed-same : (old new : TextState) (taken : ℕ) (end : Option LineEnd) → new ≡ passed taken end old → new ≡ record old { kept = new.kept; line_end = new.line_end; given = one_more old.given; offset = new.offset }
-passed-same old new taken end e = e ∙ ap (λ (s : TextState). record old { kept = s.kept; line_end = s.line_end; given = one_more old.given; offset = s.offset }) (sym e)
+passed-same : (old new : TextState) (taken : ℕ) (end : Option LineEnd) → new ≡ passed taken end old → new ≡ record old { kept = new.kept; line_end = new.line_end; given = one_more old.given; offset = new.offset; held = None }
+passed-same old new taken end e = e ∙ ap (λ (s : TextState). record old { kept = s.kept; line_end = s.line_end; given = one_more old.given; offset = s.offset; held = None }) (sym e)
 
 passes-line : (old new : TextState) (taken : ℕ) (end : Option LineEnd) → new ≡ passed taken end old → ((n : ℕ) → lines_end old.line_end old.kept (suc n) ≡ taken + lines_end end (drop taken old.kept) n) → PassesLine old new
 passes-line old new taken end e h = subst (λ (s : TextState). PassesLine old s) (sym e) (record { taken = taken; offset = refl; lines = h })
@@ -57,11 +57,11 @@ takes-line old new e len taken answer lines some le all at t = go answer t
     go (Err fault) (inr t) = inr (t.0.not_memory, first ∙ ap (text_at_end old.options old.columns) (t.0.is rest), t.1)
 
 -- no line
-pub takes-none : (old : TextState) → old.stage ≡ Lines → length old.kept ≡ 0 → TakesLast old (Ok None) old
+pub takes-none : (old : TextState) → old.stage ≡ Lines → length old.kept ≡ 0 → TakesLast old (Ok None) (let_go old)
 takes-none old lines none =
     let empty : old.kept ≡ [] = nil_from_length old.kept none in
     let all : text_last old ≡ closed = last-lines old old.kept lines ∙ ap (last_after old.options old.columns old.line_end) empty ∙ last-none old.options old.columns old.line_end in
-    (all ∙ ending_is old.stage Lines lines, good_ending old.stage Lines lines tt, ap (λ (k : List ℕ). record old { kept = k }) empty, λ e. empty)
+    (all ∙ ending_is old.stage Lines lines, good_ending old.stage Lines lines tt, ap (λ (k : List ℕ). record old { kept = k; held = None }) empty, λ e. empty)
 
 -- how an open line at the end is read
 last-open : (o : Options) (columns : Option ℕ) (before : Option LineEnd) (kept : List ℕ) → lines (decided_at_end before kept) kept ≡ kept ∷ [] → 0 < length kept → last_after o columns before kept ≡ line_reading o columns kept closed
@@ -131,9 +131,9 @@ Passes-last old mid among p =
     size more n (inr f) = rw (f, append-nil old.kept, append-nil mid.kept) (ap (lines_end old.line_end old.kept) (one-more n) ∙ p.lines n)
 
 -- no line is left
-Passes-end : (old : TextState) (stage : TextStage) → old.stage ≡ Lines → (stage ≡ Lines → old.kept ≡ []) → Passes old (record old { kept = []; stage = stage }) 0 true
+Passes-end : (old : TextState) (stage : TextStage) → old.stage ≡ Lines → (stage ≡ Lines → old.kept ≡ []) → Passes old (record old { kept = []; stage = stage; held = None }) 0 true
 Passes-end old stage lines none =
-    Passes-none old (record old { kept = []; stage = stage }) true refl (λ n h. inl lines) (λ more n final h. nothing more n h)
+    Passes-none old (record old { kept = []; stage = stage; held = None }) true refl (λ n h. inl lines) (λ more n final h. nothing more n h)
   where
     nothing : (more : List ℕ) (n : ℕ) → (stage ≡ Lines) ⊎ (n ≡ 0) → lines_end old.line_end (old.kept ++ more) n ≡ lines_end old.line_end ([] ++ more) n
     nothing more n (inl e) = ap (λ (k : List ℕ). lines_end old.line_end (k ++ more) n) (none e)
@@ -148,7 +148,7 @@ HasReadText-finish old mid new (Ok None) pushed given lines t e h =
     let passes : Passes old mid 0 true = subst (λ (s : TextState). Passes old s 0 true) (sym t.2) (Passes-end old mid.stage lines t.3) in
     ended-read old mid new [] pushed given options columns e (t.0 ∙ sym stopped) (ap (λ (s : TextState). s.given) t.2) passes h
   where
-    stops : (stage : TextStage) → text_last (record old { kept = []; stage = stage }) ≡ record { rows = []; ending = last_text_ending stage }
+    stops : (stage : TextStage) → text_last (record old { kept = []; stage = stage; held = None }) ≡ record { rows = []; ending = last_text_ending stage }
     stops Lines = last-none old.options old.columns old.line_end
     stops Marked = refl
     stops (Failed fault) = refl

@@ -7,8 +7,8 @@ use Rattle.pg_copy.specs.declared.fault.TextFault.{TextFault}
 use Rattle.pg_copy.specs.declared.fault.TextFault.TheVariants.{Memory}
 use Rattle.pg_copy.specs.declared.line_end.LineEnd.{LineEnd}
 use Rattle.pg_copy.specs.declared.line_end.LineEnd.TheVariants.{Return}
-use Rattle.pg_copy.specs.declared.text_reader.TextStage.{TextStage}
-use Rattle.pg_copy.specs.declared.text_reader.TextStage.TheVariants.{Lines, Marked, Failed}
+use Rattle.pg_copy.specs.declared.text_stage.TextStage.{TextStage}
+use Rattle.pg_copy.specs.declared.text_stage.TextStage.TheVariants.{Lines, Marked, Failed}
 use Rattle.pg_copy.specs.Row.{Row}
 use Rattle.pg_copy.specs.Reading.{RowsRead, RowsEnding, Open, Done, Ended, Bad, after_rows, RowWaits, given_by, IsGood, AnswersNext, told, given_after}
 use Rattle.pg_copy.specs.Text.{end_len, Options, lines, decided_at_end, line_reading, lines_reading, reading_by, reading_after, text_reading, last_reading, text_at_end, last_after, text_file_reading}
@@ -17,6 +17,8 @@ use Rattle.pg_copy.specs.TextReader.{TextState, lines_end, HasReadText, text_lef
 use Rattle.pg_copy.specs.Private.Breaks.{IsFirstLine, IsLastLine}
 use Rattle.pg_copy.specs.Private.Units.{IsScanned, StandsAt}
 use Rattle.pg_copy.specs.declared.scan.Scan.{Scan}
+use Rattle.pg_copy.specs.Private.RowBuffer.{RowBytes}
+use Rattle.pg_copy.specs.Private.TextRow.{held_line}
 use Rattle.pg_copy.specs.Private.TextLine.{passed, TakesLine}
 use Rattle.pg_copy.proofs.Numbers.{told-rows, told-add}
 use Rattle.pg_copy.proofs.TextPlaces.{lines-some, lines_end-zero, lines_end-first}
@@ -118,9 +120,9 @@ Passes-none old new last e f g =
     }
 
 -- where the reader stops
-pub Passes-stop : (old : TextState) (stage : TextStage) (last : Bool) → (stage ≡ Lines → ⊥) → Passes old (record old { kept = []; stage = stage }) 0 last
+pub Passes-stop : (old : TextState) (stage : TextStage) (last : Bool) → (stage ≡ Lines → ⊥) → Passes old (record old { kept = []; stage = stage; held = None }) 0 last
 Passes-stop old stage last other =
-    Passes-none old (record old { kept = []; stage = stage }) last refl (λ n h. inr (zero_of n h)) (λ more n final h. both more n (zero_of n h))
+    Passes-none old (record old { kept = []; stage = stage; held = None }) last refl (λ n h. inr (zero_of n h)) (λ more n final h. both more n (zero_of n h))
   where
     zero_of : (n : ℕ) → (stage ≡ Lines) ⊎ (n ≡ 0) → n ≡ 0
     zero_of n (inl e) = absurd (other e)
@@ -204,8 +206,8 @@ pub reading-now : (s : TextState) (pushed : List ℕ) (given : List Row) → s.e
 reading-now s pushed given e h = ap (text_reading s.options s.columns) (sym (append-nil pushed)) ∙ h.so_far e []
 
 -- a reader that was pushed nothing
-pub HasReadText-none : (o : Options) (columns : Option ℕ) (kept : List ℕ) → kept ≡ [] → HasReadText (record { options = o; columns = columns; line_end = None; kept = kept; stage = Lines; ended = false; given = 0; offset = 0 }) [] []
-HasReadText-none o columns kept empty =
+pub HasReadText-none : (o : Options) (columns : Option ℕ) (buffer : RowBytes) → buffer ≡ record { front = None; kept = [] } → HasReadText (record { options = o; columns = columns; line_end = None; kept = buffer.kept; stage = Lines; ended = false; given = 0; offset = 0; held = held_line o 0 buffer.front }) [] []
+HasReadText-none o columns buffer empty =
     rw empty (record {
       so_far = λ e more. refl;
       to_end = λ e more. refl;
@@ -240,7 +242,7 @@ goes-push old pushed piece given going h more n stands =
     let kept : lines_end old.line_end (old.kept ++ (piece ++ more)) n ≡ lines_end old.line_end ((old.kept ++ piece) ++ more) n = ap (λ (x : List ℕ). lines_end old.line_end x n) (sym (append_assoc old.kept piece more)) in
     ap (λ (x : List ℕ). lines_end None x (length given + n)) (append_assoc pushed piece more) ∙ one ∙ omega (arith, stay, kept)
 
-pub HasReadText-push : (old : TextState) (pushed piece : List ℕ) (given : List Row) → old.ended ≡ false → old.stage ≡ Lines → HasReadText old pushed given → HasReadText (record old { kept = old.kept ++ piece }) (pushed ++ piece) given
+pub HasReadText-push : (old : TextState) (pushed piece : List ℕ) (given : List Row) → old.ended ≡ false → old.stage ≡ Lines → HasReadText old pushed given → HasReadText (record old { kept = old.kept ++ piece; held = None }) (pushed ++ piece) given
 HasReadText-push old pushed piece given going lines h =
     let later : (more : List ℕ) → text_last (with-more old (piece ++ more)) ≡ text_last (with-more (with-more old piece) more) = λ more. ap (λ (k : List ℕ). text_last (record old { kept = k })) (sym (append_assoc old.kept piece more)) in
     record {
@@ -252,7 +254,7 @@ HasReadText-push old pushed piece given going lines h =
       goes_on = λ more n final stands. goes-push old pushed piece given going h more n stands;
     }
 
-pub push-read : (v old new : TextState) (piece : List ℕ) → v ≡ old → old.ended ≡ false → v.stage ≡ Lines → new ≡ record v { kept = v.kept ++ piece } → (pushed : List ℕ) (given : List Row) → HasReadText old pushed given → HasReadText new (pushed ++ piece) given
+pub push-read : (v old new : TextState) (piece : List ℕ) → v ≡ old → old.ended ≡ false → v.stage ≡ Lines → new ≡ record v { kept = v.kept ++ piece; held = None } → (pushed : List ℕ) (given : List Row) → HasReadText old pushed given → HasReadText new (pushed ++ piece) given
 push-read v old new piece same going lines is pushed given h =
     subst (λ (s : TextState). HasReadText s (pushed ++ piece) given) (sym is)
     (HasReadText-push v pushed piece given (ap (λ (s : TextState). s.ended) same ∙ going) lines (subst (λ (s : TextState). HasReadText s pushed given) (sym same) h))
@@ -348,10 +350,10 @@ pub AnswersNext-line : (old new : TextState) (e : LineEnd) (len taken : ℕ) (an
     → AnswersNext Memory (text_reading new.options new.columns pushed) given (text_ending new.stage new.kept) answer
 AnswersNext-line old new e len taken (Ok (Some row)) pushed given lines going at t h = tt
 AnswersNext-line old new e len taken (Ok None) pushed given lines going at t h =
-    rw t.1 (tt, now old (record old { kept = []; stage = Marked }) pushed given Done going refl refl h (before old e len taken [] lines at ∙ t.0 (reading_after old.options old.columns (Some e) (drop taken old.kept ++ []))))
+    rw t.1 (tt, now old (record old { kept = []; stage = Marked; held = None }) pushed given Done going refl refl h (before old e len taken [] lines at ∙ t.0 (reading_after old.options old.columns (Some e) (drop taken old.kept ++ []))))
 AnswersNext-line old new e len taken (Err fault) pushed given lines going at (inl t) h = inl t.0
 AnswersNext-line old new e len taken (Err fault) pushed given lines going at (inr t) h =
-    rw t.1 (inr (refl, now old (record old { kept = []; stage = Failed fault }) pushed given (Bad fault) going refl refl h (before old e len taken [] lines at ∙ t.0.is (reading_after old.options old.columns (Some e) (drop taken old.kept ++ [])))))
+    rw t.1 (inr (refl, now old (record old { kept = []; stage = Failed fault; held = None }) pushed given (Bad fault) going refl refl h (before old e len taken [] lines at ∙ t.0.is (reading_after old.options old.columns (Some e) (drop taken old.kept ++ [])))))
 
 -- no line is whole
 pub AnswersNext-none : (old : TextState) (s : Scan) (pushed : List ℕ) (given : List Row) → old.stage ≡ Lines → old.ended ≡ false → IsScanned old.options.delimiter old.line_end old.kept s → StandsAt old.line_end old.kept s → HasReadText old pushed given

@@ -74,8 +74,8 @@ WritesTextFields o n (field ∷ fields) old new = (mid : List ℕ)
     × Writes (next_fault o n field) (next_written o n field) old (Ok tt) mid
     × WritesTextFields o (suc n) fields mid new
 
--- The fields of a row that were written one by one, and then its end, are the row written: it has no
--- fault, and its canonical line is appended.
+-- The fields of a row that were written one by one, and then its end, are the row written: it has
+-- no fault, and its canonical line is appended.
 pub record FieldsAreLine : Type 0 where
   pub line : (o : Options) (row : Row) (old mid new : List ℕ) → WritesTextFields o 0 row old mid
       → Writes (end_fault (length row)) (newline ∷ []) mid (Ok tt) new

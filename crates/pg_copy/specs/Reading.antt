@@ -1,5 +1,5 @@
--- What the bytes of a file, or of its beginning, are read as; what a call answers that looks for the
--- next row; and the numbers that a reader tells.
+-- What the bytes of a file, or of its beginning, are read as; what a call answers that looks for
+-- the next row; and the numbers that a reader tells.
 use Rattle.std.specs.Prelude.{◌≡◌, ℕ, suc, ◌<◌, nat_lt, if◌then◌else◌, ◌⊎◌, List, [], ◌∷◌, ◌++◌, length, Option, Some, None, Result, Ok, Err}
 use Rattle.pg_copy.specs.Row.{Row}
 

@@ -8,7 +8,7 @@ ghost use Rattle.pg_copy.specs.Row.{Row};
 ghost use Rattle.pg_copy.specs.Reading.{RowWaits, given_by, AnswersNext, one_more, told, given_after};
 ghost use Rattle.pg_copy.specs.BinaryPart.{Incomplete, fixed_at, head_at, binary_reading, binary_file_reading};
 ghost use Rattle.pg_copy.specs.BinaryReader.{HasReadBinary, PushesBinary, IsReading, WaitsWith, rows_begin, binary_left, binary_ending};
-ghost use Rattle.pg_copy.specs.BinaryLent.{as_next, Lends};
+ghost use Rattle.pg_copy.specs.Lent.{as_next, Lends};
 ghost use Rattle.pg_copy.specs.Private.BinaryPart.{IsRowAt, HasRowAt, lending, let_go, start_offset, TakesPart, FindsNext, stage_of, extension_left, in_extension};
 
 use crate::Row;

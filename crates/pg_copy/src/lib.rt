@@ -22,7 +22,9 @@ mod text_field;
 mod text_line;
 mod text_options;
 mod text_reader;
+mod text_row;
 mod text_row_writer;
+mod text_stage;
 mod text_writer;
 
 pub use binary_reader::BinaryReader;
@@ -35,6 +37,7 @@ pub use fault::{BinaryFault, OptionFault, RowFault, TextFault};
 pub use pg_seq::Seq;
 pub use text_options::TextOptions;
 pub use text_reader::TextReader;
+pub use text_row::{LentTexts, TextRow};
 pub use text_row_writer::TextRowWriter;
 pub use text_writer::{write_text_field, write_text_row, write_text_row_with};
 

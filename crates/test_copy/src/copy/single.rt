@@ -72,3 +72,37 @@ fn a_field_like_null_is_refused(rt: HostRuntime) -> Result<(), Fail> {
     assert_eq!(rt; writer.end(&mut lines), Err(RowFault::Width(0)));
     Ok(())
 }
+
+/// Whether the reader lends a row of these values.
+fn lends(reader: &TextReader, values: &[Option<&[u8]>]) -> bool {
+    let Some(row) = reader.held() else {
+        return false;
+    };
+    let mut count = 0;
+    for value in row.values() {
+        if count >= values.len() || values[count] != value {
+            return false;
+        }
+        count += 1;
+    }
+    count == values.len()
+}
+
+#[test]
+fn rows_of_text_are_lent(rt: HostRuntime) -> Result<(), Fail> {
+    let mut reader = TextReader::new(rt.alloc(), Some(4));
+    reader.push(b"a\\tb\tplain\t\\N\t\\\\N\n\\x41\\102\t\td\\\\\te\n\\.\n")?;
+    assert!(rt; !lends(&reader, &[]));
+    assert_eq!(rt; reader.next_lent(), Ok(true));
+    assert!(rt;
+        lends(
+            &reader,
+            &[Some(b"a\tb"), Some(b"plain"), None, Some(b"\\N")]
+        )
+    );
+    assert_eq!(rt; reader.next_lent(), Ok(true));
+    assert!(rt; lends(&reader, &[Some(b"AB"), Some(b""), Some(b"d\\"), Some(b"e")]));
+    assert_eq!(rt; reader.next_lent(), Ok(false));
+    assert!(rt; reader.held().is_none() && reader.done());
+    Ok(())
+}
