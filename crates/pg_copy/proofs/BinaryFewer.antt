@@ -7,9 +7,9 @@ use Rattle.pg_copy.specs.declared.binary_part.NoRow.TheVariants as no_row
 use Rattle.pg_copy.specs.declared.binary_reader.BinaryStage.{BinaryStage}
 use Rattle.pg_copy.specs.declared.binary_reader.BinaryStage.TheVariants.{Head, Extension, Rows, Closed, Failed}
 use Rattle.pg_copy.specs.Row.{Row}
-use Rattle.pg_copy.specs.Reading.{given_by}
+use Rattle.pg_copy.specs.Reading.{given_by, given_after}
 use Rattle.pg_copy.specs.BinaryPart.{NoPart, ◌>>=◌, bytes_at, head_at, row_at}
-use Rattle.pg_copy.specs.BinaryReader.{BinaryState, given_after}
+use Rattle.pg_copy.specs.BinaryReader.{BinaryState}
 use Rattle.pg_copy.specs.Private.BinaryPart.{row_or_trailer, body_at, part_at, TakesPart}
 use Rattle.pg_copy.proofs.BinaryReads.{TakesAtLeast, takes_bind, takes_none, bytes_take, less, row_takes, head_takes, shorter}
 use Rattle.pg_copy.proofs.BinaryHistory.{next_answer, last_answer, finished, Goes-part, given-next}

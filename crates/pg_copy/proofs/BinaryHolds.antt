@@ -10,10 +10,10 @@ use Rattle.pg_copy.specs.declared.binary_part.Place.{Place}
 use Rattle.pg_copy.specs.declared.binary_reader.BinaryStage.{BinaryStage}
 use Rattle.pg_copy.specs.declared.binary_reader.BinaryStage.TheVariants.{Head, Extension, Rows, Closed, Failed}
 use Rattle.pg_copy.specs.Row.{Row}
-use Rattle.pg_copy.specs.Reading.{RowsRead, RowsEnding, given_by, AnswersNext}
+use Rattle.pg_copy.specs.Reading.{RowsRead, RowsEnding, given_by, AnswersNext, one_more, told, given_after}
 use Rattle.pg_copy.specs.BinaryPart.{NoPart, Incomplete, Faulty, bytes_at, fixed_at, head_at}
-use Rattle.pg_copy.specs.BinaryReader.{BinaryState, one_more, told, rows_begin, given_after, HasReadBinary}
-use Rattle.pg_copy.specs.BinaryLent.{as_next}
+use Rattle.pg_copy.specs.BinaryReader.{BinaryState, rows_begin, HasReadBinary}
+use Rattle.pg_copy.specs.Lent.{as_next}
 use Rattle.pg_copy.specs.Private.RowBuffer.{RowBytes}
 use Rattle.pg_copy.specs.Private.BinaryRow.{held_row}
 use Rattle.pg_copy.specs.Private.BinaryPart.{IsRowAt, lending, let_go, extension_left, in_extension, after_head, waiting_at, waiting, stage_of, IsAfterHead, IsLooked, row_offset, start_offset, offset_after, FindsNext, TakesPart}

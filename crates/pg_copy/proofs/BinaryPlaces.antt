@@ -9,9 +9,10 @@ use Rattle.pg_copy.specs.declared.binary_reader.BinaryStage.TheVariants.{Head, E
 use Rattle.pg_copy.specs.Row.{Row}
 use Rattle.pg_copy.specs.Binary.{binary_row}
 use Rattle.pg_copy.specs.BinaryPart.{NoPart, ◌>>=◌, fixed_at, head_at}
-use Rattle.pg_copy.specs.BinaryReader.{told, rows_begin, rows_size, EndsAt, IsPlaced, kept_of, stage_after}
+use Rattle.pg_copy.specs.BinaryReader.{rows_begin, rows_size, EndsAt, IsPlaced, kept_of, stage_after}
+use Rattle.pg_copy.specs.Reading.{told}
 use Rattle.pg_copy.specs.Private.BinaryPart.{body_at, part_at, row_offset, offset_after}
-use Rattle.pg_copy.proofs.BinaryCounts.{told-small, told-add}
+use Rattle.pg_copy.proofs.Numbers.{told-small, told-add}
 use Rattle.pg_copy.proofs.BinaryReads.{Grows, fixed_grows}
 use Rattle.pg_copy.proofs.BinaryHeads.{fixed-low, head-of-fixed}
 

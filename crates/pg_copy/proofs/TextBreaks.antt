@@ -9,8 +9,8 @@ use Rattle.pg_copy.specs.declared.line_end.LineEnd.{LineEnd}
 use Rattle.pg_copy.specs.declared.line_end.LineEnd.TheVariants.{Newline, Return, Both}
 use Rattle.pg_copy.specs.declared.line_end.LineBreak.TheVariants.{Ends, Stays}
 use Rattle.pg_copy.specs.declared.scan.Scan.{Scan}
-use Rattle.pg_copy.specs.Text.{line_end_from, pairs_from, lines_from, lines, decided_by, decided_at_end}
-use Rattle.pg_copy.specs.Private.Breaks.{end_len, is_break, at_newline, at_return, break_at, decided_from, MayEnd, put_before, Steps, EndsHere, FirstStays, IsBreak, IsFirstLine, IsLastLine}
+use Rattle.pg_copy.specs.Text.{end_len, line_end_from, pairs_from, lines_from, lines, decided_by, decided_at_end}
+use Rattle.pg_copy.specs.Private.Breaks.{is_break, at_newline, at_return, break_at, decided_from, MayEnd, put_before, Steps, EndsHere, FirstStays, IsBreak, IsFirstLine, IsLastLine}
 use Rattle.pg_copy.specs.Private.Units.{IsPlain, IsCounted, IsScanned, StandsAt, after}
 use Rattle.pg_copy.proofs.TextParts.{counted-plain, counted-after}
 

@@ -1,15 +1,17 @@
 -- Lines of text files.
-use Rattle.std.proofs.Common.{◌≡◌, ℕ, ◌+◌, ◌<◌, ◌≤◌, Bool, true, false, eqb, List, [], ◌∷◌, ◌++◌, length, take, drop, map, get_or, Option, Result, Ok, Err, zero, suc, refl, sym, ap, subst, ◌∙◌, append_assoc, arith}
+use Rattle.std.proofs.Common.{◌≡◌, ℕ, ◌+◌, ◌<◌, ◌≤◌, Bool, true, false, eqb, List, [], ◌∷◌, ◌++◌, length, take, drop, map, get_or, Option, Result, Ok, Err, zero, suc, refl, sym, ap, subst, ◌∙◌, append_assoc, arith, inl, inr}
+use Rattle.std.specs.Prelude.{◌⊎◌, ◌||◌}
+use Rattle.std.specs.List.{flat_map}
 use Rattle.std.specs.Str.{bytes_eq}
 use Rattle.std.proofs.lemmas.Bool.{cond-true, cond-false}
-use Rattle.std.proofs.lemmas.List.{take_all, take_more}
+use Rattle.std.proofs.lemmas.List.{take_all, take_more, append-nil}
 use Rattle.pg_copy.specs.declared.fault.TextFault.{TextFault}
 use Rattle.pg_copy.specs.declared.fault.TextFault.TheVariants.{RawReturn, RawNewline, LoneBackslash, Columns}
 use Rattle.pg_copy.specs.declared.scan.Scan.{Scan}
 use Rattle.pg_copy.specs.Row.{Row}
 use Rattle.pg_copy.specs.Reading.{RowsRead}
 use Rattle.pg_copy.specs.Text.{Options, newline, carriage_return, parts, has_unit, ends_escaped, end_mark, fits_width, field_value, line_row, line_reading, row_or_fault}
-use Rattle.pg_copy.specs.Private.Units.{units, units_from, IsCounted, IsUnitAt, NoBackslash, IsFieldWalked, IsFieldEnd, IsPlain}
+use Rattle.pg_copy.specs.Private.Units.{units, units_from, IsCounted, IsUnitAt, NoBackslash, has_backslash, IsFieldWalked, IsFieldEnd, IsPlain}
 use Rattle.pg_copy.specs.Private.TextLine.{LineGives, LineEnds, LineFails}
 use Rattle.pg_copy.proofs.TextParts.{parts-first, parts-none, parts-length, has_unit-is, units-append, ends_escaped-append}
 
@@ -26,28 +28,57 @@ pub fields_last : (delimiter : ℕ) (value : List ℕ → Option (List ℕ)) (do
     → done ++ map value (parts delimiter rest) ≡ total → done ++ value rest ∷ [] ≡ total
 fields_last delimiter value done rest total h e = ap (λ (x : List (List ℕ)). done ++ map value x) (sym (parts-none delimiter rest h)) ∙ e
 
+-- the texts that are copied of one field more
+pub texts_more : (delimiter : ℕ) (text : List ℕ → List ℕ) (done rest : List ℕ) (n : ℕ) (total : List ℕ) → IsUnitAt delimiter rest n
+    → done ++ flat_map text (parts delimiter rest) ≡ total → (done ++ text (take n rest)) ++ flat_map text (parts delimiter (drop (n + 1) rest)) ≡ total
+texts_more delimiter text done rest n total h e =
+    append_assoc done (text (take n rest)) (flat_map text (parts delimiter (drop (n + 1) rest))) ∙ ap (λ (x : List (List ℕ)). done ++ flat_map text x) (sym (parts-first delimiter rest n h)) ∙ e
+
+-- those of the last field
+pub texts_last : (delimiter : ℕ) (text : List ℕ → List ℕ) (done rest total : List ℕ) → units delimiter rest ≡ 0
+    → done ++ flat_map text (parts delimiter rest) ≡ total → done ++ text rest ≡ total
+texts_last delimiter text done rest total h e =
+    ap (λ (x : List ℕ). done ++ x) (sym (append-nil (text rest))) ∙ ap (λ (x : List (List ℕ)). done ++ flat_map text x) (sym (parts-none delimiter rest h)) ∙ e
+
 NoBackslash-append : (a : List ℕ) (b : ℕ) → NoBackslash a → eqb b 92 ≡ false → NoBackslash (a ++ b ∷ [])
 NoBackslash-append [] b h k = (k, tt)
 NoBackslash-append (x ∷ a) b h k = (h.0, NoBackslash-append a b h.1 k)
 
+has-more : (a : List ℕ) (b : ℕ) → (has_backslash a ≡ true) ⊎ (eqb b 92 ≡ true) → has_backslash (a ++ b ∷ []) ≡ true
+has-more [] b (inl e) = absurd cc
+has-more [] b (inr e) = rw e refl
+has-more (x ∷ a) b h = go (has-more a b) (eqb x 92) h
+  where
+    go : ((has_backslash a ≡ true) ⊎ (eqb b 92 ≡ true) → has_backslash (a ++ b ∷ []) ≡ true) → (t : Bool) → ((t || has_backslash a) ≡ true) ⊎ (eqb b 92 ≡ true) → (t || has_backslash (a ++ b ∷ [])) ≡ true
+    go more true k = refl
+    go more false k = more k
+
 pub walked-more : (delimiter : ℕ) (bytes : List ℕ) (i b : ℕ) (escaped plain escaped' plain' : Bool) → i < length bytes → get_or bytes i 0 ≡ b → IsFieldWalked delimiter bytes i escaped plain
-    → ends_escaped escaped (b ∷ []) ≡ escaped' → units_from escaped delimiter (b ∷ []) ≡ 0 → (plain' ≡ true → (plain ≡ true) × (eqb b 92 ≡ false)) → IsFieldWalked delimiter bytes (i + 1) escaped' plain'
-walked-more delimiter bytes i b escaped plain escaped' plain' lt is h e n p =
+    → ends_escaped escaped (b ∷ []) ≡ escaped' → units_from escaped delimiter (b ∷ []) ≡ 0 → (plain' ≡ true → (plain ≡ true) × (eqb b 92 ≡ false)) → (plain' ≡ false → (plain ≡ false) ⊎ (eqb b 92 ≡ true)) → IsFieldWalked delimiter bytes (i + 1) escaped' plain'
+walked-more delimiter bytes i b escaped plain escaped' plain' lt is h e n p q =
     let more : take (i + 1) bytes ≡ take i bytes ++ b ∷ [] = take_more bytes i 0 lt ∙ ap (λ (x : ℕ). take i bytes ++ x ∷ []) is in
     record {
       escaped = ap (ends_escaped false) more ∙ ends_escaped-append false (take i bytes) (b ∷ []) ∙ ap (λ (t : Bool). ends_escaped t (b ∷ [])) h.escaped ∙ e;
       none = ap (units delimiter) more ∙ units-append false delimiter (take i bytes) (b ∷ []) ∙ ap (λ (t : Bool). units delimiter (take i bytes) + units_from t delimiter (b ∷ [])) h.escaped ∙ omega (arith, h.none, n);
       plain = λ t. rw more (NoBackslash-append (take i bytes) b (h.plain (p t).0) (p t).1);
+      escapes = λ t. rw more (has-more (take i bytes) b (before (q t)));
     }
+  where
+    before : (plain ≡ false) ⊎ (eqb b 92 ≡ true) → (has_backslash (take i bytes) ≡ true) ⊎ (eqb b 92 ≡ true)
+    before (inl t) = inl (h.escapes t)
+    before (inr t) = inr t
 
 -- plain bytes at the front
 pub walked-run : (delimiter : ℕ) (bytes : List ℕ) (n : ℕ) → n ≤ length bytes → ((i : ℕ) → 0 ≤ i → i < n → IsPlain delimiter (get_or bytes i 0)) → IsFieldWalked delimiter bytes n false true
-walked-run delimiter bytes zero le plain = record { escaped = refl; none = refl; plain = λ e. tt }
+walked-run delimiter bytes zero le plain = record { escaped = refl; none = refl; plain = λ e. tt; escapes = λ e. absurd (not-plain e) }
+  where
+    not-plain : true ≡ false → ⊥
+    not-plain e = cc
 walked-run delimiter bytes (suc n) le plain =
     let p = plain n (omega arith) (omega arith) in
     let one : n + 1 ≡ suc n = omega arith in
     subst (λ (i : ℕ). IsFieldWalked delimiter bytes i false true) one
-    (walked-more delimiter bytes n _ false true false true (omega arith) refl (walked-run delimiter bytes n (omega arith) (λ i a b. plain i a (omega (arith, b)))) (rw p.no_backslash refl) (rw p.no_delimiter refl) (λ t. (t, p.no_backslash)))
+    (walked-more delimiter bytes n _ false true false true (omega arith) refl (walked-run delimiter bytes n (omega arith) (λ i a b. plain i a (omega (arith, b)))) (rw p.no_backslash refl) (rw p.no_delimiter refl) (λ t. (t, p.no_backslash)) (λ t. inl t))
 
 -- where an escape was begun, the bytes aren't plain
 plain_closed : (a : List ℕ) → NoBackslash a → ends_escaped false a ≡ false
@@ -56,7 +87,7 @@ plain_closed (b ∷ a) h = rw h.0 (plain_closed a h.1)
 
 pub walked-escaped : (delimiter : ℕ) (bytes : List ℕ) (i b : ℕ) (plain : Bool) → i < length bytes → get_or bytes i 0 ≡ b → IsFieldWalked delimiter bytes i true plain → IsFieldWalked delimiter bytes (i + 1) false plain
 walked-escaped delimiter bytes i b plain lt is h =
-    walked-more delimiter bytes i b true plain false plain lt is h refl refl (λ t. absurd (clash (sym (plain_closed (take i bytes) (h.plain t)) ∙ h.escaped)))
+    walked-more delimiter bytes i b true plain false plain lt is h refl refl (λ t. absurd (clash (sym (plain_closed (take i bytes) (h.plain t)) ∙ h.escaped))) (λ t. inl t)
   where
     clash : false ≡ true → ⊥
     clash e = cc
@@ -64,6 +95,7 @@ walked-escaped delimiter bytes i b plain lt is h =
 pub walked-at : (delimiter : ℕ) (bytes : List ℕ) (i : ℕ) (plain : Bool) → i < length bytes → get_or bytes i 0 ≡ delimiter → IsFieldWalked delimiter bytes i false plain → IsFieldEnd delimiter bytes (record { len = i; plain = plain; last = false })
 walked-at delimiter bytes i plain lt is h = record {
   plain = h.plain;
+  escapes = h.escapes;
   more = λ e. record { in_range = lt; none = h.none; closed = h.escaped; is = is };
   whole = λ e. absurd (clash e);
 }
@@ -77,6 +109,7 @@ walked-end delimiter bytes i e plain le h =
     let whole : take (length bytes) bytes ≡ bytes = take_all (length bytes) bytes (omega arith) in
     record {
       plain = λ p. rw whole (rw all at h.plain p);
+      escapes = λ p. rw whole (rw all at h.escapes p);
       more = λ f. absurd (clash f);
       whole = λ f. (refl, rw all at h.none);
     }

@@ -21,7 +21,8 @@ use Rattle.pg_copy.proofs.TextValues.{digits-none}
 use Rattle.pg_copy.proofs.TextLines.{line_row-row}
 use Rattle.pg_copy.proofs.TextEscapes.{same-again, other-bytes}
 use Rattle.pg_copy.proofs.OptionFacts.{OptionFacts, option-facts, three}
-use Rattle.pg_copy.proofs.TextReads.{lines_reading-cons, not_backslash, after-none}
+use Rattle.pg_copy.proofs.TextPlaces.{not_backslash}
+use Rattle.pg_copy.proofs.TextReads.{lines_reading-cons, after-none}
 
 -- ---- letters
 

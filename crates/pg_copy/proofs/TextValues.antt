@@ -5,17 +5,17 @@ use Rattle.std.specs.Char.{digit_value}
 use Rattle.std.specs.Prelude.{MatchOption}
 use Rattle.std.specs.Option.{SomeIff}
 use Rattle.std.proofs.lemmas.Bool.{lt-ltb, le-ltb, cond-true, cond-false, ne_eqb, eq-eqb}
-use Rattle.std.proofs.lemmas.List.{take_more, drop_more, drop-drop, length-drop, length-take, get_or-drop, append-nil}
+use Rattle.std.proofs.lemmas.List.{take_more, drop_more, drop_all, drop-drop, length-drop, length-take, get_or-drop, append-nil}
 use Rattle.std.proofs.lemmas.List.Sums.{take_while-cons}
 use Rattle.std.specs.Str.{bytes_eq}
 use Rattle.pg_copy.specs.Private.Units.{LeadsWith, NoBackslash}
 use Rattle.pg_copy.specs.Text.{Options, field_value, digits_at, text_after, escape_at, digits_value, octal_escape, hex_escape}
 
 -- the value is read up to at, but for a run from start on that is copied as it is
-pub record IsReadTo (bytes : List ℕ) (start at : ℕ) (text : List ℕ) : Type 0 where
+pub record IsReadTo (old bytes : List ℕ) (start at : ℕ) (text : List ℕ) : Type 0 where
   pub in_order : start ≤ at
   pub in_range : at ≤ length bytes
-  pub rest : (text ++ take (at - start) (drop start bytes)) ++ text_after 0 (drop at bytes) ≡ text_after 0 bytes
+  pub rest : (text ++ take (at - start) (drop start bytes)) ++ text_after 0 (drop at bytes) ≡ old ++ text_after 0 bytes
 
 -- ---- digits
 
@@ -110,10 +110,25 @@ run_more bytes start i le lt =
     let more = take_more (drop start bytes) (i - start) 0 (omega (arith, length-drop start bytes)) in
     ap (λ (n : ℕ). take n (drop start bytes)) one ∙ more ∙ ap (λ (x : ℕ). take (i - start) (drop start bytes) ++ x ∷ []) (get_or-drop start bytes (i - start) 0 ∙ ap (λ (n : ℕ). get_or bytes n 0) place)
 
-pub IsReadTo-plain : (bytes : List ℕ) (start at : ℕ) (text : List ℕ) → at < length bytes → (get_or bytes at 0 ≡ 92 → ⊥) → IsReadTo bytes start at text → IsReadTo bytes start (at + 1) text
-IsReadTo-plain bytes start at text lt plain h =
+-- where the text goes on, at a byte that stands for itself and at an escape
+text-plain : (bytes : List ℕ) (at : ℕ) → at < length bytes → (get_or bytes at 0 ≡ 92 → ⊥) → text_after 0 (drop at bytes) ≡ get_or bytes at 0 ∷ text_after 0 (drop (at + 1) bytes)
+text-plain bytes at lt plain = ap (text_after 0) (drop_more bytes at 0 lt) ∙ cond-false (eqb (get_or bytes at 0) 92) _ _ (ne_eqb (get_or bytes at 0) 92 plain)
+
+text-escape : (bytes : List ℕ) (at byte len : ℕ) → at < length bytes → get_or bytes at 0 ≡ 92 → (byte, len) ≡ escape_at (drop (at + 1) bytes) → text_after 0 (drop at bytes) ≡ byte ∷ text_after 0 (drop (at + (1 + len)) bytes)
+text-escape bytes at byte len lt is value =
+    let bs = drop (at + 1) bytes in
+    let place : (at + 1) + len ≡ at + (1 + len) = omega arith in
+    let after : text_after (escape_at bs).1 bs ≡ text_after 0 (drop (at + (1 + len)) bytes) =
+    ap (λ (x : ℕ × ℕ). text_after x.1 bs) (sym value) ∙ text_after-drop len bs ∙ ap (text_after 0) (drop-drop len (at + 1) bytes ∙ ap (λ (n : ℕ). drop n bytes) place) in
+    ap (text_after 0) (drop_more bytes at 0 lt) ∙ cond-true (eqb (get_or bytes at 0) 92) _ _ (eq-eqb (get_or bytes at 0) 92 is) ∙ ap (λ (x : ℕ). x ∷ text_after (escape_at bs).1 bs) (ap (λ (x : ℕ × ℕ). x.0) (sym value)) ∙ ap (λ (x : List ℕ). byte ∷ x) after
+
+pub IsReadTo-begin : (old bytes : List ℕ) → IsReadTo old bytes 0 0 old
+IsReadTo-begin old bytes = record { in_order = omega arith; in_range = omega arith; rest = ap (λ (x : List ℕ). x ++ text_after 0 bytes) (append-nil old) }
+
+pub IsReadTo-plain : (old bytes : List ℕ) (start at : ℕ) (text : List ℕ) → at < length bytes → (get_or bytes at 0 ≡ 92 → ⊥) → IsReadTo old bytes start at text → IsReadTo old bytes start (at + 1) text
+IsReadTo-plain old bytes start at text lt plain h =
     let b = get_or bytes at 0 in
-    let next : text_after 0 (drop at bytes) ≡ b ∷ text_after 0 (drop (at + 1) bytes) = ap (text_after 0) (drop_more bytes at 0 lt) ∙ cond-false (eqb b 92) _ _ (ne_eqb b 92 plain) in
+    let next = text-plain bytes at lt plain in
     let run = run_more bytes start at h.in_order lt in
     record {
       in_order = omega (arith, h.in_order);
@@ -121,21 +136,43 @@ IsReadTo-plain bytes start at text lt plain h =
       rest = rw run (ap (λ (x : List ℕ). x ++ text_after 0 (drop (at + 1) bytes)) (sym (append_assoc text (take (at - start) (drop start bytes)) (b ∷ []))) ∙ append_assoc (text ++ take (at - start) (drop start bytes)) (b ∷ []) (text_after 0 (drop (at + 1) bytes)) ∙ ap (λ (x : List ℕ). (text ++ take (at - start) (drop start bytes)) ++ x) (sym next) ∙ h.rest);
     }
 
-pub IsReadTo-escape : (bytes : List ℕ) (start at : ℕ) (text : List ℕ) (byte len : ℕ) → at < length bytes → get_or bytes at 0 ≡ 92 → (byte, len) ≡ escape_at (drop (at + 1) bytes) → len ≤ length (drop (at + 1) bytes)
-    → IsReadTo bytes start at text → IsReadTo bytes (at + (1 + len)) (at + (1 + len)) ((text ++ take (at - start) (drop start bytes)) ++ byte ∷ [])
-IsReadTo-escape bytes start at text byte len lt is value le h =
-    let bs = drop (at + 1) bytes in
-    let place : (at + 1) + len ≡ at + (1 + len) = omega arith in
-    let after : text_after (escape_at bs).1 bs ≡ text_after 0 (drop (at + (1 + len)) bytes) =
-    ap (λ (x : ℕ × ℕ). text_after x.1 bs) (sym value) ∙ text_after-drop len bs ∙ ap (text_after 0) (drop-drop len (at + 1) bytes ∙ ap (λ (n : ℕ). drop n bytes) place) in
-    let next : text_after 0 (drop at bytes) ≡ byte ∷ text_after 0 (drop (at + (1 + len)) bytes) =
-    ap (text_after 0) (drop_more bytes at 0 lt) ∙ cond-true (eqb (get_or bytes at 0) 92) _ _ (eq-eqb (get_or bytes at 0) 92 is) ∙ ap (λ (x : ℕ). x ∷ text_after (escape_at bs).1 bs) (ap (λ (x : ℕ × ℕ). x.0) (sym value)) ∙ ap (λ (x : List ℕ). byte ∷ x) after in
+pub IsReadTo-escape : (old bytes : List ℕ) (start at : ℕ) (text : List ℕ) (byte len : ℕ) → at < length bytes → get_or bytes at 0 ≡ 92 → (byte, len) ≡ escape_at (drop (at + 1) bytes) → len ≤ length (drop (at + 1) bytes)
+    → IsReadTo old bytes start at text → IsReadTo old bytes (at + (1 + len)) (at + (1 + len)) ((text ++ take (at - start) (drop start bytes)) ++ byte ∷ [])
+IsReadTo-escape old bytes start at text byte len lt is value le h =
+    let next = text-escape bytes at byte len lt is value in
     let none : (at + (1 + len)) - (at + (1 + len)) ≡ 0 = omega arith in
     record {
       in_order = omega arith;
       in_range = omega (arith, length-drop (at + 1) bytes);
       rest = rw none (ap (λ (x : List ℕ). x ++ text_after 0 (drop (at + (1 + len)) bytes)) (append-nil ((text ++ take (at - start) (drop start bytes)) ++ byte ∷ [])) ∙ append_assoc (text ++ take (at - start) (drop start bytes)) (byte ∷ []) (text_after 0 (drop (at + (1 + len)) bytes)) ∙ ap (λ (x : List ℕ). (text ++ take (at - start) (drop start bytes)) ++ x) (sym next) ∙ h.rest);
     }
+
+-- ---- how many bytes a text has
+
+-- so many bytes of the text were counted up to at
+pub record IsCountedTo (bytes : List ℕ) (at len : ℕ) : Type 0 where
+  pub in_range : at ≤ length bytes
+  pub few : len ≤ at
+  pub rest : len + length (text_after 0 (drop at bytes)) ≡ length (text_after 0 bytes)
+
+pub IsCountedTo-begin : (bytes : List ℕ) → IsCountedTo bytes 0 0
+IsCountedTo-begin bytes = record { in_range = omega arith; few = omega arith; rest = omega arith }
+
+pub IsCountedTo-plain : (bytes : List ℕ) (at len : ℕ) → at < length bytes → (get_or bytes at 0 ≡ 92 → ⊥) → IsCountedTo bytes at len → IsCountedTo bytes (at + 1) (len + 1)
+IsCountedTo-plain bytes at len lt plain h =
+    let next : length (text_after 0 (drop at bytes)) ≡ length (get_or bytes at 0 ∷ text_after 0 (drop (at + 1) bytes)) = ap length (text-plain bytes at lt plain) in
+    record { in_range = omega arith; few = omega (arith, h.few); rest = omega (arith, h.rest, next) }
+
+pub IsCountedTo-escape : (bytes : List ℕ) (at len byte escape : ℕ) → at < length bytes → get_or bytes at 0 ≡ 92 → (byte, escape) ≡ escape_at (drop (at + 1) bytes) → escape ≤ length (drop (at + 1) bytes) → IsCountedTo bytes at len → IsCountedTo bytes (at + (1 + escape)) (len + 1)
+IsCountedTo-escape bytes at len byte escape lt is value le h =
+    let next : length (text_after 0 (drop at bytes)) ≡ length (byte ∷ text_after 0 (drop (at + (1 + escape)) bytes)) = ap length (text-escape bytes at byte escape lt is value) in
+    record { in_range = omega (arith, length-drop (at + 1) bytes, le); few = omega (arith, h.few); rest = omega (arith, h.rest, next) }
+
+pub IsCountedTo-end : (bytes : List ℕ) (at len : ℕ) → length bytes ≤ at → IsCountedTo bytes at len → len ≡ length (text_after 0 bytes)
+IsCountedTo-end bytes at len le h =
+    let none : drop at bytes ≡ [] = drop_all at bytes le in
+    let nothing : length (text_after 0 (drop at bytes)) ≡ 0 = ap (λ (x : List ℕ). length (text_after 0 x)) none in
+    omega (arith, h.rest, nothing)
 
 -- ---- a field without a backslash
 

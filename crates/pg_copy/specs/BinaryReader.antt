@@ -1,13 +1,13 @@
 -- A reader of a binary file as its callers see it, what its calls do, and what it was given and has
 -- given.
-use Rattle.std.specs.Prelude.{◌≡◌, ℕ, suc, ◌+◌, ◌-◌, ◌<◌, ◌⊎◌, nat_lt, if◌then◌else◌, Bool, false, List, [], ◌∷◌, ◌++◌, length, drop, Option, None, Result, Ok, Err}
+use Rattle.std.specs.Prelude.{◌≡◌, ℕ, ◌+◌, ◌-◌, ◌<◌, ◌⊎◌, nat_lt, if◌then◌else◌, Bool, false, List, [], ◌∷◌, ◌++◌, length, drop, Option, None, Result, Ok, Err}
 use Rattle.std.specs.List.{flat_map}
 use Rattle.pg_copy.specs.declared.fault.BinaryFault.{BinaryFault}
 use Rattle.pg_copy.specs.declared.fault.BinaryFault.TheVariants.{AfterTrailer, Memory}
 use Rattle.pg_copy.specs.declared.binary_reader.BinaryStage.{BinaryStage}
 use Rattle.pg_copy.specs.declared.binary_reader.BinaryStage.TheVariants as stages
 use Rattle.pg_copy.specs.Row.{Row}
-use Rattle.pg_copy.specs.Reading.{RowsRead, RowsEnding, Open, Done, Bad, after_rows}
+use Rattle.pg_copy.specs.Reading.{RowsRead, RowsEnding, Open, Done, Bad, after_rows, told, one_more, given_after}
 use Rattle.pg_copy.specs.Binary.{binary_row}
 use Rattle.pg_copy.specs.BinaryPart.{NoPart, bytes_at, fixed_at, head_reading, binary_reading, body_reading, trailer_reading, binary_at_end, binary_file_reading}
 
@@ -23,19 +23,6 @@ pub record BinaryState : Type 0 where
   pub given : ℕ
   pub held : Option Row
   pub offset : ℕ
-
--- the number that a reader tells, of rows or bytes: the number itself, or the last one of 64 bits
-abbrev pub told : ℕ → ℕ
-told n = if nat_lt n 18446744073709551615 then n else 18446744073709551615
-
--- the number of rows that is told after one row more: it stays at the last one of 64 bits
-abbrev pub one_more : ℕ → ℕ
-one_more n = if nat_lt n 18446744073709551615 then suc n else n
-
--- the number of rows that is told after these rows too
-abbrev pub given_after : ℕ → List Row → ℕ
-given_after n [] = n
-given_after n (row ∷ rows) = given_after (one_more n) rows
 
 -- where the rows of a file begin, by what was read of the 19 bytes that every head has: after the
 -- extension, of this length; and at `none` where these bytes aren't there

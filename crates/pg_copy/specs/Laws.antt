@@ -1,13 +1,14 @@
 -- Laws of the formats.
-use Rattle.std.specs.Prelude.{◌≡◌, ℕ, ◌≤◌, false, List, [], ◌∷◌, ◌++◌, length, Option, Some, None, Ok}
+use Rattle.std.specs.Prelude.{◌≡◌, ℕ, suc, ◌≤◌, false, List, [], ◌∷◌, ◌++◌, length, Option, Some, None, Ok}
 use Rattle.std.specs.Int.{w16, to_be_bytes}
 use Rattle.std.specs.List.{flat_map, position_from, AllByRecursion}
 use Rattle.pg_copy.specs.Row.{Row, width_fault, field_fault, binary_fault, Writes}
+use Rattle.pg_copy.specs.TextWriter.{next_fault, next_written, end_fault}
 use Rattle.pg_copy.specs.declared.line_end.LineEnd.{LineEnd}
 use Rattle.pg_copy.specs.declared.line_end.LineEnd.TheVariants.{Newline}
 use Rattle.pg_copy.specs.declared.fault.BinaryFault.{BinaryFault}
 use Rattle.pg_copy.specs.Reading.{RowsEnding, Done, Ended, after_rows}
-use Rattle.pg_copy.specs.Text.{Options, default_options, backslash, ends_escaped, parts, field_value, line_row, FitsReader, lines, reading_after, text_reading, text_file_reading, written_row, is_like_null}
+use Rattle.pg_copy.specs.Text.{Options, default_options, backslash, newline, ends_escaped, parts, field_value, line_row, FitsReader, lines, reading_after, text_reading, text_file_reading, written_row, is_like_null, text_fault}
 use Rattle.pg_copy.specs.TextOptions.{AreOptions}
 use Rattle.pg_copy.specs.TextField.{IsField}
 use Rattle.pg_copy.specs.TextLine.{AreParts, AreLines, AreFields}
@@ -64,6 +65,21 @@ pub record TextRoundTrip : Type 0 where
       → text_file_reading o columns (flat_map (written_row o) rows)
       ≡ record { rows = rows; ending = Ended }
   pub by_default : (v : Option (List ℕ)) → is_like_null default_options v ≡ false
+
+-- These fields were written to a buffer one after the other, with these options and after n fields
+-- of their row, and each call answered Ok.
+abbrev pub WritesTextFields : Options → ℕ → Row → List ℕ → List ℕ → Type 0
+WritesTextFields o n [] old new = new ≡ old
+WritesTextFields o n (field ∷ fields) old new = (mid : List ℕ)
+    × Writes (next_fault o n field) (next_written o n field) old (Ok tt) mid
+    × WritesTextFields o (suc n) fields mid new
+
+-- The fields of a row that were written one by one, and then its end, are the row written: it has
+-- no fault, and its canonical line is appended.
+pub record FieldsAreLine : Type 0 where
+  pub line : (o : Options) (row : Row) (old mid new : List ℕ) → WritesTextFields o 0 row old mid
+      → Writes (end_fault (length row)) (newline ∷ []) mid (Ok tt) new
+      → Writes (text_fault o row) (written_row o row) old (Ok tt) new
 
 -- ---- binary
 

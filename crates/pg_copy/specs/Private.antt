@@ -4,4 +4,5 @@ pub mod Units
 pub mod TextLine
 pub mod BinaryPart
 pub mod RowBuffer
+pub mod TextRow
 pub mod BinaryRow

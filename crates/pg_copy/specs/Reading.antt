@@ -1,6 +1,6 @@
--- What the bytes of a file, or of its beginning, are read as; and what a call answers that looks
--- for the next row.
-use Rattle.std.specs.Prelude.{◌≡◌, ℕ, ◌<◌, ◌⊎◌, List, [], ◌∷◌, ◌++◌, length, Option, Some, None, Result, Ok, Err}
+-- What the bytes of a file, or of its beginning, are read as; what a call answers that looks for
+-- the next row; and the numbers that a reader tells.
+use Rattle.std.specs.Prelude.{◌≡◌, ℕ, suc, ◌<◌, nat_lt, if◌then◌else◌, ◌⊎◌, List, [], ◌∷◌, ◌++◌, length, Option, Some, None, Result, Ok, Err}
 use Rattle.pg_copy.specs.Row.{Row}
 
 -- What stands after the rows: bytes that may still become a row (Open), the end mark or the trailer
@@ -46,3 +46,16 @@ AnswersNext memory file given ending (Ok None) = IsGood ending
     × (file ≡ record { rows = given; ending = ending })
 AnswersNext memory file given ending (Err f) = (f ≡ memory)
     ⊎ ((ending ≡ Bad f) × (file ≡ record { rows = given; ending = Bad f }))
+
+-- the number that a reader tells, of rows or bytes: the number itself, or the last one of 64 bits
+abbrev pub told : ℕ → ℕ
+told n = if nat_lt n 18446744073709551615 then n else 18446744073709551615
+
+-- the number of rows that is told after one row more: it stays at the last one of 64 bits
+abbrev pub one_more : ℕ → ℕ
+one_more n = if nat_lt n 18446744073709551615 then suc n else n
+
+-- the number of rows that is told after these rows too
+abbrev pub given_after : ℕ → List Row → ℕ
+given_after n [] = n
+given_after n (row ∷ rows) = given_after (one_more n) rows

@@ -119,6 +119,12 @@ lines_from Both escaped bytes = pairs_from escaped bytes
 abbrev pub lines : LineEnd → List ℕ → List (List ℕ)
 lines e bytes = lines_from e false bytes
 
+-- how many bytes end a line
+abbrev pub end_len : LineEnd → ℕ
+end_len Newline = 1
+end_len Return = 1
+end_len Both = 2
+
 -- how lines end, where the file's lines before these bytes have decided this, or nothing
 abbrev pub decided_by : Option LineEnd → List ℕ → Option LineEnd
 decided_by None bytes = line_end bytes

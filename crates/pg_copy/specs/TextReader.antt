@@ -1,18 +1,19 @@
 -- A reader of a text file as its callers see it, what its calls do, and what it was given and has
 -- given.
-use Rattle.std.specs.Prelude.{◌≡◌, ℕ, ◌<◌, ◌⊎◌, Bool, false, List, [], ◌++◌, length, Option, Result, Ok, Err}
+use Rattle.std.specs.Prelude.{◌≡◌, ℕ, zero, suc, ◌+◌, ◌<◌, ◌⊎◌, Bool, false, List, [], ◌∷◌, ◌++◌, length, Option, None, Result, Ok, Err}
 use Rattle.pg_copy.specs.declared.fault.TextFault.{TextFault}
 use Rattle.pg_copy.specs.declared.fault.TextFault.TheVariants.{Memory}
 use Rattle.pg_copy.specs.declared.line_end.LineEnd.{LineEnd}
-use Rattle.pg_copy.specs.declared.text_reader.TextStage.{TextStage}
-use Rattle.pg_copy.specs.declared.text_reader.TextStage.TheVariants as stages
+use Rattle.pg_copy.specs.declared.text_stage.TextStage.{TextStage}
+use Rattle.pg_copy.specs.declared.text_stage.TextStage.TheVariants as stages
 use Rattle.pg_copy.specs.Row.{Row}
-use Rattle.pg_copy.specs.Reading.{RowsRead, RowsEnding, Open, Done, Ended, Bad, after_rows}
-use Rattle.pg_copy.specs.Text.{Options, reading_after, text_reading, last_after, text_file_reading}
+use Rattle.pg_copy.specs.Reading.{RowsRead, RowsEnding, Open, Done, Ended, Bad, after_rows, told}
+use Rattle.pg_copy.specs.Text.{Options, end_len, lines, decided_at_end, reading_after, text_reading, last_after, text_file_reading}
 
 -- a reader's options, its columns (None for any number), how the lines of the rows that it gave
--- ended (None before the first), the bytes that it keeps since they are no whole row yet, its stage,
--- and whether `finish` has ended the input
+-- ended (None before the first), the bytes that it keeps since they are no whole row yet, its
+-- stage, whether `finish` has ended the input, how many rows it has given, where in the file the
+-- line begins that comes next, and the row that it lends, if it lends one
 pub record TextState : Type 0 where
   pub options : Options
   pub columns : Option ℕ
@@ -20,6 +21,23 @@ pub record TextState : Type 0 where
   pub kept : List ℕ
   pub stage : TextStage
   pub ended : Bool
+  pub given : ℕ
+  pub offset : ℕ
+  pub held : Option Row
+
+-- where the first n of these lines end, or all where there are fewer: so many bytes end each line
+-- but the last
+abbrev pub lines_size : ℕ → ℕ → List (List ℕ) → ℕ
+lines_size end zero lines = 0
+lines_size end (suc n) [] = 0
+lines_size end (suc n) (line ∷ []) = length line
+lines_size end (suc n) (line ∷ next ∷ lines) =
+    length line + end + lines_size end n (next ∷ lines)
+
+-- where the first n lines end of bytes that come after lines which ended so, or after none
+unfoldable pub lines_end : Option LineEnd → List ℕ → ℕ → ℕ
+lines_end before bytes n =
+    lines_size (end_len (decided_at_end before bytes)) n (lines (decided_at_end before bytes) bytes)
 
 -- what a reader at this stage still gives of these bytes
 abbrev pub text_stage_reading : TextStage → Options → Option ℕ → Option LineEnd → List ℕ
@@ -46,7 +64,9 @@ abbrev pub text_last : TextState → RowsRead TextFault
 text_last s = text_stage_last s.stage s.options s.columns s.line_end s.kept
 
 -- The reader was pushed these bytes in all, and has given these rows: they are the first that a
--- file which begins so has, and what the reader still gives is the rest of that file's reading.
+-- file which begins so has, and what the reader still gives is the rest of that file's reading. It
+-- tells how many they are, and where as many lines end. While it is among the lines, those that
+-- come next are the lines of what it keeps.
 pub record HasReadText (s : TextState) (pushed : List ℕ) (given : List Row) : Type 0 where
   pub so_far : s.ended ≡ false → (more : List ℕ)
       → text_reading s.options s.columns (pushed ++ more) ≡ after_rows given (text_left s more)
@@ -54,6 +74,12 @@ pub record HasReadText (s : TextState) (pushed : List ℕ) (given : List Row) : 
       → text_file_reading s.options s.columns (pushed ++ more)
       ≡ after_rows given (text_last (record s { kept = s.kept ++ more }))
   pub in_all : text_file_reading s.options s.columns pushed ≡ after_rows given (text_last s)
+  pub counted : s.given ≡ told (length given)
+  pub placed : s.offset ≡ told (lines_end None pushed (length given))
+  pub goes_on : (more : List ℕ) (n : ℕ) → (s.ended ≡ false) ⊎ (more ≡ [])
+      → (s.stage ≡ stages.Lines) ⊎ (n ≡ 0)
+      → lines_end None (pushed ++ more) (length given + n)
+      ≡ lines_end None pushed (length given) + lines_end s.line_end (s.kept ++ more) n
 
 -- what stands after all rows, of a reader at this stage that keeps these bytes, while the input
 -- goes on
@@ -68,10 +94,10 @@ last_text_ending stages.Lines = Ended
 last_text_ending stages.Marked = Done
 last_text_ending (stages.Failed fault) = Bad fault
 
--- the reader after a piece that it took at this stage: among the rows it keeps the piece, after the
--- end mark it drops it
+-- the reader after a piece that it took at this stage: among the rows it keeps the piece, and lends
+-- no row any more; after the end mark it drops it
 abbrev pub kept_at : TextStage → TextState → List ℕ → TextState
-kept_at stages.Lines s piece = record s { kept = s.kept ++ piece }
+kept_at stages.Lines s piece = record s { kept = s.kept ++ piece; held = None }
 kept_at stages.Marked s piece = s
 kept_at (stages.Failed fault) s piece = s
 

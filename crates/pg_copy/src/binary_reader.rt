@@ -5,10 +5,10 @@ ghost use Rattle.pg_copy.specs.declared.fault.BinaryFault.{BinaryFault};
 ghost use Rattle.pg_copy.specs.declared.fault.BinaryFault.TheVariants.{Memory};
 ghost use Rattle.pg_copy.specs.declared.binary_reader.BinaryStage.TheVariants.{Head, Extension, Rows, Closed, Failed};
 ghost use Rattle.pg_copy.specs.Row.{Row};
-ghost use Rattle.pg_copy.specs.Reading.{RowWaits, given_by, AnswersNext};
+ghost use Rattle.pg_copy.specs.Reading.{RowWaits, given_by, AnswersNext, one_more, told, given_after};
 ghost use Rattle.pg_copy.specs.BinaryPart.{Incomplete, fixed_at, head_at, binary_reading, binary_file_reading};
-ghost use Rattle.pg_copy.specs.BinaryReader.{HasReadBinary, PushesBinary, IsReading, WaitsWith, one_more, told, rows_begin, given_after, binary_left, binary_ending};
-ghost use Rattle.pg_copy.specs.BinaryLent.{as_next, Lends};
+ghost use Rattle.pg_copy.specs.BinaryReader.{HasReadBinary, PushesBinary, IsReading, WaitsWith, rows_begin, binary_left, binary_ending};
+ghost use Rattle.pg_copy.specs.Lent.{as_next, Lends};
 ghost use Rattle.pg_copy.specs.Private.BinaryPart.{IsRowAt, HasRowAt, lending, let_go, start_offset, TakesPart, FindsNext, stage_of, extension_left, in_extension};
 
 use crate::Row;
@@ -16,6 +16,7 @@ use crate::binary_part::{
     Look, NoPart, NoRow, Place, RowOrTrailer, extension_left, find_part, values_of,
 };
 use crate::binary_row::BinaryRow;
+use crate::counts::{later, one_more};
 use crate::fault::BinaryFault;
 use crate::row_buffer::RowBuffer;
 use pg_seq::Seq;
@@ -37,25 +38,11 @@ pub enum BinaryStage {
     Failed(BinaryFault),
 }
 
-/// The number of rows given, after one more.
-fn one_more(given: u64) -> u64
-    ensures { result ≡ one_more given }
-{
-    given.saturating_add(1)
-}
-
 /// Where a row begins that stands so many bytes after the first of those that are kept: only a head stands before it.
 fn start_offset(offset: u64, start: usize) -> u64
     ensures { result ≡ start_offset offset start }
 {
     if start > 0 { start as u64 } else { offset }
-}
-
-/// The number after so many bytes more.
-fn later(offset: u64, size: usize) -> u64
-    ensures { result ≡ told (offset + size) }
-{
-    offset.saturating_add(size as u64)
 }
 
 /// Takes a binary file in any pieces, and gives exactly its rows.

@@ -8,7 +8,7 @@ ghost use Rattle.pg_copy.specs.Binary.{value, binary_row, written_head, trailer}
 
 use crate::Row;
 use crate::fault::RowFault;
-use crate::format::{LONGEST_VALUE, MOST_FIELDS, NULL, SIGNATURE, TRAILER};
+use crate::format::{LONGEST_VALUE, MOST_FIELDS, NULL, SIGNATURE, TRAILER, lent};
 use pg_seq::Seq;
 use std::alloc::AllocError;
 
@@ -80,16 +80,6 @@ fn field_fault(field: Option<&[u8]>) -> Option<RowFault>
         return Some(RowFault::FieldLong);
     }
     None
-}
-
-/// A field of a row, lent.
-fn lent(field: &Option<Seq<u8>>) -> Option<&[u8]>
-    ensures { option_copied result ≡ field.now }
-{
-    match field {
-        None => None,
-        Some(bytes) => Some(bytes.as_slice()),
-    }
 }
 
 fn has_long(fields: &[Option<Seq<u8>>]) -> bool

@@ -1,6 +1,6 @@
 //! What both formats agree on, and the bytes that a file has for its structure.
 
-ghost use Rattle.std.specs.Prelude.{◌≡◌};
+ghost use Rattle.std.specs.Prelude.{◌≡◌, option_copied};
 ghost use Rattle.pg_copy.specs.Row.{is_misfit};
 
 use crate::Seq;
@@ -13,6 +13,16 @@ pub fn is_misfit(fields: &[Option<Seq<u8>>]) -> bool
     ensures { result ≡ is_misfit fields.now }
 {
     fields.is_empty() || fields.len() > MOST_FIELDS
+}
+
+/// A field of a row, lent.
+pub fn lent(field: &Option<Seq<u8>>) -> Option<&[u8]>
+    ensures { option_copied result ≡ field.now }
+{
+    match field {
+        None => None,
+        Some(bytes) => Some(bytes.as_slice()),
+    }
 }
 
 /// The byte that parts two fields.

@@ -1,7 +1,8 @@
 //! How the lines of a text file end.
 
 ghost use Rattle.std.specs.Prelude.{◌≡◌};
-ghost use Rattle.pg_copy.specs.Private.Breaks.{end_len, is_break, at_newline, at_return, break_at};
+ghost use Rattle.pg_copy.specs.Private.Breaks.{is_break, at_newline, at_return, break_at};
+ghost use Rattle.pg_copy.specs.Text.{end_len};
 
 /// What ends each line of a file: the first newline or return that isn't escaped decides it (PostgreSQL documentation, page COPY,
 /// "Text Format").

@@ -2,7 +2,8 @@
 
 ghost use Rattle.std.specs.Prelude.{◌≡◌, ◌+◌, ◌<◌, ◌≤◌, ◌^◌, length, Some, None, true, false};
 ghost use Rattle.pg_copy.specs.declared.line_end.LineEnd.{LineEnd};
-ghost use Rattle.pg_copy.specs.Private.Breaks.{end_len, IsFirstLine};
+ghost use Rattle.pg_copy.specs.Private.Breaks.{IsFirstLine};
+ghost use Rattle.pg_copy.specs.Text.{end_len};
 ghost use Rattle.pg_copy.specs.Private.Units.{IsScanned, StandsAt, after};
 
 use crate::line_end::{LineBreak, LineEnd, break_at, is_break};

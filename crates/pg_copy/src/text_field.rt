@@ -1,6 +1,6 @@
 //! The value of a field of a text file.
 
-ghost use Rattle.std.specs.Prelude.{◌≡◌, ◌≤◌, ◌<◌, ℕ, [], length, true, MatchOption, IfOk};
+ghost use Rattle.std.specs.Prelude.{◌≡◌, ◌≤◌, ◌<◌, ◌++◌, ℕ, [], length, true, MatchOption, IfOk, OnOk};
 ghost use Rattle.pg_copy.specs.Text.{letter_value, digits_at, octal_escape, hex_escape, escape_at, text_after, field_value};
 ghost use Rattle.pg_copy.specs.Private.Units.{LeadsWith, NoBackslash};
 
@@ -81,11 +81,10 @@ fn escape_at(bytes: &[u8]) -> (u8, usize)
     }
 }
 
-/// The text that the bytes spell.
-fn text_of(alloc: Global, bytes: &[u8]) -> Result<Vec<u8>, AllocError>
-    ensures { IfOk result (λ text. text.items ≡ text_after 0 bytes.now) }
+/// Appends the text that the bytes spell.
+pub fn put_text_of(bytes: &[u8], text: &mut Vec<u8>) -> Result<(), AllocError>
+    ensures { OnOk result (text.new.items ≡ text.old.items ++ text_after 0 bytes.now) }
 {
-    let mut text = Vec::with_capacity(alloc, bytes.len())?;
     // where the bytes begin that are still to be copied as they are
     let mut start = 0;
     let mut at = 0;
@@ -100,8 +99,34 @@ fn text_of(alloc: Global, bytes: &[u8]) -> Result<Vec<u8>, AllocError>
             at += 1;
         }
     }
-    text.extend_from_slice(&bytes[start..])?;
+    text.extend_from_slice(&bytes[start..])
+}
+
+/// The text that the bytes spell.
+fn text_of(alloc: Global, bytes: &[u8]) -> Result<Vec<u8>, AllocError>
+    ensures { IfOk result (λ text. text.items ≡ text_after 0 bytes.now) }
+{
+    let mut text = Vec::with_capacity(alloc, bytes.len())?;
+    put_text_of(bytes, &mut text)?;
     Ok(text)
+}
+
+/// How many bytes the text has that the bytes spell.
+pub fn text_len(bytes: &[u8]) -> usize
+    ensures { result ≡ length (text_after 0 bytes.now) }
+{
+    let mut len = 0;
+    let mut at = 0;
+    while at < bytes.len() {
+        len += 1;
+        if bytes[at] == b'\\' {
+            let (_, escape) = escape_at(&bytes[at + 1..]);
+            at += 1 + escape;
+        } else {
+            at += 1;
+        }
+    }
+    len
 }
 
 /// The value of a field, which is plain where it has no backslash. Null is looked at before any escape.

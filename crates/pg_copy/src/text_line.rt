@@ -72,7 +72,7 @@ pub struct FieldEnd {
 }
 
 /// Where the field at the front of a line's rest ends.
-fn field_end(rest: &[u8], delimiter: u8) -> FieldEnd
+pub fn field_end(rest: &[u8], delimiter: u8) -> FieldEnd
     ensures { IsFieldEnd delimiter rest.now result }
 {
     let mut escaped = false;

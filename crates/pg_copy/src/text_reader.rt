@@ -1,39 +1,33 @@
 //! Reading a text file that comes in pieces.
 
-ghost use Rattle.std.specs.Prelude.{◌≡◌, ◌++◌, ◌≤◌, ◌+◌, ◌^◌, ◌<◌, ◌↔◌, ℕ, List, Some, None, Ok, Err, [], true, false, length, IsTrue, OnOk, IfSome, ◌⊎◌};
+ghost use Rattle.std.specs.Prelude.{◌≡◌, ◌++◌, ◌≤◌, ◌+◌, ◌^◌, ◌<◌, ◌↔◌, ℕ, List, Some, None, Ok, Err, [], true, false, length, IsTrue, OnOk, OnErr, IfSome, ◌⊎◌};
 ghost use Rattle.pg_copy.specs.declared.fault.TextFault.{TextFault};
 ghost use Rattle.pg_copy.specs.declared.fault.TextFault.TheVariants.{Memory};
 ghost use Rattle.pg_copy.specs.declared.line_end.LineEnd.{LineEnd};
-ghost use Rattle.pg_copy.specs.declared.text_reader.TextStage.TheVariants.{Lines, Marked, Failed};
+ghost use Rattle.pg_copy.specs.declared.text_stage.TextStage.TheVariants.{Lines, Marked, Failed};
 ghost use Rattle.pg_copy.specs.Row.{Row};
-ghost use Rattle.pg_copy.specs.Reading.{RowWaits, given_by, AnswersNext};
-ghost use Rattle.pg_copy.specs.Text.{default_options, text_reading, text_file_reading};
+ghost use Rattle.pg_copy.specs.Reading.{RowWaits, given_by, given_after, AnswersNext};
+ghost use Rattle.pg_copy.specs.Text.{end_len, default_options, text_reading, text_file_reading};
+ghost use Rattle.pg_copy.specs.Lent.{as_next, Lends};
 ghost use Rattle.pg_copy.specs.TextReader.{HasReadText, PushesText, text_left, text_last, text_ending, last_text_ending};
 ghost use Rattle.pg_copy.specs.TextOptions.{AreOptions};
-ghost use Rattle.pg_copy.specs.Private.Breaks.{end_len, IsFirstLine};
+ghost use Rattle.pg_copy.specs.Private.Breaks.{IsFirstLine};
 ghost use Rattle.pg_copy.specs.Private.Units.{IsCounted, IsScanned, StandsAt};
-ghost use Rattle.pg_copy.specs.Private.TextLine.{TakesLine, TakesLast, EndsInput};
+ghost use Rattle.pg_copy.specs.Private.TextLine.{let_go, lending, LendsLine, TakesLine, TakesLast, EndsInput};
 
 use crate::Row;
+use crate::counts::{later, one_more};
 use crate::fault::TextFault;
 use crate::line_end::LineEnd;
+use crate::row_buffer::RowBuffer;
 use crate::scan::Scan;
 use crate::text_line::{JudgedLine, fields_of, judge};
 use crate::text_options::TextOptions;
-use pg_seq::{Buffer, Seq};
-use std::alloc::Global;
+use crate::text_row::{TextRow, put_texts};
+use crate::text_stage::TextStage;
+use pg_seq::Seq;
+use std::alloc::{AllocError, Global};
 use std::marker::Model;
-
-/// Where a reader of a text file stands.
-#[derive(Clone, Copy, Debug, Drop, PartialEq, Eq)]
-pub enum TextStage {
-    /// Among the lines.
-    Lines,
-    /// After the end mark.
-    Marked,
-    /// At a fault, which is not Memory.
-    Failed(TextFault),
-}
 
 /// Takes a text file in any pieces, and gives exactly its rows.
 ///
@@ -49,22 +43,39 @@ pub struct TextReader {
     columns: Option<u16>,
     // how the lines of the rows that were given ended
     line_end: Option<LineEnd>,
-    buffer: Buffer,
+    buffer: RowBuffer,
     // how far the first line of the buffer was walked over
     scan: Scan,
+    // how many bytes the line has whose row is lent, and the texts of its fields that have an escape
+    held_len: usize,
+    texts: Vec<u8>,
     stage: TextStage,
     ended: bool,
+    given: u64,
+    offset: u64,
 }
 
 impl Model for TextReader {
     ghost use Rattle.pg_copy.specs.TextReader.{TextState};
     ghost use Rattle.pg_copy.specs.Private.TextLine.{IsTextReader};
+    ghost use Rattle.pg_copy.specs.Private.TextRow.{held_line};
 
     ghost Value = { TextState };
 
-    ghost view = { λ r. record { options = r.options; columns = r.columns; line_end = r.line_end; kept = r.buffer; stage = r.stage; ended = r.ended } };
+    ghost view = { λ r. record {
+      options = r.options;
+      columns = r.columns;
+      line_end = r.line_end;
+      kept = r.buffer.kept;
+      stage = r.stage;
+      ended = r.ended;
+      given = r.given;
+      offset = r.offset;
+      held = held_line r.options r.held_len r.buffer.front;
+    } };
 
-    ghost invariant = { λ r. IsTextReader r.options.delimiter r.line_end r.buffer r.scan r.stage };
+    ghost invariant = { λ r.
+        IsTextReader r.options r.line_end r.buffer r.scan r.stage r.held_len r.texts.items };
 }
 
 impl TextReader {
@@ -79,6 +90,9 @@ impl TextReader {
           kept = [];
           stage = Lines;
           ended = false;
+          given = 0;
+          offset = 0;
+          held = None;
         } }
         ensures read { HasReadText result [] [] }
     {
@@ -95,6 +109,9 @@ impl TextReader {
           kept = [];
           stage = Lines;
           ended = false;
+          given = 0;
+          offset = 0;
+          held = None;
         } }
         ensures read { HasReadText result [] [] }
     {
@@ -103,10 +120,14 @@ impl TextReader {
             options,
             columns,
             line_end: None,
-            buffer: Buffer::new(alloc),
+            buffer: RowBuffer::new(alloc),
             scan: Scan::start(),
+            held_len: 0,
+            texts: Vec::new(alloc),
             stage: TextStage::Lines,
             ended: false,
+            given: 0,
+            offset: 0,
         }
     }
 
@@ -122,6 +143,23 @@ impl TextReader {
         ensures { result ≡ self.now.ended }
     {
         self.ended
+    }
+
+    /// How many rows were given, so that a caller can say which row a fault stands in the place of. The number stays at
+    /// `u64::MAX`.
+    pub fn rows_given(&self) -> u64
+        ensures { result ≡ self.now.given }
+    {
+        self.given
+    }
+
+    /// Where in the file the line begins that comes next: how many bytes stand before it, those of the rows that were given, with
+    /// what ends their lines. So after a fault it tells where the line begins that the fault stands in, and after the end mark where
+    /// that begins. The number stays at `u64::MAX`.
+    pub fn offset(&self) -> u64
+        ensures { result ≡ self.now.offset }
+    {
+        self.offset
     }
 
     /// Takes the next piece of the file, all of it, and drops it after the end mark. A fault that was found is answered again.
@@ -144,10 +182,9 @@ impl TextReader {
         }
     }
 
-    /// The next row, or None where no whole line waits or the end mark was read. A fault is
-    /// answered once all rows before it were given, and then for good. Memory is answered only
-    /// where a row waits, and leaves the reader unchanged (PostgreSQL documentation, page COPY,
-    /// "Text Format").
+    /// The next row, or None where no whole line waits or the end mark was read. A fault is answered once all rows before it were
+    /// given, and then for good. Memory is answered only where a row waits, and leaves the reader unchanged. Where it gives a row,
+    /// fewer bytes are kept, so that a loop over the rows comes to its end (PostgreSQL documentation, page COPY, "Text Format").
     pub fn next(&mut self) -> Result<Option<Row>, TextFault>
         requires { self.old.ended ≡ false }
         ensures read { (pushed : List ℕ) (given : List Row) → HasReadText self.old pushed given
@@ -159,9 +196,13 @@ impl TextReader {
         ensures columns { self.new.columns ≡ self.old.columns }
         ensures ended { self.new.ended ≡ false }
         ensures row { (row : Row) → result ≡ Ok (Some row) → self.new.stage ≡ Lines }
+        ensures given { self.new.given ≡ given_after self.old.given (given_by result) }
+        ensures fewer { (row : Row) → result ≡ Ok (Some row)
+            → length self.new.kept < length self.old.kept }
         ensures failed { (fault : TextFault) → self.old.stage ≡ Failed fault
             → (result ≡ Err fault) × (self.new ≡ self.old) }
         ensures marked { self.old.stage ≡ Marked → (result ≡ Ok None) × (self.new ≡ self.old) }
+        ensures held { result ≡ Err Memory ⊎ self.new.held ≡ None }
         ensures memory { result ≡ Err Memory
             → (self.new ≡ self.old) × RowWaits (text_left self.old []) }
     {
@@ -172,16 +213,72 @@ impl TextReader {
                 let (scan, found) = self.walk();
                 match found {
                     Some(end) => self.take_line(scan, scan.at + end.len(), Some(end)),
-                    None => Ok(None),
+                    None => {
+                        self.let_go();
+                        Ok(None)
+                    }
                 }
             }
         }
     }
 
+    /// Whether a next row waits, which is then lent until the next change of the reader: [`TextReader::held`] gives it. It counts as
+    /// given, and the reader has its bytes until then; the text of a field that has an escape is copied, into a block that the reader
+    /// uses again. A fault is answered as `next` answers it. Memory is answered only where a row waits and that block could not
+    /// grow, and leaves the reader unchanged, but that it lends none (PostgreSQL documentation, page COPY, "Text Format").
+    pub fn next_lent(&mut self) -> Result<bool, TextFault>
+        requires { self.old.ended ≡ false }
+        ensures read { (pushed : List ℕ) (given : List Row) → HasReadText self.old pushed given
+            → HasReadText self.new pushed (given ++ given_by (as_next result self.new.held)) }
+        ensures gives { (pushed : List ℕ) (given : List Row) → HasReadText self.old pushed given
+            → AnswersNext Memory (text_reading self.new.options self.new.columns pushed) given
+            (text_ending self.new.stage self.new.kept) (as_next result self.new.held) }
+        ensures options { self.new.options ≡ self.old.options }
+        ensures columns { self.new.columns ≡ self.old.columns }
+        ensures ended { self.new.ended ≡ false }
+        ensures lends { Lends result self.new.held }
+        ensures row { result ≡ Ok true → self.new.stage ≡ Lines }
+        ensures given { self.new.given
+            ≡ given_after self.old.given (given_by (as_next result self.new.held)) }
+        ensures fewer { result ≡ Ok true → length self.new.kept < length self.old.kept }
+        ensures failed { (fault : TextFault) → self.old.stage ≡ Failed fault
+            → (result ≡ Err fault) × (self.new ≡ self.old) }
+        ensures marked { self.old.stage ≡ Marked → (result ≡ Ok false) × (self.new ≡ self.old) }
+        ensures memory { result ≡ Err Memory
+            → (self.new ≡ record self.old { held = None }) × RowWaits (text_left self.old []) }
+    {
+        match self.stage {
+            TextStage::Failed(fault) => Err(fault),
+            TextStage::Marked => Ok(false),
+            TextStage::Lines => {
+                self.let_go();
+                let (scan, found) = self.walk();
+                match found {
+                    Some(end) => self.lend_line(scan, scan.at + end.len(), Some(end)),
+                    None => Ok(false),
+                }
+            }
+        }
+    }
+
+    /// The row that the last call of `next_lent` answered true for; None where another call of `push`, `next`, `next_lent` or
+    /// `finish` came after it, but for those of `push`, `next` and `finish` that answered Memory. It takes no memory.
+    pub fn held(&self) -> Option<TextRow<'_>>
+        ensures { result ≡ self.now.held }
+    {
+        match self.buffer.front() {
+            Some(bytes) => {
+                let line = &bytes[..self.held_len];
+                Some(TextRow::of_line(&self.options, line, self.texts.as_slice()))
+            }
+            None => None,
+        }
+    }
+
     /// Says that the input has ended, and gives the next row that is left, or None where none is: the last line need not be
     /// closed, and no line stands there where it is empty; a return that stands last ends its line, where it is the first newline or
-    /// return that isn't escaped. It is to be called until it answers None. Memory is answered only
-    /// where a row is left, and leaves the reader unchanged (PostgreSQL documentation, page COPY, "Text Format").
+    /// return that isn't escaped. It is to be called until it answers None. Memory is answered only where a row is left, and leaves
+    /// the reader unchanged (PostgreSQL documentation, page COPY, "Text Format").
     pub fn finish(&mut self) -> Result<Option<Row>, TextFault>
         ensures read { (pushed : List ℕ) (given : List Row) → HasReadText self.old pushed given
             → HasReadText self.new pushed (given ++ given_by result) }
@@ -192,10 +289,14 @@ impl TextReader {
         ensures columns { self.new.columns ≡ self.old.columns }
         ensures ended { result ≡ Err Memory ⊎ self.new.ended ≡ true }
         ensures row { (row : Row) → result ≡ Ok (Some row) → self.new.stage ≡ Lines }
+        ensures given { self.new.given ≡ given_after self.old.given (given_by result) }
+        ensures fewer { (row : Row) → result ≡ Ok (Some row)
+            → length self.new.kept < length self.old.kept }
         ensures failed { (fault : TextFault) → self.old.stage ≡ Failed fault
             → (result ≡ Err fault) × (self.new ≡ record self.old { ended = true }) }
         ensures marked { self.old.stage ≡ Marked
             → (result ≡ Ok None) × (self.new ≡ record self.old { ended = true }) }
+        ensures held { result ≡ Err Memory ⊎ self.new.held ≡ None }
         ensures memory { result ≡ Err Memory
             → (self.new ≡ self.old) × RowWaits (text_last self.old) }
     {
@@ -230,7 +331,7 @@ impl TextReader {
         let delimiter = self.options.delimiter();
         let found = self
             .scan
-            .find_end(self.buffer.as_slice(), delimiter, self.line_end);
+            .find_end(self.buffer.kept(), delimiter, self.line_end);
         (self.scan, found)
     }
 
@@ -247,7 +348,7 @@ impl TextReader {
         requires in_range { taken ≤ length self.old.kept }
         ensures { TakesLine scan.at taken line_end self.old result self.new }
     {
-        let line = &self.buffer.as_slice()[..scan.at];
+        let line = &self.buffer.kept()[..scan.at];
         match judge(&self.options, self.columns, line, scan) {
             JudgedLine::EndMark => {
                 self.stop(TextStage::Marked);
@@ -262,6 +363,8 @@ impl TextReader {
                     self.buffer.take(taken);
                     self.line_end = line_end;
                     self.scan = Scan::start();
+                    self.offset = later(self.offset, taken);
+                    self.given = one_more(self.given);
                     Ok(Some(Seq::new(fields)))
                 }
                 Err(_) => Err(TextFault::Memory),
@@ -269,13 +372,76 @@ impl TextReader {
         }
     }
 
+    /// Answers for the first line as `take_line` does, but lends its row.
+    fn lend_line(
+        &mut self,
+        scan: Scan,
+        taken: usize,
+        line_end: Option<LineEnd>,
+    ) -> Result<bool, TextFault>
+        requires lines { self.old.stage ≡ Lines }
+        requires options { AreOptions self.old.options }
+        requires counted { IsCounted self.old.options.delimiter self.old.kept scan }
+        requires in_order { scan.at ≤ taken }
+        requires in_range { taken ≤ length self.old.kept }
+        requires free { self.old.held ≡ None }
+        ensures { LendsLine scan.at taken line_end self.old result self.new }
+    {
+        let line = &self.buffer.kept()[..scan.at];
+        match judge(&self.options, self.columns, line, scan) {
+            JudgedLine::EndMark => {
+                self.stop(TextStage::Marked);
+                Ok(false)
+            }
+            JudgedLine::Faulty(fault) => {
+                self.stop(TextStage::Failed(fault));
+                Err(fault)
+            }
+            JudgedLine::Row(_) => match self.hold(scan.at, taken, line_end) {
+                Ok(()) => Ok(true),
+                Err(_) => Err(TextFault::Memory),
+            },
+        }
+    }
+
+    /// Takes a line off of so many bytes, with what ends it, and lends its row. Lines end so from then on.
+    fn hold(
+        &mut self,
+        len: usize,
+        taken: usize,
+        line_end: Option<LineEnd>,
+    ) -> Result<(), AllocError>
+        requires lines { self.old.stage ≡ Lines }
+        requires in_order { len ≤ taken }
+        requires in_range { taken ≤ length self.old.kept }
+        requires free { self.old.held ≡ None }
+        ensures ok { OnOk result (self.new ≡ lending len taken line_end self.old) }
+        ensures err { OnErr result (self.new ≡ self.old) }
+    {
+        self.texts.clear();
+        put_texts(&self.buffer.kept()[..len], &self.options, &mut self.texts)?;
+        self.buffer.hold(0, taken);
+        self.held_len = len;
+        self.line_end = line_end;
+        self.scan = Scan::start();
+        self.offset = later(self.offset, taken);
+        self.given = one_more(self.given);
+        Ok(())
+    }
+
+    /// Lends no row any more.
+    fn let_go(&mut self)
+        ensures { self.new ≡ let_go self.old }
+    {
+        self.buffer.take(0);
+    }
+
     /// Reads no more.
     fn stop(&mut self, stage: TextStage)
         requires { stage ≡ Failed Memory → ⊥ }
-        ensures { self.new ≡ record self.old { kept = []; stage = stage } }
+        ensures { self.new ≡ record self.old { kept = []; stage = stage; held = None } }
     {
-        let len = self.buffer.len();
-        self.buffer.take(len);
+        self.buffer.clear();
         self.scan = Scan::start();
         self.stage = stage;
     }
@@ -289,7 +455,8 @@ impl TextReader {
         if let Some(end) = found {
             return self.take_line(scan, scan.at + end.len(), Some(end));
         }
-        if self.buffer.len() == 0 {
+        if self.buffer.kept().is_empty() {
+            self.let_go();
             return Ok(None);
         }
         self.open_line(scan)
@@ -305,7 +472,7 @@ impl TextReader {
         requires some { 0 < length self.old.kept }
         ensures { TakesLast self.old result self.new }
     {
-        let len = self.buffer.len();
+        let len = self.buffer.kept().len();
         if scan.at == len {
             return self.take_line(scan, len, self.line_end);
         }

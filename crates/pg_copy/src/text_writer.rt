@@ -9,7 +9,7 @@ ghost use Rattle.pg_copy.specs.Text.{default_options, letter_for, written_byte, 
 
 use crate::Row;
 use crate::fault::RowFault;
-use crate::format::{DELIMITER, NULL_MARK, is_misfit};
+use crate::format::{is_misfit, lent};
 use crate::plain::plain_end;
 use crate::text_options::TextOptions;
 use pg_seq::Seq;
@@ -51,18 +51,19 @@ fn put_text(text: &[u8], delimiter: u8, buf: &mut Vec<u8>) -> Result<(), AllocEr
     buf.extend_from_slice(&text[start..])
 }
 
-fn put_field(
-    field: &Option<Seq<u8>>,
+/// Appends a field, as a line has it.
+pub fn put_field(
+    field: Option<&[u8]>,
     options: &TextOptions,
     buf: &mut Vec<u8>,
 ) -> Result<(), AllocError>
     ensures ok { OnOk result (buf.new.items
-        ≡ buf.old.items ++ written_field options.now field.now) }
+        ≡ buf.old.items ++ written_field options.now (option_copied field.entry)) }
     ensures err { OnErr result (take (length buf.old.items) buf.new.items ≡ buf.old.items) }
 {
     match field {
         None => buf.extend_from_slice(options.null_mark()),
-        Some(text) => put_text(text.as_slice(), options.delimiter(), buf),
+        Some(text) => put_text(text, options.delimiter(), buf),
     }
 }
 
@@ -79,7 +80,7 @@ fn put_row(
         if i > 0 {
             buf.push(options.delimiter())?;
         }
-        put_field(&fields[i], options, buf)?;
+        put_field(lent(&fields[i]), options, buf)?;
     }
     buf.push(b'\n')?;
     Ok(())
@@ -134,12 +135,13 @@ fn is_written_as(text: &[u8], delimiter: u8, bytes: &[u8]) -> bool
     rest.is_empty()
 }
 
-fn is_like_null(field: &Option<Seq<u8>>, options: &TextOptions) -> bool
-    ensures { result ≡ is_like_null options.now field.now }
+/// Whether a field is a text that is written as null is.
+pub fn is_like_null(field: Option<&[u8]>, options: &TextOptions) -> bool
+    ensures { result ≡ is_like_null options.now (option_copied field.entry) }
 {
     match field {
         None => false,
-        Some(text) => is_written_as(text.as_slice(), options.delimiter(), options.null_mark()),
+        Some(text) => is_written_as(text, options.delimiter(), options.null_mark()),
     }
 }
 
@@ -148,7 +150,7 @@ fn first_like_null(fields: &[Option<Seq<u8>>], options: &TextOptions) -> Option<
     ensures { result ≡ position_from (is_like_null options.now) 0 fields.now }
 {
     for i in 0..fields.len() {
-        if is_like_null(&fields[i], options) {
+        if is_like_null(lent(&fields[i]), options) {
             return Some(i);
         }
     }
@@ -156,19 +158,15 @@ fn first_like_null(fields: &[Option<Seq<u8>>], options: &TextOptions) -> Option<
 }
 
 /// Appends one field as a line has it: null is `\N`, the bytes 08 to 0D are written by their letters, a backslash is doubled, and all
-/// other bytes are written as they are. A caller whose values don't stand in a `Row` writes a line by it, with a tab between two
-/// fields and a newline after the last (PostgreSQL documentation, page COPY, "Text Format"). Memory is answered where the buffer
+/// other bytes are written as they are. A caller whose values don't stand in a `Row` writes a line by a
+/// [`TextRowWriter`](crate::TextRowWriter) (PostgreSQL documentation, page COPY, "Text Format"). Memory is answered where the buffer
 /// could not grow, and leaves `buf` as it was.
 pub fn write_text_field(field: Option<&[u8]>, buf: &mut Vec<u8>) -> Result<(), RowFault>
     ensures { Writes None (written_field default_options (option_copied field.entry)) buf.old.items
         result buf.new.items }
 {
     let before = buf.len();
-    let written = match field {
-        None => buf.extend_from_slice(&NULL_MARK),
-        Some(text) => put_text(text, DELIMITER, buf),
-    };
-    match written {
+    match put_field(field, &TextOptions::default(), buf) {
         Ok(()) => Ok(()),
         Err(_) => {
             buf.truncate(before);

@@ -2,6 +2,7 @@
 
 mod binary;
 mod faults;
+mod single;
 mod text;
 
 use pg_copy::{BinaryFault, BinaryReader, Row, Seq, TextFault, TextReader, write_text_row};

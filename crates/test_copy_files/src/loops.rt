@@ -29,7 +29,7 @@ fn take_left(reader: &mut BinaryReader, rows: &mut Vec<Row>) -> Result<()> {
 }
 
 /// The rows of a binary file that comes whole.
-pub fn rows_of(alloc: Global, bytes: &[u8]) -> Result<Vec<Row>> {
+fn rows_of(alloc: Global, bytes: &[u8]) -> Result<Vec<Row>> {
     let mut reader = BinaryReader::new(alloc, COLUMNS, LIMIT);
     let mut rows = Vec::new(alloc);
     reader.push(bytes)?;
@@ -62,7 +62,7 @@ fn write_waiting(reader: &mut BinaryReader, out: &mut Vec<u8>) -> Result<()>
 }
 
 /// A binary file written again from so many rows that the reader lends, which comes a byte at a time.
-pub fn written_again(alloc: Global, bytes: &[u8], rows: usize) -> Result<Vec<u8>> {
+fn written_again(alloc: Global, bytes: &[u8], rows: usize) -> Result<Vec<u8>> {
     let mut reader = BinaryReader::new(alloc, COLUMNS, LIMIT);
     let mut out = Vec::new(alloc);
     write_binary_head(&mut out)?;
@@ -94,7 +94,7 @@ fn fault_after(reader: &mut BinaryReader) -> Option<BinaryFault>
 }
 
 /// Where the row begins in place of which a fault stands, of a file whose trailer has another number of fields.
-pub fn place_of_fault(alloc: Global, bytes: &[u8]) -> Result<u64> {
+fn place_of_fault(alloc: Global, bytes: &[u8]) -> Result<u64> {
     ensure!(bytes.len() >= 2, "there is no trailer");
     let mut reader = BinaryReader::new(alloc, COLUMNS, LIMIT);
     reader.push(&bytes[..bytes.len() - 2])?;
@@ -104,4 +104,21 @@ pub fn place_of_fault(alloc: Global, bytes: &[u8]) -> Result<u64> {
         "another fault"
     );
     Ok(reader.offset())
+}
+
+/// Reads a binary file of these rows by the loops.
+pub fn check(alloc: Global, file: &[u8], rows: &[Row]) -> Result<()> {
+    ensure!(
+        rows_of(alloc, file)?.as_slice() == rows,
+        "a loop over the reader gives other rows"
+    );
+    ensure!(
+        written_again(alloc, file, rows.len())?.as_slice() == file,
+        "another binary file is written of rows that are lent"
+    );
+    ensure!(
+        place_of_fault(alloc, file)? == file.len().saturating_sub(2) as u64,
+        "a fault is told at another place"
+    );
+    Ok(())
 }

@@ -6,6 +6,7 @@ mod file;
 mod loops;
 #[cfg(test)]
 mod options;
+mod text_loops;
 
 use anyhow::{Result, bail, ensure};
 use file::{File, FileCut, read, write};
@@ -45,18 +46,8 @@ fn main(rt: HostRuntime) -> Result<()> {
         write::<BinaryReader>(alloc, of_text.as_slice())? == binary,
         "another binary file is written"
     );
-    ensure!(
-        loops::rows_of(alloc, binary.as_slice())?.as_slice() == of_binary.as_slice(),
-        "a loop over the reader gives other rows"
-    );
-    ensure!(
-        loops::written_again(alloc, binary.as_slice(), of_binary.len())? == binary,
-        "another binary file is written of rows that are lent"
-    );
-    ensure!(
-        loops::place_of_fault(alloc, binary.as_slice())? == binary.len().saturating_sub(2) as u64,
-        "a fault is told at another place"
-    );
+    loops::check(alloc, binary.as_slice(), of_binary.as_slice())?;
+    text_loops::check(alloc, text.as_slice(), of_text.as_slice())?;
     println!(rt;
         "{} rows, {} bytes in text, {} in binary",
         of_text.len(),

@@ -14,9 +14,9 @@ use Rattle.pg_copy.specs.declared.binary_part.RowOrTrailer.TheVariants as parts
 use Rattle.pg_copy.specs.declared.binary_reader.BinaryStage.{BinaryStage}
 use Rattle.pg_copy.specs.declared.binary_reader.BinaryStage.TheVariants.{Head, Extension, Rows, Closed, Failed}
 use Rattle.pg_copy.specs.Row.{Row}
-use Rattle.pg_copy.specs.Reading.{RowWaits}
+use Rattle.pg_copy.specs.Reading.{RowWaits, one_more, told, given_after}
 use Rattle.pg_copy.specs.BinaryPart.{NoPart, Incomplete, Faulty, ◌>>=◌, number_at, bytes_at, fixed_at, head_at, values_at, row_at}
-use Rattle.pg_copy.specs.BinaryReader.{BinaryState, one_more, told, given_after, rows_begin, binary_left}
+use Rattle.pg_copy.specs.BinaryReader.{BinaryState, rows_begin, binary_left}
 use Rattle.pg_copy.specs.Binary.{binary_row}
 use Rattle.pg_copy.specs.Private.RowBuffer.{RowBytes}
 

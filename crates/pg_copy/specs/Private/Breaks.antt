@@ -5,13 +5,7 @@ use Rattle.pg_copy.specs.declared.line_end.LineEnd.{LineEnd}
 use Rattle.pg_copy.specs.declared.line_end.LineEnd.TheVariants.{Newline, Return, Both}
 use Rattle.pg_copy.specs.declared.line_end.LineBreak.{LineBreak}
 use Rattle.pg_copy.specs.declared.line_end.LineBreak.TheVariants.{Ends, Stays, Waits}
-use Rattle.pg_copy.specs.Text.{backslash, newline, carriage_return, line_end_from, lines_from, lines, decided_by, decided_at_end}
-
--- how many bytes end a line
-abbrev pub end_len : LineEnd → ℕ
-end_len Newline = 1
-end_len Return = 1
-end_len Both = 2
+use Rattle.pg_copy.specs.Text.{backslash, newline, carriage_return, line_end_from, lines_from, lines, end_len, decided_by, decided_at_end}
 
 -- whether a byte is a newline or a return
 abbrev pub is_break : ℕ → Bool

@@ -1,4 +1,4 @@
-use Rattle.std.proofs.Common.{◌≡◌, ◌∙◌, refl, true, false}
+use Rattle.std.proofs.Common.{◌≡◌, ◌∙◌, refl, true, false, inl, inr}
 use Rattle.std.proofs.lemmas.Bool.{ne_eqb}
 use Rattle.pg_copy.proofs.TextLines.{walked-run, walked-more, walked-escaped, walked-at, walked-end}
 use Rattle.pg_copy.proofs.text_line.field_end.Goals as goal
@@ -15,11 +15,11 @@ loop-i-preserved c =
     let l = c.loop-i in
     elim c.if-escaped.branch [
       | then-escaped w ↦ rw (w.escaped-is, w.plain-is) (walked-escaped c.args.delimiter bytes l.i _ l.plain c.loop-i-test.true refl (rw w.if-escaped.true at l.invariant))
-      | else-escaped+else-byte-delimiter+then-byte-eq92 w ↦ rw (w.escaped-is, w.plain-is) (walked-more c.args.delimiter bytes l.i _ false l.plain true false c.loop-i-test.true w.if-byte-eq92.true (rw w.if-escaped.false at l.invariant) refl (rw (ne_eqb 92 c.args.delimiter (λ e. w.if-byte-delimiter.false (w.if-byte-eq92.true ∙ e))) refl) (λ t. absurd (absurd_bool t)))
+      | else-escaped+else-byte-delimiter+then-byte-eq92 w ↦ rw (w.escaped-is, w.plain-is) (walked-more c.args.delimiter bytes l.i _ false l.plain true false c.loop-i-test.true w.if-byte-eq92.true (rw w.if-escaped.false at l.invariant) refl (rw (ne_eqb 92 c.args.delimiter (λ e. w.if-byte-delimiter.false (w.if-byte-eq92.true ∙ e))) refl) (λ t. absurd (absurd_bool t)) (λ t. inr refl))
       | else-escaped+else-byte-delimiter+else-byte-eq92 w ↦
           let n92 = ne_eqb _ 92 w.if-byte-eq92.false in
           let n9 = ne_eqb _ c.args.delimiter w.if-byte-delimiter.false in
-          rw (w.escaped-is, w.plain-is) (walked-more c.args.delimiter bytes l.i _ l.escaped l.plain l.escaped l.plain c.loop-i-test.true refl l.invariant (rw (w.if-escaped.false, n92) refl) (rw (w.if-escaped.false, n9) refl) (λ t. (t, n92)))
+          rw (w.escaped-is, w.plain-is) (walked-more c.args.delimiter bytes l.i _ l.escaped l.plain l.escaped l.plain c.loop-i-test.true refl l.invariant (rw (w.if-escaped.false, n92) refl) (rw (w.if-escaped.false, n9) refl) (λ t. (t, n92)) (λ t. inl t))
     ]
   where
     absurd_bool : false ≡ true → ⊥

@@ -24,6 +24,6 @@ loop-i-preserved c =
     let more : take (l.i + 1) fields ≡ take l.i fields ++ field ∷ [] = take_more fields l.i field c.loop-i-test.true ∙ ap (λ x. take l.i fields ++ x ∷ []) (sym c.index-fields-i.is) in
     let len = length-take-le l.i fields (omega arith) in
     elim c.if-i-gt0.branch [
-      | then-i-gt0+in_ok-push w ↦ rw (more, c.in_ok-put_field.ensures.ok, w.buf-is, w.in_ok-push.ensures.items, w.delimiter.ensures.value) (IsBegun-more c.args.options.now old (take l.i fields) l.buf.items field (rw len w.if-i-gt0.true) l.invariant)
-      | else-i-gt0 w ↦ rw (more, c.in_ok-put_field.ensures.ok, w.buf-is) (IsBegun-first c.args.options.now old (take l.i fields) l.buf.items field (nil_from_length (take l.i fields) (omega (arith, len, w.if-i-gt0.false))) l.invariant)
+      | then-i-gt0+in_ok-push w ↦ rw (more, c.in_ok-put_field.ensures.ok, c.lent.ensures, w.buf-is, w.in_ok-push.ensures.items, w.delimiter.ensures.value) (IsBegun-more c.args.options.now old (take l.i fields) l.buf.items field (rw len w.if-i-gt0.true) l.invariant)
+      | else-i-gt0 w ↦ rw (more, c.in_ok-put_field.ensures.ok, c.lent.ensures, w.buf-is) (IsBegun-first c.args.options.now old (take l.i fields) l.buf.items field (nil_from_length (take l.i fields) (omega (arith, len, w.if-i-gt0.false))) l.invariant)
     ]

@@ -1,5 +1,6 @@
 use Rattle.std.proofs.Common.{ℕ, ◌+◌, ◌-◌, ap, ◌∙◌}
-use Rattle.pg_copy.specs.BinaryReader.{BinaryState, told}
+use Rattle.pg_copy.specs.BinaryReader.{BinaryState}
+use Rattle.pg_copy.specs.Reading.{told}
 use Rattle.pg_copy.specs.Private.BinaryRow.{held_row}
 use Rattle.pg_copy.proofs.BinaryHolds.{lends-row}
 use Rattle.pg_copy.proofs.binary_reader.BinaryReader.hold.Goals as goal

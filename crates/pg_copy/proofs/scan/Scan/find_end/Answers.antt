@@ -1,7 +1,8 @@
 use Rattle.std.proofs.Common.{◌≡◌, ℕ, ◌+◌, ◌-◌, drop, refl, sym, subst, ◌∙◌, arith, inr}
 use Rattle.std.proofs.lemmas.List.{take_rest}
 use Rattle.pg_copy.specs.declared.line_end.LineEnd.{LineEnd}
-use Rattle.pg_copy.specs.Private.Breaks.{end_len, IsBreak, IsFirstLine}
+use Rattle.pg_copy.specs.Private.Breaks.{IsBreak, IsFirstLine}
+use Rattle.pg_copy.specs.Text.{end_len}
 use Rattle.pg_copy.specs.Private.Units.{IsScanned}
 use Rattle.pg_copy.proofs.TextParts.{counted-few}
 use Rattle.pg_copy.proofs.TextBreaks.{scanned-escaped, scanned-plain, scanned-run, scanned-stays, scanned-other, break-here, line-found, same-end}

@@ -3,7 +3,7 @@ use Rattle.std.proofs.Common.{◌≡◌, ℕ, suc, ◌+◌, ◌<◌, List, [], �
 use Rattle.std.proofs.lemmas.List.{length-append}
 use Rattle.std.proofs.lemmas.Bool.{cases_lt, lt-ltb, le-ltb}
 use Rattle.pg_copy.specs.Row.{Row}
-use Rattle.pg_copy.specs.BinaryReader.{told, one_more, given_after}
+use Rattle.pg_copy.specs.Reading.{told, one_more, given_after}
 
 one-told : (n : ℕ) → one_more (told n) ≡ told (suc n)
 one-told n = elim (cases_lt n 18446744073709551615) [

@@ -1,4 +1,4 @@
--- A row that a reader of a binary file lends, in place of giving it.
+-- A row that a reader lends, in place of giving it.
 use Rattle.std.specs.Prelude.{◌≡◌, Bool, true, false, Option, None, IsSome, Result, Ok, Err}
 use Rattle.pg_copy.specs.Row.{Row}
 
