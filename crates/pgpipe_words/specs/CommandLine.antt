@@ -49,13 +49,21 @@ with_text_options command =
 abbrev pub convert : ValueParser → Shape
 convert formats = with_text_options (plain_convert formats)
 
--- the subcommand `loop`: a flag `--tcp`, `--cut` (1 to 4,096), which may be left out, and the paths
+-- the subcommand `loop` without its flag: `--cut` (1 to 4,096), which may be left out, and the paths
 -- SCRIPT and CALLS
-abbrev pub loop : Shape
-loop = (with_rule (with_rule (with_rule (with_rule (new_app (codes "loop")) (flag (codes "tcp")))
+abbrev pub plain_loop : Shape
+plain_loop = (with_rule (with_rule (with_rule (new_app (codes "loop"))
     (option (codes "cut") (parser.Signed (pos 1) (pos 4096))))
     (required (new_rule (codes "SCRIPT"))))
     (required (new_rule (codes "CALLS")))).top
+
+-- a subcommand with the flag `--tcp`, too
+abbrev pub with_tcp : Shape → Shape
+with_tcp command = (with_rule (record { top = command; subs = [] }) (flag (codes "tcp"))).top
+
+-- the subcommand `loop`
+abbrev pub loop : Shape
+loop = with_tcp plain_loop
 
 -- the whole command line: `pgpipe`, with its three subcommands
 abbrev pub command_line : ValueParser → App

@@ -3,7 +3,7 @@
 ghost use Rattle.std.specs.Prelude.{◌≡◌, IfOk, false};
 ghost use Rattle.clap.specs.Words.{app_of, new_rule, shape_of};
 ghost use Rattle.clap.specs.declared.builder.command.Command.TheViews.{out-Command};
-ghost use Rattle.pgpipe_words.specs.CommandLine.{flag, show, plain_convert, with_text_options, convert, loop, command_line, text_option, option, required};
+ghost use Rattle.pgpipe_words.specs.CommandLine.{flag, show, plain_convert, with_text_options, convert, plain_loop, with_tcp, loop, command_line, text_option, option, required};
 ghost use Rattle.pgpipe_words.specs.Private.CommandLine.{IsArg, IsCommand};
 
 use clap::builder::ValueParser;
@@ -27,12 +27,6 @@ backslash, dot, letter from a to z or digit [default: a tab]";
 const NULL_HELP: &str =
     "What stands for null in a text file, read or written; it has no newline, return or \
 delimiter, isn't \\., and doesn't end in a lone backslash [default: \\N]";
-
-// What is carried over a connection.
-const TCP_HELP: &str = "Carry over a TCP connection of this process to itself, on 127.0.0.1";
-
-// How many bytes are delivered.
-const CUT_HELP: &str = "How many bytes a flow delivers at a time [default: 4096]";
 
 // A flag.
 fn flag_arg<'a>(alloc: Global, name: &'a str, help: &'a str) -> Arg<'a>
@@ -137,17 +131,33 @@ fn convert_command<'a>(alloc: Global, formats: ValueParser<'a>) -> Result<Comman
     with_text_options(alloc, plain_convert_command(alloc, formats)?)
 }
 
+// The subcommand that runs a loop, without its flag.
+fn plain_loop_command<'a>(alloc: Global) -> Result<Command<'a>, AllocError>
+    ensures { IfOk result (IsCommand plain_loop) }
+{
+    let numbers = value_parser!(u32).range(1..=4_096);
+    let help = "How many bytes a flow delivers at a time [default: 4096]";
+    Command::new(alloc, "loop")
+        .about("Run a client's calls against a scripted backend, and print what comes of them")
+        .arg(option_arg(alloc, "cut", "N", numbers, help))?
+        .arg(path_arg(alloc, "SCRIPT", "The file of what the backend answers"))?
+        .arg(path_arg(alloc, "CALLS", "The file of what happens to the client"))
+}
+
+// The same subcommand with its flag, too.
+fn with_tcp<'a>(alloc: Global, command: Command<'a>) -> Result<Command<'a>, AllocError>
+    requires { (out-Command command).has_globals ≡ false }
+    ensures { IfOk result (IsCommand (with_tcp (shape_of command.entry))) }
+{
+    let help = "Carry over a TCP connection of this process to itself, on 127.0.0.1";
+    command.arg(flag_arg(alloc, "tcp", help))
+}
+
 // The subcommand that runs a loop.
 fn loop_command<'a>(alloc: Global) -> Result<Command<'a>, AllocError>
     ensures { IfOk result (IsCommand loop) }
 {
-    let numbers = value_parser!(u32).range(1..=4_096);
-    Command::new(alloc, "loop")
-        .about("Run a client's calls against a scripted backend, and print what comes of them")
-        .arg(flag_arg(alloc, "tcp", TCP_HELP))?
-        .arg(option_arg(alloc, "cut", "N", numbers, CUT_HELP))?
-        .arg(path_arg(alloc, "SCRIPT", "The file of what the backend answers"))?
-        .arg(path_arg(alloc, "CALLS", "The file of what happens to the client"))
+    with_tcp(alloc, plain_loop_command(alloc)?)
 }
 
 /// The command line, with the parser for the names of the formats.

@@ -13,7 +13,13 @@ returns-clause-named c =
     let named : (n : ℕ) → IsNumber (one_text found (codes "cut")) n → 0 < n → n ≤ 4096 → c.clamp.result ≡ n = λ n is low high. search (rules, is, low, high) in
     let default : one_text found (codes "cut") ≡ None → c.clamp.result ≡ 4096 = λ e. search (rules, e) in
     let same = one_text-rows found (codes "cut") in
+    let flag = one_text-rows found (codes "tcp") in
     let text = λ (o : Option (List ℕ)). unwrap_or o [] in (
+      record {
+        if_true = λ e. c.get_flag.ensures.value (flag ∙ e);
+        if_false = λ e. c.get_flag.ensures.other (flag ∙ e);
+        if_none = λ e. c.get_flag.ensures.none (flag ∙ e);
+      },
       script ∙ ap text (first_value-rows found (codes "SCRIPT")),
       calls ∙ ap text (first_value-rows found (codes "CALLS")),
       λ n is low high. named n (subst (λ (o : Option (List ℕ)). IsNumber o n) (sym same) is) low high,
