@@ -31,23 +31,19 @@ required rule = record rule { required = true }
 abbrev pub show : Shape
 show = (with_rule (new_app (codes "show")) (flag (codes "front"))).top
 
--- the subcommand `convert` without its options: `--from`, `--to` and `--columns` (1 to 32,767), which
--- must all be given
-abbrev pub plain_convert : ValueParser → Shape
-plain_convert formats = (with_rule (with_rule (with_rule (new_app (codes "convert"))
+-- the option `--columns`, from 1 to 32,767
+abbrev pub columns : Rule
+columns = option (codes "columns") (parser.Signed (pos 1) (pos 32767))
+
+-- the subcommand `convert`: `--from`, `--to` and `--columns`, which must all be given, and
+-- the options of COPY text, `--delimiter` and `--null`, which may be left out
+abbrev pub convert : ValueParser → Shape
+convert formats =
+    (with_rule (with_rule (with_rule (with_rule (with_rule (new_app (codes "convert"))
     (required (option (codes "from") formats)))
     (required (option (codes "to") formats)))
-    (required (option (codes "columns") (parser.Signed (pos 1) (pos 32767))))).top
-
--- a subcommand with the options of COPY text, too: `--delimiter` and `--null`, which may be left out
-abbrev pub with_text_options : Shape → Shape
-with_text_options command =
-    (with_rule (with_rule (record { top = command; subs = [] }) (text_option (codes "delimiter")))
-    (text_option (codes "null"))).top
-
--- the subcommand `convert`
-abbrev pub convert : ValueParser → Shape
-convert formats = with_text_options (plain_convert formats)
+    (required columns))
+    (text_option (codes "delimiter"))) (text_option (codes "null"))).top
 
 -- the subcommand `loop` without its flag: `--cut` (1 to 4,096), which may be left out, and the paths
 -- SCRIPT and CALLS

@@ -1,9 +1,9 @@
 //! The command line, as it is built.
 
-ghost use Rattle.std.specs.Prelude.{◌≡◌, IfOk, false};
-ghost use Rattle.clap.specs.Words.{app_of, new_rule, shape_of};
+ghost use Rattle.std.specs.Prelude.{◌≡◌, IfOk, [], codes, false};
+ghost use Rattle.clap.specs.Words.{Rule, Shape, app_of, new_app, new_rule, shape_of, with_rule};
 ghost use Rattle.clap.specs.declared.builder.command.Command.TheViews.{out-Command};
-ghost use Rattle.pgpipe_words.specs.CommandLine.{flag, show, plain_convert, with_text_options, convert, plain_loop, with_tcp, loop, command_line, text_option, option, required};
+ghost use Rattle.pgpipe_words.specs.CommandLine.{flag, show, columns, convert, plain_loop, with_tcp, loop, command_line, text_option, option, required};
 ghost use Rattle.pgpipe_words.specs.Private.CommandLine.{IsArg, IsCommand};
 
 use clap::builder::ValueParser;
@@ -95,40 +95,43 @@ fn show_command<'a>(alloc: Global) -> Result<Command<'a>, AllocError>
         .arg(flag_arg(alloc, "front", help))
 }
 
-// The subcommand that converts a file, without its options.
-fn plain_convert_command<'a>(
-    alloc: Global,
-    formats: ValueParser<'a>,
-) -> Result<Command<'a>, AllocError>
-    ensures { IfOk result (IsCommand (plain_convert formats.entry)) }
+// The command with one more argument.
+fn with_arg<'a>(command: Command<'a>, arg: Arg<'a>) -> Result<Command<'a>, AllocError>
+    ensures { (shape : Shape) (rule : Rule) → IsCommand shape command.entry → IsArg rule arg.entry
+        → IfOk result (IsCommand (with_rule (record { top = shape; subs = [] }) rule).top) }
 {
-    let from = required_arg(alloc, "from", "FORMAT", formats, "The format to read");
-    let to = required_arg(alloc, "to", "FORMAT", formats, "The format to write");
-    let numbers = value_parser!(u16).range(1..=32_767);
-    let columns = required_arg(alloc, "columns", "N", numbers, "How many fields a row has");
-    Command::new(alloc, "convert")
-        .about("Convert the COPY file on standard input between the text and the binary format")
-        .arg(from)?
-        .arg(to)?
-        .arg(columns)
+    command.arg(arg)
 }
 
-// The same subcommand with the options of COPY text, too, and with the help for both.
-fn with_text_options<'a>(alloc: Global, command: Command<'a>) -> Result<Command<'a>, AllocError>
-    requires { (out-Command command).has_globals ≡ false }
-    ensures { IfOk result (IsCommand (with_text_options (shape_of command.entry))) }
+// The required option `--columns N`.
+fn columns_arg<'a>(alloc: Global) -> Arg<'a>
+    ensures { IsArg (required columns) result }
 {
-    command
+    let numbers = value_parser!(u16).range(1..=32_767);
+    required_arg(alloc, "columns", "N", numbers, "How many fields a row has")
+}
+
+// The subcommand that converts a file, without its arguments.
+fn bare_convert_command<'a>(alloc: Global) -> Command<'a>
+    ensures { IsCommand (new_app (codes "convert")).top result }
+{
+    Command::new(alloc, "convert")
+        .about("Convert the COPY file on standard input between the text and the binary format")
         .long_about(CONVERT_HELP)
-        .arg(text_arg(alloc, "delimiter", "C", DELIMITER_HELP))?
-        .arg(text_arg(alloc, "null", "S", NULL_HELP))
 }
 
 // The subcommand that converts a file.
 fn convert_command<'a>(alloc: Global, formats: ValueParser<'a>) -> Result<Command<'a>, AllocError>
     ensures { IfOk result (IsCommand (convert formats.entry)) }
 {
-    with_text_options(alloc, plain_convert_command(alloc, formats)?)
+    let from = required_arg(alloc, "from", "FORMAT", formats, "The format to read");
+    let to = required_arg(alloc, "to", "FORMAT", formats, "The format to write");
+    let columns = columns_arg(alloc);
+    let delimiter = text_arg(alloc, "delimiter", "C", DELIMITER_HELP);
+    let null = text_arg(alloc, "null", "S", NULL_HELP);
+    let command = bare_convert_command(alloc);
+    let command = with_arg(with_arg(with_arg(command, from)?, to)?, columns)?;
+    with_arg(with_arg(command, delimiter)?, null)
 }
 
 // The subcommand that runs a loop, without its flag.
