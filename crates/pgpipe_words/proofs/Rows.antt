@@ -49,9 +49,14 @@ module _ (names : Bor (List (Bor (List ℕ)))) where
   unfolding clap_on_literals
   a_conversion_shows_nothing front asked = asked.convert refl
 
-  pub a_loop : (cut : ℕ) (script calls : _) → IsAskedFor (met (codes "pgpipe" ∷ codes "loop" ∷ codes "s" ∷ codes "c" ∷ [])) (task.Loop cut script calls) → (string_bytes script ≡ codes "s") × (string_bytes calls ≡ codes "c") × (cut ≡ 4096)
+  pub a_loop : (tcp : Bool) (cut : ℕ) (script calls : _) → IsAskedFor (met (codes "pgpipe" ∷ codes "loop" ∷ codes "s" ∷ codes "c" ∷ [])) (task.Loop tcp cut script calls)
+      → (tcp ≡ false) × (string_bytes script ≡ codes "s") × (string_bytes calls ≡ codes "c") × (cut ≡ 4096)
   unfolding clap_on_literals
-  a_loop cut script calls asked = let named = asked.loop refl in (named.0, named.1, named.3 refl)
+  a_loop tcp cut script calls asked = let named = asked.loop refl in (named.0.if_false refl, named.1, named.2, named.4 refl)
+
+  pub a_loop_over_tcp : (tcp : Bool) (cut : ℕ) (script calls : _) → IsAskedFor (met (codes "pgpipe" ∷ codes "loop" ∷ codes "--tcp" ∷ codes "s" ∷ codes "c" ∷ [])) (task.Loop tcp cut script calls) → tcp ≡ true
+  unfolding clap_on_literals
+  a_loop_over_tcp tcp cut script calls asked = let named = asked.loop refl in named.0.if_true refl
 
   pub an_unknown_word : fault_of (command_line (parser.Names names)) (codes "pgpipe" ∷ codes "shown" ∷ []) ≡ kind.UnknownArgument ∷ kind.InvalidSubcommand ∷ []
   unfolding clap_on_literals
