@@ -56,14 +56,6 @@ loop = (with_rule (with_rule (with_rule (with_rule (new_app (codes "loop")) (fla
     cut) (required (new_rule (codes "SCRIPT"))))
     (required (new_rule (codes "CALLS")))).top
 
--- a subcommand with the flag `--tcp`, too
-abbrev pub with_tcp : Shape → Shape
-with_tcp command = (with_rule (record { top = command; subs = [] }) (flag (codes "tcp"))).top
-
--- the subcommand `loop`
-abbrev pub loop : Shape
-loop = with_tcp plain_loop
-
 -- the whole command line: `pgpipe`, with its three subcommands
 abbrev pub command_line : ValueParser → App
 command_line formats =

@@ -27,6 +27,12 @@ const NULL_HELP: &str =
     "What stands for null in a text file, read or written; it has no newline, return or \
 delimiter, isn't \\., and doesn't end in a lone backslash [default: \\N]";
 
+// What is carried over a connection.
+const TCP_HELP: &str = "Carry over a TCP connection of this process to itself, on 127.0.0.1";
+
+// How many bytes are delivered.
+const CUT_HELP: &str = "How many bytes a flow delivers at a time [default: 4096]";
+
 // A flag.
 fn flag_arg<'a>(alloc: Global, name: &'a str, help: &'a str) -> Arg<'a>
     ensures { IsArg (flag name.now) result }
