@@ -6,8 +6,8 @@ use Rattle.pg_copy.specs.declared.fault.BinaryFault.{BinaryFault}
 use Rattle.pg_copy.specs.declared.fault.BinaryFault.TheVariants as binary_fault
 use Rattle.pg_copy.specs.declared.fault.TextFault.{TextFault}
 use Rattle.pg_copy.specs.declared.fault.TextFault.TheVariants as text_fault
-use Rattle.pg_copy.specs.declared.text_reader.TextStage.{TextStage}
-use Rattle.pg_copy.specs.declared.text_reader.TextStage.TheVariants as stages
+use Rattle.pg_copy.specs.declared.text_stage.TextStage.{TextStage}
+use Rattle.pg_copy.specs.declared.text_stage.TextStage.TheVariants as stages
 use Rattle.pg_copy.specs.declared.binary_reader.BinaryStage.{BinaryStage}
 use Rattle.pg_copy.specs.declared.binary_reader.BinaryStage.TheVariants as binary_stages
 use Rattle.pg_copy.specs.BinaryReader.{BinaryState, HasReadBinary, binary_stage_reading, kept_of, IsReading, PushesBinary, binary_ending}
