@@ -1,13 +1,13 @@
 -- A line that is written field by field.
-use Rattle.std.proofs.Common.{◌≡◌, ℕ, zero, suc, ◌+◌, ◌<◌, ◌≤◌, Bool, true, false, cond, eqb, ltb, List, [], ◌∷◌, ◌++◌, length, map, Option, Some, None, Ok, refl, sym, ap, subst, ◌∙◌, append_assoc, arith, inl, inr}
-use Rattle.std.specs.List.{flat_map, join_with_byte, position_from}
+use Rattle.std.proofs.Common.{◌≡◌, ℕ, suc, ◌+◌, ◌<◌, ◌≤◌, Bool, true, false, cond, eqb, ltb, List, [], ◌∷◌, ◌++◌, length, Option, Some, None, Ok, refl, sym, ap, ◌∙◌, append_assoc, arith, inl, inr}
+use Rattle.std.specs.List.{flat_map, position_from}
 use Rattle.std.proofs.lemmas.List.{append-nil}
-use Rattle.std.proofs.lemmas.Bool.{ne_eqb, cases_lt, lt-ltb, le-ltb, cond-true, cond-false}
+use Rattle.std.proofs.lemmas.Bool.{ne_eqb, cases_lt, le-ltb, cond-false}
 use Rattle.pg_copy.specs.declared.fault.RowFault.{RowFault}
 use Rattle.pg_copy.specs.declared.fault.RowFault.TheVariants as faults
 use Rattle.pg_copy.specs.Row.{Row, is_misfit, Writes}
 use Rattle.pg_copy.specs.Text.{Options, newline, written_field, written_fields, written_row, is_like_null, like_null, text_fault}
-use Rattle.pg_copy.specs.TextWriter.{next_fault, next_written, end_fault}
+use Rattle.pg_copy.specs.TextWriter.{next_fault, end_fault}
 use Rattle.pg_copy.specs.Laws.{WritesTextFields}
 
 -- a field that isn't the first

@@ -1,5 +1,5 @@
 -- What a reader of text files does with a line that it lends.
-use Rattle.std.proofs.Common.{◌≡◌, ℕ, ◌+◌, ◌<◌, ◌≤◌, Bool, true, false, List, [], ◌∷◌, ◌++◌, length, Option, Some, None, Result, Ok, Err, refl, sym, ap, subst, ◌∙◌, arith, inl, inr}
+use Rattle.std.proofs.Common.{◌≡◌, ℕ, ◌+◌, ◌<◌, ◌≤◌, Bool, true, false, List, [], ◌++◌, length, Option, Some, None, Result, Ok, Err, refl, sym, ap, subst, ◌∙◌, inl, inr}
 use Rattle.std.specs.Prelude.{◌⊎◌, IsSome}
 use Rattle.pg_copy.specs.declared.fault.TextFault.{TextFault}
 use Rattle.pg_copy.specs.declared.fault.TextFault.TheVariants.{Memory}
@@ -9,7 +9,7 @@ use Rattle.pg_copy.specs.declared.text_stage.TextStage.TheVariants.{Lines, Marke
 use Rattle.pg_copy.specs.Row.{Row}
 use Rattle.pg_copy.specs.Reading.{given_by, given_after, AnswersNext, RowWaits}
 use Rattle.pg_copy.specs.Text.{Options, end_len, text_reading}
-use Rattle.pg_copy.specs.Lent.{as_next, Lends}
+use Rattle.pg_copy.specs.Lent.{as_next}
 use Rattle.pg_copy.specs.TextReader.{TextState, HasReadText, text_left, text_ending}
 use Rattle.pg_copy.specs.Private.Breaks.{IsFirstLine}
 use Rattle.pg_copy.specs.Private.TextRow.{held_line}

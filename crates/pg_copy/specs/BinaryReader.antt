@@ -7,7 +7,7 @@ use Rattle.pg_copy.specs.declared.fault.BinaryFault.TheVariants.{AfterTrailer, M
 use Rattle.pg_copy.specs.declared.binary_reader.BinaryStage.{BinaryStage}
 use Rattle.pg_copy.specs.declared.binary_reader.BinaryStage.TheVariants as stages
 use Rattle.pg_copy.specs.Row.{Row}
-use Rattle.pg_copy.specs.Reading.{RowsRead, RowsEnding, Open, Done, Bad, after_rows, told, one_more, given_after}
+use Rattle.pg_copy.specs.Reading.{RowsRead, RowsEnding, Open, Done, Bad, after_rows, told}
 use Rattle.pg_copy.specs.Binary.{binary_row}
 use Rattle.pg_copy.specs.BinaryPart.{NoPart, bytes_at, fixed_at, head_reading, binary_reading, body_reading, trailer_reading, binary_at_end, binary_file_reading}
 

@@ -1,4 +1,4 @@
-use Rattle.std.proofs.Common.{◌≡◌, ◌≤◌, ℕ, List, length, take, drop, refl, sym, ap, ◌∙◌, arith, inl}
+use Rattle.std.proofs.Common.{◌≡◌, ◌≤◌, length, take, drop, refl, ap, ◌∙◌, arith, inl}
 use Rattle.pg_copy.specs.TextReader.{TextState}
 use Rattle.pg_copy.specs.Private.TextRow.{line_texts}
 use Rattle.pg_copy.proofs.TextBreaks.{scanned-start}

@@ -1,4 +1,4 @@
-use Rattle.std.proofs.Common.{rules, ◌≡◌, ℕ, Bool, ◌+◌, List, [], ◌∷◌, length, take, drop, Option, Some, option_copied, sym, ap, ◌∙◌}
+use Rattle.std.proofs.Common.{rules, ◌≡◌, ℕ, Bool, ◌+◌, List, [], ◌∷◌, length, take, drop, Option, option_copied, sym, ap, ◌∙◌}
 use Rattle.pg_copy.specs.Text.{field_value}
 use Rattle.pg_copy.specs.Private.TextRow.{line_values, values_left}
 use Rattle.pg_copy.proofs.TextLent.{text-first, texts-after, values-more, values-last, whole-field}
