@@ -1,5 +1,7 @@
 //! Carriers that fail, invert a byte, or give fewer bytes: what a loop prints before that is what it prints without it.
 
+ghost use Rattle.std.specs.Prelude.{◌≡◌};
+
 use crate::links::Paper;
 use crate::runs::run_whole;
 use pg_pair::{Carry, CarryFault, Direct, Way};
@@ -31,14 +33,21 @@ struct Flawed {
 
 impl Flawed {
     /// Counts bytes of a way, and answers how many were counted before.
-    fn count(&mut self, way: Way, bytes: usize) -> usize {
-        let carried = match way {
-            Way::ToBackend => &mut self.to_backend,
-            Way::ToClient => &mut self.to_client,
-        };
-        let before = *carried;
-        *carried = before.saturating_add(bytes);
-        before
+    fn count(&mut self, way: Way, bytes: usize) -> usize
+        ensures { self.new.failures ≡ self.old.failures }
+    {
+        match way {
+            Way::ToBackend => {
+                let before = self.to_backend;
+                self.to_backend = before.saturating_add(bytes);
+                before
+            }
+            Way::ToClient => {
+                let before = self.to_client;
+                self.to_client = before.saturating_add(bytes);
+                before
+            }
+        }
     }
 }
 
@@ -51,18 +60,26 @@ impl Carry for Flawed {
         into.copy_from_slice(piece);
         self.calls = self.calls.saturating_add(1);
         let before = self.count(way, piece.len());
-        match self.flaw {
-            Flaw::Fails(call) if call == self.calls => {
-                self.failures = self.failures.saturating_add(1);
-                return Err(CarryFault);
-            }
-            Flaw::Fewer(call) if call == self.calls => return Ok(piece.len() / 2),
-            Flaw::Inverts(flawed, place) if flawed == way => {
-                if let Some(byte) = into.get_mut(place.wrapping_sub(before)) {
-                    *byte = !*byte;
+        let (flaw, calls) = (self.flaw, self.calls);
+        match flaw {
+            Flaw::Fails(call) => {
+                if call == calls {
+                    self.failures = self.failures.saturating_add(1);
+                    return Err(CarryFault);
                 }
             }
-            _ => {}
+            Flaw::Fewer(call) => {
+                if call == calls {
+                    return Ok(piece.len() / 2);
+                }
+            }
+            Flaw::Inverts(flawed, place) => {
+                if flawed == way {
+                    if let Some(byte) = into.get_mut(place.wrapping_sub(before)) {
+                        *byte = !*byte;
+                    }
+                }
+            }
         }
         Ok(piece.len())
     }
