@@ -135,7 +135,7 @@ impl Backend {
             return Err(BackendFault::Memory);
         }
         let fields = fatal_bad(self.alloc)?;
-        or_memory(error_response(fields.as_slice(), out))?;
+        or_memory(error_response(&fields, out))?;
         Err(BackendFault::Wire(fault))
     }
 
@@ -157,7 +157,7 @@ impl Backend {
             self.old out.old.items result self.new out.new.items }
     {
         let fields = no_user(self.alloc)?;
-        or_memory(error_response(fields.as_slice(), out))?;
+        or_memory(error_response(&fields, out))?;
         self.stage = BackStage::Closed(ClosedBy::Input);
         Ok(())
     }

@@ -17,7 +17,7 @@ use crate::fault::BackendFault;
 use crate::opening::tell_welcome;
 use crate::stage::{Awaits, Loading, Next};
 use pg_script::fitting::fits;
-use pg_script::meaning::{InCopy, Meaning, tag};
+use pg_script::meaning::{InCopy, Meaning};
 use pg_script::own_error::{canceled, fatal_unexpected, no_answer, out_of_copy, wrong_password};
 use pg_script::{Answer, Load, Logged, Script};
 use pg_wire::backend::error_response;
@@ -266,7 +266,7 @@ impl Playing {
             self.now out.old.items result self.now out.new.items }
     {
         let fields = fatal_unexpected(self.alloc)?;
-        match error_response(fields.as_slice(), out) {
+        match error_response(&fields, out) {
             Ok(()) => Ok(Next::Strays(tag)),
             Err(_) => Err(BackendFault::Memory),
         }
@@ -316,7 +316,7 @@ impl Playing {
             self.now out.old.items result self.now out.new.items }
     {
         let fields = wrong_password(self.alloc)?;
-        or_memory(error_response(fields.as_slice(), out))?;
+        or_memory(error_response(&fields, out))?;
         Ok(Next::Ends)
     }
 
@@ -339,7 +339,7 @@ impl Playing {
                 }
             }
             FrontMessage::Terminate => Ok(Next::Ends),
-            _ => self.stray(tag(&message), out),
+            _ => self.stray(message.tag(), out),
         }
     }
 

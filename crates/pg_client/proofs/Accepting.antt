@@ -25,7 +25,7 @@ use Rattle.pg_client.specs.Session.{requests_in, Happening, Did, Came, Expected,
 use Rattle.pg_client.specs.Client.{ClientView, phase_of, phase_with, stand_phase, busy_phase_of, IsOpenPhase, Shows}
 use Rattle.pg_client.specs.Sent.{sent_at, sent_in, sent_by, IsSpelled, IsSpelledAt}
 use Rattle.pg_client.specs.Closed.{Ends}
-use Rattle.pg_client.specs.History.{with_ends, happenings, with_call, Carries}
+use Rattle.pg_client.specs.History.{with_ends, happenings, with_call, Carries, History, IsHistoryOf}
 use Rattle.pg_client.specs.Calls.{Accepts}
 use Rattle.pg_client.specs.Stand.{Stands}
 use Rattle.pg_client.specs.Private.Calling.{with_answer, with_request}
@@ -118,12 +118,16 @@ open_stand was now None false none h = h
 open_stand was now None true none h = absurd h
 open_stand was now (Some c) b none h = absurd cc
 
+-- the call is the last event then
+pub call_line : (h : History) (old : ClientView) (settings : Settings) (c : Call) → IsHistoryOf h old → happenings (with_call settings c h) ≡ happenings h ++ Did c ∷ []
+call_line h old settings c r =
+    merged-did h.calls c (length h.fed) (with_ends 0 h.heard) (ends_within 0 h.heard (length h.fed) (omega (arith, ap length r.stream.whole, length-append (flat_map (spelling backend) h.heard) h.rest)))
+
 pub call_carries : (old : ClientView) (stand : Stand) (c : Call) → old.closed ≡ None → Follows old.stand c stand → IsSpelled old.settings c
     → Carries old (record old { stand = stand; closed = closing c }) (with_call old.settings c)
 call_carries old stand c none follows spelled h r =
     let hs : List Happening = happenings h in
-    let line : happenings (with_call old.settings c h) ≡ hs ++ Did c ∷ [] =
-    merged-did h.calls c (length h.fed) (with_ends 0 h.heard) (ends_within 0 h.heard (length h.fed) (omega (arith, ap length r.stream.whole, length-append (flat_map (spelling backend) h.heard) h.rest))) in
+    let line : happenings (with_call old.settings c h) ≡ hs ++ Did c ∷ [] = call_line h old old.settings c r in
     let there : Stands hs old.stand (h.given ++ old.settled) =
     subst (λ (s : Stand). Stands hs s (h.given ++ old.settled)) (sym (open_stand r.was old.stand old.closed h.handed_back none r.shows)) r.stands in
     let now = follows.stands hs (h.given ++ old.settled) there in

@@ -27,9 +27,11 @@ use Rattle.pg_client.specs.Client.{ClientView, option_or, last_from, value_of, v
 use Rattle.pg_client.specs.Sent.{answer_to, sent_in, IsSpelledAt}
 use Rattle.pg_client.specs.Closed.{IsFaultFor, IsRefusedAt, cause_of, IsKept, Ends}
 use Rattle.pg_client.specs.History.{Calls, merged, with_ends, happenings, IsHistoryOf, History, with_heard, with_fed}
-use Rattle.pg_client.specs.Feed.{FeedAnswers, Hears, FeedsOpen, FeedsByCause, Feeds}
+use Rattle.pg_client.specs.Feed.{FeedAnswers}
 use Rattle.pg_client.specs.Stand.{Effect, Leads, Settles, Rejected, hear_with, Stands}
-use Rattle.pg_client.specs.Private.Feeding.{Knows, HearsNothing, MovesBy, HearsOne, HearsNext, HearsAll, IsHearing, leaving}
+use Rattle.pg_client.specs.declared.item.Item.{Item}
+use Rattle.pg_client.specs.Private.Collector.{Telling}
+use Rattle.pg_client.specs.Private.Feeding.{Knows, HearsNothing, MovesBy, HearsOne, HearsNext, HearsAll, HearsTold, IsHearing, leaving}
 use Rattle.pg_client.proofs.Agreeing.{answer_is_said}
 use Rattle.pg_client.proofs.Faults.{fault_for}
 use Rattle.pg_client.proofs.Happening.{Hears as Judges, hears, expected_came, rejected_unexpected}
@@ -262,73 +264,82 @@ at_rest before past client rest r = record {
   spelled = r.spelled;
 }
 
--- The client has gone on, and what was added is what it has put out.
-pub record GoesOn (old now : ClientView) (start out : List ℕ) : Type 0 where
-  pub is_open : now.closed ≡ None
+-- The client has gone on, and what was added is what it has put out. What was told of the events before is told of those after.
+pub record GoesOn (old : ClientView) (was : Telling) (now : ClientView) (is : Telling) (start out : List ℕ) : Type 0 where
   pub settings : now.settings ≡ old.settings
   pub added : List ℕ
   pub put : out ≡ start ++ added
-  pub history : (before : ℕ) (past : History) → IsHearing before past old → (more : List BackMessage) × IsHearing before (with_heard more now.kept added past) now
+  pub history : (before : ℕ) (past : History) → IsHearing before past old
+      → (more : List BackMessage) × IsHearing before (with_heard more now.kept added past) now × ((given : List Item) → was given (happenings past) → is given (happenings (with_heard more now.kept added past)))
 
-pub goes_from : (old : ClientView) (start : List ℕ) → old.closed ≡ None → GoesOn old old start start
-goes_from old start none = record {
-  is_open = none;
+pub goes_from : (old : ClientView) (was : Telling) (start : List ℕ) → GoesOn old was old was start start
+goes_from old was start = record {
   settings = refl;
   added = [];
   put = sym (append-nil start);
-  history = λ before past r. ([], subst (λ (x : History). IsHearing before x old) (nothing_heard past old.kept) (at_rest before past old old.kept r));
+  history = λ before past r. (
+    [],
+    subst (λ (x : History). IsHearing before x old) (nothing_heard past old.kept) (at_rest before past old old.kept r),
+    λ given t. subst (λ (x : History). was given (happenings x)) (nothing_heard past old.kept) t,
+  );
 }
 
-pub goes_next : (old now new : ClientView) (start out end : List ℕ) → GoesOn old now start out → HearsNext now (Ok true) new out end → GoesOn old new start end
-goes_next old now new start out end g h =
+pub goes_next : (old : ClientView) (was : Telling) (now : ClientView) (is : Telling) (new : ClientView) (next : Telling) (start out end : List ℕ) → GoesOn old was now is start out → (h : HearsNext now (Ok true) new out end)
+    → ((given : List Item) (hs : List Happening) (settled : List Settled) → Stands hs now.stand settled → is given hs → next given (hs ++ Came h.0 ∷ [])) → GoesOn old was new next start end
+goes_next old was now is new next start out end g h told =
     let one : HearsOne h.0 (leaving now new.kept) new = h.3 in
     let answer : List ℕ = flat_map (spelling frontend) (answer_to now.settings h.0) in
     record {
-      is_open = one.closed ∙ g.is_open;
       settings = one.settings ∙ g.settings;
       added = g.added ++ answer;
       put = h.4.1 ∙ ap (λ (bs : List ℕ). bs ++ answer) g.put ∙ append_assoc start g.added answer;
       history = λ before past r.
           let k = g.history before past r in
-          let n = next_heard before (with_heard k.0 now.kept g.added past) now k.1 new out end h in (
+          let so_far : History = with_heard k.0 now.kept g.added past in
+          let n = next_heard before so_far now k.1 new out end h in (
             k.0 ++ h.0 ∷ [],
             subst (λ (x : History). IsHearing before x new) (heard_twice k.0 (h.0 ∷ []) now.kept new.kept g.added answer past) n,
+            λ given t. subst (λ (x : History). next given (happenings x)) (heard_twice k.0 (h.0 ∷ []) now.kept new.kept g.added answer past)
+                (subst (λ (hs : List Happening). next given hs) (sym (came before so_far now k.1 h.0 new.kept h.1 h.2)) (told given (happenings so_far) (past.given ++ now.settled) k.1.stands (k.2 given t))),
           );
     }
 
-pub goes_end : (old now new : ClientView) (start out end : List ℕ) → GoesOn old now start out → HearsNext now (Ok false) new out end → (new.settings ≡ old.settings) × HearsAll old (Ok tt) new start end
-goes_end old now new start out end g h = (
-  ap (λ (x : ClientView). x.settings) h.1 ∙ g.settings,
-  record {
-    added = g.added;
-    put = h.2 ∙ g.put;
-    hears = λ before past piece some r.
-        let k = g.history before past r in
-        subst (Hears past piece g.added (Ok tt)) (sym h.1) (record { more = k.0; rest = now.kept; history = all_heard before (with_heard k.0 now.kept g.added past) now k.1 h.0; answers = g.is_open });
-  },
-)
+pub goes_end : (old : ClientView) (was : Telling) (now : ClientView) (is : Telling) (new : ClientView) (next : Telling) (start out end : List ℕ) → GoesOn old was now is start out → HearsNext now (Ok false) new out end
+    → ((given : List Item) (hs : List Happening) → is given hs → next given hs) → HearsAll old was (Ok tt) new next start end
+goes_end old was now is new next start out end g h same = record {
+  added = g.added;
+  put = h.2 ∙ g.put;
+  hears = λ before past piece some r.
+      let k = g.history before past r in
+      subst (λ (x : ClientView). HearsTold past piece g.added (Ok tt) was x next) (sym h.1) (record {
+        hears = record { more = k.0; rest = now.kept; history = all_heard before (with_heard k.0 now.kept g.added past) now k.1 h.0; answers = k.1.is_open };
+        tells = λ given t. same given (happenings (with_heard k.0 now.kept g.added past)) (k.2 given t);
+      });
+}
 
 nothing_settings : (now new : ClientView) (f : FeedFault) (out end : List ℕ) → HearsNext now (Err f) new out end → (new.settings ≡ now.settings) × (end ≡ out)
 nothing_settings now new (feeding.Wire w) out end h = (h.1.settings, h.3)
 nothing_settings now new feeding.Memory out end h = (h.0.settings, h.2)
 nothing_settings now new f out end h = (h.6.settings, h.8)
 
-pub goes_fault : (old now new : ClientView) (f : FeedFault) (start out end : List ℕ) → GoesOn old now start out → HearsNext now (Err f) new out end → (new.settings ≡ old.settings) × HearsAll old (Err f) new start end
-goes_fault old now new f start out end g h =
-    let same = nothing_settings now new f out end h in (
-      same.0 ∙ g.settings,
-      record {
-        added = g.added;
-        put = same.1 ∙ g.put;
-        hears = λ before past piece some r.
-            let k = g.history before past r in
-            let c = fault_closes before (with_heard k.0 now.kept g.added past) now k.1 piece some f new out end h in
-            record { more = k.0; rest = now.kept; history = c.0; answers = c.1 };
-      },
-    )
+pub goes_fault : (old : ClientView) (was : Telling) (now : ClientView) (is : Telling) (new : ClientView) (next : Telling) (f : FeedFault) (start out end : List ℕ) → GoesOn old was now is start out → HearsNext now (Err f) new out end
+    → ((given : List Item) (hs : List Happening) → is given hs → next given hs) → HearsAll old was (Err f) new next start end
+goes_fault old was now is new next f start out end g h told =
+    let same = nothing_settings now new f out end h in
+    record {
+      added = g.added;
+      put = same.1 ∙ g.put;
+      hears = λ before past piece some r.
+          let k = g.history before past r in
+          let c = fault_closes before (with_heard k.0 now.kept g.added past) now k.1 piece some f new out end h in
+          record {
+            hears = record { more = k.0; rest = now.kept; history = c.0; answers = c.1 };
+            tells = λ given t. told given (happenings (with_heard k.0 now.kept g.added past)) (k.2 given t);
+          };
+    }
 
-pub shorter : (now new : ClientView) (out end : List ℕ) → HearsNext now (Ok true) new out end → length new.kept < length now.kept
-shorter now new out end h = omega (arith, ap length h.2, length-append (spelling backend h.0) new.kept, some_bytes h.0)
+pub shorter : (m : BackMessage) (kept left : List ℕ) → kept ≡ spelling backend m ++ left → length left < length kept
+shorter m kept left e = omega (arith, ap length e, length-append (spelling backend m) left, some_bytes m)
   where
     some_bytes : (m : BackMessage) → 0 < length (spelling backend m)
     some_bytes m = omega arith
@@ -390,12 +401,15 @@ module _ (h : History) (old : ClientView) (none : old.closed ≡ None) (r : IsHi
     spelled = r.spelled;
   }
 
-  pub starved : 0 < length piece → Hears (with_fed piece h) piece [] (Err feeding.Memory) (record old { closed = Some cause.Memory })
-  starved some = record {
-    more = [];
-    rest = h.rest ++ piece;
-    history = subst (λ (x : History). IsHistoryOf x (record old { closed = Some cause.Memory })) (nothing_heard (with_fed piece h) (h.rest ++ piece)) fed;
-    answers = (some, refl);
+  pub starved : (was : Telling) → 0 < length piece → HearsTold (with_fed piece h) piece [] (Err feeding.Memory) was (record old { closed = Some cause.Memory }) was
+  starved was some = record {
+    hears = record {
+      more = [];
+      rest = h.rest ++ piece;
+      history = subst (λ (x : History). IsHistoryOf x (record old { closed = Some cause.Memory })) (nothing_heard (with_fed piece h) (h.rest ++ piece)) fed;
+      answers = (some, refl);
+    };
+    tells = λ given t. subst (λ (x : History). was given (happenings x)) (nothing_heard (with_fed piece h) (h.rest ++ piece)) t;
   }
     where
       fed : IsHistoryOf (with_fed piece h) (record old { closed = Some cause.Memory })
@@ -417,52 +431,23 @@ module _ (h : History) (old : ClientView) (none : old.closed ≡ None) (r : IsHi
         spelled = r.spelled;
       }
 
-  pub unfed : piece ≡ [] → Hears (with_fed piece h) piece [] (Ok tt) old
-  unfed empty = record {
-    more = [];
-    rest = h.rest;
-    history = subst (λ (x : History). IsHistoryOf x old) (nothing_heard (with_fed piece h) h.rest)
-        (subst (λ (bs : List ℕ). IsHistoryOf (record h { fed = bs }) old) (sym (ap (λ (bs : List ℕ). h.fed ++ bs) empty ∙ append-nil h.fed)) r);
-    answers = none;
+  pub unfed : (was : Telling) → piece ≡ [] → HearsTold (with_fed piece h) piece [] (Ok tt) was old was
+  unfed was empty = record {
+    hears = record {
+      more = [];
+      rest = h.rest;
+      history = subst (λ (x : History). IsHistoryOf x old) (nothing_heard (with_fed piece h) h.rest)
+          (subst (λ (bs : List ℕ). IsHistoryOf (record h { fed = bs }) old) (sym (ap (λ (bs : List ℕ). h.fed ++ bs) empty ∙ append-nil h.fed)) r);
+      answers = none;
+    };
+    tells = λ given t. subst (λ (x : History). was given (happenings x)) (nothing_heard (with_fed piece h) h.rest) t;
   }
 
--- ---- feed, by the fields of a value that was opened
-
-feeds_open : (old : ClientView) (piece : List ℕ) (result : Result Unit FeedFault) (new : ClientView) (out end : List ℕ) → FeedsOpen old piece result new out end → old.closed ≡ None → Feeds old piece result new out end
-feeds_open old piece result new out end h none = subst (λ (o : Option Cause). FeedsByCause o old piece result new out end) (sym none) h
-
--- nothing was put out
-feeds_quietly : (old : ClientView) (piece : List ℕ) (result : Result Unit FeedFault) (new : ClientView) (out : List ℕ) → ((h : History) → IsHistoryOf h old → Hears (with_fed piece h) piece [] result new) → FeedsOpen old piece result new out out
-feeds_quietly old piece result new out hears = record { added = []; put = sym (append-nil out); hears = hears }
-
-pub feeds_closed : (old : ClientView) (piece out : List ℕ) → is_some old.closed ≡ true → Feeds old piece (Err feeding.Closed) old out out
-feeds_closed old piece out e = by old.closed e
-  where
-    by : (o : Option Cause) → is_some o ≡ true → FeedsByCause o old piece (Err feeding.Closed) old out out
-    by None k = absurd cc
-    by (Some c) k = (refl, refl, refl)
+-- ---- feed
 
 pub none_by_test : (o : Option Cause) → is_some o ≡ false → o ≡ None
 none_by_test None e = refl
 none_by_test (Some c) e = absurd cc
-
-module _ (v old : ClientView) (same : v ≡ old) (piece out : List ℕ) (none : v.closed ≡ None) where
-  pub feeds_nothing : piece ≡ [] → Feeds old piece (Ok tt) old out out
-  feeds_nothing empty =
-      let is_open : old.closed ≡ None = ap (λ (x : ClientView). x.closed) (sym same) ∙ none in
-      feeds_open old piece (Ok tt) old out out (feeds_quietly old piece (Ok tt) old out (λ h r. unfed h old is_open r piece empty)) is_open
-
-  pub feeds_starved : 0 < length piece → Feeds old piece (Err feeding.Memory) (record v { closed = Some cause.Memory }) out out
-  feeds_starved some = subst (λ (x : ClientView). Feeds x piece (Err feeding.Memory) (record v { closed = Some cause.Memory }) out out) same
-      (feeds_open v piece (Err feeding.Memory) (record v { closed = Some cause.Memory }) out out (feeds_quietly v piece (Err feeding.Memory) (record v { closed = Some cause.Memory }) out (λ h r. starved h v none r piece some)) none)
-
-  pub feeds_all : (result : Result Unit FeedFault) (new : ClientView) (end : List ℕ) → 0 < length piece → HearsAll (record v { kept = v.kept ++ piece }) result new out end → Feeds old piece result new out end
-  feeds_all result new end some h = subst (λ (x : ClientView). Feeds x piece result new out end) same
-      (feeds_open v piece result new out end (record {
-        added = h.added;
-        put = h.put;
-        hears = λ past r. h.hears (length past.fed) (with_fed piece past) piece some (hearing past v none r piece);
-      }) none)
 
 -- ---- what pushing the piece did
 

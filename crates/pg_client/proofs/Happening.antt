@@ -44,7 +44,7 @@ messages_in-came [] m = refl
 messages_in-came (Did c ∷ hs) m = messages_in-came hs m
 messages_in-came (Came x ∷ hs) m = ap (λ (ms : List BackMessage). x ∷ ms) (messages_in-came hs m)
 
-messages_in-did : (hs : List Happening) (c : Call) → messages_in (hs ++ Did c ∷ []) ≡ messages_in hs
+pub messages_in-did : (hs : List Happening) (c : Call) → messages_in (hs ++ Did c ∷ []) ≡ messages_in hs
 messages_in-did [] c = refl
 messages_in-did (Did d ∷ hs) c = messages_in-did hs c
 messages_in-did (Came x ∷ hs) c = ap (λ (ms : List BackMessage). x ∷ ms) (messages_in-did hs c)
@@ -72,7 +72,7 @@ stands_from hs (Starting w) settled s h = (s, h)
 stands_from hs (Idle asides) settled s h = (s, h)
 stands_from hs (Busy segment) settled s h = (s, h)
 
-segments-came : (hs : List Happening) (m : BackMessage) → segments (messages_in (hs ++ Came m ∷ [])) ≡ put_after (status_of m) m (whole_in hs) (rest_in hs)
+pub segments-came : (hs : List Happening) (m : BackMessage) → segments (messages_in (hs ++ Came m ∷ [])) ≡ put_after (status_of m) m (whole_in hs) (rest_in hs)
 segments-came hs m = ap segments (messages_in-came hs m) ∙ segments-more (messages_in hs) m
 
 stands_came : (hs : List Happening) (m : BackMessage) (stand : Stand) (before now : List Settled) → IsStarted hs → StandsThen (requests_in hs) (whole_in hs) (rest_in hs) (copy_answer hs) before m (status_of m) stand now → Stands (hs ++ Came m ∷ []) stand now

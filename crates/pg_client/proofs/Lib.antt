@@ -25,3 +25,11 @@ pub mod TurnRows
 pub mod Rows
 pub mod ParameterLaws
 pub mod SpelledTurns
+pub mod CallingMachine
+pub mod Handling
+pub mod Collected
+pub mod Asides
+pub mod EarlyItems
+pub mod EarlyStands
+pub mod Queued
+pub mod EarlyRows

@@ -35,6 +35,7 @@ use Rattle.pg_client.specs.Closed.{cause_of}
 use Rattle.pg_client.specs.Stand.{Effect, Leads, Settles, Rejected, hear, hear_with}
 use Rattle.pg_segment.specs.Kind.{auth_message, is_welcome, IsResult, is_parameter_status}
 use Rattle.pg_client.specs.Private.Hearing.{IsSentFor, question, HearsAs, HearsAuth, ReadyDoes, HearsReady, fault_at, fresh_fault, later_fault, idle_fault}
+use Rattle.pg_client.specs.Private.Collector.{with_settled}
 use Rattle.pg_client.specs.Private.Feeding.{HearsNothing, MovesBy, HearsOne, Refuses, IsHeard, HearsMessage, HearsNext, PutsAnswer, SendsFor, leaving, of_wire}
 
 -- ---- a message that is heard
@@ -46,7 +47,7 @@ asks_nothing None stand (back.AuthMd5 salt) e = absurd cc
 asks_nothing password stand m e = refl
 
 -- and what may not stand there is rejected with or without one
-rejected_with : (password : Option (List ℕ)) (stand : Stand) (m : BackMessage) → hear stand m ≡ Rejected → hear_with password stand m ≡ Rejected
+pub rejected_with : (password : Option (List ℕ)) (stand : Stand) (m : BackMessage) → hear stand m ≡ Rejected → hear_with password stand m ≡ Rejected
 rejected_with password stand m e = by (can_answer password m)
   where
     by : (b : Bool) → cond b (hear stand m) Rejected ≡ Rejected
@@ -159,11 +160,6 @@ ready_refused status v old s f same h = subst (λ (x : ClientView). IsHeard (bac
     by (Leads t) is k = absurd k
     by (Settles t) is k = absurd k
     by Rejected is k = refused_by (back.Ready status) v s f is (k.0 ∙ sym (ready_fault v.stand status)) (subst (HasSameUnsettled v.stand) (sym k.1) (record { request = refl; error = refl }))
-
--- the groups with one that was settled, if one was
-abbrev pub with_settled : Option Settled → List Settled → List Settled
-with_settled None settled = settled
-with_settled (Some t) settled = settled ++ t ∷ []
 
 pub ready_heard : (status : Status) (v old : ClientView) (s : Stand) (ended : Option Settled) → v ≡ old → HearsReady v.stand status (Ok ended) s → IsHeard (back.Ready status) old (Ok sends.Nothing) (record v { stand = s; settled = with_settled ended v.settled; status = Some status })
 ready_heard status v old s ended same h = subst (λ (x : ClientView). IsHeard (back.Ready status) x (Ok sends.Nothing) (record v { stand = s; settled = with_settled ended v.settled; status = Some status })) same (

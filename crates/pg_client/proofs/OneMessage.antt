@@ -60,7 +60,7 @@ segments-more (x ∷ ms) m = ap (λ (s : Segments). put_before (status_of x) x s
 
 -- ---- kinds of messages
 
-aside_ends_nothing : (m : BackMessage) (a : Aside) → aside_of m ≡ Some a → status_of m ≡ None
+pub aside_ends_nothing : (m : BackMessage) (a : Aside) → aside_of m ≡ Some a → status_of m ≡ None
 aside_ends_nothing (Ready status) a e = absurd cc
 aside_ends_nothing _ a e = refl
 

@@ -19,7 +19,7 @@ use Rattle.pg_client.specs.Private.Hearing.{welcome_fault, idle_fault, HearsAs}
 
 -- a message of a result is of a request's segment alone
 
-result_not_greeted : (w : Welcome) (m : BackMessage) → is_welcome m ≡ false → greet w m ≡ None
+pub result_not_greeted : (w : Welcome) (m : BackMessage) → is_welcome m ≡ false → greet w m ≡ None
 result_not_greeted w AuthOk e = absurd cc
 result_not_greeted w AuthCleartext e = absurd cc
 result_not_greeted w (AuthMd5 salt) e = absurd cc
@@ -29,7 +29,7 @@ result_not_greeted Fresh _ e = refl
 result_not_greeted Asked _ e = refl
 result_not_greeted Admitted _ e = refl
 
-result_fault : (w : Welcome) (m : BackMessage) → is_welcome m ≡ false → error_of m ≡ None → welcome_fault w m ≡ feeding.Unexpected (tag m)
+pub result_fault : (w : Welcome) (m : BackMessage) → is_welcome m ≡ false → error_of m ≡ None → welcome_fault w m ≡ feeding.Unexpected (tag m)
 result_fault w AuthOk e n = absurd cc
 result_fault w AuthCleartext e n = absurd cc
 result_fault w (AuthMd5 salt) e n = absurd cc
@@ -39,7 +39,7 @@ result_fault Fresh _ e n = refl
 result_fault Asked _ e n = refl
 result_fault Admitted _ e n = refl
 
-result_idle_fault : (m : BackMessage) → error_of m ≡ None → idle_fault m ≡ feeding.Unexpected (tag m)
+pub result_idle_fault : (m : BackMessage) → error_of m ≡ None → idle_fault m ≡ feeding.Unexpected (tag m)
 result_idle_fault (ErrorResponse fields) n = absurd cc
 result_idle_fault _ n = refl
 

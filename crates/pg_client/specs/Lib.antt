@@ -14,6 +14,7 @@ pub mod Turns
 pub mod Spelled
 pub mod Answering
 pub mod Driving
+pub mod Early
 -- How the client goes on from message to message. A history is told in these words, and in those of
 -- Segment; the law facts_of_a_run says what they mean in those above.
 pub mod Startup
@@ -23,5 +24,6 @@ pub mod Private
 -- What pg_segment defines and the contracts here speak of. Who uses pg_client names it through
 -- these lines.
 pub use Rattle.pg_segment.specs.Segment
+pub use Rattle.pg_segment.specs.Place
 -- Its types.
 pub use Rattle.pg_segment.specs.declared.segment

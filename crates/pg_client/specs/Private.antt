@@ -3,3 +3,9 @@ pub mod Hearing
 pub mod Sending
 pub mod Calling
 pub mod Feeding
+pub mod Collector
+pub mod Machine
+pub mod Inside
+pub mod Collecting
+pub mod Early
+pub mod Queue

@@ -1,55 +1,39 @@
 //! The client: its calls.
 
-mod feed;
-
 ghost use Rattle.std.specs.Prelude.{◌≡◌, ◌≢◌, ◌≤◌, ◌∷◌, ◌↔◌, [], false, IfErr, IfNone, IfSome, IsTrue, None, OnErr, OnOk, option_copied, Some};
 ghost use Rattle.pg_wire.specs.Direction.{IsLimit};
 ghost use Rattle.pg_client.specs.declared.call.Call.TheVariants as call;
 ghost use Rattle.pg_client.specs.Client.{IsOpenPhase, phase_of, value_of};
 ghost use Rattle.pg_client.specs.History.{blank, Carries, IsHistoryOf, with_given, with_handed_back};
+ghost use Rattle.pg_client.specs.Feed.{Feeds};
 ghost use Rattle.pg_client.specs.Calls.{Accepts, Cancels, RefusesCopy, RefusesEnd, RefusesUnless};
 ghost use Rattle.pg_client.specs.Lost.{first_cause, HandsBack};
 
-use crate::fault::CallFault;
-use crate::parameters::Parameters;
+use crate::collecting::Collecting;
+use crate::fault::{CallFault, FeedFault};
+use crate::machine::Machine;
 use crate::phase::{Cause, Phase};
-use crate::sending::{put_request, put_start};
 use crate::settings::Settings;
 use crate::settled::{Loss, Settled};
-use crate::stand::Stand;
-use crate::startup::Welcome;
-use pg_segment::CopyAnswer;
-use pg_wire::{BackDecoder, Request, Status, frontend};
+use pg_wire::{Request, Status};
 use std::alloc::Global;
-use std::collections::VecDeque;
 use std::marker::Model;
-use std::mem;
 
 /// A driver's half of a session, without sockets: calls put bytes for the server out, [`feed`](Client::feed) takes the server's
 /// bytes in, and settled groups come out.
 #[derive(Drop)]
 pub struct Client {
-    alloc: Global,
-    settings: Settings,
-    decoder: BackDecoder,
-    stand: Stand,
-    settled: VecDeque<Settled>,
-    status: Option<Status>,
-    parameters: Parameters,
-    key: Option<(i32, i32)>,
-    closed: Option<Cause>,
+    machine: Machine<Collecting>,
 }
 
 impl Model for Client {
-    ghost use Rattle.std.specs.Prelude.{◌≡◌, None};
     ghost use Rattle.pg_client.specs.Client.{ClientView};
 
     ghost Value = { ClientView };
 
-    ghost view = { λ c. record { settings = c.settings; kept = c.decoder.stream.kept; stand = c.stand; settled = c.settled.items; status = c.status; parameters = c.parameters; key = c.key; closed = c.closed } };
+    ghost use Rattle.pg_client.specs.Private.Collecting.{client_of};
 
-    ghost invariant = { λ c. (c.decoder.stream.limit ≡ c.settings.limit)
-        × (c.closed ≡ None → c.decoder.stream.fault ≡ None) };
+    ghost view = { λ c. client_of c.machine };
 }
 
 impl Client {
@@ -60,17 +44,8 @@ impl Client {
         ensures phase { phase_of result ≡ Phase.New }
         ensures history { IsHistoryOf blank result }
     {
-        let limit = settings.limit;
         Client {
-            alloc,
-            settings,
-            decoder: BackDecoder::new(alloc, limit),
-            stand: Stand::New,
-            settled: VecDeque::new(alloc),
-            status: None,
-            parameters: Parameters::new(alloc),
-            key: None,
-            closed: None,
+            machine: Machine::new(alloc, settings),
         }
     }
 
@@ -78,27 +53,21 @@ impl Client {
     pub fn phase(&self) -> Phase
         ensures { result ≡ phase_of self.now }
     {
-        if let Some(cause) = self.closed {
-            return Phase::Closed(cause);
-        }
-        self.stand.phase()
+        self.machine.phase()
     }
 
     /// The transaction status that the last ReadyForQuery gave; None before the first one.
     pub fn status(&self) -> Option<Status>
         ensures { result ≡ self.now.status }
     {
-        self.status
+        self.machine.status()
     }
 
     /// The last value that the server sent of a run-time parameter ("Asynchronous Operations"); None where it sent none.
     pub fn parameter(&self, name: &[u8]) -> Option<&[u8]>
         ensures { option_copied result ≡ value_of name.now self.now.parameters }
     {
-        match self.parameters.get(name) {
-            Some(value) => Some(value.as_slice()),
-            None => None,
-        }
+        self.machine.parameter(name)
     }
 
     /// Puts the startup packet out ("Start-up"): `user`, `database` if one is given, then the further pairs. Allowed in phase New,
@@ -115,13 +84,7 @@ impl Client {
         ensures refused { IfErr result (RefusesUnless Phase.New self.old call.Start) }
         ensures err { OnErr result ((self.new ≡ self.old) × (out.new.items ≡ out.old.items)) }
     {
-        let phase = self.phase();
-        if phase != Phase::New {
-            return Err(CallFault::NotReady(phase));
-        }
-        put_start(&self.settings, out)?;
-        self.stand = Stand::Starting(Welcome::Fresh);
-        Ok(())
+        self.machine.start(out)
     }
 
     /// Makes a request: puts a Query out, or the messages of a group's steps and a Sync ("Simple Query", "Extended Query").
@@ -142,15 +105,7 @@ impl Client {
             × RefusesUnless Phase.Ready self.old (call.Request request) f.1) }
         ensures err { OnErr result ((self.new ≡ self.old) × (out.new.items ≡ out.old.items)) }
     {
-        let phase = self.phase();
-        if phase != Phase::Ready {
-            return Err((request, CallFault::NotReady(phase)));
-        }
-        if let Err(fault) = put_request(&request, out) {
-            return Err((request, CallFault::Encode(fault)));
-        }
-        self.stand.ask(self.alloc, request);
-        Ok(())
+        self.machine.request(request, out)
     }
 
     /// Puts a chunk of data out, as one CopyData, also where it is empty ("COPY Operations"). Allowed in phase CopyingIn, which
@@ -165,11 +120,7 @@ impl Client {
         ensures refused { IfErr result (RefusesCopy self.old (call.Chunk bytes.now)) }
         ensures err { OnErr result ((self.new ≡ self.old) × (out.new.items ≡ out.old.items)) }
     {
-        let phase = self.phase();
-        if phase != Phase::CopyingIn {
-            return Err(CallFault::NotCopying(phase));
-        }
-        Ok(frontend::copy_data(bytes, out)?)
+        self.machine.copy_chunk(bytes, out)
     }
 
     /// Says that the data of a copy is complete, by a CopyDone ("COPY Operations"). Allowed in phase CopyingIn, and leads to Busy.
@@ -183,13 +134,7 @@ impl Client {
         ensures refused { IfErr result (RefusesCopy self.old call.Done) }
         ensures err { OnErr result ((self.new ≡ self.old) × (out.new.items ≡ out.old.items)) }
     {
-        let phase = self.phase();
-        if phase != Phase::CopyingIn {
-            return Err(CallFault::NotCopying(phase));
-        }
-        frontend::copy_done(out)?;
-        self.stand.answer_copy(CopyAnswer::Done);
-        Ok(())
+        self.machine.copy_done(out)
     }
 
     /// Says that a copy is to fail for this reason, by a CopyFail ("COPY Operations"). Allowed in phase CopyingIn, and leads to
@@ -204,13 +149,7 @@ impl Client {
         ensures refused { IfErr result (RefusesCopy self.old (call.Fail reason.now)) }
         ensures err { OnErr result ((self.new ≡ self.old) × (out.new.items ≡ out.old.items)) }
     {
-        let phase = self.phase();
-        if phase != Phase::CopyingIn {
-            return Err(CallFault::NotCopying(phase));
-        }
-        frontend::copy_fail(reason, out)?;
-        self.stand.answer_copy(CopyAnswer::Refused);
-        Ok(())
+        self.machine.copy_fail(reason, out)
     }
 
     /// Ends the session: puts a Terminate out ("Termination"). Allowed but in phases New and Closed, and leads to
@@ -225,13 +164,7 @@ impl Client {
         ensures refused { IfErr result (RefusesEnd self.old) }
         ensures err { OnErr result ((self.new ≡ self.old) × (out.new.items ≡ out.old.items)) }
     {
-        let phase = self.phase();
-        if !phase.is_open() {
-            return Err(CallFault::NotReady(phase));
-        }
-        frontend::terminate(out)?;
-        self.closed = Some(Cause::Terminated);
-        Ok(())
+        self.machine.terminate(out)
     }
 
     /// Appends the packet that asks to cancel the outstanding request, for a connection of its own ("Canceling Requests in
@@ -241,10 +174,23 @@ impl Client {
     pub fn cancel_packet(&self, out: &mut Vec<u8>) -> Result<(), CallFault>
         ensures { Cancels self.now.key out.old.items result out.new.items }
     {
-        let Some((process, secret)) = self.key else {
-            return Err(CallFault::NoKey);
-        };
-        Ok(frontend::cancel_request(process, secret, out)?)
+        self.machine.cancel_packet(out)
+    }
+
+    /// Takes the bytes that came from the server, all of the piece, in whatever pieces they come. Groups that are settled then
+    /// wait for [`take_settled`](Client::take_settled). Where a password is asked for, it is put out; nothing else is.
+    ///
+    /// F1 Wire: the stream has a fault. F2 Unexpected: a message goes on with no segment that fits. F3 UnsupportedAuth and F4
+    /// PasswordWanted: the server asks for what the client can't give. F5 StartupError and F6 ServerEnd: an error came in phase
+    /// Starting or Ready. F7 Memory: memory was refused. After these the client is closed with the cause of that name: the
+    /// messages before the fault have had their effect, also on `out`, groups that were settled stay to be taken, and a request
+    /// that is outstanding stays to be handed back by [`lost`](Client::lost). F8 Closed: the client was closed before, and
+    /// nothing changes. A piece without bytes takes no memory.
+    pub fn feed(&mut self, piece: &[u8], out: &mut Vec<u8>) -> Result<(), FeedFault>
+        ensures settings { self.new.settings ≡ self.old.settings }
+        ensures feeds { Feeds self.old piece.now result self.new out.old.items out.new.items }
+    {
+        self.machine.feed(piece, out)
     }
 
     /// Takes the oldest settled group that wasn't taken: a request with the outcome that its ReadyForQuery closed. None where all
@@ -255,14 +201,14 @@ impl Client {
         ensures history { IfSome result (λ t. Carries self.old self.new (with_given t)) }
         ensures none { IfNone result ((self.old.settled ≡ []) × (self.new ≡ self.old)) }
     {
-        self.settled.pop_front()
+        self.machine.take_settled()
     }
 
     /// Whether a settled group waits to be taken.
     pub fn has_settled(&self) -> bool
         ensures { IsTrue result ↔ (self.now.settled ≢ []) }
     {
-        !self.settled.is_empty()
+        self.machine.has_settled()
     }
 
     /// Says that the connection is gone. It hands back the request that isn't settled, and says whether an error came for it.
@@ -275,7 +221,6 @@ impl Client {
         ensures loss { HandsBack self.old result }
         ensures history { Carries self.old self.new with_handed_back }
     {
-        self.closed = Some(self.closed.unwrap_or(Cause::Lost));
-        mem::replace(&mut self.stand, Stand::New).into_loss()
+        self.machine.lost()
     }
 }

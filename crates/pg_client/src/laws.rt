@@ -13,6 +13,8 @@ ghost use Rattle.pg_client.specs.History.{Calls, happenings, History, IsHistoryO
 ghost use Rattle.pg_client.specs.Feed.{Feeds};
 ghost use Rattle.pg_client.specs.Lost.{known_loss, Loses};
 ghost use Rattle.pg_client.specs.Facts.{Facts};
+ghost use Rattle.pg_client.specs.Early.{EarlyFacts, EarlyView, IsEarlyHistoryOf};
+ghost use Rattle.pg_client.specs.declared.item.Item.{Item};
 ghost use Rattle.pg_client.specs.Turns.{InTurns, turns_of};
 ghost use Rattle.pg_client.specs.Spelled.{SendsSpelled};
 ghost use Rattle.pg_client.specs.Answering.{AllSettled, KeepsOrder, SettlesLast, TakesTurns, calls_of, turns_with};
@@ -22,6 +24,12 @@ ghost use Rattle.pg_client.specs.Driving.{IsFedOn, requests_by};
 pub fn facts_of_a_run()
     ensures { (h : History) (client : ClientView) → IsHistoryOf h client
         → Facts (happenings h) (h.given ++ client.settled) client }
+{}
+
+/// What the history of an early client means: its items are those of what happened, and what its phase says.
+pub fn facts_of_an_early_run()
+    ensures { (h : History) (given : List Item) (early : EarlyView) → IsEarlyHistoryOf h given early
+        → EarlyFacts (happenings h) given early }
 {}
 
 /// What a client knows of a loss at each time: the request after those of the settled groups, and whether an error came for it.

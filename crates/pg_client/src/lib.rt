@@ -10,8 +10,14 @@
 
 mod call;
 mod client;
+mod collecting;
+mod collector;
+mod early;
+mod early_client;
 mod fault;
+mod item;
 pub mod laws;
+mod machine;
 mod parameters;
 mod phase;
 mod sending;
@@ -22,7 +28,9 @@ mod startup;
 
 pub use call::Call;
 pub use client::Client;
+pub use early_client::EarlyClient;
 pub use fault::{CallFault, FeedFault};
+pub use item::Item;
 pub use phase::{Cause, Phase};
 pub use settings::Settings;
 pub use settled::{Loss, Settled};

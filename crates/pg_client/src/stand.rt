@@ -220,7 +220,7 @@ fn copied(name: &Seq<u8>, value: &Seq<u8>) -> Result<Aside, AllocError>
 }
 
 // The tag of an aside's message.
-fn aside_tag(aside: &Aside) -> u8
+pub(crate) fn aside_tag(aside: &Aside) -> u8
     ensures { result ≡ tag_of_aside aside.now }
 {
     match aside {

@@ -1,20 +1,21 @@
--- What a reader of the contracts must believe stands in Row, Reading, Text, TextOptions, TextField,
--- TextLine and Binary. BinaryPart reads a binary file from left to right, which the law OneFile
--- ties to Binary. TextReader, BinaryReader and Lent say what the calls of a reader do, TextWriter
--- what those of a writer of single fields do, Laws what the formats have in common, and Private has
--- the words of private functions. Of private types the public files name the stages of the two
--- readers (TextStage, BinaryStage) and how lines end (LineEnd).
-pub mod Row
-pub mod Reading
-pub mod Text
-pub mod TextOptions
-pub mod TextField
-pub mod TextLine
-pub mod TextReader
-pub mod TextWriter
-pub mod Binary
-pub mod BinaryPart
-pub mod BinaryReader
-pub mod Lent
-pub mod Laws
-pub mod Private
+-- What the crates below define and the contracts here speak of. Who uses pg_copy names it through
+-- these lines.
+pub use Rattle.pg_copy_rows.specs.Row
+pub use Rattle.pg_copy_rows.specs.Reading
+pub use Rattle.pg_copy_rows.specs.Lent
+pub use Rattle.pg_copy_text.specs.Text
+pub use Rattle.pg_copy_text.specs.TextOptions
+pub use Rattle.pg_copy_text.specs.TextField
+pub use Rattle.pg_copy_text.specs.TextLine
+pub use Rattle.pg_copy_text.specs.TextReader
+pub use Rattle.pg_copy_text.specs.TextWriter
+pub use Rattle.pg_copy_text.specs.TextLaws
+pub use Rattle.pg_copy_binary.specs.Binary
+pub use Rattle.pg_copy_binary.specs.BinaryPart
+pub use Rattle.pg_copy_binary.specs.BinaryReader
+pub use Rattle.pg_copy_binary.specs.BinaryLaws
+-- Their types.
+pub use Rattle.pg_copy_rows.specs.declared.fault
+pub use Rattle.pg_copy_text.specs.declared.line_end
+pub use Rattle.pg_copy_text.specs.declared.text_stage
+pub use Rattle.pg_copy_binary.specs.declared.binary_reader

@@ -14,7 +14,7 @@ use Rattle.pg_drive.specs.declared.answer.DriveFault.TheVariants as fault
 use Rattle.pg_drive.specs.declared.answer.Driven.{Driven}
 use Rattle.pg_drive.specs.declared.answer.Driven.TheVariants as driven
 use Rattle.pg_drive.specs.Carried.{IsDrivenOn, last_fed, pieces_fed}
-use Rattle.pg_drive.specs.Drive.{Answers, Connection, Drives, IsLost, Turn, TurnsOn}
+use Rattle.pg_drive.specs.Drive.{Answers, Connection, Drives, IsLost, Turn, TurnsOn, client_kind}
 
 -- the law of pg_client on a feed
 abbrev pub FeedingGoesOn : Type 0
@@ -66,13 +66,13 @@ module _ {L : Type 0} (gives takes : L → List ℕ → L → Type 0) (has_ended
       subst (λ (c : Connection L). IsDrivenOn h [] c.client × (c.client.closed ≡ None)) e (stays h old.client r, none)
   turns_go_on law began (piece ∷ pieces) old last h r none f =
       let mid : Connection L = f.0 in
-      let turn : Turn gives takes has_ended receive_failures send_failures old piece mid = f.1.0 in
+      let turn : Turn client_kind gives takes has_ended receive_failures send_failures old piece mid = f.1.0 in
       let k : IsDrivenOn h piece mid.client = fed_piece law h old.client mid.client piece (Ok tt) old.out turn.put r none turn.fed in
       let n = turns_go_on law began pieces mid last k.history k.is_its_own (still_open law h old.client mid.client piece old.out turn.put r none turn.fed) f.2 in
       (later_then h piece (concat pieces) mid.client last.client k n.0, n.1)
 
   -- a turn in which something was answered
-  turn_answers : FeedingGoesOn → (h : History) (old : Connection L) (piece : List ℕ) (new : Connection L) → IsHistoryOf h old.client → old.client.closed ≡ None → Turn gives takes has_ended receive_failures send_failures old piece new
+  turn_answers : FeedingGoesOn → (h : History) (old : Connection L) (piece : List ℕ) (new : Connection L) → IsHistoryOf h old.client → old.client.closed ≡ None → Turn client_kind gives takes has_ended receive_failures send_failures old piece new
       → IsDrivenOn h (concat (piece ∷ [])) new.client
   turn_answers law h old piece new r none turn = as_pieces h piece new.client (fed_piece law h old.client new.client piece (Ok tt) old.out turn.put r none turn.fed)
 

@@ -2,4 +2,5 @@
 pub mod Sent
 pub mod Looking
 pub mod Turning
+pub mod EarlyTurning
 pub mod Carrying

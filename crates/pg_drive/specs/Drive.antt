@@ -26,6 +26,105 @@ drive_code (fault.Link loss) = codes "D2"
 abbrev pub longest_piece : ℕ
 longest_piece = 4096
 
+-- ---- what is driven
+
+-- What a kind of client does as it is driven.
+pub record ClientKind (C : Type 0) : Type 1 where
+  -- what `feed` does. The arguments are the client before, the piece, the answer, the client after,
+  -- and the output before and after.
+  pub feeds : C → List ℕ → Result Unit FeedFault → C → List ℕ → List ℕ → Type 0
+  -- `lost` was called and answered this
+  pub is_lost : C → Loss → C → Type 0
+
+-- What is driven: a link, the client over it, and the bytes that wait to be sent.
+pub record Linked (C L : Type 0) : Type 0 where
+  pub link : L
+  pub client : C
+  pub out : List ℕ
+
+-- this client over this link, and the bytes that wait
+abbrev pub connected : {C L : Type 0} → L → C → List ℕ → Linked C L
+connected link client out = record { link = link; client = client; out = out }
+
+-- `gives`, `has_ended` and `receive_failures` are those of the link as a source, `takes` and
+-- `send_failures` as a sink.
+module _ {C L : Type 0} (kind : ClientKind C) (gives takes : L → List ℕ → L → Type 0)
+    (has_ended : L → Type 0) (receive_failures send_failures : L → ℕ) where
+  -- A turn: this piece was received, just this piece was fed, and all that the client put out was
+  -- sent.
+  pub record Turn (old : Linked C L) (piece : List ℕ) (new : Linked C L) : Type 0 where
+    -- the link when the piece was received, and the bytes that waited when it was fed
+    pub between : L
+    pub put : List ℕ
+    pub received : gives old.link piece between
+    pub has_some : 0 < length piece
+    pub within : length piece ≤ longest_piece
+    pub fed : kind.feeds old.client piece (Ok tt) new.client old.out put
+    pub sent : Sends takes send_failures between put new.link
+    pub none_left : new.out ≡ []
+
+  -- The client refused a piece, and was fed nothing after it. What it put out before isn't sent.
+  pub record Refuses (old : Linked C L) (f : FeedFault) (new : Linked C L) : Type 0 where
+    pub piece : List ℕ
+    pub received : gives old.link piece new.link
+    pub has_some : 0 < length piece
+    pub within : length piece ≤ longest_piece
+    pub fed : kind.feeds old.client piece (Err f) new.client old.out new.out
+
+  -- A call of `receive` failed, which gave nothing.
+  pub record FailsToReceive (old : Linked C L) (loss : Loss) (new : Linked C L) : Type 0 where
+    pub gave_none : gives old.link [] new.link
+    pub counted : HasRisen (receive_failures old.link) (receive_failures new.link)
+    pub lost : kind.is_lost old.client loss new.client
+    pub out : new.out ≡ old.out
+
+  -- A piece was received and fed, and then a call of `send` failed.
+  pub record FailsToAnswer (old : Linked C L) (loss : Loss) (new : Linked C L) : Type 0 where
+    pub piece : List ℕ
+    pub between : L
+    pub put : List ℕ
+    -- the client that was fed, before it was told that the link failed
+    pub client : C
+    pub received : gives old.link piece between
+    pub has_some : 0 < length piece
+    pub within : length piece ≤ longest_piece
+    pub fed : kind.feeds old.client piece (Ok tt) client old.out put
+    pub sent : FailsToSend takes send_failures between put new.out new.link
+    pub lost : kind.is_lost client loss new.client
+
+  -- A call of `receive` found the end of the server's bytes.
+  pub record Ends (old : Linked C L) (loss : Loss) (new : Linked C L) : Type 0 where
+    pub gave_none : gives old.link [] new.link
+    pub ended : has_ended new.link
+    pub lost : kind.is_lost old.client loss new.client
+    pub out : new.out ≡ old.out
+
+  -- The last turn, by the fault that was answered in it.
+  abbrev pub Fails : Linked C L → DriveFault → Linked C L → Type 0
+  Fails old (fault.Feed f) new = Refuses old f new
+  Fails old (fault.Link loss) new = FailsToReceive old loss new ⊎ FailsToAnswer old loss new
+
+  -- What waited couldn't all be sent, and nothing was received.
+  pub record FailsAtFirst {A : Type 0} (old : Linked C L) (result : Result A DriveFault)
+      (new : Linked C L) : Type 0 where
+    pub loss : Loss
+    pub is_fault : result ≡ Err (fault.Link loss)
+    pub sent : FailsToSend takes send_failures old.link old.out new.out new.link
+    pub lost : kind.is_lost old.client loss new.client
+
+  -- All that waited was sent, then these pieces were received and fed, one after the other, each in
+  -- a turn that went on, and then this was answered.
+  pub record TakesTurns {A : Type 0} (goes_on : Linked C L → List ℕ → Linked C L → Type 0)
+      (answers : ℕ → Linked C L → Result A DriveFault → Linked C L → Type 0) (old : Linked C L)
+      (result : Result A DriveFault) (new : Linked C L) : Type 0 where
+    -- the link when all that waited was sent
+    pub begun : L
+    pub sent : Sends takes send_failures old.link old.out begun
+    pub pieces : List (List ℕ)
+    pub last : Linked C L
+    pub went_on : FoldsTo goes_on (connected begun old.client []) pieces last
+    pub answered : answers (length pieces) last result new
+
 -- ---- the client
 
 -- The client's `lost` was called and answered this: the client is closed, with the cause Lost
@@ -37,6 +136,10 @@ pub record IsLost (old : ClientView) (loss : Loss) (new : ClientView) : Type 0 w
   pub settled : new.settled ≡ old.settled
   pub says : HandsBack old loss
   pub history : Carries old new with_handed_back
+
+-- What a client does as it is driven.
+abbrev pub client_kind : ClientKind ClientView
+client_kind = record { feeds = Feeds; is_lost = IsLost }
 
 -- The startup has ended in this call: the client stood in phase Starting when the call began, and
 -- is Ready now.
@@ -60,84 +163,31 @@ IsSeen began client (Some driven.CopyIn) = (client.settled ≡ [])
     × (phase_of client ≡ phase.CopyingIn)
 IsSeen began client (Some _) = ⊥
 
--- ---- the link, and the client over it
+-- ---- a client over a link
 
--- What is driven: a link, the client over it, and the bytes that wait to be sent.
-pub record Connection (L : Type 0) : Type 0 where
-  pub link : L
-  pub client : ClientView
-  pub out : List ℕ
+-- What `drive` drives: a client over a link.
+abbrev pub Connection : Type 0 → Type 0
+Connection L = Linked ClientView L
 
--- this client over this link, and the bytes that wait
-abbrev pub connected : {L : Type 0} → L → ClientView → List ℕ → Connection L
-connected link client out = record { link = link; client = client; out = out }
-
--- `gives`, `has_ended` and `receive_failures` are those of the link as a source, `takes` and
--- `send_failures` as a sink. `began` is the client's phase when the call began.
 module _ {L : Type 0} (gives takes : L → List ℕ → L → Type 0) (has_ended : L → Type 0)
     (receive_failures send_failures : L → ℕ) where
-  -- A turn: this piece was received, just this piece was fed, and all that the client put out was
-  -- sent.
-  pub record Turn (old : Connection L) (piece : List ℕ) (new : Connection L) : Type 0 where
-    -- the link when the piece was received, and the bytes that waited when it was fed
-    pub between : L
-    pub put : List ℕ
-    pub received : gives old.link piece between
-    pub has_some : 0 < length piece
-    pub within : length piece ≤ longest_piece
-    pub fed : Feeds old.client piece (Ok tt) new.client old.out put
-    pub sent : Sends takes send_failures between put new.link
-    pub none_left : new.out ≡ []
-
-  -- A turn after which there is nothing to answer.
+  -- A turn after which there is nothing to answer. `began` is the client's phase when the call
+  -- began.
   abbrev pub TurnsOn : Phase → Connection L → List ℕ → Connection L → Type 0
-  TurnsOn began old piece new = Turn old piece new × GoesOn began new.client
-
-  -- The client refused a piece, and was fed nothing after it. What it put out before isn't sent.
-  pub record Refuses (old : Connection L) (f : FeedFault) (new : Connection L) : Type 0 where
-    pub piece : List ℕ
-    pub received : gives old.link piece new.link
-    pub has_some : 0 < length piece
-    pub within : length piece ≤ longest_piece
-    pub fed : Feeds old.client piece (Err f) new.client old.out new.out
-
-  -- A call of `receive` failed, which gave nothing.
-  pub record FailsToReceive (old : Connection L) (loss : Loss) (new : Connection L) : Type 0 where
-    pub gave_none : gives old.link [] new.link
-    pub counted : HasRisen (receive_failures old.link) (receive_failures new.link)
-    pub lost : IsLost old.client loss new.client
-    pub out : new.out ≡ old.out
-
-  -- A piece was received and fed, and then a call of `send` failed.
-  pub record FailsToAnswer (old : Connection L) (loss : Loss) (new : Connection L) : Type 0 where
-    pub piece : List ℕ
-    pub between : L
-    pub put : List ℕ
-    -- the client that was fed, before it was told that the link failed
-    pub client : ClientView
-    pub received : gives old.link piece between
-    pub has_some : 0 < length piece
-    pub within : length piece ≤ longest_piece
-    pub fed : Feeds old.client piece (Ok tt) client old.out put
-    pub sent : FailsToSend takes send_failures between put new.out new.link
-    pub lost : IsLost client loss new.client
-
-  -- A call of `receive` found the end of the server's bytes.
-  pub record Ends (old : Connection L) (loss : Loss) (new : Connection L) : Type 0 where
-    pub gave_none : gives old.link [] new.link
-    pub ended : has_ended new.link
-    pub lost : IsLost old.client loss new.client
-    pub out : new.out ≡ old.out
+  TurnsOn began old piece new =
+      Turn client_kind gives takes has_ended receive_failures send_failures old piece new
+      × GoesOn began new.client
 
   -- The last turn, by what was answered in it. TurnsUsed isn't answered in a turn.
   abbrev pub LastTurn : Phase → Connection L → Result Driven DriveFault → Connection L → Type 0
   LastTurn began old (Ok driven.TurnsUsed) new = ⊥
-  LastTurn began old (Ok (driven.Lost loss)) new = Ends old loss new
-  LastTurn began old (Ok answer) new = (piece : List ℕ) × Turn old piece new
+  LastTurn began old (Ok (driven.Lost loss)) new =
+      Ends client_kind gives takes has_ended receive_failures send_failures old loss new
+  LastTurn began old (Ok answer) new = (piece : List ℕ)
+      × Turn client_kind gives takes has_ended receive_failures send_failures old piece new
       × IsSeen began new.client (Some answer)
-  LastTurn began old (Err (fault.Feed f)) new = Refuses old f new
-  LastTurn began old (Err (fault.Link loss)) new = FailsToReceive old loss new
-      ⊎ FailsToAnswer old loss new
+  LastTurn began old (Err f) new =
+      Fails client_kind gives takes has_ended receive_failures send_failures old f new
 
   -- After so many turns with nothing to answer, this was answered: TurnsUsed where as many were
   -- wanted, and else something in one more turn.
@@ -146,27 +196,9 @@ module _ {L : Type 0} (gives takes : L → List ℕ → L → Type 0) (has_ended
   Answers began turns count old (Ok driven.TurnsUsed) new = (count ≡ turns) × (new ≡ old)
   Answers began turns count old result new = (count < turns) × LastTurn began old result new
 
-  -- All that waited was sent, then these pieces were received and fed, one after the other, with
-  -- nothing to answer, and then this was answered.
-  pub record TakesTurns (turns : ℕ) (old : Connection L) (result : Result Driven DriveFault)
-      (new : Connection L) : Type 0 where
-    -- the link when all that waited was sent
-    pub begun : L
-    pub sent : Sends takes send_failures old.link old.out begun
-    pub pieces : List (List ℕ)
-    pub last : Connection L
-    pub went_on : FoldsTo (TurnsOn (phase_of old.client)) (connected begun old.client []) pieces
-        last
-    pub answered : Answers (phase_of old.client) turns (length pieces) last result new
-
-  -- What waited couldn't all be sent, and nothing was received.
-  pub record FailsAtFirst (old : Connection L) (result : Result Driven DriveFault)
-      (new : Connection L) : Type 0 where
-    pub loss : Loss
-    pub is_fault : result ≡ Err (fault.Link loss)
-    pub sent : FailsToSend takes send_failures old.link old.out new.out new.link
-    pub lost : IsLost old.client loss new.client
-
   -- What `drive` does with so many turns.
   abbrev pub Drives : ℕ → Connection L → Result Driven DriveFault → Connection L → Type 0
-  Drives turns old result new = FailsAtFirst old result new ⊎ TakesTurns turns old result new
+  Drives turns old result new =
+      FailsAtFirst client_kind gives takes has_ended receive_failures send_failures old result new
+      ⊎ TakesTurns client_kind gives takes has_ended receive_failures send_failures
+      (TurnsOn (phase_of old.client)) (Answers (phase_of old.client) turns) old result new

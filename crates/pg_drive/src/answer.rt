@@ -1,10 +1,10 @@
-//! What `drive` answers.
+//! What `drive` and `drive_early` answer.
 
 ghost use Rattle.std.specs.Prelude.{◌≡◌};
 ghost use Rattle.pg_drive.specs.Drive.{drive_code};
 ghost use Rattle.pg_drive.specs.declared.answer.DriveFault.TheVariants as faults;
 
-use pg_client::{FeedFault, Loss};
+use pg_client::{FeedFault, Item, Loss};
 use thiserror::Error;
 
 /// Why a client is driven no further for now.
@@ -14,6 +14,21 @@ pub enum Driven {
     Settled,
     /// The startup has ended: a request may be made.
     Ready,
+    /// The server waits for the data of a copy.
+    CopyIn,
+    /// As many pieces were received as there were turns.
+    TurnsUsed,
+    /// The server's bytes have ended. The client is closed, and hands back what is lost.
+    Lost(Loss),
+}
+
+/// What driving an early client came to.
+#[derive(Clone, Debug, PartialEq, Eq, Drop)]
+pub enum DrivenEarly {
+    /// The startup has ended: a request may be made.
+    Ready,
+    /// The oldest item that waited. It is taken.
+    Item(Item),
     /// The server waits for the data of a copy.
     CopyIn,
     /// As many pieces were received as there were turns.

@@ -6,12 +6,10 @@ ghost use Rattle.pg_drive.specs.Drive.{Drives, IsSeen, connected, longest_piece}
 ghost use Rattle.pg_drive.specs.Private.Turning.{TakesTurn};
 
 use crate::answer::{DriveFault, Driven};
+use crate::receiving::{PIECE, receive};
 use crate::sending::send;
 use pg_client::{Client, Phase};
 use pg_wire::{Sink, Source};
-
-// How many bytes are received at once.
-const PIECE: usize = 4_096;
 
 /// Drives a client: sends all of `out` over a link, then receives pieces of at most 4,096 bytes, at most `turns` times, feeds each to the
 /// client and sends what it put out. What was sent is taken off the front of `out`.
@@ -58,16 +56,9 @@ fn turn<L: Source + Sink>(
         (connected link.old client.old out.old.items) result
         (connected link.new client.new out.new.items) }
 {
-    let Ok(count) = link.receive(piece) else {
-        return Err(DriveFault::Link(client.lost()));
-    };
-    if count == 0 {
-        return Ok(Some(Driven::Lost(client.lost())));
+    if let Some(loss) = receive(client, out, link, piece)? {
+        return Ok(Some(Driven::Lost(loss)));
     }
-    client.feed(&piece[..count], out)?;
-    let Ok(()) = send(out, link) else {
-        return Err(DriveFault::Link(client.lost()));
-    };
     Ok(look(client, began))
 }
 

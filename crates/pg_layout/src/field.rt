@@ -3,7 +3,7 @@
 ghost use Rattle.std.specs.Prelude.{◌≡◌, ◌<◌, ◌^◌, ◌++◌, ℕ, List, length, Option, OnOk, option_copied};
 ghost use Rattle.std.specs.Int.{w16, w32};
 ghost use Rattle.pg_layout.specs.Field.{Body, int16, oid, value};
-ghost use Rattle.pg_layout.specs.Value.{column, error_field, parameter};
+ghost use Rattle.pg_layout.specs.Value.{column, parameter};
 ghost use Rattle.pg_layout.specs.Private.Writer.{LeavesRoom};
 ghost use Rattle.pg_layout.specs.Private.Lent.{left_after};
 ghost use Rattle.pg_layout.specs.Private.Reader.{Gives, number_at, signed_at, value_at, column_at, error_field_at, parameter_at};
@@ -303,23 +303,6 @@ impl Field for (&[u8], &[u8]) {
     fn write(&self, out: &mut Appender) -> Result<(), AllocError> {
         write_text(self.0, out)?;
         write_text(self.1, out)
-    }
-}
-
-impl Field for ErrorField {
-    ghost layout = { error_field };
-
-    fn has_zero(&self) -> bool {
-        self.code == 0 || text_has_zero(self.value.as_slice())
-    }
-
-    fn room_after(&self, room: u32) -> Option<u32> {
-        room_after_text(self.value.as_slice(), room)?.checked_sub(1)
-    }
-
-    fn write(&self, out: &mut Appender) -> Result<(), AllocError> {
-        out.put(&[self.code])?;
-        write_text(self.value.as_slice(), out)
     }
 }
 

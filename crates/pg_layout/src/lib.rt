@@ -26,7 +26,8 @@ pub use part::{
     append, append_packet,
 };
 pub use reader::{
-    copy_head_at, copy_of, counted, ended, i32_at, status_at, terminated, text_at, u16_at,
+    after_zero, copy_head_at, copy_of, counted, ended, i32_at, status_at, terminated, text_at,
+    u16_at,
 };
-pub use value::{Column, CopyHead, ErrorField, Fields, Status, Target};
+pub use value::{Column, CopyHead, ErrorField, Status, Target};
 pub use writer::text_has_zero;

@@ -58,9 +58,6 @@ impl DebugElement for ErrorField {
     type Form = ByElement;
 }
 
-/// The fields of an error or a notice. There may be none.
-pub type Fields = Seq<ErrorField>;
-
 /// What begins a copy: its overall format, and the format code of each column.
 #[derive(Clone, Debug, PartialEq, Eq, Drop)]
 pub struct CopyHead {

@@ -21,10 +21,10 @@ use crate::message::BackMessage;
 use judging::is_back_message;
 use kind::BackKind;
 use pg_layout::{
-    BodyFault, Byte, Bytes, Column, CopyHead, Counted, EncodeFault, ErrorField, Int32, Pair, Salt,
-    Status, Terminated, Text, append,
+    BodyFault, Byte, Bytes, Column, CopyHead, Counted, EncodeFault, Int32, Pair, Salt, Status,
+    Text, append,
 };
-use pg_values::{CountedValues, ValueList};
+use pg_values::{CountedValues, Fields, TerminatedFields, ValueList};
 use reading::back_message;
 use std::alloc::Global;
 
@@ -107,17 +107,17 @@ pub fn parameter_description(types: &[u32], buf: &mut Vec<u8>) -> Result<(), Enc
 }
 
 /// Appends an ErrorResponse with these fields. Its faults are HasZero (also for a code 0), TooLong and Memory.
-pub fn error_response(fields: &[ErrorField], buf: &mut Vec<u8>) -> Result<(), EncodeFault>
+pub fn error_response(fields: &Fields, buf: &mut Vec<u8>) -> Result<(), EncodeFault>
     ensures { Encodes backend (ErrorResponse fields.now) buf.old.items result buf.new.items }
 {
-    append(b'E', &Terminated(fields), buf)
+    append(b'E', &TerminatedFields(fields), buf)
 }
 
 /// Appends a NoticeResponse with these fields. Its faults are HasZero (also for a code 0), TooLong and Memory.
-pub fn notice_response(fields: &[ErrorField], buf: &mut Vec<u8>) -> Result<(), EncodeFault>
+pub fn notice_response(fields: &Fields, buf: &mut Vec<u8>) -> Result<(), EncodeFault>
     ensures { Encodes backend (NoticeResponse fields.now) buf.old.items result buf.new.items }
 {
-    append(b'N', &Terminated(fields), buf)
+    append(b'N', &TerminatedFields(fields), buf)
 }
 
 /// Appends a NotificationResponse from the backend with this process id. Its faults are HasZero, TooLong and Memory.
@@ -186,8 +186,8 @@ pub fn encode(message: &BackMessage, buf: &mut Vec<u8>) -> Result<(), EncodeFaul
         BackMessage::NoData => append(b'n', &Bytes(&[]), buf),
         BackMessage::PortalSuspended => append(b's', &Bytes(&[]), buf),
         BackMessage::ParameterDescription(types) => parameter_description(types.as_slice(), buf),
-        BackMessage::ErrorResponse(fields) => error_response(fields.as_slice(), buf),
-        BackMessage::NoticeResponse(fields) => notice_response(fields.as_slice(), buf),
+        BackMessage::ErrorResponse(fields) => error_response(fields, buf),
+        BackMessage::NoticeResponse(fields) => notice_response(fields, buf),
         BackMessage::Notification {
             process,
             channel,

@@ -1,8 +1,8 @@
 //! The messages of both directions, and first packets.
 
-use pg_layout::{Column, CopyHead, Fields, Status, Target};
+use pg_layout::{Column, CopyHead, Status, Target};
 use pg_seq::Seq;
-use pg_values::Values;
+use pg_values::{Fields, Values};
 
 /// A message of the backend ("Message Formats", those marked B). A String has no zero byte, and a list after a 16-bit
 /// count has at most 65,535 elements: a message in which this isn't so has no spelling.

@@ -43,7 +43,7 @@ fn tell_part(part: &ScriptPart, out: &mut Vec<u8>) -> Result<(), EncodeFault>
             Load::Accept(_) => part.tell(out),
             Load::Refuse { after: _, fields } => {
                 let so_far = copy_in(head, out);
-                both(so_far, error_response(fields.as_slice(), out))
+                both(so_far, error_response(fields, out))
             }
         },
         _ => part.tell(out),

@@ -1,7 +1,6 @@
 //! What a message of the client means.
 
 ghost use Rattle.std.specs.Prelude.{◌≡◌};
-ghost use Rattle.pg_wire.specs.Frontend.{tag};
 ghost use Rattle.pg_script.specs.Meaning.{meaning, in_copy};
 
 use pg_wire::{FrontMessage, Seq, Step};
@@ -36,27 +35,6 @@ pub enum InCopy {
     Leaves,
     /// It can't stand there, and ends the copy.
     Strays,
-}
-
-/// A message's tag.
-pub fn tag(message: &FrontMessage) -> u8
-    ensures { result ≡ tag message.now }
-{
-    match message {
-        FrontMessage::Query(_) => b'Q',
-        FrontMessage::Parse { .. } => b'P',
-        FrontMessage::Bind { .. } => b'B',
-        FrontMessage::Describe { .. } => b'D',
-        FrontMessage::Close { .. } => b'C',
-        FrontMessage::Execute { .. } => b'E',
-        FrontMessage::Sync => b'S',
-        FrontMessage::Flush => b'H',
-        FrontMessage::Terminate => b'X',
-        FrontMessage::CopyData(_) => b'd',
-        FrontMessage::CopyDone => b'c',
-        FrontMessage::CopyFail(_) => b'f',
-        FrontMessage::Password(_) => b'p',
-    }
 }
 
 impl Meaning {

@@ -5,18 +5,11 @@ ghost use Rattle.pg_script.specs.OwnError.{own_error, no_answer, canceled, out_o
 ghost use Rattle.pg_script.specs.OwnError.{fatal_unexpected, no_user, wrong_password, fatal_bad};
 
 use crate::script::Answer;
-use pg_wire::{ErrorField, Fields, Seq, Status};
+use pg_wire::{Fields, Seq, Status};
 use std::alloc::{AllocError, Global};
 
 /// The most bytes of a client's reason that are told.
 const SHOWN: usize = 200;
-
-fn field(alloc: Global, code: u8, value: &[u8]) -> Result<ErrorField, AllocError>
-    ensures { IfOk result (λ f. f ≡ record { code = code; value = value.now }) }
-{
-    let value = Seq::from_slice(alloc, value)?;
-    Ok(ErrorField { code, value })
-}
 
 /// An error with this severity, SQLSTATE code and message ("Error and Notice Message Fields").
 fn error_of(
@@ -27,13 +20,17 @@ fn error_of(
 ) -> Result<Fields, AllocError>
     ensures { IfOk result (λ fields. fields ≡ own_error severity.now code.now message.now) }
 {
-    let fields = vec![in alloc;
-        field(alloc, b'S', severity)?,
-        field(alloc, b'V', severity)?,
-        field(alloc, b'C', code)?,
-        field(alloc, b'M', message)?,
-    ]?;
-    Ok(Seq::new(fields))
+    let fields = [
+        (b'S', severity),
+        (b'V', severity),
+        (b'C', code),
+        (b'M', message),
+    ];
+    match Fields::from_slice(alloc, &fields) {
+        Ok(fields) => Ok(fields),
+        // these are far shorter than a message may be
+        Err(_) => Err(AllocError),
+    }
 }
 
 /// The answer that stands for one that is missing or doesn't fit: an internal_error.

@@ -91,7 +91,7 @@ impl Tell for Aside {
 
     fn tell(&self, out: &mut Vec<u8>) -> Result<(), EncodeFault> {
         match self {
-            Aside::Notice(fields) => notice_response(fields.as_slice(), out),
+            Aside::Notice(fields) => notice_response(fields, out),
             Aside::Parameter { name, value } => {
                 parameter_status(name.as_slice(), value.as_slice(), out)
             }
@@ -228,7 +228,7 @@ pub fn tell_error(error: &Option<Fields>, out: &mut Vec<u8>) -> Result<(), Encod
 {
     match error {
         None => Ok(()),
-        Some(fields) => error_response(fields.as_slice(), out),
+        Some(fields) => error_response(fields, out),
     }
 }
 

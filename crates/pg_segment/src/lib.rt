@@ -10,4 +10,4 @@ mod segment;
 
 pub use fault::ReadFault;
 pub use kind::{Auth, Kind};
-pub use segment::{CopyAnswer, Segment};
+pub use segment::{CopyAnswer, Place, Segment};

@@ -14,7 +14,7 @@ ghost use Rattle.pg_segment.specs.SegmentCalls.{answering, awaits_data, may_end_
 use crate::fault::ReadFault;
 use collected::Collected;
 use pg_wire::{Aside, BackMessage, Fields, Outcome, Request, Seq, Status};
-use place::Place;
+pub use place::Place;
 use std::alloc::{AllocError, Global};
 use std::marker::Model;
 

@@ -3,6 +3,7 @@
 ghost use Rattle.std.specs.Prelude.{◌≡◌, Some, is_some, option_copied, IsSome};
 ghost use Rattle.std.specs.Iterator.{YieldsFirstBy, item_count};
 ghost use Rattle.pg_layout.specs.Private.Lent.{lent_field};
+ghost use Rattle.pg_values.specs.Fields.{field_text, code_text, severity_text, message_text};
 ghost use Rattle.pg_values.specs.Private.View.{row_of, fields_of, values_left, fields_left};
 ghost use Rattle.pg_values.specs.Private.Block.{IsRow};
 
@@ -150,6 +151,43 @@ impl<'a> FieldsView<'a> {
         ensures { result ≡ self.now }
     {
         LentFields::new(self.fields)
+    }
+
+    /// The text of the first field with this code.
+    pub fn get(&self, code: u8) -> Option<&'a [u8]>
+        ensures { option_copied result ≡ field_text code self.now }
+    {
+        'fields: for field in self.fields() {
+            if field.0 == code {
+                return Some(field.1);
+            }
+        }
+        None
+    }
+
+    /// The SQLSTATE code: the text of the field `C`.
+    pub fn code(&self) -> Option<&'a [u8]>
+        ensures { option_copied result ≡ code_text self.now }
+    {
+        self.get(b'C')
+    }
+
+    /// The severity: the text of the field `V`, which is never translated, or where that is absent, as it is before PostgreSQL 9.6,
+    /// that of `S`.
+    pub fn severity(&self) -> Option<&'a [u8]>
+        ensures { option_copied result ≡ severity_text self.now }
+    {
+        match self.get(b'V') {
+            Some(text) => Some(text),
+            None => self.get(b'S'),
+        }
+    }
+
+    /// The primary message: the text of the field `M`.
+    pub fn message(&self) -> Option<&'a [u8]>
+        ensures { option_copied result ≡ message_text self.now }
+    {
+        self.get(b'M')
     }
 }
 

@@ -27,14 +27,14 @@ pub use fault::WireFault;
 pub use first::FirstDecoder;
 pub use password::md5_answer;
 pub use pg_layout::{
-    BodyFault, Column, CopyHead, EncodeFault, ErrorField, Fields, LONGEST, LONGEST_PACKET, Status,
-    Target,
+    BodyFault, Column, CopyHead, EncodeFault, ErrorField, LONGEST, LONGEST_PACKET, Status, Target,
 };
 pub use pg_link::{LinkFault, Over, PATIENCE, Patient, Sink, Source};
 pub use pg_message::{BackMessage, First, FrontMessage, Lent, Message, backend, frontend};
 pub use pg_seq::Seq;
 pub use pg_values::{
-    FieldsView, LentFields, LentValues, ParameterList, RowView, ValueList, Values,
+    Fields, FieldsView, KeptFields, LentFields, LentValues, ParameterList, RowView, ValueList,
+    Values,
 };
 pub use session::{Aside, ExecEnd, Outcome, Part, Request, Step};
 pub use spellings::Spellings;

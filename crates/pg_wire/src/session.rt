@@ -1,8 +1,8 @@
 //! What a session is made of, for either end: requests, and how they end.
 
-use pg_layout::{Column, CopyHead, Fields, Status, Target};
+use pg_layout::{Column, CopyHead, Status, Target};
 use pg_seq::{ByElement, DebugElement, Seq};
-use pg_values::Values;
+use pg_values::{Fields, Values};
 
 /// A step of an extended query ("Extended Query"). Its texts hold no zero byte, and its lists have at most 65,535 elements: else a
 /// client refuses the request (C3).

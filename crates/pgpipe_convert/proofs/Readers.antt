@@ -2,14 +2,14 @@
 use Rattle.std.proofs.Common.{◌≡◌, ℕ, ◌<◌, length, Bool, true, false, List, [], ◌++◌, Option, Some, None, Result, Ok, Err, refl, sym, ap, subst, ◌∙◌, ◌⊎◌, inl, inr, append-nil}
 use Rattle.std.specs.Result.{OnOk, IsErrAnd, MatchResult}
 use Rattle.std.proofs.lemmas.Result.{err_from_is_err_and}
-use Rattle.pg_copy.specs.declared.fault.BinaryFault.{BinaryFault}
-use Rattle.pg_copy.specs.declared.fault.BinaryFault.TheVariants as binary_fault
-use Rattle.pg_copy.specs.declared.fault.TextFault.{TextFault}
-use Rattle.pg_copy.specs.declared.fault.TextFault.TheVariants as text_fault
-use Rattle.pg_copy.specs.declared.text_stage.TextStage.{TextStage}
-use Rattle.pg_copy.specs.declared.text_stage.TextStage.TheVariants as stages
-use Rattle.pg_copy.specs.declared.binary_reader.BinaryStage.{BinaryStage}
-use Rattle.pg_copy.specs.declared.binary_reader.BinaryStage.TheVariants as binary_stages
+use Rattle.pg_copy.specs.fault.BinaryFault.{BinaryFault}
+use Rattle.pg_copy.specs.fault.BinaryFault.TheVariants as binary_fault
+use Rattle.pg_copy.specs.fault.TextFault.{TextFault}
+use Rattle.pg_copy.specs.fault.TextFault.TheVariants as text_fault
+use Rattle.pg_copy.specs.text_stage.TextStage.{TextStage}
+use Rattle.pg_copy.specs.text_stage.TextStage.TheVariants as stages
+use Rattle.pg_copy.specs.binary_reader.BinaryStage.{BinaryStage}
+use Rattle.pg_copy.specs.binary_reader.BinaryStage.TheVariants as binary_stages
 use Rattle.pg_copy.specs.BinaryReader.{BinaryState, HasReadBinary, binary_stage_reading, kept_of, IsReading, PushesBinary, binary_ending}
 use Rattle.pg_copy.specs.BinaryPart.{binary_file_reading, binary_reading}
 use Rattle.pg_copy.specs.Reading.{RowsRead, RowsEnding, Open, Done, Ended, Bad, IsGood, AnswersNext, after_rows, given_by}

@@ -1,7 +1,7 @@
 -- Worked examples of files that are converted, computed from the definitions alone.
 use Rattle.std.proofs.Common.{ℕ, List, [], ◌∷◌, Some, None, refl, inl, inr}
-use Rattle.pg_copy.specs.declared.fault.BinaryFault.TheVariants as binary_fault
-use Rattle.pg_copy.specs.declared.fault.TextFault.TheVariants as text_fault
+use Rattle.pg_copy.specs.fault.BinaryFault.TheVariants as binary_fault
+use Rattle.pg_copy.specs.fault.TextFault.TheVariants as text_fault
 use Rattle.pg_copy.specs.BinaryPart.{binary_reading}
 use Rattle.pg_copy.specs.BinaryPart as binary
 use Rattle.pg_copy.specs.Reading.{Done, Ended, Bad}

@@ -1,7 +1,7 @@
 -- What is converted of a COPY file.
 use Rattle.std.specs.Prelude.{ℕ, ◌≡◌, ◌≤◌, ◌+◌, ◌++◌, ◌∷◌, ◌⊎◌, Bool, true, false, List, [], length, Option, Some, None, Result, Ok, Err}
 use Rattle.std.specs.List.{flat_map, AllByRecursion}
-use Rattle.pg_copy.specs.declared.fault.RowFault.{RowFault}
+use Rattle.pg_copy.specs.fault.RowFault.{RowFault}
 use Rattle.pg_copy.specs.Binary.{binary_row, written_head, trailer}
 use Rattle.pg_copy.specs.BinaryPart.{binary_file_reading, binary_reading}
 use Rattle.pg_copy.specs.Reading.{RowsRead, RowsEnding, Open, Done, Ended, Bad, IsGood, after_rows}

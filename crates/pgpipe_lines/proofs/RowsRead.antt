@@ -2,10 +2,10 @@
 use Rattle.std.proofs.Common.{◌<◌, ◌≡◌, ℕ, ◌+◌, ◌==◌, ◌&&◌, ◌≤◌, ◌⊎◌, inl, inr, Bool, true, false, if◌then◌else◌, List, [], ◌∷◌, ◌++◌, length, Option, Some, None, Result, Ok, Err, refl, sym, ap, ◌∙◌, append_assoc, append-nil, length-append, arith}
 use Rattle.std.specs.List.{onto_first}
 use Rattle.std.specs.Str.{bytes_eq}
-use Rattle.pg_copy.specs.declared.fault.TextFault.{TextFault}
-use Rattle.pg_copy.specs.declared.fault.TextFault.TheVariants as text_fault
-use Rattle.pg_copy.specs.declared.line_end.LineEnd.{LineEnd}
-use Rattle.pg_copy.specs.declared.line_end.LineEnd.TheVariants.{Newline, Return, Both}
+use Rattle.pg_copy.specs.fault.TextFault.{TextFault}
+use Rattle.pg_copy.specs.fault.TextFault.TheVariants as text_fault
+use Rattle.pg_copy.specs.line_end.LineEnd.{LineEnd}
+use Rattle.pg_copy.specs.line_end.LineEnd.TheVariants.{Newline, Return, Both}
 use Rattle.pg_copy.specs.Row.{Row}
 use Rattle.pg_copy.specs.Reading.{RowsRead, RowsEnding, Open, Done, Ended, Bad, after_rows, IsGood, AnswersNext}
 use Rattle.pg_copy.specs.Text.{Options, default_options, backslash, newline, carriage_return, parts_from, pairs_from, lines, decided_at_end, end_mark, line_row, line_reading, lines_reading, row_or_fault, last_reading, last_after, text_file_reading}

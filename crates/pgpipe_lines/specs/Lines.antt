@@ -2,7 +2,7 @@
 -- was read so far, the number of the line's row, its verb, and the fields after it. It gives what
 -- is read with the line, or nothing where the line has no meaning there.
 use Rattle.std.specs.Prelude.{ℕ, ◌+◌, Bool, true, false, if◌then◌else◌, List, [], ◌∷◌, Option, Some, None, Result, Ok, Err}
-use Rattle.pg_copy.specs.declared.fault.TextFault.{TextFault}
+use Rattle.pg_copy.specs.fault.TextFault.{TextFault}
 use Rattle.pg_copy.specs.Row.{Row}
 use Rattle.pg_copy.specs.Reading.{RowsEnding, Bad}
 use Rattle.pg_copy.specs.Text.{default_options, text_file_reading}

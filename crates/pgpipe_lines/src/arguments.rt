@@ -9,7 +9,7 @@ ghost use Rattle.pgpipe_lines.specs.Reads.{ReadsAs, TakesOff};
 use crate::fault::Refusal;
 use crate::verb::{CopyFormat, format_of};
 use pg_copy::Row;
-use pg_wire::{CopyHead, ErrorField, Fields, Seq, Values};
+use pg_wire::{CopyHead, Fields, Seq, Values};
 use std::alloc::{AllocError, Global};
 use std::marker::Model;
 use std::{str, vec};
@@ -141,12 +141,16 @@ impl Arguments {
     pub fn error_fields(mut self) -> Result<Fields, Refusal>
         ensures { ReadsAs result (error_fields_of self) }
     {
-        let mut fields = Seq::new(Vec::new(self.alloc));
+        let mut fields = Fields::new(self.alloc);
         while !self.is_empty() {
             let text = self.text()?;
             let code = one_byte(text.as_slice())?;
             let value = self.text()?;
-            fields.push(ErrorField { code, value })?;
+            match fields.push(code, value.as_slice()) {
+                Ok(()) => {}
+                // fields that no message could hold are more than this program takes
+                Err(_) => return Err(Refusal::Memory),
+            }
         }
         Ok(fields)
     }

@@ -65,14 +65,6 @@ field_more f s now new xs i x lt is h k =
     ap (λ ys. with_fields s (map f ys)) (taken xs i x lt is) ∙ ap (with_fields s) (map-append f (take i xs) (x ∷ [])) ∙ with_fields-append s (map f (take i xs)) (f x ∷ []) in
     k ∙ ap (λ t. with_field t (f x)) h ∙ sym all
 
-pub fields_more : {X : Type 0} (f : X → Row) (s now new : LineState) (xs : List X) (i : ℕ) (x : X) → i < length xs → x ≡ get_or xs i x
-    → now ≡ with_fields s (flat_map f (take i xs)) → new ≡ with_fields now (f x) → new ≡ with_fields s (flat_map f (take (i + 1) xs))
-fields_more f s now new xs i x lt is h k =
-    let all : with_fields s (flat_map f (take (i + 1) xs)) ≡ with_fields (with_fields s (flat_map f (take i xs))) (f x) =
-    ap (λ ys. with_fields s (flat_map f ys)) (taken xs i x lt is) ∙ ap (with_fields s) (flat_map-append f (take i xs) (x ∷ [])) ∙ with_fields-append s (flat_map f (take i xs)) (f x ++ [])
-    ∙ ap (with_fields (with_fields s (flat_map f (take i xs)))) (append-nil (f x)) in
-    k ∙ ap (λ t. with_fields t (f x)) h ∙ sym all
-
 pub line_more : {X : Type 0} (f : X → Row) (s now new : LineState) (xs : List X) (i : ℕ) (x : X) → i < length xs → x ≡ get_or xs i x
     → now ≡ with_rows s (map f (take i xs)) → new ≡ with_row now (f x) → new ≡ with_rows s (map f (take (i + 1) xs))
 line_more f s now new xs i x lt is h k =
@@ -87,9 +79,6 @@ lines_more f s now new xs i x lt is h k =
     ap (λ ys. with_rows s (flat_map f ys)) (taken xs i x lt is) ∙ ap (with_rows s) (flat_map-append f (take i xs) (x ∷ [])) ∙ with_rows-append s (flat_map f (take i xs)) (f x ++ [])
     ∙ ap (with_rows (with_rows s (flat_map f (take i xs)))) (append-nil (f x)) in
     k ∙ ap (λ t. with_rows t (f x)) h ∙ sym all
-
-pub two_fields : (s mid new : LineState) (a : Option (List ℕ)) (b c : List ℕ) → mid ≡ with_field s a → new ≡ with_field mid (Some b) → b ≡ c → new ≡ with_field (with_field s a) (Some c)
-two_fields s mid new a b c h k e = k ∙ ap (λ (x : List ℕ). with_field mid (Some x)) e ∙ ap (λ (m : LineState). with_field m (Some c)) h
 
 -- lines after others
 pub after : (s mid new : LineState) (xs ys : List Row) → mid ≡ with_rows s xs → new ≡ with_rows mid ys → new ≡ with_rows s (xs ++ ys)

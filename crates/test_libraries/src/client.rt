@@ -4,7 +4,7 @@ mod faults;
 mod passwords;
 
 use pg_client::{Call, Cause, Client, Loss, Phase, Settings, Settled};
-use pg_wire::{Aside, Outcome, Part, Request, Seq, Status, Step};
+use pg_wire::{Aside, Fields, Outcome, Part, Request, Seq, Status, Step};
 use std::alloc::{AllocError, Global};
 use std::test::Fail;
 
@@ -148,7 +148,7 @@ fn completed(alloc: Global, asides: Vec<Aside>) -> Result<Option<Settled>, Alloc
 fn failed(alloc: Global) -> Result<Option<Settled>, AllocError> {
     let outcome = Outcome {
         parts: Seq::new(Vec::new(alloc)),
-        error: Some(Seq::new(Vec::new(alloc))),
+        error: Some(Fields::new(alloc)),
         status: Status::Failed,
         asides: Seq::new(Vec::new(alloc)),
     };
@@ -216,7 +216,7 @@ fn told(alloc: Global) -> Result<(Client, Vec<u8>), Fail> {
 }
 
 fn noted(alloc: Global) -> Result<Option<Settled>, AllocError> {
-    let notice = Aside::Notice(Seq::new(Vec::new(alloc)));
+    let notice = Aside::Notice(Fields::new(alloc));
     completed(alloc, vec![in alloc; notice]?)
 }
 

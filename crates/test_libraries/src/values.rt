@@ -2,7 +2,7 @@
 
 ghost use Rattle.std.specs.Prelude.{◌≡◌, IfOk};
 
-use pg_wire::{Aside, Column, CopyHead, ErrorField, Fields, Request, Seq, Values};
+use pg_wire::{Aside, Column, CopyHead, Fields, Request, Seq, Values};
 use std::alloc::{AllocError, Global};
 
 /// These bytes, as a list of a message or a script.
@@ -63,22 +63,17 @@ pub fn head(alloc: Global, binary: bool, columns: usize) -> Result<CopyHead, All
     })
 }
 
-fn field(alloc: Global, code: u8, value: &[u8]) -> Result<ErrorField, AllocError> {
-    Ok(ErrorField {
-        code,
-        value: text(alloc, value)?,
-    })
+fn fields(alloc: Global, list: &[(u8, &[u8])]) -> Result<Fields, AllocError> {
+    Fields::from_slice(alloc, list).map_err(|_| AllocError)
 }
 
 /// The fields of an error: the code `XX000` and the text `bad`.
 pub fn bad(alloc: Global) -> Result<Fields, AllocError> {
-    let fields = vec![in alloc; field(alloc, b'C', b"XX000")?, field(alloc, b'M', b"bad")?]?;
-    Ok(Seq::new(fields))
+    fields(alloc, &[(b'C', b"XX000"), (b'M', b"bad")])
 }
 
 fn notice(alloc: Global) -> Result<Aside, AllocError> {
-    let fields = vec![in alloc; field(alloc, b'M', b"hi")?]?;
-    Ok(Aside::Notice(Seq::new(fields)))
+    Ok(Aside::Notice(fields(alloc, &[(b'M', b"hi")])?))
 }
 
 fn parameter(alloc: Global) -> Result<Aside, AllocError> {

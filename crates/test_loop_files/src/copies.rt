@@ -48,7 +48,10 @@ fn parts(alloc: Global) -> Result<Vec<ScriptPart>, AllocError> {
     parts.push(copy_in(binary(alloc, 1)?, Load::Accept(text(alloc, b"COPY 1")?)))?;
     parts.push(copy_out(alloc, binary(alloc, 0)?, Vec::new(alloc), b"COPY 0")?)?;
     parts.push(copy_in(head(alloc, false, 65_535)?, refuse(2, bad(alloc)?)))?;
-    parts.push(copy_in(head(alloc, false, 0)?, refuse(4_294_967_295, none(alloc))))?;
+    parts.push(copy_in(
+        head(alloc, false, 0)?,
+        refuse(4_294_967_295, Fields::new(alloc)),
+    ))?;
     Ok(parts)
 }
 

@@ -1,24 +1,16 @@
 //! A settled group as psql prints it, unaligned and terse.
 
 use pg_client::Settled;
-use pg_wire::{Aside, Column, ErrorField, Fields, Part, Seq, Values};
+use pg_wire::{Aside, Column, Fields, Part, Seq, Values};
 use std::io;
 use std::io::Write;
 
-// The text of a field, if there is one with this code.
-fn field(fields: &Fields, code: u8) -> Option<&[u8]> {
-    fields
-        .iter()
-        .find(|field| field.code == code)
-        .map(|field| field.value.as_slice())
-}
-
 // An error or a notice: its severity, its message and its place in the query.
 fn print_fields(fields: &Fields, out: &mut impl Write) -> io::Result<()> {
-    out.write_all(field(fields, b'S').unwrap_or(b"".as_slice()))?;
+    out.write_all(fields.get(b'S').unwrap_or(b"".as_slice()))?;
     out.write_all(b":  ")?;
-    out.write_all(field(fields, b'M').unwrap_or(b"".as_slice()))?;
-    if let Some(place) = field(fields, b'P') {
+    out.write_all(fields.message().unwrap_or(b"".as_slice()))?;
+    if let Some(place) = fields.get(b'P') {
         out.write_all(b" at character ")?;
         out.write_all(place)?;
     }

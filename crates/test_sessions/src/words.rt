@@ -8,10 +8,10 @@ use std::io::Write;
 
 // The fields with this code.
 fn write_field(fields: &Fields, code: u8, out: &mut impl Write) -> io::Result<()> {
-    for field in fields {
-        if field.code == code {
+    for (found, text) in fields.iter() {
+        if found == code {
             out.write_all(b" ")?;
-            out.write_all(field.value.as_slice())?;
+            out.write_all(text)?;
         }
     }
     Ok(())

@@ -1,9 +1,7 @@
 use pg_backend::{BackPhase, BackendFault, Logged};
 use pg_client::{CallFault, Cause, FeedFault, Loss, Phase, Settled};
 use pg_pair::Applied;
-use pg_wire::{
-    EncodeFault, ErrorField, ExecEnd, Fields, Outcome, Part, Request, Seq, Status, Step, WireFault,
-};
+use pg_wire::{EncodeFault, ExecEnd, Fields, Outcome, Part, Request, Seq, Status, Step, WireFault};
 use pgpipe_loop::{closing_lines, event_lines};
 use std::alloc::{AllocError, Global};
 use std::test::Fail;
@@ -396,12 +394,9 @@ fn more_chunks_than_a_line_takes(rt: HostRuntime) -> Result<(), Fail> {
 
 /// So many fields of an error, of one byte each.
 fn many_fields(alloc: Global, count: usize) -> Result<Fields, Fail> {
-    let mut fields = none(alloc);
+    let mut fields = Fields::new(alloc);
     for _ in 0..count {
-        fields.push(ErrorField {
-            code: b'M',
-            value: text(alloc, b"v")?,
-        })?;
+        fields.push(b'M', b"v")?;
     }
     Ok(fields)
 }

@@ -1,8 +1,8 @@
 //! What a vector is tried on: a decoder, and the encoder of what it gives.
 
 use pg_wire::{
-    BackDecoder, BackMessage, Cut, Decoder, EncodeFault, ErrorField, FieldsView, First,
-    FirstDecoder, Lent, Message, RowView, Seq, Values, WireFault, backend, frontend,
+    BackDecoder, BackMessage, Cut, Decoder, EncodeFault, Fields, FieldsView, First, FirstDecoder,
+    Lent, Message, RowView, Values, WireFault, backend, frontend,
 };
 use std::alloc::{AllocError, Global};
 use std::fmt::Debug;
@@ -110,13 +110,8 @@ fn values_of(alloc: Global, row: &RowView<'_>) -> Result<BackMessage, AllocError
 }
 
 /// The fields of an error or a notice that is lent.
-fn fields_of(alloc: Global, lent: &FieldsView<'_>) -> Result<Seq<ErrorField>, AllocError> {
-    let mut fields = Seq::new(Vec::new(alloc));
-    for (code, text) in lent.fields() {
-        let value = Seq::from_slice(alloc, text)?;
-        fields.push(ErrorField { code, value })?;
-    }
-    Ok(fields)
+fn fields_of(alloc: Global, lent: &FieldsView<'_>) -> Result<Fields, AllocError> {
+    Fields::of_view(alloc, lent).map_err(|_| AllocError)
 }
 
 /// What is lent, copied.

@@ -83,10 +83,12 @@ fn feed<D: Subject>(decoder: &mut D, piece: &[u8]) -> Result<Decoded<D::Item>, F
     }
 }
 
-/// Gives the decoder a piece after which more is to come, so that it has no answer yet.
+/// Gives the decoder a piece after which more is to come, so that it has no answer yet and keeps all that it was given.
 fn feed_part<D: Subject>(decoder: &mut D, piece: &[u8], cut: VectorCut) -> Result<(), Flaw> {
+    let before = decoder.kept();
     match feed(decoder, piece)? {
-        Decoded::Open => Ok(()),
+        Decoded::Open if before.checked_add(piece.len()) == Some(decoder.kept()) => Ok(()),
+        Decoded::Open => Err(Flaw::Keeps(cut, decoder.kept())),
         _ => Err(Flaw::Early(cut)),
     }
 }

@@ -21,10 +21,12 @@ use Rattle.pg_client.specs.Session.{IsTerminated, AreAllowed, Expected, can_answ
 use Rattle.pg_client.specs.Client.{ClientView, HasSameUnsettled, option_or, last_said, value_of, value_said, key_said}
 use Rattle.pg_client.specs.Sent.{answer_to, IsSpelledAt, sent_in}
 use Rattle.pg_client.specs.Closed.{cause_of}
-use Rattle.pg_client.specs.History.{AreOrdered, happenings, History}
+use Rattle.pg_client.specs.History.{AreOrdered, happenings, History, with_heard}
+use Rattle.pg_client.specs.declared.item.Item.{Item}
 use Rattle.pg_client.specs.Feed.{Hears}
 use Rattle.pg_client.specs.Stand.{Effect, Leads, Settles, Rejected, hear_with, Stands}
 use Rattle.pg_client.specs.Private.Hearing.{fault_at, question}
+use Rattle.pg_client.specs.Private.Collector.{Telling}
 
 -- After the message the client knows what that carries: the transaction status of a ReadyForQuery,
 -- the value of a ParameterStatus, the key of a BackendKeyData. All else that it knew stays.
@@ -160,11 +162,19 @@ pub record IsHearing (before : ℕ) (h : History) (client : ClientView) : Type 0
   pub sent_is : h.sent ≡ sent_in client.settings (happenings h)
   pub spelled : AllByRecursion (IsSpelledAt client.settings) (happenings h)
 
--- What handling all whole messages does to a client that was fed a piece. What is added to the
--- output is what has to be sent for these messages.
-pub record HearsAll (old : ClientView) (result : Result Unit FeedFault) (new : ClientView)
-    (before after : List ℕ) : Type 0 where
+-- A client with this history, to which the piece belongs already, handles some more messages, as
+-- Hears says, and what was told of the events before is told of those after.
+pub record HearsTold (h : History) (piece added : List ℕ) (result : Result Unit FeedFault)
+    (was : Telling) (new : ClientView) (is : Telling) : Type 0 where
+  pub hears : Hears h piece added result new
+  pub tells : (given : List Item) → was given (happenings h)
+      → is given (happenings (with_heard hears.more hears.rest added h))
+
+-- What handling all whole messages does to a client that was fed a piece, and what is told of it.
+-- What is added to the output is what has to be sent for these messages.
+pub record HearsAll (old : ClientView) (was : Telling) (result : Result Unit FeedFault)
+    (new : ClientView) (is : Telling) (before after : List ℕ) : Type 0 where
   pub added : List ℕ
   pub put : after ≡ before ++ added
   pub hears : (place : ℕ) (h : History) (piece : List ℕ) → 0 < length piece → IsHearing place h old
-      → Hears h piece added result new
+      → HearsTold h piece added result was new is

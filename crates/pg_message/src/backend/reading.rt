@@ -8,10 +8,8 @@ ghost use Rattle.pg_message.specs.Private.Reading.{AsksFor};
 
 use super::kind::BackKind;
 use crate::message::BackMessage;
-use pg_layout::{
-    BodyFault, copy_head_at, copy_of, counted, ended, i32_at, status_at, terminated, text_at,
-};
-use pg_values::values_at;
+use pg_layout::{BodyFault, copy_head_at, copy_of, counted, ended, i32_at, status_at, text_at};
+use pg_values::{fields_at, values_at};
 use std::alloc::Global;
 
 /// An authentication request, whose code says which.
@@ -98,11 +96,11 @@ fn other_message(alloc: Global, kind: BackKind, body: &[u8]) -> Result<BackMessa
             ended(BackMessage::ParameterDescription(types), rest)
         }
         BackKind::ErrorResponse => {
-            let (fields, rest) = terminated(alloc, body)?;
+            let (fields, rest) = fields_at(alloc, body)?;
             ended(BackMessage::ErrorResponse(fields), rest)
         }
         BackKind::NoticeResponse => {
-            let (fields, rest) = terminated(alloc, body)?;
+            let (fields, rest) = fields_at(alloc, body)?;
             ended(BackMessage::NoticeResponse(fields), rest)
         }
         BackKind::Notification => {

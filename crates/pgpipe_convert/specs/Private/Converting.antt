@@ -1,10 +1,10 @@
 -- How far a conversion has come.
 use Rattle.std.specs.Prelude.{ℕ, ◌≡◌, ◌≤◌, ◌+◌, Bool, true, false, List, [], ◌∷◌, ◌++◌, length, Option, Some, None, Result, Ok, Err, OnOk}
 use Rattle.std.specs.List.{FoldsTo, concat, flat_map, AllByRecursion}
-use Rattle.pg_copy.specs.declared.fault.BinaryFault.{BinaryFault}
-use Rattle.pg_copy.specs.declared.fault.BinaryFault.TheVariants as binary_fault
-use Rattle.pg_copy.specs.declared.fault.TextFault.{TextFault}
-use Rattle.pg_copy.specs.declared.fault.TextFault.TheVariants as text_fault
+use Rattle.pg_copy.specs.fault.BinaryFault.{BinaryFault}
+use Rattle.pg_copy.specs.fault.BinaryFault.TheVariants as binary_fault
+use Rattle.pg_copy.specs.fault.TextFault.{TextFault}
+use Rattle.pg_copy.specs.fault.TextFault.TheVariants as text_fault
 use Rattle.pg_copy.specs.BinaryReader.{HasReadBinary, binary_last, binary_left}
 use Rattle.pg_copy.specs.Reading.{RowsRead, RowsEnding, Bad, IsGood, after_rows}
 use Rattle.pg_copy.specs.Row.{Row}

@@ -1,7 +1,7 @@
 -- Why a file isn't read where its reader gives no row.
 use Rattle.std.specs.Prelude.{ℕ}
-use Rattle.pg_copy.specs.declared.fault.TextFault.{TextFault}
-use Rattle.pg_copy.specs.declared.fault.TextFault.TheVariants as text_fault
+use Rattle.pg_copy.specs.fault.TextFault.{TextFault}
+use Rattle.pg_copy.specs.fault.TextFault.TheVariants as text_fault
 use Rattle.pgpipe_lines.specs.declared.fault.LineFault.{LineFault}
 use Rattle.pgpipe_lines.specs.declared.fault.LineFault.TheVariants as fault
 

@@ -111,7 +111,7 @@ fn put_feed_details(fault: &FeedFault, lines: &mut LineBuffer) -> Result<(), All
     match fault {
         FeedFault::Wire(fault) => lines.put_text(fault.code().as_bytes()),
         FeedFault::StartupError(fields) | FeedFault::ServerEnd(fields) => {
-            put_error_fields(fields.as_slice(), lines)
+            put_error_fields(fields, lines)
         }
         FeedFault::Unexpected(_)
         | FeedFault::UnsupportedAuth(_)

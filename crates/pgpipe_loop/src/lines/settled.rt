@@ -19,7 +19,7 @@ impl PutsLine for Aside {
 
     fn put_line(&self, lines: &mut LineBuffer) -> Result<(), AllocError> {
         match self {
-            Aside::Notice(fields) => put_error_line(b"notice", fields.as_slice(), lines),
+            Aside::Notice(fields) => put_error_line(b"notice", fields, lines),
             Aside::Parameter { name, value } => put_parameter(name, value, lines),
             Aside::Notification {
                 process,
@@ -216,6 +216,6 @@ fn put_error(error: &Option<Fields>, lines: &mut LineBuffer) -> Result<(), Alloc
 {
     match error {
         None => Ok(()),
-        Some(fields) => put_error_line(b"error", fields.as_slice(), lines),
+        Some(fields) => put_error_line(b"error", fields, lines),
     }
 }

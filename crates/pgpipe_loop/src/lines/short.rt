@@ -7,7 +7,7 @@ ghost use Rattle.pgpipe_loop.specs.Private.Lines.{with_fields, with_row};
 
 use super::buffer::{LineBuffer, PutsField};
 use super::lists::put_each_field;
-use pg_wire::{Column, CopyHead, ErrorField, Request, Seq, Values};
+use pg_wire::{Column, CopyHead, Fields, Request, Seq, Values};
 use std::alloc::AllocError;
 
 /// Puts the values of a row, of which any may be null.
@@ -48,12 +48,12 @@ impl PutsField for Column {
 }
 
 /// Puts the fields of an error or a notice.
-pub fn put_error_fields(fields: &[ErrorField], lines: &mut LineBuffer) -> Result<(), AllocError>
+pub fn put_error_fields(fields: &Fields, lines: &mut LineBuffer) -> Result<(), AllocError>
     ensures { OnOk result (lines.new ≡ with_fields lines.old (error_fields fields.now)) }
 {
-    for field in fields {
-        lines.put_text(&[field.code])?;
-        lines.put_text(field.value.as_slice())?;
+    'fields: for field in fields.iter() {
+        lines.put_text(&[field.0])?;
+        lines.put_text(field.1)?;
     }
     Ok(())
 }
@@ -102,7 +102,7 @@ pub fn put_text_line(word: &[u8], text: &[u8], lines: &mut LineBuffer) -> Result
 /// Puts the line of a word and the fields of an error or a notice.
 pub fn put_error_line(
     word: &[u8],
-    fields: &[ErrorField],
+    fields: &Fields,
     lines: &mut LineBuffer,
 ) -> Result<(), AllocError>
     ensures { OnOk result (lines.new

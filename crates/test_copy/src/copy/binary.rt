@@ -64,6 +64,29 @@ fn headed_gives(
     gives(alloc, file.as_slice(), lines, fault)
 }
 
+/// Whether the file, cut at any place before its end, gives no more rows than it has, and then B6.
+fn is_truncated_everywhere(alloc: Global, file: &[u8], lines: &[u8]) -> Result<bool, Fail> {
+    for place in 0..file.len() {
+        let (before, _) = file.split_at_checked(place).unwrap_or((file, &[]));
+        let mut written = Vec::new(alloc);
+        let found = write_column(alloc, before, 0, 1, &mut written)?;
+        if found != Some(BinaryFault::Truncated) || !lines.starts_with(written.as_slice()) {
+            return Ok(false);
+        }
+    }
+    Ok(true)
+}
+
+#[test]
+fn a_file_cut_anywhere_is_truncated(rt: HostRuntime) -> Result<(), Fail> {
+    let alloc = rt.alloc();
+    let rest =
+        b"\0\0\0\x01\0\0\0\x02\xAA\xBB\0\x01\0\0\0\x02a\t\0\x01\xFF\xFF\xFF\xFF\0\x01\0\0\0\0\xFF\xFF";
+    let file = [&HEAD[..11], rest.as_slice()].concat(alloc)?;
+    assert!(rt; is_truncated_everywhere(alloc, file.as_slice(), b"a\\t\n\\N\n\n")?);
+    Ok(())
+}
+
 #[test]
 fn rows_stand_before_the_trailer(rt: HostRuntime) -> Result<(), Fail> {
     let alloc = rt.alloc();

@@ -2,7 +2,7 @@
 
 use super::{ANSWER, Act, ERROR, WELCOME, after, start};
 use pg_client::{Cause, Client, FeedFault, Phase};
-use pg_wire::{ErrorField, Seq, WireFault};
+use pg_wire::{Fields, WireFault};
 use std::alloc::Global;
 use std::test::Fail;
 
@@ -22,10 +22,6 @@ fn ready(alloc: Global) -> Result<(Client, Vec<u8>), Fail> {
     after(alloc, &[start(), Act::Feed(&WELCOME)])
 }
 
-fn no_fields(alloc: Global) -> Seq<ErrorField> {
-    Seq::new(Vec::new(alloc))
-}
-
 #[test]
 fn a_result_without_a_request(rt: HostRuntime) -> Result<(), Fail> {
     let fault = FeedFault::Unexpected(67);
@@ -35,14 +31,14 @@ fn a_result_without_a_request(rt: HostRuntime) -> Result<(), Fail> {
 
 #[test]
 fn an_error_without_a_request(rt: HostRuntime) -> Result<(), Fail> {
-    let fault = FeedFault::ServerEnd(no_fields(rt.alloc()));
+    let fault = FeedFault::ServerEnd(Fields::new(rt.alloc()));
     assert!(rt; refuses(ready(rt.alloc())?, &ERROR, fault, Cause::ServerEnd));
     Ok(())
 }
 
 #[test]
 fn an_error_of_the_startup(rt: HostRuntime) -> Result<(), Fail> {
-    let fault = FeedFault::StartupError(no_fields(rt.alloc()));
+    let fault = FeedFault::StartupError(Fields::new(rt.alloc()));
     assert!(rt; refuses(started(rt.alloc())?, &ERROR, fault, Cause::StartupError));
     Ok(())
 }

@@ -8,8 +8,7 @@ use pg_backend::{Answer, Auth, Load, Script, ScriptPart};
 use pg_client::Settings;
 use pg_pair::{Carry, Pair};
 use pg_wire::{
-    Aside, Column, CopyHead, ErrorField, ExecEnd, Fields, Request, Seq, Status, Step, Target,
-    Values,
+    Aside, Column, CopyHead, ExecEnd, Fields, Request, Seq, Status, Step, Target, Values,
 };
 use std::alloc::{AllocError, Global};
 use std::test::Fail;
@@ -157,22 +156,19 @@ pub fn head(alloc: Global) -> Result<CopyHead, AllocError> {
     })
 }
 
-pub fn field(alloc: Global, code: u8, value: &[u8]) -> Result<ErrorField, AllocError> {
-    Ok(ErrorField {
-        code,
-        value: text(alloc, value)?,
-    })
+// Fields, each given by its code and its text.
+pub fn all_fields(alloc: Global, list: &[(u8, &[u8])]) -> Result<Fields, AllocError> {
+    Fields::from_slice(alloc, list).map_err(|_| AllocError)
 }
 
 // Fields of one message.
 pub fn fields(alloc: Global, message: &[u8]) -> Result<Fields, AllocError> {
-    Ok(Seq::new(vec![in alloc; field(alloc, b'M', message)?]?))
+    all_fields(alloc, &[(b'M', message)])
 }
 
 // Fields of an error.
 pub fn failure(alloc: Global) -> Result<Fields, AllocError> {
-    let code = field(alloc, b'C', b"XX000")?;
-    Ok(Seq::new(vec![in alloc; code, field(alloc, b'M', b"bad")?]?))
+    all_fields(alloc, &[(b'C', b"XX000"), (b'M', b"bad")])
 }
 
 fn load(alloc: Global, reply: Reply) -> Result<Load, AllocError> {

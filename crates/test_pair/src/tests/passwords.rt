@@ -2,7 +2,7 @@
 
 ghost use Rattle.std.specs.Prelude.{◌≡◌, ◌≤◌, IfOk};
 
-use super::answers::{asking_pair, field, settings, text};
+use super::answers::{all_fields, asking_pair, settings, text};
 use super::claims::Claim;
 use super::{ASKED, Plan, asks, carried_out, happened, judge, start};
 use pg_backend::{Auth, BackPhase};
@@ -119,12 +119,15 @@ fn a_wrong_password_closes_both(rt: HostRuntime) -> Result<(), Fail> {
 
 // What a backend says of a wrong password.
 fn told(alloc: Global) -> Result<Fields, AllocError> {
-    Ok(Seq::new(vec![in alloc;
-        field(alloc, b'S', b"FATAL")?,
-        field(alloc, b'V', b"FATAL")?,
-        field(alloc, b'C', b"28P01")?,
-        field(alloc, b'M', b"password authentication failed")?,
-    ]?))
+    all_fields(
+        alloc,
+        &[
+            (b'S', b"FATAL"),
+            (b'V', b"FATAL"),
+            (b'C', b"28P01"),
+            (b'M', b"password authentication failed"),
+        ],
+    )
 }
 
 // The question has reached the client, a byte at a time, and then these events happen.

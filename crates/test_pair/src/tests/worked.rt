@@ -1,6 +1,6 @@
 //! Copies and a group that fail, in deliveries of 4,096 bytes and of one byte.
 
-use super::answers::{Reply, failure, field, head, pair, query, text, unnamed_group};
+use super::answers::{Reply, all_fields, failure, head, pair, query, text, unnamed_group};
 use super::claims::Claim;
 use super::{Plan, asks, carried_out, chunk, fail, judge, start};
 use pg_backend::BackPhase;
@@ -110,12 +110,15 @@ fn after_a_refused_copy_chunks_are_dropped(rt: HostRuntime) -> Result<(), Fail> 
 // ---- an accepted copy, which fails or is done
 
 fn canceled(alloc: Global) -> Result<Fields, AllocError> {
-    Ok(Seq::new(vec![in alloc;
-        field(alloc, b'S', b"ERROR")?,
-        field(alloc, b'V', b"ERROR")?,
-        field(alloc, b'C', b"57014")?,
-        field(alloc, b'M', b"COPY failed: no")?,
-    ]?))
+    all_fields(
+        alloc,
+        &[
+            (b'S', b"ERROR"),
+            (b'V', b"ERROR"),
+            (b'C', b"57014"),
+            (b'M', b"COPY failed: no"),
+        ],
+    )
 }
 
 fn done(alloc: Global) -> Result<Settled, AllocError> {

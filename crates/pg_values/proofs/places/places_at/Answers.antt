@@ -1,6 +1,6 @@
-use Rattle.std.proofs.Common.{rules, ◌≡◌, refl, sym, ap}
+use Rattle.std.proofs.Common.{sym}
 use Rattle.std.specs.Prelude.{option_copied}
-use Rattle.pg_values.proofs.Blocks.{no_place_yet, no_value, one_place, all_places}
+use Rattle.pg_values.proofs.Blocks.{no_value, one_place, all_places}
 use Rattle.pg_values.proofs.places.places_at.Goals as goal
 
 pub returns-in_default : goal.returns-in_default

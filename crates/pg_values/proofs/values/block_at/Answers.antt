@@ -1,4 +1,4 @@
-use Rattle.std.proofs.Common.{arith, ◌≡◌, sym, ap, ◌∙◌}
+use Rattle.std.proofs.Common.{arith, ◌∙◌}
 use Rattle.pg_values.proofs.Blocks.{is_read, rest_within, values_made}
 use Rattle.pg_values.proofs.values.block_at.Goals as goal
 

@@ -1,5 +1,5 @@
 use Rattle.std.proofs.Common.{Result, [], ◌∙◌, ap, arith, ◌≡◌, Err, Option}
-use Rattle.pg_copy.specs.declared.fault.TextFault.{TextFault}
+use Rattle.pg_copy.specs.fault.TextFault.{TextFault}
 use Rattle.pg_copy.specs.Row.{Row}
 use Rattle.pgpipe_lines.specs.declared.fault.LineFault.TheVariants.{Memory}
 use Rattle.pgpipe_lines.specs.Private.Faults.{text_fault_at}

@@ -1,14 +1,19 @@
-use Rattle.std.proofs.Common.{rules, ◌≡◌}
-use Rattle.pg_wire.specs.message.FrontMessage.TheVariants.{CopyDone}
-use Rattle.pg_client.specs.Client.{phase_of}
+use Rattle.pg_client.specs.Client.{ClientView}
+use Rattle.pg_client.specs.Calls.{RefusesCopy}
+use Rattle.pg_client.specs.declared.call.Call.TheVariants as call
+use Rattle.pg_client.specs.declared.fault.CallFault.{CallFault}
 use Rattle.pg_client.specs.declared.phase.Phase.TheVariants as phase
-use Rattle.pg_client.specs.contracts.client.Client.{the_view}
-use Rattle.pg_client.proofs.Encoded.{encoded}
-use Rattle.pg_client.proofs.Accepting.{copy_done_accepted}
+use Rattle.pg_client.proofs.Collected.{accepts, phases, refuses, stays}
 use Rattle.pg_client.proofs.client.Client.copy_done.Goals as goal
 
+pub returns-clause-ok : goal.returns-clause-ok
+returns-clause-ok c = phases c.args.self.now c.self.inside.machine c.copy_done.new.self c.self.view_is c.copy_done.result phase.CopyingIn phase.Busy call.Done c.args.out.now.items c.copy_done.new.out.items c.copy_done.ensures.ok
+
 pub returns-clause-history : goal.returns-clause-history
-returns-clause-history c =
-    let k : phase_of c.args.self.now ≡ phase.CopyingIn = search rules in
-    let e = encoded CopyDone c.args.out.now.items c.copy_done.new.buf.items (c.in_ok-copy_done.ensures) in
-    rw (c.answer_copy.ensures) (copy_done_accepted (the_view c.self.inside) c.args.self.now c.args.out.now.items c.copy_done.new.buf.items c.self.view_is k e.spelled e.put)
+returns-clause-history c = accepts c.args.self.now c.self.inside.machine c.copy_done.new.self c.self.view_is c.copy_done.result phase.CopyingIn phase.Busy call.Done c.args.out.now.items c.copy_done.new.out.items c.copy_done.ensures.ok
+
+pub returns-clause-refused : goal.returns-clause-refused
+returns-clause-refused c = refuses c.args.self.now c.self.inside.machine c.copy_done.new.self c.self.view_is c.copy_done.result (λ (f : CallFault) (x : ClientView). RefusesCopy x call.Done f) c.copy_done.ensures.refused
+
+pub returns-clause-err : goal.returns-clause-err
+returns-clause-err c = stays c.args.self.now c.self.inside.machine c.copy_done.new.self c.self.view_is c.copy_done.result c.args.out.now.items c.copy_done.new.out.items c.copy_done.ensures.err

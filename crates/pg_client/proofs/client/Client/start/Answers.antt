@@ -1,11 +1,19 @@
-use Rattle.std.proofs.Common.{rules, ◌≡◌}
-use Rattle.pg_client.specs.Client.{phase_of}
+use Rattle.pg_client.specs.Client.{ClientView}
+use Rattle.pg_client.specs.Calls.{RefusesUnless}
+use Rattle.pg_client.specs.declared.call.Call.TheVariants as call
+use Rattle.pg_client.specs.declared.fault.CallFault.{CallFault}
 use Rattle.pg_client.specs.declared.phase.Phase.TheVariants as phase
-use Rattle.pg_client.specs.contracts.client.Client.{the_view}
-use Rattle.pg_client.proofs.Accepting.{start_accepted}
+use Rattle.pg_client.proofs.Collected.{accepts, phases, refuses, stays}
 use Rattle.pg_client.proofs.client.Client.start.Goals as goal
 
+pub returns-clause-ok : goal.returns-clause-ok
+returns-clause-ok c = phases c.args.self.now c.self.inside.machine c.start.new.self c.self.view_is c.start.result phase.New phase.Starting call.Start c.args.out.now.items c.start.new.out.items c.start.ensures.ok
+
 pub returns-clause-history : goal.returns-clause-history
-returns-clause-history c =
-    let k : phase_of c.args.self.now ≡ phase.New = search rules in
-    start_accepted (the_view c.self.inside) c.args.self.now c.args.out.now.items c.put_start.new.out.items c.self.view_is k c.in_ok-put_start.ensures.0 c.in_ok-put_start.ensures.1
+returns-clause-history c = accepts c.args.self.now c.self.inside.machine c.start.new.self c.self.view_is c.start.result phase.New phase.Starting call.Start c.args.out.now.items c.start.new.out.items c.start.ensures.ok
+
+pub returns-clause-refused : goal.returns-clause-refused
+returns-clause-refused c = refuses c.args.self.now c.self.inside.machine c.start.new.self c.self.view_is c.start.result (λ (f : CallFault) (x : ClientView). RefusesUnless phase.New x call.Start f) c.start.ensures.refused
+
+pub returns-clause-err : goal.returns-clause-err
+returns-clause-err c = stays c.args.self.now c.self.inside.machine c.start.new.self c.self.view_is c.start.result c.args.out.now.items c.start.new.out.items c.start.ensures.err

@@ -1,6 +1,11 @@
-use Rattle.pg_client.specs.contracts.client.Client.{the_view}
-use Rattle.pg_client.proofs.Lifetime.{taken}
+use Rattle.pg_client.proofs.Collected.{takes_history, takes_none, takes_some}
 use Rattle.pg_client.proofs.client.Client.take_settled.Goals as goal
 
+pub returns-clause-some : goal.returns-clause-some
+returns-clause-some c = takes_some c.args.self.now c.self.inside.machine c.take_settled.new.self c.self.view_is c.take_settled.ensures.others c.take_settled.result c.take_settled.ensures.some
+
 pub returns-clause-history : goal.returns-clause-history
-returns-clause-history c = taken (the_view c.self.inside) c.args.self.now c.pop_front.result c.pop_front.new.self.items c.self.view_is c.pop_front.ensures.items
+returns-clause-history c = takes_history c.args.self.now c.self.inside.machine c.take_settled.new.self c.self.view_is c.take_settled.ensures.others c.take_settled.result c.take_settled.ensures.some
+
+pub returns-clause-none : goal.returns-clause-none
+returns-clause-none c = takes_none c.args.self.now c.self.inside.machine c.take_settled.new.self c.self.view_is c.take_settled.ensures.others c.take_settled.result c.take_settled.ensures.none

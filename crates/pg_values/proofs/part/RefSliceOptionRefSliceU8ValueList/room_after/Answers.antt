@@ -1,4 +1,3 @@
-use Rattle.std.proofs.Common.{sym}
 use Rattle.pg_values.proofs.Lists.{lent_spelled}
 use Rattle.pg_values.proofs.part.RefSliceOptionRefSliceU8ValueList.room_after.Goals as goal
 

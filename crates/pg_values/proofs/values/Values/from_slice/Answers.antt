@@ -1,5 +1,4 @@
-use Rattle.std.proofs.Common.{arith, ◌≡◌, length, List, Option, None, Err, ℕ, refl, sym, ap, ◌∙◌}
-use Rattle.std.proofs.lemmas.List.{get_or_default}
+use Rattle.std.proofs.Common.{arith, length, List, Option, Err, ℕ, sym, ap, ◌∙◌}
 use Rattle.std.proofs.lemmas.Result.{err_from_is_err_and}
 use Rattle.pg_layout.specs.declared.fault.EncodeFault.{EncodeFault}
 use Rattle.pg_layout.specs.declared.fault.EncodeFault.TheVariants.{TooLong}

@@ -1,4 +1,4 @@
-use Rattle.std.proofs.Common.{rules, ◌≡◌, length, [], sym, ap, ◌∙◌}
+use Rattle.std.proofs.Common.{rules, length, ap}
 use Rattle.pg_values.proofs.Blocks.{count_is, none_of_none}
 use Rattle.pg_values.proofs.values.Values.is_empty.Goals as goal
 

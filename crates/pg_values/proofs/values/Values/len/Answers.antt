@@ -1,4 +1,4 @@
-use Rattle.std.proofs.Common.{rules, ◌≡◌, length, sym, ap, ◌∙◌}
+use Rattle.std.proofs.Common.{rules, length, ap}
 use Rattle.pg_values.proofs.Blocks.{count_is}
 use Rattle.pg_values.proofs.values.Values.len.Goals as goal
 

@@ -1,4 +1,3 @@
-use Rattle.std.proofs.Common.{rules, ◌≡◌, length, [], sym, ap, ◌∙◌}
 use Rattle.pg_values.proofs.Blocks.{empty_block, empty_values}
 use Rattle.pg_values.proofs.values.Values.new.Goals as goal
 

@@ -1,4 +1,4 @@
-use Rattle.std.proofs.Common.{◌≡◌, [], List, Some, None, ap, ◌∙◌, append-nil, arith}
+use Rattle.std.proofs.Common.{rules, ◌≡◌, [], ◌∷◌, ◌++◌, List, Some, None, ap, ◌∙◌, append-nil, arith}
 use Rattle.std.proofs.lemmas.Result.{err_from_is_err_and}
 use Rattle.pg_copy.specs.Row.{Row}
 use Rattle.pg_wire.specs.value.ErrorField.{ErrorField}
@@ -30,7 +30,8 @@ returns-in_err-value c =
 pub loop-self-preserved : goal.loop-self-preserved
 loop-self-preserved c =
     let seen = rw c.as_slice.ensures at c.in_ok-code.ensures in
-    rw c.in_ok-push.ensures.ok (c.loop-self.invariant
+    let pushed : c.push.new.self ≡ c.loop-self.fields ++ record { code = c.in_ok-code.code; value = c.in_ok-value.value } ∷ [] = search rules in
+    rw pushed (c.loop-self.invariant
     ∙ fields-more c.loop-self.fields c.loop-self.self c.text.new.self c.text-in-loop-self-2.new.self c.in_ok-text.text c.in_ok-value.value c.in_ok-code.code c.in_ok-text.ensures.text seen c.in_ok-value.ensures.text)
 
 pub returns : goal.returns

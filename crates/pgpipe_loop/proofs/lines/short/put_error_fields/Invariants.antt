@@ -1,7 +1,8 @@
-use Rattle.std.proofs.Common.{◌≡◌, take}
+use Rattle.std.proofs.Common.{◌≡◌}
 use Rattle.pgpipe_loop.specs.Lines.{error_fields}
 use Rattle.pgpipe_loop.specs.Private.Lines.{with_fields}
 use Rattle.pgpipe_loop.proofs.lines.short.put_error_fields.Given as goal
 
-abbrev pub invariant-loop-field : goal.invariant-loop-field
-invariant-loop-field l = l.lines ≡ with_fields l.initial.lines (error_fields (take l.field-index l.fields))
+-- with the fields that are left, the line is that of all
+abbrev pub invariant-fields : goal.invariant-fields
+invariant-fields l = with_fields l.lines (error_fields l.field-iterator) ≡ with_fields l.initial.lines (error_fields l.fields)

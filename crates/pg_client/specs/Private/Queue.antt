@@ -1,0 +1,29 @@
+-- What a queue of items has to do with a client.
+use Rattle.std.specs.Prelude.{◌≡◌, ◌++◌}
+use Rattle.pg_client.specs.declared.early.Queue.{Queue}
+use Rattle.pg_client.specs.Early.{EarlyView, early_stand, items_in}
+use Rattle.pg_client.specs.Private.Collector.{Collects}
+use Rattle.pg_client.specs.Private.Machine.{MachineView}
+
+-- A client that stands where it does, but for what that has collected, may have it. Its items are,
+-- after those given before, all that there are of the events.
+abbrev pub queued : Collects Queue
+queued =
+    record {
+      fits = λ q stand settled. q.stand ≡ early_stand stand;
+      tells = λ q given hs. given ++ q.items.items ≡ items_in hs;
+    }
+
+-- What a clause sees of a machine with it.
+abbrev pub early_view : MachineView Queue → EarlyView
+early_view m =
+    record {
+      settings = m.settings;
+      kept = m.kept;
+      stand = m.collector.stand;
+      items = m.collector.items.items;
+      status = m.status;
+      parameters = m.parameters;
+      key = m.key;
+      closed = m.closed;
+    }

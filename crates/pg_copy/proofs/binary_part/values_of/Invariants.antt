@@ -1,7 +1,0 @@
-use Rattle.std.proofs.Common.{◌≡◌, ◌-◌}
-use Rattle.pg_copy.specs.BinaryPart.{values_at}
-use Rattle.pg_copy.proofs.BinaryLoop.{with_front}
-use Rattle.pg_copy.proofs.binary_part.values_of.Given as goal
-
-abbrev pub invariant-loop : goal.invariant-loop
-invariant-loop l = with_front l.values.items (values_at l.limit (l.count - l.counter) l.rest) ≡ values_at l.limit l.count l.bytes

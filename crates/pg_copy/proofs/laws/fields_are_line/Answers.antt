@@ -1,5 +1,0 @@
-use Rattle.pg_copy.proofs.TextFields.{fields-line}
-use Rattle.pg_copy.proofs.laws.fields_are_line.Goals as goal
-
-pub returns : goal.returns
-returns c = record { line = fields-line }

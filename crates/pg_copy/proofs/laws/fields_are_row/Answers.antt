@@ -1,5 +1,0 @@
-use Rattle.pg_copy.proofs.BinaryFields.{fields-row}
-use Rattle.pg_copy.proofs.laws.fields_are_row.Goals as goal
-
-pub returns : goal.returns
-returns c = record { row = fields-row }

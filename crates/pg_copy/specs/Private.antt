@@ -1,8 +1,0 @@
--- The words of private functions.
-pub mod Breaks
-pub mod Units
-pub mod TextLine
-pub mod BinaryPart
-pub mod RowBuffer
-pub mod TextRow
-pub mod BinaryRow

@@ -1,0 +1,15 @@
+pub mod BinaryRound
+pub mod BinaryFields
+pub mod BinaryFiles
+pub mod BinaryReads
+pub mod BinaryHeads
+pub mod BinaryLoop
+pub mod BinaryPlaces
+pub mod BinarySizes
+pub mod BinaryHistory
+pub mod BinaryFewer
+pub mod BinaryHolds
+pub mod BinaryPushes
+pub mod BinaryWalk
+pub mod BinaryLent
+pub mod BinaryRows

@@ -1,0 +1,3 @@
+-- The words of private functions.
+pub mod BinaryPart
+pub mod BinaryRow

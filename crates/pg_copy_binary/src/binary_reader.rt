@@ -1,0 +1,471 @@
+//! Reading a binary file that comes in pieces.
+
+ghost use Rattle.std.specs.Prelude.{◌≡◌, ◌+◌, ◌++◌, ◌≤◌, ◌<◌, ◌↔◌, ◌⊎◌, ℕ, List, length, None, Ok, Err, [], true, false, IsTrue, IfOk, OnOk};
+ghost use Rattle.pg_copy_rows.specs.declared.fault.BinaryFault.{BinaryFault};
+ghost use Rattle.pg_copy_rows.specs.declared.fault.BinaryFault.TheVariants.{Memory};
+ghost use Rattle.pg_copy_binary.specs.declared.binary_reader.BinaryStage.TheVariants.{Head, Extension, Rows, Closed, Failed};
+ghost use Rattle.pg_copy_rows.specs.Row.{Row};
+ghost use Rattle.pg_copy_rows.specs.Reading.{RowWaits, given_by, AnswersNext, one_more, told, given_after};
+ghost use Rattle.pg_copy_binary.specs.BinaryPart.{Incomplete, fixed_at, head_at, binary_reading, binary_file_reading};
+ghost use Rattle.pg_copy_binary.specs.BinaryReader.{HasReadBinary, PushesBinary, IsReading, WaitsWith, rows_begin, binary_left, binary_ending};
+ghost use Rattle.pg_copy_rows.specs.Lent.{as_next, Lends};
+ghost use Rattle.pg_copy_binary.specs.Private.BinaryPart.{IsRowAt, HasRowAt, lending, let_go, start_offset, TakesPart, FindsNext, stage_of, extension_left, in_extension};
+
+use crate::binary_part::{
+    Look, NoPart, NoRow, Place, RowOrTrailer, extension_left, find_part, values_of,
+};
+use crate::binary_row::BinaryRow;
+use pg_copy_rows::counts::{later, one_more};
+use pg_copy_rows::row_buffer::RowBuffer;
+use pg_copy_rows::{BinaryFault, Row};
+use pg_seq::Seq;
+use std::alloc::{AllocError, Global};
+use std::marker::Model;
+
+/// Where a reader of a binary file stands.
+#[derive(Clone, Copy, Debug, Drop, PartialEq, Eq)]
+pub enum BinaryStage {
+    /// At the head, or at the first row after it.
+    Head,
+    /// In the head's extension, of which so many bytes are to come, 1 to 2,147,483,647.
+    Extension(u32),
+    /// At a row, or at the trailer.
+    Rows,
+    /// After the trailer.
+    Closed,
+    /// At a fault, which is not Memory.
+    Failed(BinaryFault),
+}
+
+/// Where a row begins that stands so many bytes after the first of those that are kept: only a head stands before it.
+fn start_offset(offset: u64, start: usize) -> u64
+    ensures { result ≡ start_offset offset start }
+{
+    if start > 0 { start as u64 } else { offset }
+}
+
+/// Takes a binary file in any pieces, and gives exactly its rows.
+///
+/// `push` keeps a piece, `next` gives the rows that are whole, one by one, and `finish` those that are left at the end of the
+/// input, where the trailer must have come; no byte may stand after it. The length -1 is a null. A fault stands in the place
+/// of its row, and is answered for good from then on. The flags that a reader need not know and the header's extension are
+/// skipped. The extension's bytes are dropped as they come, so that no more is kept than a row until it is whole, and what was
+/// pushed since `next` was last called. A row is looked over once, however the pieces are cut, and its values are copied once
+/// it is whole (PostgreSQL documentation, page COPY, "Binary Format").
+#[derive(Drop)]
+pub struct BinaryReader {
+    alloc: Global,
+    columns: u16,
+    limit: u32,
+    buffer: RowBuffer,
+    // how far the next part was looked over
+    look: Look,
+    stage: BinaryStage,
+    ended: bool,
+    given: u64,
+    offset: u64,
+}
+
+impl Model for BinaryReader {
+    ghost use Rattle.pg_copy_binary.specs.BinaryReader.{BinaryState};
+    ghost use Rattle.pg_copy_binary.specs.Private.BinaryPart.{IsBinaryReader};
+    ghost use Rattle.pg_copy_binary.specs.Private.BinaryRow.{held_row};
+
+    ghost Value = { BinaryState };
+
+    ghost view = { λ r. record {
+      columns = r.columns;
+      limit = r.limit;
+      kept = r.buffer.kept;
+      stage = r.stage;
+      ended = r.ended;
+      given = r.given;
+      held = held_row r.columns r.limit r.buffer.front;
+      offset = r.offset;
+    } };
+
+    ghost invariant = { λ r. IsBinaryReader r.columns r.limit r.buffer r.look r.stage };
+}
+
+impl BinaryReader {
+    /// A reader of rows of so many columns, 1 to 32,767, with values of at most `limit` bytes, 1 to 2,147,483,647.
+    pub fn new(alloc: Global, columns: u16, limit: u32) -> Self
+        requires columns { (0 < columns) × (columns ≤ 32767) }
+        requires limit { (0 < limit) × (limit ≤ 2147483647) }
+        ensures state { result
+            ≡ record { columns = columns; limit = limit; kept = []; stage = Head; ended = false; given = 0; held = None; offset = 0 } }
+        ensures read { HasReadBinary result [] [] }
+    {
+        BinaryReader {
+            alloc,
+            columns,
+            limit,
+            buffer: RowBuffer::new(alloc),
+            look: Look::start(),
+            stage: BinaryStage::Head,
+            ended: false,
+            given: 0,
+            offset: 0,
+        }
+    }
+
+    /// Whether the trailer was read, and no byte was pushed after it.
+    pub fn done(&self) -> bool
+        ensures { IsTrue result ↔ (self.now.stage ≡ Closed) }
+    {
+        self.stage == BinaryStage::Closed
+    }
+
+    /// Whether `finish` was called, calls that answered Memory left out. No more may then be pushed, and `next` not be called.
+    pub fn ended(&self) -> bool
+        ensures { result ≡ self.now.ended }
+    {
+        self.ended
+    }
+
+    /// How many rows were given, so that a caller can say which row a fault stands in the place of. The number stays at
+    /// `u64::MAX`.
+    pub fn rows_given(&self) -> u64
+        ensures { result ≡ self.now.given }
+    {
+        self.given
+    }
+
+    /// Where in the file the row begins that comes next: how many bytes stand before it, those of the head and of the rows that were
+    /// given. So after a fault it tells where the row begins that the fault stands in the place of, and 0 where that is the head.
+    /// Within the head's extension it tells where the first row will begin. The number stays at `u64::MAX`.
+    pub fn offset(&self) -> u64
+        ensures { result ≡ self.now.offset }
+    {
+        self.offset
+    }
+
+    /// Takes the next piece of the file, all of it. What it has of the head's extension is dropped, once a call of `next` has
+    /// found that only the extension is to come of the head. After the trailer nothing is kept: a byte is a fault, which the
+    /// next call answers. A fault that was found is answered again. After Memory nothing of the piece was taken and the reader
+    /// is unchanged; a piece of which nothing is to be kept wants no memory: one without bytes, one within the extension, or
+    /// one after the trailer.
+    pub fn push(&mut self, piece: &[u8]) -> Result<(), BinaryFault>
+        requires { self.old.ended ≡ false }
+        ensures call { PushesBinary self.old piece.now result self.new }
+        ensures read { OnOk result ((pushed : List ℕ) (given : List Row)
+            → HasReadBinary self.old pushed given
+            → HasReadBinary self.new (pushed ++ piece.now) given) }
+    {
+        match self.stage {
+            BinaryStage::Failed(fault) => Err(fault),
+            BinaryStage::Closed => {
+                if !piece.is_empty() {
+                    self.stage = BinaryStage::Failed(BinaryFault::AfterTrailer);
+                }
+                Ok(())
+            }
+            BinaryStage::Extension(missing) => self.skip(missing, piece),
+            BinaryStage::Head | BinaryStage::Rows => match self.buffer.push(piece) {
+                Ok(()) => Ok(()),
+                Err(_) => Err(BinaryFault::Memory),
+            },
+        }
+    }
+
+    /// The next row, or None where no whole row waits or the trailer was read. A fault is found where no more rows stand before
+    /// it, and is then answered for good. Memory is answered only where a row waits, and leaves the reader unchanged. Where it
+    /// answers None, at most 18 bytes of a head are kept, and none of its extension. Where it gives a row, fewer bytes are kept, so
+    /// that a loop over the rows comes to its end (PostgreSQL documentation, page COPY, "Binary Format").
+    pub fn next(&mut self) -> Result<Option<Row>, BinaryFault>
+        requires { self.old.ended ≡ false }
+        ensures read { (pushed : List ℕ) (given : List Row) → HasReadBinary self.old pushed given
+            → HasReadBinary self.new pushed (given ++ given_by result) }
+        ensures gives { (pushed : List ℕ) (given : List Row) → HasReadBinary self.old pushed given
+            → AnswersNext Memory (binary_reading self.new.columns self.new.limit pushed) given
+            (binary_ending self.new.stage self.new.kept) result }
+        ensures same { (self.new.columns ≡ self.old.columns) × (self.new.limit ≡ self.old.limit) }
+        ensures ended { self.new.ended ≡ false }
+        ensures row { (row : Row) → result ≡ Ok (Some row) → self.new.stage ≡ Rows }
+        ensures given { self.new.given ≡ given_after self.old.given (given_by result) }
+        ensures fewer { (row : Row) → result ≡ Ok (Some row)
+            → length self.new.kept < length self.old.kept }
+        ensures waits { result ≡ Ok None → WaitsWith self.new.stage self.new.kept }
+        ensures failed { (fault : BinaryFault) → self.old.stage ≡ Failed fault
+            → (result ≡ Err fault) × (self.new ≡ self.old) }
+        ensures closed { self.old.stage ≡ Closed → (result ≡ Ok None) × (self.new ≡ self.old) }
+        ensures held { result ≡ Err Memory ⊎ self.new.held ≡ None }
+        ensures memory { result ≡ Err Memory
+            → (self.new ≡ self.old) × RowWaits (binary_left self.old []) }
+    {
+        match self.stage {
+            BinaryStage::Failed(fault) => Err(fault),
+            BinaryStage::Closed => Ok(None),
+            BinaryStage::Head | BinaryStage::Extension(_) | BinaryStage::Rows => match self.read() {
+                Ok(row) => Ok(row),
+                Err(NoRow::Memory) => Err(BinaryFault::Memory),
+                Err(NoRow::NoPart(NoPart::Incomplete)) => Ok(None),
+                Err(NoRow::NoPart(NoPart::Faulty(fault))) => Err(fault),
+            },
+        }
+    }
+
+    /// Whether a next row waits, which is then lent until the next change of the reader: [`BinaryReader::held`] gives it. It counts as
+    /// given, and the reader has its bytes until then. A fault is answered as `next` answers it, and no memory is asked for (PostgreSQL
+    /// documentation, page COPY, "Binary Format").
+    pub fn next_lent(&mut self) -> Result<bool, BinaryFault>
+        requires { self.old.ended ≡ false }
+        ensures read { (pushed : List ℕ) (given : List Row) → HasReadBinary self.old pushed given
+            → HasReadBinary self.new pushed (given ++ given_by (as_next result self.new.held)) }
+        ensures gives { (pushed : List ℕ) (given : List Row) → HasReadBinary self.old pushed given
+            → AnswersNext Memory (binary_reading self.new.columns self.new.limit pushed) given
+            (binary_ending self.new.stage self.new.kept) (as_next result self.new.held) }
+        ensures same { (self.new.columns ≡ self.old.columns) × (self.new.limit ≡ self.old.limit) }
+        ensures ended { self.new.ended ≡ false }
+        ensures lends { Lends result self.new.held }
+        ensures row { result ≡ Ok true → self.new.stage ≡ Rows }
+        ensures given { self.new.given
+            ≡ given_after self.old.given (given_by (as_next result self.new.held)) }
+        ensures fewer { result ≡ Ok true → length self.new.kept < length self.old.kept }
+        ensures waits { result ≡ Ok false → WaitsWith self.new.stage self.new.kept }
+        ensures failed { (fault : BinaryFault) → self.old.stage ≡ Failed fault
+            → (result ≡ Err fault) × (self.new ≡ self.old) }
+        ensures closed { self.old.stage ≡ Closed → (result ≡ Ok false) × (self.new ≡ self.old) }
+        ensures memory { result ≡ Err Memory → ⊥ }
+    {
+        match self.stage {
+            BinaryStage::Failed(fault) => Err(fault),
+            BinaryStage::Closed => Ok(false),
+            BinaryStage::Head | BinaryStage::Extension(_) | BinaryStage::Rows => {
+                match self.find() {
+                    Ok(Some(place)) => {
+                        self.hold(place);
+                        Ok(true)
+                    }
+                    Ok(None) => Ok(false),
+                    Err(NoPart::Incomplete) => Ok(false),
+                    Err(NoPart::Faulty(fault)) => Err(fault),
+                }
+            }
+        }
+    }
+
+    /// The row that the last call of `next_lent` answered true for; None where another call of `push`, `next`, `next_lent` or
+    /// `finish` came after it, but for those that answered Memory. It takes no memory.
+    pub fn held(&self) -> Option<BinaryRow<'_>>
+        ensures { result ≡ self.now.held }
+    {
+        match self.buffer.front() {
+            Some(values) => Some(BinaryRow::of_values(self.limit, self.columns, values)),
+            None => None,
+        }
+    }
+
+    /// Says that the input has ended, and gives the next row that is left, or None where none is and the trailer was read.
+    /// Truncated is answered where it was not. It is to be called until it answers None. Memory is answered only where a row is
+    /// left, and leaves the reader unchanged (PostgreSQL documentation, page COPY, "Binary Format").
+    pub fn finish(&mut self) -> Result<Option<Row>, BinaryFault>
+        ensures read { (pushed : List ℕ) (given : List Row) → HasReadBinary self.old pushed given
+            → HasReadBinary self.new pushed (given ++ given_by result) }
+        ensures gives { (pushed : List ℕ) (given : List Row) → HasReadBinary self.old pushed given
+            → AnswersNext Memory (binary_file_reading self.new.columns self.new.limit pushed) given
+            (binary_ending self.new.stage self.new.kept) result }
+        ensures same { (self.new.columns ≡ self.old.columns) × (self.new.limit ≡ self.old.limit) }
+        ensures ended { result ≡ Err Memory ⊎ self.new.ended ≡ true }
+        ensures row { (row : Row) → result ≡ Ok (Some row) → self.new.stage ≡ Rows }
+        ensures given { self.new.given ≡ given_after self.old.given (given_by result) }
+        ensures fewer { (row : Row) → result ≡ Ok (Some row)
+            → length self.new.kept < length self.old.kept }
+        ensures failed { (fault : BinaryFault) → self.old.stage ≡ Failed fault
+            → (result ≡ Err fault) × (self.new ≡ record self.old { ended = true }) }
+        ensures closed { self.old.stage ≡ Closed
+            → (result ≡ Ok None) × (self.new ≡ record self.old { ended = true }) }
+        ensures trailer { result ≡ Ok None → self.new.stage ≡ Closed }
+        ensures held { result ≡ Err Memory ⊎ self.new.held ≡ None }
+        ensures memory { result ≡ Err Memory
+            → (self.new ≡ self.old) × RowWaits (binary_left self.old []) }
+    {
+        match self.stage {
+            BinaryStage::Failed(fault) => {
+                self.ended = true;
+                Err(fault)
+            }
+            BinaryStage::Closed => {
+                self.ended = true;
+                Ok(None)
+            }
+            BinaryStage::Head | BinaryStage::Extension(_) | BinaryStage::Rows => match self.read() {
+                Ok(row) => {
+                    self.end();
+                    Ok(row)
+                }
+                Err(NoRow::Memory) => Err(BinaryFault::Memory),
+                Err(NoRow::NoPart(NoPart::Incomplete)) => {
+                    self.stop(BinaryFault::Truncated);
+                    self.end();
+                    Err(BinaryFault::Truncated)
+                }
+                Err(NoRow::NoPart(NoPart::Faulty(fault))) => {
+                    self.end();
+                    Err(fault)
+                }
+            },
+        }
+    }
+
+    /// Drops what a piece has of the extension, and keeps what stands after it.
+    fn skip(&mut self, missing: u32, piece: &[u8]) -> Result<(), BinaryFault>
+        requires { self.old.stage ≡ Extension missing }
+        ensures { PushesBinary self.old piece.now result self.new }
+    {
+        if piece.len() < missing as usize {
+            self.stage = BinaryStage::Extension(missing - piece.len() as u32);
+            return Ok(());
+        }
+        let (_, rest) = piece.split_at(missing as usize);
+        match self.buffer.push(rest) {
+            Ok(()) => {
+                self.stage = BinaryStage::Rows;
+                Ok(())
+            }
+            Err(_) => Err(BinaryFault::Memory),
+        }
+    }
+
+    /// Takes the next part of the file.
+    fn read(&mut self) -> Result<Option<Row>, NoRow>
+        requires { IsReading self.old.stage }
+        ensures { TakesPart result self.old self.new }
+    {
+        match self.find() {
+            Ok(None) => Ok(None),
+            Ok(Some(place)) => match self.copy_row(place) {
+                Ok(row) => {
+                    self.hold(place);
+                    self.let_go();
+                    Ok(Some(row))
+                }
+                Err(_) => Err(NoRow::Memory),
+            },
+            Err(stop) => Err(NoRow::NoPart(stop)),
+        }
+    }
+
+    /// Finds the next row, or takes the trailer.
+    fn find(&mut self) -> Result<Option<Place>, NoPart>
+        requires { IsReading self.old.stage }
+        ensures { FindsNext result self.old self.new }
+    {
+        if let BinaryStage::Extension(_) = self.stage {
+            return Err(NoPart::Incomplete);
+        }
+        let in_head = self.stage == BinaryStage::Head;
+        self.find_row(in_head)
+    }
+
+    /// Finds a row, or takes the trailer, in front of which the head may stand. Where neither is whole, a head that is goes off
+    /// alone, so that it isn't kept until the first row has come, and so does one that lacks bytes of its extension alone.
+    fn find_row(&mut self, in_head: bool) -> Result<Option<Place>, NoPart>
+        requires { self.old.stage ≡ stage_of in_head }
+        ensures { FindsNext result self.old self.new }
+    {
+        let bytes = self.buffer.kept();
+        match find_part(in_head, self.columns, self.limit, bytes, &mut self.look) {
+            Ok(RowOrTrailer::Row) => Ok(Some(Place {
+                start: self.look.start,
+                end: self.look.start + self.look.walk.at,
+            })),
+            Ok(RowOrTrailer::Trailer) => {
+                self.offset = start_offset(self.offset, self.look.start);
+                self.close();
+                Ok(None)
+            }
+            Err(NoPart::Incomplete) => {
+                if self.look.start > 0 {
+                    self.offset = self.look.start as u64;
+                    self.buffer.take(self.look.start);
+                    self.look.start = 0;
+                    self.stage = BinaryStage::Rows;
+                } else if in_head {
+                    self.enter_extension();
+                } else {
+                    self.buffer.take(0);
+                }
+                Err(NoPart::Incomplete)
+            }
+            Err(NoPart::Faulty(fault)) => {
+                self.offset = start_offset(self.offset, self.look.start);
+                self.stop(fault);
+                Err(NoPart::Faulty(fault))
+            }
+        }
+    }
+
+    /// A copy of the row that was found at this place.
+    fn copy_row(&self, place: Place) -> Result<Row, AllocError>
+        requires { HasRowAt self.now place }
+        ensures { IfOk result (λ row. IsRowAt self.now place row) }
+    {
+        let (_, values) = self.buffer.kept().split_at(place.start + 2);
+        let values = values_of(self.alloc, self.limit, self.columns, values)?;
+        Ok(Seq::new(values))
+    }
+
+    /// Takes the row that was found at this place, and lends it.
+    fn hold(&mut self, place: Place)
+        requires { HasRowAt self.old place }
+        ensures { (row : Row) → IsRowAt self.old place row
+            → self.new ≡ lending row place self.old }
+    {
+        self.buffer.hold(place.start + 2, place.end);
+        let start = start_offset(self.offset, place.start);
+        self.offset = later(start, place.end - place.start);
+        self.look = Look::start();
+        self.stage = BinaryStage::Rows;
+        self.given = one_more(self.given);
+    }
+
+    /// Lends no row any more.
+    fn let_go(&mut self)
+        ensures { self.new ≡ let_go self.old }
+    {
+        self.buffer.take(0);
+    }
+
+    /// Takes a head off that lacks bytes of its extension alone.
+    fn enter_extension(&mut self)
+        requires stage { self.old.stage ≡ Head }
+        requires open { head_at self.old.kept ≡ Err Incomplete }
+        ensures { self.new ≡ in_extension (extension_left (fixed_at self.old.kept))
+            (record self.old { held = None; offset = rows_begin self.old.offset (fixed_at self.old.kept) }) }
+    {
+        let kept = self.buffer.kept();
+        if let Some(missing) = extension_left(kept) {
+            self.offset = kept.len() as u64 + u64::from(missing);
+            self.buffer.clear();
+            self.look = Look::start();
+            self.stage = BinaryStage::Extension(missing);
+        }
+    }
+
+    /// The trailer was read, and nothing stands after it.
+    fn close(&mut self)
+        ensures { self.new ≡ record self.old { kept = []; stage = Closed; held = None } }
+    {
+        self.buffer.clear();
+        self.look = Look::start();
+        self.stage = BinaryStage::Closed;
+    }
+
+    /// Reads no more.
+    fn stop(&mut self, fault: BinaryFault)
+        requires { fault ≡ Memory → ⊥ }
+        ensures { self.new ≡ record self.old { kept = []; stage = Failed fault; held = None } }
+    {
+        self.buffer.clear();
+        self.look = Look::start();
+        self.stage = BinaryStage::Failed(fault);
+    }
+
+    /// The input has ended.
+    fn end(&mut self)
+        ensures { self.new ≡ record self.old { ended = true } }
+    {
+        self.ended = true;
+    }
+}

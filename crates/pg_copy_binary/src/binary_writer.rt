@@ -1,0 +1,197 @@
+//! The parts of a binary file, written.
+
+ghost use Rattle.std.specs.Prelude.{◌≡◌, ◌++◌, ◌≤◌, ◌<◌, None, false, length, option_copied, take, OnOk, OnErr};
+ghost use Rattle.std.specs.Int.{w16, to_be_bytes};
+ghost use Rattle.std.specs.List.{list_any};
+ghost use Rattle.pg_copy_rows.specs.Row.{is_long, width_fault, field_fault, binary_fault, Writes};
+ghost use Rattle.pg_copy_binary.specs.Binary.{value, binary_row, written_head, trailer};
+
+use crate::format::{LONGEST_VALUE, NULL, SIGNATURE, TRAILER};
+use pg_copy_rows::format::{MOST_FIELDS, lent};
+use pg_copy_rows::{Row, RowFault};
+use pg_seq::Seq;
+use std::alloc::AllocError;
+
+/// Appends the head of a file, with no flags and an empty extension (PostgreSQL documentation, page COPY, "Binary Format").
+/// Memory is answered where the buffer could not grow, and leaves `buf` as it was.
+pub fn write_binary_head(buf: &mut Vec<u8>) -> Result<(), RowFault>
+    ensures { Writes None written_head buf.old.items result buf.new.items }
+{
+    let before = buf.len();
+    match put_head(buf) {
+        Ok(()) => Ok(()),
+        Err(_) => {
+            buf.truncate(before);
+            Err(RowFault::Memory)
+        }
+    }
+}
+
+/// The signature, no flags, and the length of an empty extension.
+fn put_head(buf: &mut Vec<u8>) -> Result<(), AllocError>
+    ensures ok { OnOk result (buf.new.items ≡ buf.old.items ++ written_head) }
+    ensures err { OnErr result (take (length buf.old.items) buf.new.items ≡ buf.old.items) }
+{
+    buf.extend_from_slice(&SIGNATURE)?;
+    buf.extend_from_slice(&[0; 8])
+}
+
+/// Appends the trailer, after which nothing stands (PostgreSQL documentation, page COPY, "Binary Format"). Memory is answered
+/// where the buffer could not grow, and leaves `buf` as it was.
+pub fn write_binary_trailer(buf: &mut Vec<u8>) -> Result<(), RowFault>
+    ensures { Writes None trailer buf.old.items result buf.new.items }
+{
+    append(&TRAILER.to_be_bytes(), buf)
+}
+
+fn append(bytes: &[u8], buf: &mut Vec<u8>) -> Result<(), RowFault>
+    ensures { Writes None bytes.now buf.old.items result buf.new.items }
+{
+    match buf.extend_from_slice(bytes) {
+        Ok(()) => Ok(()),
+        Err(_) => Err(RowFault::Memory),
+    }
+}
+
+/// Why a row can't have so many fields.
+fn width_fault(count: usize) -> Option<RowFault>
+    ensures { result ≡ width_fault count }
+{
+    if count == 0 || count > MOST_FIELDS {
+        return Some(RowFault::Width(count));
+    }
+    None
+}
+
+fn is_long(field: Option<&[u8]>) -> bool
+    ensures { result ≡ is_long (option_copied field.entry) }
+{
+    match field {
+        None => false,
+        Some(bytes) => bytes.len() > LONGEST_VALUE as usize,
+    }
+}
+
+/// Why a field can't be written.
+fn field_fault(field: Option<&[u8]>) -> Option<RowFault>
+    ensures { result ≡ field_fault (option_copied field.entry) }
+{
+    if is_long(field) {
+        return Some(RowFault::FieldLong);
+    }
+    None
+}
+
+fn has_long(fields: &[Option<Seq<u8>>]) -> bool
+    ensures { result ≡ list_any is_long fields.now }
+{
+    fields.iter().any(|field| is_long(lent(field)))
+}
+
+/// Why a row can't be written.
+fn row_fault(fields: &[Option<Seq<u8>>]) -> Option<RowFault>
+    ensures { result ≡ binary_fault fields.now }
+{
+    if let Some(fault) = width_fault(fields.len()) {
+        return Some(fault);
+    }
+    if has_long(fields) {
+        return Some(RowFault::FieldLong);
+    }
+    None
+}
+
+fn put_count(count: usize, buf: &mut Vec<u8>) -> Result<(), AllocError>
+    requires { count ≤ 32767 }
+    ensures ok { OnOk result (buf.new.items ≡ buf.old.items ++ to_be_bytes w16 count) }
+    ensures err { OnErr result (buf.new.items ≡ buf.old.items) }
+{
+    buf.extend_from_slice(&(count as u16).to_be_bytes())
+}
+
+fn put_value(field: Option<&[u8]>, buf: &mut Vec<u8>) -> Result<(), AllocError>
+    requires { is_long (option_copied field) ≡ false }
+    ensures ok { OnOk result (buf.new.items
+        ≡ buf.old.items ++ value (option_copied field.entry)) }
+    ensures err { OnErr result (take (length buf.old.items) buf.new.items ≡ buf.old.items) }
+{
+    match field {
+        None => buf.extend_from_slice(&NULL.to_be_bytes()),
+        Some(bytes) => {
+            buf.extend_from_slice(&(bytes.len() as u32).to_be_bytes())?;
+            buf.extend_from_slice(bytes)
+        }
+    }
+}
+
+fn put_values(fields: &[Option<Seq<u8>>], buf: &mut Vec<u8>) -> Result<(), AllocError>
+    requires width { length fields.now ≤ 32767 }
+    requires short { list_any is_long fields.now ≡ false }
+    ensures ok { OnOk result (buf.new.items ≡ buf.old.items ++ binary_row fields.now) }
+    ensures err { OnErr result (take (length buf.old.items) buf.new.items ≡ buf.old.items) }
+{
+    put_count(fields.len(), buf)?;
+    for i in 0..fields.len() {
+        put_value(lent(&fields[i]), buf)?;
+    }
+    Ok(())
+}
+
+/// Appends the number of a row's values, which stands in front of them. A caller whose values don't stand in a `Row` writes a row
+/// by it, and each value by [`write_binary_field`] (PostgreSQL documentation, page COPY, "Binary Format"). Width is answered where
+/// there is no value or there are more than 32,767, and Memory where there are so many and the buffer could not grow. A refusal
+/// leaves `buf` as it was.
+pub fn write_binary_count(count: usize, buf: &mut Vec<u8>) -> Result<(), RowFault>
+    ensures { Writes (width_fault count)
+        (to_be_bytes w16 count) buf.old.items result buf.new.items }
+{
+    if let Some(fault) = width_fault(count) {
+        return Err(fault);
+    }
+    match put_count(count, buf) {
+        Ok(()) => Ok(()),
+        Err(_) => Err(RowFault::Memory),
+    }
+}
+
+/// Appends one value after its length, which is -1 for a null, as a row has it after the number of its values (PostgreSQL
+/// documentation, page COPY, "Binary Format"). FieldLong is answered where it has more than 2,147,483,647 bytes, and Memory where
+/// it has no more and the buffer could not grow. A refusal leaves `buf` as it was.
+pub fn write_binary_field(field: Option<&[u8]>, buf: &mut Vec<u8>) -> Result<(), RowFault>
+    ensures { Writes (field_fault (option_copied field.entry))
+        (value (option_copied field.entry)) buf.old.items result buf.new.items }
+{
+    if let Some(fault) = field_fault(field) {
+        return Err(fault);
+    }
+    let before = buf.len();
+    match put_value(field, buf) {
+        Ok(()) => Ok(()),
+        Err(_) => {
+            buf.truncate(before);
+            Err(RowFault::Memory)
+        }
+    }
+}
+
+/// Appends the row: the number of its values, and each value after its length, which is -1 for a null (PostgreSQL
+/// documentation, page COPY, "Binary Format"). Width is answered where the row has no field or more than 32,767, then FieldLong
+/// where a value has more than 2,147,483,647 bytes, and Memory where it has neither fault and the buffer could not grow. A
+/// refusal leaves `buf` as it was.
+pub fn write_binary_row(row: &Row, buf: &mut Vec<u8>) -> Result<(), RowFault>
+    ensures { Writes (binary_fault row.now)
+        (binary_row row.now) buf.old.items result buf.new.items }
+{
+    let fields = row.as_slice();
+    if let Some(fault) = row_fault(fields) {
+        return Err(fault);
+    }
+    let before = buf.len();
+    match put_values(fields, buf) {
+        Ok(()) => Ok(()),
+        Err(_) => {
+            buf.truncate(before);
+            Err(RowFault::Memory)
+        }
+    }
+}

@@ -1,0 +1,16 @@
+//! What the text and the binary files of COPY have in common: rows, why one is refused, the bytes that a reader keeps and the numbers
+//! that it tells (PostgreSQL documentation, page COPY, "File Formats").
+//!
+//! It is the lowest layer of `pg_copy`. Users name `pg_copy`, which passes on what they need of it.
+#![tactic(auto)]
+
+pub mod counts;
+mod fault;
+pub mod format;
+pub mod row_buffer;
+
+pub use fault::{BinaryFault, OptionFault, RowFault, TextFault};
+pub use pg_seq::Seq;
+
+/// The values of a row, in the order of its columns. None is null (PostgreSQL documentation, page COPY, "File Formats").
+pub type Row = Seq<Option<Seq<u8>>>;

@@ -1,0 +1,75 @@
+-- A row of a text file read in place.
+use Rattle.std.proofs.Common.{◌≡◌, ℕ, ◌+◌, Bool, true, false, cond, List, [], ◌∷◌, ◌++◌, length, take, drop, map, Result, Ok, Err, refl, sym, ap, ◌∙◌, arith}
+use Rattle.std.specs.Prelude.{OnOk}
+use Rattle.std.proofs.Math.Bool.{not}
+use Rattle.std.specs.Str.{bytes_eq}
+use Rattle.std.proofs.lemmas.Bool.{cond-true, cond-false}
+use Rattle.pg_copy_text.specs.Text.{Options, text_after, field_value}
+use Rattle.std.specs.List.{flat_map}
+use Rattle.std.proofs.lemmas.List.{take_all, append_cancel_left}
+use Rattle.pg_copy_text.specs.declared.text_line.FieldEnd.{FieldEnd}
+use Rattle.pg_copy_text.specs.Private.TextRow.{field_text, line_texts, line_values}
+use Rattle.pg_copy_text.specs.Private.Units.{NoBackslash, has_backslash, units, IsUnitAt, IsFieldEnd}
+use Rattle.pg_copy_text.proofs.TextParts.{parts-first, parts-none}
+
+pub unless : (t : Bool) → not t ≡ true → t ≡ false
+unless true e = absurd cc
+unless false e = refl
+
+pub when : (t : Bool) → not t ≡ false → t ≡ true
+when true e = refl
+when false e = absurd cc
+
+pub on-ok : {A F : Type 0} (r : Result A F) (P Q : Type 0) → (P → Q) → OnOk r P → OnOk r Q
+on-ok (Ok x) P Q f h = f h
+on-ok (Err e) P Q f h = tt
+
+none-has : (xs : List ℕ) → NoBackslash xs → has_backslash xs ≡ false
+none-has [] h = refl
+none-has (x ∷ xs) h = rw h.0 (none-has xs h.1)
+
+-- ---- the text that is copied of a field
+
+pub null-text : (o : Options) (field : List ℕ) → bytes_eq field o.null_mark ≡ true → field_text o field ≡ []
+null-text o field e = cond-true _ _ _ e
+
+pub plain-text-none : (o : Options) (field : List ℕ) → NoBackslash field → field_text o field ≡ []
+plain-text-none o field h = go (bytes_eq field o.null_mark)
+  where
+    go : (t : Bool) → cond t [] (cond (has_backslash field) (text_after 0 field) []) ≡ []
+    go true = refl
+    go false = cond-false _ _ _ (none-has field h)
+
+pub escaped-text : (o : Options) (field : List ℕ) → bytes_eq field o.null_mark ≡ false → has_backslash field ≡ true → field_text o field ≡ text_after 0 field
+escaped-text o field e h = cond-false _ _ _ e ∙ cond-true _ _ _ h
+
+-- ---- the fields, one by one
+
+pub values-more : (o : Options) (rest : List ℕ) (n : ℕ) → IsUnitAt o.delimiter rest n → line_values o rest ≡ field_value o (take n rest) ∷ line_values o (drop (n + 1) rest)
+values-more o rest n at = ap (map (field_value o)) (parts-first o.delimiter rest n at)
+
+pub values-last : (o : Options) (rest : List ℕ) → units o.delimiter rest ≡ 0 → line_values o rest ≡ field_value o rest ∷ []
+values-last o rest none = ap (map (field_value o)) (parts-none o.delimiter rest none)
+
+pub texts-more : (o : Options) (rest : List ℕ) (n : ℕ) → IsUnitAt o.delimiter rest n → line_texts o rest ≡ field_text o (take n rest) ++ line_texts o (drop (n + 1) rest)
+texts-more o rest n at = ap (flat_map (field_text o)) (parts-first o.delimiter rest n at)
+
+texts-last : (o : Options) (rest : List ℕ) → units o.delimiter rest ≡ 0 → line_texts o rest ≡ field_text o rest ++ []
+texts-last o rest none = ap (flat_map (field_text o)) (parts-none o.delimiter rest none)
+
+pub whole-field : (rest : List ℕ) (n : ℕ) → n ≡ length rest → take n rest ≡ rest
+whole-field rest n e = take_all n rest (omega (arith, e))
+
+-- the text of the first field stands first
+pub text-first : (o : Options) (rest : List ℕ) (e : FieldEnd) → IsFieldEnd o.delimiter rest e → (more : List ℕ) × (line_texts o rest ≡ field_text o (take e.len rest) ++ more)
+text-first o rest e h = go e.last refl
+  where
+    go : (t : Bool) → e.last ≡ t → (more : List ℕ) × (line_texts o rest ≡ field_text o (take e.len rest) ++ more)
+    go true l =
+        let w = h.whole l in
+        ([], texts-last o rest w.1 ∙ ap (λ (x : List ℕ). field_text o x ++ []) (sym (whole-field rest e.len w.0)))
+    go false l = (line_texts o (drop (e.len + 1) rest), texts-more o rest e.len (h.more l))
+
+-- those after it are of the fields after it
+pub texts-after : (o : Options) (rest texts after : List ℕ) (n : ℕ) → IsUnitAt o.delimiter rest n → texts ≡ line_texts o rest → texts ≡ field_text o (take n rest) ++ after → after ≡ line_texts o (drop (n + 1) rest)
+texts-after o rest texts after n at e f = append_cancel_left (field_text o (take n rest)) after (line_texts o (drop (n + 1) rest)) (sym f ∙ e ∙ texts-more o rest n at)

@@ -1,0 +1,5 @@
+-- The words of private functions.
+pub mod Breaks
+pub mod Units
+pub mod TextLine
+pub mod TextRow

@@ -1,0 +1,124 @@
+-- What a function answers for one line.
+use Rattle.std.specs.Prelude.{◌≡◌, ℕ, suc, ◌+◌, ◌<◌, ◌⊎◌, Bool, true, List, [], ◌∷◌, length, take, drop, map, Option, Some, None, Result, Ok, Err}
+use Rattle.pg_copy_rows.specs.declared.fault.TextFault.{TextFault}
+use Rattle.pg_copy_rows.specs.declared.fault.TextFault.TheVariants.{Memory}
+use Rattle.pg_copy_text.specs.declared.line_end.LineEnd.{LineEnd}
+use Rattle.pg_copy_text.specs.declared.text_line.JudgedLine.{JudgedLine}
+use Rattle.pg_copy_text.specs.declared.text_line.JudgedLine.TheVariants as judged
+use Rattle.pg_copy_text.specs.declared.text_stage.TextStage.TheVariants as stages
+use Rattle.pg_copy_rows.specs.Row.{Row}
+use Rattle.pg_copy_rows.specs.Reading.{RowsRead, Done, Bad, after_rows, RowWaits, IsGood, told, one_more}
+use Rattle.pg_copy_text.specs.Text.{Options, parts, field_value, line_reading}
+use Rattle.pg_copy_text.specs.declared.scan.Scan.{Scan}
+use Rattle.pg_copy_text.specs.declared.text_stage.TextStage.{TextStage}
+use Rattle.pg_copy_text.specs.TextReader.{TextState, lines_end, text_last, last_text_ending}
+use Rattle.pg_copy_rows.specs.Lent.{as_next, Lends}
+use Rattle.pg_copy_text.specs.Private.Units.{IsScanned}
+use Rattle.pg_copy_rows.specs.Private.RowBuffer.{RowBytes}
+use Rattle.pg_copy_text.specs.Private.TextRow.{line_values, AreTexts}
+
+-- what a line is read as, whatever comes after it
+abbrev pub LineGives : Options → Option ℕ → List ℕ → Row → Type 0
+LineGives o columns line row = (after : RowsRead TextFault)
+    → line_reading o columns line after ≡ after_rows (row ∷ []) after
+
+-- the line is the end mark: no row comes after it
+abbrev pub LineEnds : Options → Option ℕ → List ℕ → Type 0
+LineEnds o columns line = (after : RowsRead TextFault)
+    → line_reading o columns line after ≡ record { rows = []; ending = Done }
+
+-- a fault of the line, which isn't want of memory
+pub record LineFails (o : Options) (columns : Option ℕ) (line : List ℕ) (fault : TextFault) : Type 0 where
+  pub is : (after : RowsRead TextFault)
+      → line_reading o columns line after ≡ record { rows = []; ending = Bad fault }
+  pub not_memory : fault ≡ Memory → ⊥
+
+-- What a line was judged to be is what it is read as.
+abbrev pub IsJudged : Options → Option ℕ → List ℕ → JudgedLine → Type 0
+IsJudged o columns line judged.EndMark = LineEnds o columns line
+IsJudged o columns line (judged.Row n) = (n ≡ length (parts o.delimiter line))
+    × LineGives o columns line (map (field_value o) (parts o.delimiter line))
+IsJudged o columns line (judged.Faulty fault) = LineFails o columns line fault
+
+-- the reader after a line of so many bytes with what ends it, whose row it gives: lines end so from
+-- then on
+abbrev pub passed : ℕ → Option LineEnd → TextState → TextState
+passed taken end s = record s {
+  kept = drop taken s.kept;
+  line_end = end;
+  given = one_more s.given;
+  offset = told (s.offset + taken);
+  held = None;
+}
+
+-- the reader, which lends no row any more
+abbrev pub let_go : TextState → TextState
+let_go s = record s { held = None }
+
+-- the reader after a line of so many bytes, which it lends
+abbrev pub lending : ℕ → ℕ → Option LineEnd → TextState → TextState
+lending len taken end s =
+    record (passed taken end s) { held = Some (line_values s.options (take len s.kept)) }
+
+-- A line of so many bytes is taken off, with what ends it, and lines end so from then on; or the
+-- reader stops at the end mark or at the line's fault; or memory for its row is refused, and
+-- nothing changes.
+abbrev pub TakesLine : ℕ → ℕ → Option LineEnd → TextState → Result (Option Row) TextFault → TextState → Type 0
+TakesLine len taken end old (Ok (Some row)) new = LineGives old.options old.columns (take len old.kept) row
+    × (new ≡ passed taken end old)
+TakesLine len taken end old (Ok None) new = LineEnds old.options old.columns (take len old.kept)
+    × (new ≡ record old { kept = []; stage = stages.Marked; held = None })
+TakesLine len taken end old (Err fault) new =
+    ((fault ≡ Memory) × (new ≡ old) × (row : Row) × LineGives old.options old.columns (take len old.kept) row)
+    ⊎ (LineFails old.options old.columns (take len old.kept) fault
+    × (new ≡ record old { kept = []; stage = stages.Failed fault; held = None }))
+
+-- The same, where the row is lent in place of being given.
+abbrev pub LendsLine : ℕ → ℕ → Option LineEnd → TextState → Result Bool TextFault → TextState
+    → Type 0
+LendsLine len taken end old answer new =
+    TakesLine len taken end old (as_next answer new.held) (let_go new) × Lends answer new.held
+
+-- the reader after an answer of finish: the input has ended, unless memory was refused
+abbrev pub EndsInput : Result (Option Row) TextFault → TextState → TextState → Type 0
+EndsInput (Ok row) mid new = new ≡ record mid { ended = true }
+EndsInput (Err fault) mid new = ((fault ≡ Memory) × (new ≡ mid))
+    ⊎ ((fault ≡ Memory → ⊥) × (new ≡ record mid { ended = true }))
+
+-- what is kept of a reader: the first line is walked over so far, no fault is want of memory, a row
+-- is lent only among the lines, and of its line these texts were copied
+pub record IsTextReader (o : Options) (line_end : Option LineEnd) (buffer : RowBytes) (scan : Scan) (stage : TextStage)
+    (held_len : ℕ) (texts : List ℕ) : Type 0 where
+  pub scanned : IsScanned o.delimiter line_end buffer.kept scan
+  pub not_memory : stage ≡ stages.Failed Memory → ⊥
+  pub lends : (stage ≡ stages.Lines) ⊎ (buffer.front ≡ None)
+  pub copied : AreTexts o held_len texts buffer.front
+
+-- The first line that is kept goes off with what ends it, and the reader tells where it ends.
+pub record PassesLine (old new : TextState) : Type 0 where
+  pub taken : ℕ
+  pub offset : new.offset ≡ told (old.offset + taken)
+  pub lines : (n : ℕ) → lines_end old.line_end old.kept (suc n)
+      ≡ taken + lines_end new.line_end new.kept n
+
+-- What a call answers at the end of the input, and how it leaves the reader: it gives the first row
+-- that is left, of which no bytes are kept, or what stands in its place, and memory is refused only
+-- where a row is left.
+abbrev pub TakesLast : TextState → Result (Option Row) TextFault → TextState → Type 0
+TakesLast old (Ok (Some row)) new = (text_last old ≡ after_rows (row ∷ []) (text_last new))
+    × (new ≡ record old {
+      kept = new.kept;
+      line_end = new.line_end;
+      given = one_more old.given;
+      offset = new.offset;
+      held = None;
+    })
+    × (length new.kept < length old.kept) × PassesLine old new
+TakesLast old (Ok None) new =
+    (text_last old ≡ record { rows = []; ending = last_text_ending new.stage })
+    × IsGood (last_text_ending new.stage) × (new ≡ record old { kept = []; stage = new.stage; held = None })
+    × (new.stage ≡ stages.Lines → old.kept ≡ [])
+TakesLast old (Err fault) new =
+    ((fault ≡ Memory) × (new ≡ old) × RowWaits (text_last old))
+    ⊎ ((fault ≡ Memory → ⊥) × (text_last old ≡ record { rows = []; ending = Bad fault })
+    × (new ≡ record old { kept = []; stage = stages.Failed fault; held = None }))

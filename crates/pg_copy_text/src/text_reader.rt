@@ -1,0 +1,496 @@
+//! Reading a text file that comes in pieces.
+
+ghost use Rattle.std.specs.Prelude.{◌≡◌, ◌++◌, ◌≤◌, ◌+◌, ◌^◌, ◌<◌, ◌↔◌, ℕ, List, Some, None, Ok, Err, [], true, false, length, IsTrue, OnOk, OnErr, IfSome, ◌⊎◌};
+ghost use Rattle.pg_copy_rows.specs.declared.fault.TextFault.{TextFault};
+ghost use Rattle.pg_copy_rows.specs.declared.fault.TextFault.TheVariants.{Memory};
+ghost use Rattle.pg_copy_text.specs.declared.line_end.LineEnd.{LineEnd};
+ghost use Rattle.pg_copy_text.specs.declared.text_stage.TextStage.TheVariants.{Lines, Marked, Failed};
+ghost use Rattle.pg_copy_rows.specs.Row.{Row};
+ghost use Rattle.pg_copy_rows.specs.Reading.{RowWaits, given_by, given_after, AnswersNext};
+ghost use Rattle.pg_copy_text.specs.Text.{end_len, default_options, text_reading, text_file_reading};
+ghost use Rattle.pg_copy_rows.specs.Lent.{as_next, Lends};
+ghost use Rattle.pg_copy_text.specs.TextReader.{HasReadText, PushesText, text_left, text_last, text_ending, last_text_ending};
+ghost use Rattle.pg_copy_text.specs.TextOptions.{AreOptions};
+ghost use Rattle.pg_copy_text.specs.Private.Breaks.{IsFirstLine};
+ghost use Rattle.pg_copy_text.specs.Private.Units.{IsCounted, IsScanned, StandsAt};
+ghost use Rattle.pg_copy_text.specs.Private.TextLine.{let_go, lending, LendsLine, TakesLine, TakesLast, EndsInput};
+
+use crate::line_end::LineEnd;
+use crate::scan::Scan;
+use crate::text_line::{JudgedLine, fields_of, judge};
+use crate::text_options::TextOptions;
+use crate::text_row::{TextRow, put_texts};
+use crate::text_stage::TextStage;
+use pg_copy_rows::counts::{later, one_more};
+use pg_copy_rows::row_buffer::RowBuffer;
+use pg_copy_rows::{Row, TextFault};
+use pg_seq::Seq;
+use std::alloc::{AllocError, Global};
+use std::marker::Model;
+
+/// Takes a text file in any pieces, and gives exactly its rows.
+///
+/// `push` keeps a piece, `next` gives the rows of the lines that are closed, one by one, and `finish` those that are left at the
+/// end of the input. All lines end alike: by a newline, by a return, or by a return and a newline directly after it, as the first
+/// newline or return decides that isn't escaped. While that is a return and stands last, its line isn't whole. A fault stands in the
+/// place of its row, and is answered for good from then on. The line `\.` ends the rows, and what follows it is dropped. Each byte
+/// is walked over once to find where its line ends, however the pieces are cut (PostgreSQL documentation, page COPY, "Text Format").
+#[derive(Drop)]
+pub struct TextReader {
+    alloc: Global,
+    options: TextOptions,
+    columns: Option<u16>,
+    // how the lines of the rows that were given ended
+    line_end: Option<LineEnd>,
+    buffer: RowBuffer,
+    // how far the first line of the buffer was walked over
+    scan: Scan,
+    // how many bytes the line has whose row is lent, and the texts of its fields that have an escape
+    held_len: usize,
+    texts: Vec<u8>,
+    stage: TextStage,
+    ended: bool,
+    given: u64,
+    offset: u64,
+}
+
+impl Model for TextReader {
+    ghost use Rattle.pg_copy_text.specs.TextReader.{TextState};
+    ghost use Rattle.pg_copy_text.specs.Private.TextLine.{IsTextReader};
+    ghost use Rattle.pg_copy_text.specs.Private.TextRow.{held_line};
+
+    ghost Value = { TextState };
+
+    ghost view = { λ r. record {
+      options = r.options;
+      columns = r.columns;
+      line_end = r.line_end;
+      kept = r.buffer.kept;
+      stage = r.stage;
+      ended = r.ended;
+      given = r.given;
+      offset = r.offset;
+      held = held_line r.options r.held_len r.buffer.front;
+    } };
+
+    ghost invariant = { λ r.
+        IsTextReader r.options r.line_end r.buffer r.scan r.stage r.held_len r.texts.items };
+}
+
+impl TextReader {
+    /// A reader of rows of so many columns, 1 to 32,767; or of any number up to 32,767, where None is given. A tab parts the fields,
+    /// and null is `\N`.
+    pub fn new(alloc: Global, columns: Option<u16>) -> Self
+        requires { IfSome columns (λ n. (0 < n) × (n ≤ 32767)) }
+        ensures state { result ≡ record {
+          options = default_options;
+          columns = columns;
+          line_end = None;
+          kept = [];
+          stage = Lines;
+          ended = false;
+          given = 0;
+          offset = 0;
+          held = None;
+        } }
+        ensures read { HasReadText result [] [] }
+    {
+        TextReader::with_options(alloc, columns, TextOptions::default())
+    }
+
+    /// The same, of a file whose fields the options' delimiter parts, and whose nulls are their null mark.
+    pub fn with_options(alloc: Global, columns: Option<u16>, options: TextOptions) -> Self
+        requires { IfSome columns (λ n. (0 < n) × (n ≤ 32767)) }
+        ensures state { result ≡ record {
+          options = options;
+          columns = columns;
+          line_end = None;
+          kept = [];
+          stage = Lines;
+          ended = false;
+          given = 0;
+          offset = 0;
+          held = None;
+        } }
+        ensures read { HasReadText result [] [] }
+    {
+        TextReader {
+            alloc,
+            options,
+            columns,
+            line_end: None,
+            buffer: RowBuffer::new(alloc),
+            scan: Scan::start(),
+            held_len: 0,
+            texts: Vec::new(alloc),
+            stage: TextStage::Lines,
+            ended: false,
+            given: 0,
+            offset: 0,
+        }
+    }
+
+    /// Whether the end mark was read. From then on no row comes, and what is pushed is dropped.
+    pub fn done(&self) -> bool
+        ensures { IsTrue result ↔ (self.now.stage ≡ Marked) }
+    {
+        self.stage == TextStage::Marked
+    }
+
+    /// Whether `finish` was called, calls that answered Memory left out. No more may then be pushed, and `next` not be called.
+    pub fn ended(&self) -> bool
+        ensures { result ≡ self.now.ended }
+    {
+        self.ended
+    }
+
+    /// How many rows were given, so that a caller can say which row a fault stands in the place of. The number stays at
+    /// `u64::MAX`.
+    pub fn rows_given(&self) -> u64
+        ensures { result ≡ self.now.given }
+    {
+        self.given
+    }
+
+    /// Where in the file the line begins that comes next: how many bytes stand before it, those of the rows that were given, with
+    /// what ends their lines. So after a fault it tells where the line begins that the fault stands in, and after the end mark where
+    /// that begins. The number stays at `u64::MAX`.
+    pub fn offset(&self) -> u64
+        ensures { result ≡ self.now.offset }
+    {
+        self.offset
+    }
+
+    /// Takes the next piece of the file, all of it, and drops it after the end mark. A fault that was found is answered again.
+    /// After Memory nothing of the piece was taken and the reader is unchanged; a piece without bytes, or one that is dropped,
+    /// wants no memory.
+    pub fn push(&mut self, piece: &[u8]) -> Result<(), TextFault>
+        requires { self.old.ended ≡ false }
+        ensures call { PushesText self.old piece.now result self.new }
+        ensures read { OnOk result ((pushed : List ℕ) (given : List Row)
+            → HasReadText self.old pushed given
+            → HasReadText self.new (pushed ++ piece.now) given) }
+    {
+        match self.stage {
+            TextStage::Failed(fault) => Err(fault),
+            TextStage::Marked => Ok(()),
+            TextStage::Lines => match self.buffer.push(piece) {
+                Ok(()) => Ok(()),
+                Err(_) => Err(TextFault::Memory),
+            },
+        }
+    }
+
+    /// The next row, or None where no whole line waits or the end mark was read. A fault is answered once all rows before it were
+    /// given, and then for good. Memory is answered only where a row waits, and leaves the reader unchanged. Where it gives a row,
+    /// fewer bytes are kept, so that a loop over the rows comes to its end (PostgreSQL documentation, page COPY, "Text Format").
+    pub fn next(&mut self) -> Result<Option<Row>, TextFault>
+        requires { self.old.ended ≡ false }
+        ensures read { (pushed : List ℕ) (given : List Row) → HasReadText self.old pushed given
+            → HasReadText self.new pushed (given ++ given_by result) }
+        ensures gives { (pushed : List ℕ) (given : List Row) → HasReadText self.old pushed given
+            → AnswersNext Memory (text_reading self.new.options self.new.columns pushed) given
+            (text_ending self.new.stage self.new.kept) result }
+        ensures options { self.new.options ≡ self.old.options }
+        ensures columns { self.new.columns ≡ self.old.columns }
+        ensures ended { self.new.ended ≡ false }
+        ensures row { (row : Row) → result ≡ Ok (Some row) → self.new.stage ≡ Lines }
+        ensures given { self.new.given ≡ given_after self.old.given (given_by result) }
+        ensures fewer { (row : Row) → result ≡ Ok (Some row)
+            → length self.new.kept < length self.old.kept }
+        ensures failed { (fault : TextFault) → self.old.stage ≡ Failed fault
+            → (result ≡ Err fault) × (self.new ≡ self.old) }
+        ensures marked { self.old.stage ≡ Marked → (result ≡ Ok None) × (self.new ≡ self.old) }
+        ensures held { result ≡ Err Memory ⊎ self.new.held ≡ None }
+        ensures memory { result ≡ Err Memory
+            → (self.new ≡ self.old) × RowWaits (text_left self.old []) }
+    {
+        match self.stage {
+            TextStage::Failed(fault) => Err(fault),
+            TextStage::Marked => Ok(None),
+            TextStage::Lines => {
+                let (scan, found) = self.walk();
+                match found {
+                    Some(end) => self.take_line(scan, scan.at + end.len(), Some(end)),
+                    None => {
+                        self.let_go();
+                        Ok(None)
+                    }
+                }
+            }
+        }
+    }
+
+    /// Whether a next row waits, which is then lent until the next change of the reader: [`TextReader::held`] gives it. It counts as
+    /// given, and the reader has its bytes until then; the text of a field that has an escape is copied, into a block that the reader
+    /// uses again. A fault is answered as `next` answers it. Memory is answered only where a row waits and that block could not
+    /// grow, and leaves the reader unchanged, but that it lends none (PostgreSQL documentation, page COPY, "Text Format").
+    pub fn next_lent(&mut self) -> Result<bool, TextFault>
+        requires { self.old.ended ≡ false }
+        ensures read { (pushed : List ℕ) (given : List Row) → HasReadText self.old pushed given
+            → HasReadText self.new pushed (given ++ given_by (as_next result self.new.held)) }
+        ensures gives { (pushed : List ℕ) (given : List Row) → HasReadText self.old pushed given
+            → AnswersNext Memory (text_reading self.new.options self.new.columns pushed) given
+            (text_ending self.new.stage self.new.kept) (as_next result self.new.held) }
+        ensures options { self.new.options ≡ self.old.options }
+        ensures columns { self.new.columns ≡ self.old.columns }
+        ensures ended { self.new.ended ≡ false }
+        ensures lends { Lends result self.new.held }
+        ensures row { result ≡ Ok true → self.new.stage ≡ Lines }
+        ensures given { self.new.given
+            ≡ given_after self.old.given (given_by (as_next result self.new.held)) }
+        ensures fewer { result ≡ Ok true → length self.new.kept < length self.old.kept }
+        ensures failed { (fault : TextFault) → self.old.stage ≡ Failed fault
+            → (result ≡ Err fault) × (self.new ≡ self.old) }
+        ensures marked { self.old.stage ≡ Marked → (result ≡ Ok false) × (self.new ≡ self.old) }
+        ensures memory { result ≡ Err Memory
+            → (self.new ≡ record self.old { held = None }) × RowWaits (text_left self.old []) }
+    {
+        match self.stage {
+            TextStage::Failed(fault) => Err(fault),
+            TextStage::Marked => Ok(false),
+            TextStage::Lines => {
+                self.let_go();
+                let (scan, found) = self.walk();
+                match found {
+                    Some(end) => self.lend_line(scan, scan.at + end.len(), Some(end)),
+                    None => Ok(false),
+                }
+            }
+        }
+    }
+
+    /// The row that the last call of `next_lent` answered true for; None where another call of `push`, `next`, `next_lent` or
+    /// `finish` came after it, but for those of `push`, `next` and `finish` that answered Memory. It takes no memory.
+    pub fn held(&self) -> Option<TextRow<'_>>
+        ensures { result ≡ self.now.held }
+    {
+        match self.buffer.front() {
+            Some(bytes) => {
+                let line = &bytes[..self.held_len];
+                Some(TextRow::of_line(&self.options, line, self.texts.as_slice()))
+            }
+            None => None,
+        }
+    }
+
+    /// Says that the input has ended, and gives the next row that is left, or None where none is: the last line need not be
+    /// closed, and no line stands there where it is empty; a return that stands last ends its line, where it is the first newline or
+    /// return that isn't escaped. It is to be called until it answers None. Memory is answered only where a row is left, and leaves
+    /// the reader unchanged (PostgreSQL documentation, page COPY, "Text Format").
+    pub fn finish(&mut self) -> Result<Option<Row>, TextFault>
+        ensures read { (pushed : List ℕ) (given : List Row) → HasReadText self.old pushed given
+            → HasReadText self.new pushed (given ++ given_by result) }
+        ensures gives { (pushed : List ℕ) (given : List Row) → HasReadText self.old pushed given
+            → AnswersNext Memory (text_file_reading self.new.options self.new.columns pushed) given
+            (last_text_ending self.new.stage) result }
+        ensures options { self.new.options ≡ self.old.options }
+        ensures columns { self.new.columns ≡ self.old.columns }
+        ensures ended { result ≡ Err Memory ⊎ self.new.ended ≡ true }
+        ensures row { (row : Row) → result ≡ Ok (Some row) → self.new.stage ≡ Lines }
+        ensures given { self.new.given ≡ given_after self.old.given (given_by result) }
+        ensures fewer { (row : Row) → result ≡ Ok (Some row)
+            → length self.new.kept < length self.old.kept }
+        ensures failed { (fault : TextFault) → self.old.stage ≡ Failed fault
+            → (result ≡ Err fault) × (self.new ≡ record self.old { ended = true }) }
+        ensures marked { self.old.stage ≡ Marked
+            → (result ≡ Ok None) × (self.new ≡ record self.old { ended = true }) }
+        ensures held { result ≡ Err Memory ⊎ self.new.held ≡ None }
+        ensures memory { result ≡ Err Memory
+            → (self.new ≡ self.old) × RowWaits (text_last self.old) }
+    {
+        match self.stage {
+            TextStage::Failed(fault) => {
+                self.ended = true;
+                Err(fault)
+            }
+            TextStage::Marked => {
+                self.ended = true;
+                Ok(None)
+            }
+            TextStage::Lines => {
+                let answer = self.last_line();
+                self.end(&answer);
+                answer
+            }
+        }
+    }
+
+    /// Walks on over the first line, and says how far it goes and how the line ends, if it does.
+    fn walk(&mut self) -> (Scan, Option<LineEnd>)
+        ensures scanned { IsScanned self.old.options.delimiter self.old.line_end self.old.kept
+            result.0 }
+        ensures found { (e : LineEnd) → result.1 ≡ Some e → IsFirstLine self.old.line_end
+            self.old.kept e result.0.at (result.0.at + end_len e) }
+        ensures room { (e : LineEnd) → result.1 ≡ Some e → result.0.at + end_len e < 2 ^ 64 }
+        ensures none { result.1 ≡ None → StandsAt self.old.line_end self.old.kept result.0 }
+        ensures state { self.new ≡ self.old }
+        ensures options { AreOptions self.old.options }
+    {
+        let delimiter = self.options.delimiter();
+        let found = self
+            .scan
+            .find_end(self.buffer.kept(), delimiter, self.line_end);
+        (self.scan, found)
+    }
+
+    /// Answers for the first line, which was walked over, and takes so many bytes with what ends it. Lines end so from then on.
+    fn take_line(
+        &mut self,
+        scan: Scan,
+        taken: usize,
+        line_end: Option<LineEnd>,
+    ) -> Result<Option<Row>, TextFault>
+        requires lines { self.old.stage ≡ Lines }
+        requires options { AreOptions self.old.options }
+        requires counted { IsCounted self.old.options.delimiter self.old.kept scan }
+        requires in_range { taken ≤ length self.old.kept }
+        ensures { TakesLine scan.at taken line_end self.old result self.new }
+    {
+        let line = &self.buffer.kept()[..scan.at];
+        match judge(&self.options, self.columns, line, scan) {
+            JudgedLine::EndMark => {
+                self.stop(TextStage::Marked);
+                Ok(None)
+            }
+            JudgedLine::Faulty(fault) => {
+                self.stop(TextStage::Failed(fault));
+                Err(fault)
+            }
+            JudgedLine::Row(count) => match fields_of(self.alloc, line, count, &self.options) {
+                Ok(fields) => {
+                    self.buffer.take(taken);
+                    self.line_end = line_end;
+                    self.scan = Scan::start();
+                    self.offset = later(self.offset, taken);
+                    self.given = one_more(self.given);
+                    Ok(Some(Seq::new(fields)))
+                }
+                Err(_) => Err(TextFault::Memory),
+            },
+        }
+    }
+
+    /// Answers for the first line as `take_line` does, but lends its row.
+    fn lend_line(
+        &mut self,
+        scan: Scan,
+        taken: usize,
+        line_end: Option<LineEnd>,
+    ) -> Result<bool, TextFault>
+        requires lines { self.old.stage ≡ Lines }
+        requires options { AreOptions self.old.options }
+        requires counted { IsCounted self.old.options.delimiter self.old.kept scan }
+        requires in_order { scan.at ≤ taken }
+        requires in_range { taken ≤ length self.old.kept }
+        requires free { self.old.held ≡ None }
+        ensures { LendsLine scan.at taken line_end self.old result self.new }
+    {
+        let line = &self.buffer.kept()[..scan.at];
+        match judge(&self.options, self.columns, line, scan) {
+            JudgedLine::EndMark => {
+                self.stop(TextStage::Marked);
+                Ok(false)
+            }
+            JudgedLine::Faulty(fault) => {
+                self.stop(TextStage::Failed(fault));
+                Err(fault)
+            }
+            JudgedLine::Row(_) => match self.hold(scan.at, taken, line_end) {
+                Ok(()) => Ok(true),
+                Err(_) => Err(TextFault::Memory),
+            },
+        }
+    }
+
+    /// Takes a line off of so many bytes, with what ends it, and lends its row. Lines end so from then on.
+    fn hold(
+        &mut self,
+        len: usize,
+        taken: usize,
+        line_end: Option<LineEnd>,
+    ) -> Result<(), AllocError>
+        requires lines { self.old.stage ≡ Lines }
+        requires in_order { len ≤ taken }
+        requires in_range { taken ≤ length self.old.kept }
+        requires free { self.old.held ≡ None }
+        ensures ok { OnOk result (self.new ≡ lending len taken line_end self.old) }
+        ensures err { OnErr result (self.new ≡ self.old) }
+    {
+        self.texts.clear();
+        put_texts(&self.buffer.kept()[..len], &self.options, &mut self.texts)?;
+        self.buffer.hold(0, taken);
+        self.held_len = len;
+        self.line_end = line_end;
+        self.scan = Scan::start();
+        self.offset = later(self.offset, taken);
+        self.given = one_more(self.given);
+        Ok(())
+    }
+
+    /// Lends no row any more.
+    fn let_go(&mut self)
+        ensures { self.new ≡ let_go self.old }
+    {
+        self.buffer.take(0);
+    }
+
+    /// Reads no more.
+    fn stop(&mut self, stage: TextStage)
+        requires { stage ≡ Failed Memory → ⊥ }
+        ensures { self.new ≡ record self.old { kept = []; stage = stage; held = None } }
+    {
+        self.buffer.clear();
+        self.scan = Scan::start();
+        self.stage = stage;
+    }
+
+    /// Answers for the next line, where the last one may be open.
+    fn last_line(&mut self) -> Result<Option<Row>, TextFault>
+        requires { self.old.stage ≡ Lines }
+        ensures { TakesLast self.old result self.new }
+    {
+        let (scan, found) = self.walk();
+        if let Some(end) = found {
+            return self.take_line(scan, scan.at + end.len(), Some(end));
+        }
+        if self.buffer.kept().is_empty() {
+            self.let_go();
+            return Ok(None);
+        }
+        self.open_line(scan)
+    }
+
+    /// Answers for the last line, which is open and was walked over, but for a return that stands last.
+    fn open_line(&mut self, scan: Scan) -> Result<Option<Row>, TextFault>
+        requires lines { self.old.stage ≡ Lines }
+        requires options { AreOptions self.old.options }
+        requires scanned { IsScanned self.old.options.delimiter self.old.line_end self.old.kept
+            scan }
+        requires stands { StandsAt self.old.line_end self.old.kept scan }
+        requires some { 0 < length self.old.kept }
+        ensures { TakesLast self.old result self.new }
+    {
+        let len = self.buffer.kept().len();
+        if scan.at == len {
+            return self.take_line(scan, len, self.line_end);
+        }
+        match self.line_end {
+            None => self.take_line(scan, len, Some(LineEnd::Return)),
+            Some(end) => {
+                let whole = scan.after(b'\r', self.options.delimiter());
+                self.take_line(whole, len, Some(end))
+            }
+        }
+    }
+
+    /// The input has ended, unless memory was refused.
+    fn end(&mut self, answer: &Result<Option<Row>, TextFault>)
+        ensures { EndsInput answer.now self.old self.new }
+    {
+        match answer {
+            Err(TextFault::Memory) => {}
+            _ => self.ended = true,
+        }
+    }
+}

@@ -1,0 +1,9 @@
+use Rattle.std.proofs.Common.{[]}
+use Rattle.pg_drive.specs.Drive.{connected}
+use Rattle.pg_drive.specs.Early.{EarlyTurnsOn}
+use Rattle.pg_drive.proofs.Turning.{WentOn}
+use Rattle.pg_drive.proofs.early.drive_early.Given as goal
+
+abbrev pub invariant-loop : goal.invariant-loop
+invariant-loop g l =
+    WentOn (EarlyTurnsOn g.L.Source.gives g.L.Sink.takes g.L.Source.has_ended g.L.Source.failures g.L.Sink.failures l.began) (connected l.initial.link l.initial.client []) l.counter (connected l.link l.client l.out.items)

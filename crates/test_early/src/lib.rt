@@ -1,0 +1,9 @@
+//! Tests of early clients, by the public interface alone.
+//!
+//! They stand in a crate of their own, so that no library is proved once more for the sake of its tests.
+#![tactic(auto)]
+
+#[cfg(test)]
+mod items;
+#[cfg(test)]
+mod session;
