@@ -123,7 +123,7 @@ Passes-last old mid among p =
     record {
       taken = p.taken;
       offset = λ m is. p.offset ∙ ap (λ (k : ℕ). told (k + p.taken)) is ∙ told-add m p.taken;
-      stage = λ n h. inl among;
+      stood = λ n h. inl among;
       lines = λ more n final h. size more n final;
     }
   where

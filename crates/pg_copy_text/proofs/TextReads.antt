@@ -95,7 +95,7 @@ with-more s more = record s { kept = s.kept ++ more }
 pub record Passes (old new : TextState) (count : ℕ) (last : Bool) : Type 0 where
   pub taken : ℕ
   pub offset : (m : ℕ) → old.offset ≡ told m → new.offset ≡ told (m + taken)
-  pub stage : (n : ℕ) → (new.stage ≡ Lines) ⊎ (n ≡ 0) → (old.stage ≡ Lines) ⊎ (count + n ≡ 0)
+  pub stood : (n : ℕ) → (new.stage ≡ Lines) ⊎ (n ≡ 0) → (old.stage ≡ Lines) ⊎ (count + n ≡ 0)
   pub lines : (more : List ℕ) (n : ℕ) → (last ≡ false) ⊎ (more ≡ []) → (new.stage ≡ Lines) ⊎ (n ≡ 0) → lines_end old.line_end (old.kept ++ more) (count + n) ≡ taken + lines_end new.line_end (new.kept ++ more) n
 
 zero-more : (n : ℕ) → 0 + n ≡ n
@@ -110,7 +110,7 @@ Passes-none old new last e f g =
     record {
       taken = 0;
       offset = λ m is. let same : m ≡ m + 0 = omega arith in e ∙ is ∙ ap told same;
-      stage = λ n h. subst (λ (k : ℕ). (old.stage ≡ Lines) ⊎ (k ≡ 0)) (sym (zero-more n)) (f n h);
+      stood = λ n h. subst (λ (k : ℕ). (old.stage ≡ Lines) ⊎ (k ≡ 0)) (sym (zero-more n)) (f n h);
       lines = λ more n final stands. ap (lines_end old.line_end (old.kept ++ more)) (zero-more n) ∙ g more n final stands ∙ sym (zero-more (lines_end new.line_end (new.kept ++ more) n));
     }
 
@@ -132,7 +132,7 @@ Passes-line old e len taken among at all =
     record {
       taken = taken;
       offset = λ m is. ap (λ (k : ℕ). told (k + taken)) is ∙ told-add m taken;
-      stage = λ n h. inl among;
+      stood = λ n h. inl among;
       lines = λ more n final h. ap (lines_end old.line_end (old.kept ++ more)) (one-more n) ∙ lines_end-first old.line_end old.kept more e len taken n at all;
     }
 
@@ -158,7 +158,7 @@ last-now s = ap (λ (k : List ℕ). text_last (record s { kept = k })) (append-n
 -- where the lines end that go off
 pub lines-so-far : (old new : TextState) (rows : List Row) (last : Bool) (pushed : List ℕ) (given : List Row) → HasReadText old pushed given → (passes : Passes old new (length rows) last) → lines_end None pushed (length (given ++ rows)) ≡ lines_end None pushed (length given) + passes.taken
 lines-so-far old new rows last pushed given h passes =
-    let stops : (old.stage ≡ Lines) ⊎ (length rows + 0 ≡ 0) = passes.stage 0 (inr refl) in
+    let stops : (old.stage ≡ Lines) ⊎ (length rows + 0 ≡ 0) = passes.stood 0 (inr refl) in
     let count : length (given ++ rows) ≡ length given + (length rows + 0) = omega (arith, length-append given rows) in
     let one = h.goes_on [] (length rows + 0) (inr refl) stops in
     let two = passes.lines [] 0 (inr refl) (inr refl) in
@@ -170,7 +170,7 @@ pub goes-further : (old new : TextState) (rows : List Row) (last : Bool) (pushed
     → lines_end None (pushed ++ more) (length (given ++ rows) + n) ≡ lines_end None pushed (length (given ++ rows)) + lines_end new.line_end (new.kept ++ more) n
 goes-further old new rows last pushed given h p more n going final stands =
     let count : length (given ++ rows) + n ≡ length given + (length rows + n) = omega (arith, length-append given rows) in
-    let one = h.goes_on more (length rows + n) going (p.stage n stands) in
+    let one = h.goes_on more (length rows + n) going (p.stood n stands) in
     let two = p.lines more n final stands in
     let so_far = lines-so-far old new rows last pushed given h p in
     ap (lines_end None (pushed ++ more)) count ∙ one ∙ omega (arith, two, so_far)
