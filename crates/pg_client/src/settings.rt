@@ -1,6 +1,10 @@
 //! What a client is made with.
 
+ghost use Rattle.std.specs.Prelude.{◌≡◌, [], None};
+ghost use Rattle.pg_wire.specs.Direction.{IsLimit};
+
 use pg_wire::Seq;
+use std::alloc::Global;
 
 /// Whom a client connects as, and what it takes ("Start-up").
 #[derive(Clone, Debug, PartialEq, Eq, Drop)]
@@ -15,4 +19,23 @@ pub struct Settings {
     pub password: Option<Seq<u8>>,
     /// The greatest length field of a message that is taken, from 64 to 1,073,741,823.
     pub limit: u32,
+}
+
+impl Settings {
+    /// The settings of this user, with the greatest limit and without all that may be left out. Each field may be set then.
+    pub fn new(alloc: Global, user: Seq<u8>) -> Settings
+        ensures user { result.user ≡ user }
+        ensures database { result.database ≡ None }
+        ensures pairs { result.pairs ≡ [] }
+        ensures password { result.password ≡ None }
+        ensures limit { IsLimit result.limit }
+    {
+        Settings {
+            user,
+            database: None,
+            pairs: Seq::new(Vec::new(alloc)),
+            password: None,
+            limit: 1_073_741_823,
+        }
+    }
 }

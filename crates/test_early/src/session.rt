@@ -24,13 +24,7 @@ pub(crate) fn query(alloc: Global) -> Result<Request, AllocError> {
 
 /// An early client of the user `u`, in phase New.
 fn fresh(alloc: Global) -> Result<EarlyClient, AllocError> {
-    let settings = Settings {
-        user: Seq::from_slice(alloc, b"u")?,
-        database: None,
-        pairs: Seq::new(Vec::new(alloc)),
-        password: None,
-        limit: 65_536,
-    };
+    let settings = Settings::new(alloc, Seq::from_slice(alloc, b"u")?);
     Ok(EarlyClient::new(alloc, settings))
 }
 
