@@ -3,7 +3,7 @@
 #![tactic(auto)]
 
 use pg_pair::Direct;
-use pg_wire::{Over, Patient};
+use pg_wire::{Over, Patient, Sink};
 use pgpipe_words::{
     Disk, Failure, connect_to_itself, do_task, exit_code, explain, task_of, words_failure,
 };
@@ -37,6 +37,8 @@ fn run<R: Env + Files + Net + Input + Print + Eprint + AllocGlobal>(
     let mut source = Over::new(Patient::new(rt.reader()));
     let mut sink = Over::new(Patient::new(io::writer(rt)));
     if task.is_over_tcp() {
+        // where the output is closed, the connection would be opened in its place, and would take what is printed
+        sink.send(&[]).map_err(|_| Failure::Device)?;
         let carrier = connect_to_itself(rt)?;
         do_task(rt.alloc(), task, &files, carrier, &mut source, &mut sink)?;
     } else {

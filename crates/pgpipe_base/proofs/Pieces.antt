@@ -1,13 +1,13 @@
 -- Text that is put piece by piece.
-use Rattle.std.proofs.Common.{◌≡◌, ℕ, ◌+◌, ◌≤◌, List, [], ◌∷◌, ◌++◌, take, drop, Result, Ok, Err, refl, sym, ap, subst, ◌∙◌, append_assoc, append-nil, length, length-append, arith}
+use Rattle.std.proofs.Common.{◌≡◌, ℕ, ◌+◌, ◌/◌, ◌%◌, ◌<◌, ◌≤◌, ◌⊎◌, inl, inr, List, [], ◌∷◌, ◌++◌, take, drop, slice_index, Result, Ok, Err, refl, sym, ap, subst, ◌∙◌, append_assoc, append-nil, length, length-append, arith}
 use Rattle.std.specs.List.{FoldsTo, concat}
 use Rattle.std.proofs.lemmas.List.Folds.{concat-append}
-use Rattle.std.proofs.lemmas.Grind.{flat_map-append}
+use Rattle.std.proofs.lemmas.Bool.{cases_lt}
 use Rattle.std.proofs.lemmas.List.{length-take, take_all, take-append-le}
 use Rattle.pg_wire.specs.link.LinkFault.{LinkFault}
 use Rattle.pg_wire.specs.Link.{HasRisen}
-use Rattle.pgpipe_base.specs.Digits.{hexadecimal_byte, hexadecimal}
-use Rattle.pgpipe_base.specs.Receiving.{longest_piece}
+use Rattle.hex.specs.Hex.{encode_lower, encode_with, lower_digits}
+use Rattle.pgpipe_base.specs.Receiving.{longest_piece, IsSentAtOnce}
 use Rattle.pgpipe_base.specs.Outbox.{most_collected, IsSentBut, Puts}
 use mathlib.Core.List.{IsPrefix}
 
@@ -24,6 +24,19 @@ one_more gives p pieces q piece r f last = FoldsTo-append gives p pieces (piece 
 pub joined : (pieces : List (List ℕ)) (piece : List ℕ) → concat pieces ++ piece ≡ concat (pieces ++ piece ∷ [])
 joined pieces piece = sym (concat-append pieces (piece ∷ []) ∙ ap (λ (l : List ℕ). concat pieces ++ l) (append-nil piece))
 
+-- the digits of bytes after bytes
+encode_with-append : (digits xs ys : List ℕ) → encode_with digits (xs ++ ys) ≡ encode_with digits xs ++ encode_with digits ys
+unfolding encode_with
+encode_with-append digits [] ys = refl
+encode_with-append digits (x ∷ xs) ys = ap (λ (l : List ℕ). slice_index digits (x / 16) ∷ slice_index digits (x % 16) ∷ l) (encode_with-append digits xs ys)
+
+encode_lower-nil : encode_lower [] ≡ []
+unfolding encode_with
+encode_lower-nil = refl
+
+encode_lower-append : (xs ys : List ℕ) → encode_lower (xs ++ ys) ≡ encode_lower xs ++ encode_lower ys
+encode_lower-append xs ys = encode_with-append lower_digits xs ys
+
 -- ---- a piece that was received
 
 -- what was written over the whole of a list
@@ -36,11 +49,47 @@ piece_within n into room = omega (arith, length-take n into)
 
 -- ---- prefixes of a text
 
-pub prefix_of_itself : (text : List ℕ) → IsPrefix text text
+pub prefix_of_itself : {A : Type 0} (text : List A) → IsPrefix text text
 prefix_of_itself text = ([], append-nil text)
 
-pub prefix_of_more : (before text more : List ℕ) → IsPrefix before text → IsPrefix before (text ++ more)
-prefix_of_more before text more b = (b.0 ++ more, sym (append_assoc before b.0 more) ∙ ap (λ (l : List ℕ). l ++ more) b.1)
+pub prefix_of_more : {A : Type 0} (before text more : List A) → IsPrefix before text → IsPrefix before (text ++ more)
+prefix_of_more {A} before text more b = (b.0 ++ more, sym (append_assoc before b.0 more) ∙ ap (λ (l : List A). l ++ more) b.1)
+
+-- the first of these pieces are the first of all
+pub concat_prefix : (first all : List (List ℕ)) → IsPrefix first all → IsPrefix (concat first) (concat all)
+concat_prefix first all b = (concat b.0, sym (concat-append first b.0) ∙ ap (λ (l : List (List ℕ)). concat l) b.1)
+
+pub first_within : (first all : List (List ℕ)) → IsPrefix first all → length (concat first) ≤ length (concat all)
+first_within first all b = omega (arith, ap (λ (l : List ℕ). length l) (sym (concat-append first b.0) ∙ ap (λ (l : List (List ℕ)). concat l) b.1), length-append (concat first) (concat b.0))
+
+-- ---- what was sent before each receive
+
+-- nothing was received
+pub sent_at_first : (holds : List ℕ → List ℕ → Type 0) (sent : List (List ℕ)) → IsSentAtOnce holds [] sent
+sent_at_first holds sent n some few = absurd (omega (arith, few))
+
+-- more was sent
+pub sent_on : (holds : List ℕ → List ℕ → Type 0) (received sent sent' : List (List ℕ)) → IsPrefix sent sent' → IsSentAtOnce holds received sent → IsSentAtOnce holds received sent'
+sent_on holds received sent sent' b before n some few =
+    let at = before n some few in (
+      at.0,
+      omega (arith, at.1, ap (λ (l : List (List ℕ)). length l) b.1, length-append sent b.0),
+      subst (λ (l : List (List ℕ)). holds (concat (take n received)) (concat l)) (sym (take-append-le at.0 sent b.0 at.1) ∙ ap (λ (l : List (List ℕ)). take at.0 l) b.1) at.2,
+    )
+
+-- one more piece was received, before which all was sent
+pub received_on : (holds : List ℕ → List ℕ → Type 0) (received sent : List (List ℕ)) (piece : List ℕ) → (0 < length received → holds (concat received) (concat sent)) → IsSentAtOnce holds received sent → IsSentAtOnce holds (received ++ piece ∷ []) sent
+received_on holds received sent piece all before n some few = by_cases (cases_lt n (length received))
+  where
+    by_cases : (n < length received) ⊎ (length received ≤ n) → (m : ℕ) × (m ≤ length sent) × holds (concat (take n (received ++ piece ∷ []))) (concat (take m sent))
+    by_cases (inl earlier) =
+        let at = before n some earlier in
+        (at.0, at.1, subst (λ (l : List (List ℕ)). holds (concat l) (concat (take at.0 sent))) (sym (take-append-le n received (piece ∷ []) (omega (arith, earlier)))) at.2)
+    by_cases (inr now) =
+        let within : n ≤ length received = omega (arith, few, length-append received (piece ∷ [])) in
+        let came : take n (received ++ piece ∷ []) ≡ received = take-append-le n received (piece ∷ []) within ∙ take_all n received now in
+        let went : take (length sent) sent ≡ sent = take_all (length sent) sent (omega arith) in
+        (length sent, omega arith, subst (λ (l : List (List ℕ)). holds (concat l) (concat (take (length sent) sent))) (sym came) (subst (λ (l : List (List ℕ)). holds (concat received) (concat l)) (sym went) (all (omega (arith, some, within)))))
 
 -- ---- text that is put
 
@@ -79,6 +128,17 @@ module _ {K : Type 0} (takes : K → List ℕ → K → Type 0) (failures : K �
   sent_within c s t c' s' u (Ok x) c'' s'' p q = omega (arith, ap (λ (l : List ℕ). length l) (concat-append p.pieces q.pieces), length-append (concat p.pieces) (concat q.pieces))
   sent_within c s t c' s' u (Err f) c'' s'' p q = omega (arith, ap (λ (l : List ℕ). length l) (concat-append p.pieces q.pieces), length-append (concat p.pieces) (concat q.pieces))
 
+  -- what was sent first is still the first of all that was sent
+  pub sends_on : {A : Type 0} (earlier : List (List ℕ)) (c : List ℕ) (s : K) (t : List ℕ) (c' : List ℕ) (s' : K) (u : List ℕ) (r : Result A LinkFault) (c'' : List ℕ) (s'' : K) (p : Puts {A = Unit {0}} takes failures c s t (Ok tt) c' s') (q : Puts takes failures c' s' u r c'' s'')
+      → IsPrefix earlier p.pieces → IsPrefix earlier (puts_then c s t c' s' u r c'' s'' p q).pieces
+  unfolding puts_then
+  sends_on earlier c s t c' s' u (Ok x) c'' s'' p q b = prefix_of_more earlier p.pieces q.pieces b
+  sends_on earlier c s t c' s' u (Err f) c'' s'' p q b = prefix_of_more earlier p.pieces q.pieces b
+
+  -- where nothing is collected any more, all that was put was sent
+  pub sent_all : (s : K) (t c' : List ℕ) (s' : K) (p : Puts {A = Unit {0}} takes failures [] s t (Ok tt) c' s') → c' ≡ [] → t ≡ concat p.pieces
+  sent_all s t c' s' p none = p.sent ∙ ap (λ (l : List ℕ). concat p.pieces ++ l) none ∙ append-nil (concat p.pieces)
+
   -- a prefix of what was put is no more than what was sent and what may be collected
   pub put_at_once : (s : K) (before t c' : List ℕ) (s' : K) (p : Puts {A = Unit {0}} takes failures [] s t (Ok tt) c' s') → IsPrefix before t → length c' ≤ most_collected → length before ≤ most_collected + length (concat p.pieces)
   put_at_once s before t c' s' p b within = omega (arith, within, ap (λ (l : List ℕ). length l) b.1, length-append before b.0, ap (λ (l : List ℕ). length l) p.sent, length-append (concat p.pieces) c')
@@ -113,27 +173,33 @@ module _ {K : Type 0} (takes : K → List ℕ → K → Type 0) (failures : K �
   pub record PutsSome (c : List ℕ) (s : K) (bytes rest c' : List ℕ) (s' : K) : Type 0 where
     pub done : List ℕ
     pub whole : bytes ≡ done ++ rest
-    pub put : Puts {A = Unit {0}} takes failures c s (hexadecimal done) (Ok tt) c' s'
+    pub put : Puts {A = Unit {0}} takes failures c s (encode_lower done) (Ok tt) c' s'
 
-  hexadecimal-append : (xs ys : List ℕ) → hexadecimal (xs ++ ys) ≡ hexadecimal xs ++ hexadecimal ys
-  hexadecimal-append xs ys = flat_map-append hexadecimal_byte xs ys
+  -- none of the bytes are put
+  pub none_yet : (c : List ℕ) (s : K) (bytes : List ℕ) → PutsSome c s bytes bytes c s
+  none_yet c s bytes =
+      record {
+        done = [];
+        whole = refl;
+        put = subst (λ (t : List ℕ). Puts {A = Unit {0}} takes failures c s t (Ok tt) c s) (sym encode_lower-nil) (puts_collected c s [] c (sym (append-nil c)));
+      }
 
   -- more of the bytes are put
   pub some_more : (c : List ℕ) (s : K) (bytes rest c' : List ℕ) (s' : K) (c'' : List ℕ) (s'' : K) (piece later after : List ℕ) → PutsSome c s bytes rest c' s' → Puts {A = Unit {0}} takes failures c' s' [] (Ok tt) c'' s''
-      → rest ≡ piece ++ later → after ≡ c'' ++ hexadecimal piece → PutsSome c s bytes later after s''
+      → rest ≡ piece ++ later → after ≡ c'' ++ encode_lower piece → PutsSome c s bytes later after s''
   some_more c s bytes rest c' s' c'' s'' piece later after p room split e =
-      let roomy = puts_then c s (hexadecimal p.done) c' s' [] (Ok tt) c'' s'' p.put room in
-      let all = puts_then c s (hexadecimal p.done ++ []) c'' s'' (hexadecimal piece) (Ok tt) after s'' roomy (puts_collected c'' s'' (hexadecimal piece) after e) in
+      let roomy = puts_then c s (encode_lower p.done) c' s' [] (Ok tt) c'' s'' p.put room in
+      let all = puts_then c s (encode_lower p.done ++ []) c'' s'' (encode_lower piece) (Ok tt) after s'' roomy (puts_collected c'' s'' (encode_lower piece) after e) in
       record {
         done = p.done ++ piece;
         whole = p.whole ∙ ap (λ (l : List ℕ). p.done ++ l) split ∙ sym (append_assoc p.done piece later);
-        put = subst (λ (t : List ℕ). Puts {A = Unit {0}} takes failures c s t (Ok tt) after s'') (ap (λ (l : List ℕ). l ++ hexadecimal piece) (append-nil (hexadecimal p.done)) ∙ sym (hexadecimal-append p.done piece)) all;
+        put = subst (λ (t : List ℕ). Puts {A = Unit {0}} takes failures c s t (Ok tt) after s'') (ap (λ (l : List ℕ). l ++ encode_lower piece) (append-nil (encode_lower p.done)) ∙ sym (encode_lower-append p.done piece)) all;
       }
 
   -- the sink failed before all were put
   pub some_fails : {A : Type 0} (c : List ℕ) (s : K) (bytes rest c' : List ℕ) (s' : K) (f g : LinkFault) (c'' : List ℕ) (s'' : K) (after : List ℕ) → PutsSome c s bytes rest c' s' → Puts {A = A} takes failures c' s' [] (Err f) c'' s''
-      → Puts {A = A} takes failures c s (hexadecimal bytes) (Err g) after s''
+      → Puts {A = A} takes failures c s (encode_lower bytes) (Err g) after s''
   some_fails {A} c s bytes rest c' s' f g c'' s'' after p failed =
-      let broken = puts_then c s (hexadecimal p.done) c' s' [] (Err f) c'' s'' p.put failed in
-      let all = puts_fails {A = A} {B = A} c s (hexadecimal p.done ++ []) f g c'' s'' (hexadecimal rest) after broken in
-      subst (λ (t : List ℕ). Puts {A = A} takes failures c s t (Err g) after s'') (ap (λ (l : List ℕ). l ++ hexadecimal rest) (append-nil (hexadecimal p.done)) ∙ sym (hexadecimal-append p.done rest) ∙ ap hexadecimal (sym p.whole)) all
+      let broken = puts_then c s (encode_lower p.done) c' s' [] (Err f) c'' s'' p.put failed in
+      let all = puts_fails {A = A} {B = A} c s (encode_lower p.done ++ []) f g c'' s'' (encode_lower rest) after broken in
+      subst (λ (t : List ℕ). Puts {A = A} takes failures c s t (Err g) after s'') (ap (λ (l : List ℕ). l ++ encode_lower rest) (append-nil (encode_lower p.done)) ∙ sym (encode_lower-append p.done rest) ∙ ap encode_lower (sym p.whole)) all

@@ -4,7 +4,7 @@ use Rattle.std.specs.Fmt.{decimal}
 use Rattle.std.specs.List.{FoldsTo, concat}
 use Rattle.pg_wire.specs.link.LinkFault.{LinkFault}
 use Rattle.pg_wire.specs.Link.{Counts}
-use Rattle.pgpipe_base.specs.Digits.{hexadecimal}
+use Rattle.hex.specs.Hex.{encode_lower}
 use mathlib.Core.List.{IsPrefix}
 
 -- ---- a line: a name, a length in decimal and bytes in hexadecimal, parted by spaces
@@ -12,7 +12,7 @@ use mathlib.Core.List.{IsPrefix}
 -- bytes in hexadecimal, or `-` where there are none
 abbrev pub body_text : List ℕ → List ℕ
 body_text [] = 45 ∷ []
-body_text (b ∷ bytes) = hexadecimal (b ∷ bytes)
+body_text (b ∷ bytes) = encode_lower (b ∷ bytes)
 
 -- the line of a name, a length and bytes: with a space between them and a newline after
 abbrev pub line_of : List ℕ → ℕ → List ℕ → List ℕ

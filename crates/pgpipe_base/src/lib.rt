@@ -2,7 +2,6 @@
 //! fails.
 #![tactic(auto)]
 
-mod digits;
 mod fault;
 pub mod outbox;
 pub mod receiving;

@@ -2,10 +2,9 @@
 
 ghost use Rattle.std.specs.Prelude.{◌≡◌, ◌≤◌, ◌+◌, ◌*◌, ◌++◌, [], length, ◌∷◌, OnOk, IfOk};
 ghost use Rattle.std.specs.Fmt.{decimal};
-ghost use Rattle.pgpipe_base.specs.Digits.{hexadecimal};
+ghost use Rattle.hex.specs.Hex.{encode_lower};
 ghost use Rattle.pgpipe_base.specs.Outbox.{body_text, line_of, most_collected, Puts};
 
-use crate::digits::{write_decimal, write_hexadecimal};
 use pg_wire::{LinkFault, Sink};
 use std::alloc::{AllocError, Global};
 use std::marker::Model;
@@ -74,8 +73,8 @@ impl Outbox {
         &self.buf[..self.filled]
     }
 
-    // Sends all that was collected. Where the sink fails a prefix of it was sent.
-    fn flush<K: Sink>(&mut self, sink: &mut K) -> Result<(), LinkFault>
+    /// Sends all that was collected. Where the sink fails a prefix of it was sent.
+    pub fn flush<K: Sink>(&mut self, sink: &mut K) -> Result<(), LinkFault>
         ensures puts { Puts K.takes K.failures self.old sink.old [] result self.new sink.new }
         ensures nothing_left { OnOk result (self.new ≡ []) }
     {
@@ -109,10 +108,11 @@ impl Outbox {
     // Collects bytes in hexadecimal, for which there is room.
     fn put_hexadecimal(&mut self, bytes: &[u8])
         requires { length self.old + 2 * length bytes.now ≤ most_collected }
-        ensures { self.new ≡ self.old ++ hexadecimal bytes.now }
+        ensures { self.new ≡ self.old ++ encode_lower bytes.now }
     {
         let end = self.filled + 2 * bytes.len();
-        write_hexadecimal(bytes, &mut self.buf[self.filled..end]);
+        // The room is twice as long as the bytes, so this isn't refused.
+        let _ = hex::encode_to_slice(bytes, &mut self.buf[self.filled..end]);
         self.filled = end;
     }
 
@@ -126,7 +126,7 @@ impl Outbox {
     // Puts bytes in hexadecimal, however many.
     fn put_all<K: Sink>(&mut self, bytes: &[u8], sink: &mut K) -> Result<(), LinkFault>
         ensures { Puts K.takes K.failures self.old sink.old
-            (hexadecimal bytes.now) result self.new sink.new }
+            (encode_lower bytes.now) result self.new sink.new }
     {
         let mut rest = bytes;
         while !rest.is_empty() {
@@ -157,12 +157,11 @@ impl Outbox {
         ensures { Puts K.takes K.failures self.old sink.old (name.now ++ (32 ∷ []) ++ decimal size
             ++ (32 ∷ [])) result self.new sink.new }
     {
-        let mut digits = [0; 10];
-        let start = write_decimal(size, &mut digits);
+        let mut digits = itoa::Buffer::new();
         self.make_room(LONGEST_HEAD, sink)?;
         self.put(name);
         self.put(b" ");
-        self.put(&digits[start..]);
+        self.put(digits.format(size).as_bytes());
         self.put(b" ");
         Ok(())
     }

@@ -1,5 +1,5 @@
 -- How a conversion goes on from piece to piece.
-use Rattle.std.proofs.Common.{◌≡◌, ℕ, ◌+◌, ◌≤◌, Bool, true, false, List, [], ◌∷◌, ◌++◌, Result, Ok, Err, refl, sym, ap, subst, ◌∙◌, inl, inr, append-nil, append_assoc, length, length-append, arith}
+use Rattle.std.proofs.Common.{◌≡◌, ℕ, ◌+◌, ◌<◌, ◌≤◌, Bool, true, false, List, [], ◌∷◌, ◌++◌, Result, Ok, Err, refl, sym, ap, subst, ◌∙◌, inl, inr, append-nil, append_assoc, length, length-append, arith}
 use Rattle.std.specs.List.{FoldsTo, concat, flat_map, AllByRecursion}
 use Rattle.std.proofs.lemmas.Grind.{flat_map-append}
 use Rattle.pg_copy.specs.Reading.{RowsRead, RowsEnding, Open, Bad, IsGood, after_rows}
@@ -22,8 +22,8 @@ use Rattle.pgpipe_convert.specs.declared.format.Format.TheVariants as format
 use Rattle.pgpipe_convert.specs.Convert.{FileReading, FileWriting, answered, none_left, IsReadAs, IsWritable, writing_with, trailer_for, AreConverted, AreAllConverted, AreConvertedBefore}
 use Rattle.pgpipe_convert.specs.Private.Converting.{file_by, ended_of, HasReadBy, ComeNext, TakesPiece, RowsArePut, PutsRows, EndConverts, IsAtStep, HasConverted, ArePut, Stops, StepConverts, StepsSource, StopsSource, HasRun}
 use Rattle.pgpipe_base.specs.Outbox.{most_collected, Puts}
-use Rattle.pgpipe_base.specs.Receiving.{longest_piece, most_receives}
-use Rattle.pgpipe_base.proofs.Pieces.{joined, one_more, prefix_of_itself, puts_as, puts_then, put_at_once, sent_at_once, puts_collected}
+use Rattle.pgpipe_base.specs.Receiving.{longest_piece, most_receives, IsSentAtOnce}
+use Rattle.pgpipe_base.proofs.Pieces.{joined, one_more, prefix_of_itself, sent_at_first, sent_on, received_on, puts_as, puts_then, sends_on, sent_all, put_at_once, sent_at_once, puts_collected}
 
 abbrev at : FileReading → Bool → List ℕ → RowsRead Converted
 at file at_end bytes = file at_end bytes
@@ -62,31 +62,33 @@ module _ {K : Type 0} (takes : K → List ℕ → K → Type 0) (failures : K �
   }
 
   -- what stands at any time
-  pub stands_put : ArePut {A = Unit {0}} takes failures file to ⊥ start bytes st.text (none_left st.ending) [] (Ok tt) out sink
+  pub stands_put : ArePut {A = Unit {0}} takes failures file to ⊥ start bytes st.text st.put.pieces (none_left st.ending) [] (Ok tt) out sink
   stands_put = record {
     text = st.text;
     are_converted = record { rows = st.rows; read = inl st.all; each_writable = st.each_writable; each_row = st.each_row };
     put = puts_as takes failures [] start st.text (st.text ++ []) (Ok tt) out sink (sym (append-nil st.text)) st.put;
     at_once = put_at_once takes failures start st.text st.text out sink st.put (prefix_of_itself st.text) st.within;
+    begins = prefix_of_itself st.put.pieces;
   }
 
   pub all_converted : AreAllConverted file to bytes st.text
   all_converted = record { ending = st.ending; good = st.good; are_converted = record { rows = st.rows; read = inl st.all; each_writable = st.each_writable; each_row = st.each_row } }
 
   -- the source failed, and nothing came
-  pub source_failed : (ended : Type 0) → StepConverts takes failures file to ended start (bytes ++ []) st.text (Err stop.SourceFailed) r out sink
-  source_failed ended = subst (λ (b : List ℕ). StepConverts takes failures file to ended start b st.text (Err stop.SourceFailed) r out sink) (sym (append-nil bytes)) (st.ending, st.good, stands_put)
+  pub source_failed : (ended : Type 0) → StepConverts takes failures file to ended start (bytes ++ []) st.text st.put.pieces (Err stop.SourceFailed) r out sink
+  source_failed ended = subst (λ (b : List ℕ). StepConverts takes failures file to ended start b st.text st.put.pieces (Err stop.SourceFailed) r out sink) (sym (append-nil bytes)) (st.ending, st.good, stands_put)
 
   -- after the piece that the reader took
   abbrev piece_text : {A : Type 0} (rows : List Row) (result : Result A LinkFault) (out' : List ℕ) (sink' : K) → Puts {A = A} takes failures out sink (flat_map to.row rows) result out' sink' → Puts {A = A} takes failures [] start ((st.text ++ flat_map to.row rows) ++ []) result out' sink'
   piece_text {A} rows result out' sink' p = puts_as takes failures [] start (st.text ++ flat_map to.row rows) ((st.text ++ flat_map to.row rows) ++ []) result out' sink' (sym (append-nil (st.text ++ flat_map to.row rows))) (puts_then takes failures [] start st.text out sink (flat_map to.row rows) result out' sink' st.put p)
 
-  put_after : {A : Type 0} (at_end : Bool) (ended : Type 0) (more : List ℕ) (r' : RowReader) (left : RowsRead Converted) (result : Result A LinkFault) (out' : List ℕ) (sink' : K) (p : RowsArePut {A = A} takes failures at_end to r' out sink left result out' sink') → IsReadAs file ended more (after_rows (st.rows ++ p.rows) left) → ArePut {A = A} takes failures file to ended start more st.text left [] result out' sink'
+  put_after : {A : Type 0} (at_end : Bool) (ended : Type 0) (more : List ℕ) (r' : RowReader) (left : RowsRead Converted) (result : Result A LinkFault) (out' : List ℕ) (sink' : K) (p : RowsArePut {A = A} takes failures at_end to r' out sink left result out' sink') → IsReadAs file ended more (after_rows (st.rows ++ p.rows) left) → ArePut {A = A} takes failures file to ended start more st.text st.put.pieces left [] result out' sink'
   put_after at_end ended more r' left result out' sink' p read = record {
     text = st.text ++ flat_map to.row p.rows;
     are_converted = converted_more at_end ended more p.rows left p.each_writable read;
     put = piece_text p.rows result out' sink' p.put;
     at_once = sent_at_once takes failures start st.text st.text out sink (flat_map to.row p.rows) result out' sink' st.put p.put (prefix_of_itself st.text) st.within;
+    begins = sends_on takes failures st.put.pieces [] start st.text out sink (flat_map to.row p.rows) result out' sink' st.put p.put (prefix_of_itself st.put.pieces);
   }
 
   -- ---- a piece, which the reader took
@@ -101,24 +103,26 @@ module _ {K : Type 0} (takes : K → List ℕ → K → Type 0) (failures : K �
     pub piece_reads : (ended_of r' ≡ false) × (b : List ℕ) × (given : List Row) × HasReadBy r' b given
     piece_reads = (ended_same ∙ st.not_ended, bytes ++ piece, st.rows, read_piece)
 
-    pub piece_steps : (result : Result Unit (Stop Converted)) (r'' : RowReader) (out' : List ℕ) (sink' : K) → PutsRows takes failures false to r' out sink result r'' out' sink' → StepConverts takes failures file to ended start (bytes ++ piece) st.text result r'' out' sink'
+    pub piece_steps : (result : Result Unit (Stop Converted)) (r'' : RowReader) (out' : List ℕ) (sink' : K) → PutsRows takes failures false to r' out sink result r'' out' sink' → StepConverts takes failures file to ended start (bytes ++ piece) st.text st.put.pieces result r'' out' sink'
     unfolding put_after
     piece_steps (Ok x) r'' out' sink' p =
-        let put = p.2 in
-        record {
-          rows = st.rows ++ put.rows;
-          text = st.text ++ flat_map to.row put.rows;
-          is_file = p.3.same ∙ same ∙ st.is_file;
-          not_ended = p.3.may_go_on refl;
-          read = p.3.read (bytes ++ piece) st.rows read_piece;
-          ending = p.0;
-          good = p.1;
-          all = come_piece put.rows (none_left p.0) put.come_next;
-          each_writable = both_writable to st.rows put.rows st.each_writable put.each_writable;
-          each_row = text_more put.rows;
-          put = puts_then takes failures [] start st.text out sink (flat_map to.row put.rows) (Ok tt) out' sink' st.put put.put;
-          within = put.within st.within;
-        }
+        let put = p.2 in (
+          record {
+            rows = st.rows ++ put.rows;
+            text = st.text ++ flat_map to.row put.rows;
+            is_file = p.3.same ∙ same ∙ st.is_file;
+            not_ended = p.3.may_go_on refl;
+            read = p.3.read (bytes ++ piece) st.rows read_piece;
+            ending = p.0;
+            good = p.1;
+            all = come_piece put.rows (none_left p.0) put.come_next;
+            each_writable = both_writable to st.rows put.rows st.each_writable put.each_writable;
+            each_row = text_more put.rows;
+            put = puts_then takes failures [] start st.text out sink (flat_map to.row put.rows) (Ok tt) out' sink' st.put put.put;
+            within = put.within st.within;
+          },
+          sends_on takes failures st.put.pieces [] start st.text out sink (flat_map to.row put.rows) (Ok tt) out' sink' st.put put.put (prefix_of_itself st.put.pieces),
+        )
     piece_steps (Err (stop.Answer converted.Whole)) r'' out' sink' p = absurd p
     piece_steps (Err (stop.Answer (converted.Text f))) r'' out' sink' p = (p.0, p.1, put_after false ended (bytes ++ piece) r' p.0 (Ok tt) out' sink' p.2 (inl (come_piece p.2.rows p.0 p.2.come_next)))
     piece_steps (Err (stop.Answer (converted.Binary f))) r'' out' sink' p = (p.0, p.1, put_after false ended (bytes ++ piece) r' p.0 (Ok tt) out' sink' p.2 (inl (come_piece p.2.rows p.0 p.2.come_next)))
@@ -136,15 +140,16 @@ module _ {K : Type 0} (takes : K → List ℕ → K → Type 0) (failures : K �
   as_file b at_end x e = ap (λ (f : FileReading). at f at_end b) (sym st.is_file) ∙ e
 
   -- no row is put, and this is left of more bytes
-  stays : (ended : Type 0) (more : List ℕ) (left : RowsRead Converted) → IsReadAs file ended more (after_rows st.rows left) → ArePut {A = Unit {0}} takes failures file to ended start more st.text left [] (Ok tt) out sink
+  stays : (ended : Type 0) (more : List ℕ) (left : RowsRead Converted) → IsReadAs file ended more (after_rows st.rows left) → ArePut {A = Unit {0}} takes failures file to ended start more st.text st.put.pieces left [] (Ok tt) out sink
   stays ended more left read = record {
     text = st.text;
     are_converted = record { rows = st.rows; read = read; each_writable = st.each_writable; each_row = st.each_row };
     put = puts_as takes failures [] start st.text (st.text ++ []) (Ok tt) out sink (sym (append-nil st.text)) st.put;
     at_once = put_at_once takes failures start st.text st.text out sink st.put (prefix_of_itself st.text) st.within;
+    begins = prefix_of_itself st.put.pieces;
   }
 
-  pub refused_steps : (piece : List ℕ) (ended : Type 0) (s : Stop Converted) (r' r'' : RowReader) → TakesPiece r piece (Err s) r' → StepConverts takes failures file to ended start (bytes ++ piece) st.text (Err s) r'' out sink
+  pub refused_steps : (piece : List ℕ) (ended : Type 0) (s : Stop Converted) (r' r'' : RowReader) → TakesPiece r piece (Err s) r' → StepConverts takes failures file to ended start (bytes ++ piece) st.text st.put.pieces (Err s) r'' out sink
   unfolding stays
   refused_steps piece ended (stop.Answer converted.Whole) r' r'' t = absurd t
   refused_steps piece ended (stop.Answer (converted.Text f)) r' r'' t = (none_left (Bad (converted.Text f)), refl, stays ended (bytes ++ piece) (none_left (Bad (converted.Text f))) (inl (as_file (bytes ++ piece) false (after_rows st.rows (none_left (Bad (converted.Text f)))) (t bytes st.rows st.read))))
@@ -160,7 +165,7 @@ module _ {K : Type 0} (takes : K → List ℕ → K → Type 0) (failures : K �
   come_last : (ended : Type 0) (is_ended : ended) (rows : List Row) (left : RowsRead Converted) → ComeNext true r rows left → IsReadAs file ended (bytes ++ []) (after_rows (st.rows ++ rows) left)
   come_last ended is_ended rows left next = inr (is_ended, ap (λ (b : List ℕ). at file true b) (append-nil bytes) ∙ as_file bytes true (after_rows (st.rows ++ rows) left) (next bytes st.rows st.read))
 
-  pub end_steps : (ended : Type 0) (is_ended : ended) (s : Stop Converted) (r'' : RowReader) (out' : List ℕ) (sink' : K) → EndConverts takes failures to r out sink s out' sink' → StepConverts takes failures file to ended start (bytes ++ []) st.text (Err s) r'' out' sink'
+  pub end_steps : (ended : Type 0) (is_ended : ended) (s : Stop Converted) (r'' : RowReader) (out' : List ℕ) (sink' : K) → EndConverts takes failures to r out sink s out' sink' → StepConverts takes failures file to ended start (bytes ++ []) st.text st.put.pieces (Err s) r'' out' sink'
   unfolding put_after
   end_steps ended is_ended (stop.Answer c) r'' out' sink' p =
       let text = st.text ++ flat_map to.row p.3.rows in
@@ -172,6 +177,7 @@ module _ {K : Type 0} (takes : K → List ℕ → K → Type 0) (failures : K �
           are_converted = converted_more true ended (bytes ++ []) p.3.rows p.0 p.3.each_writable (come_last ended is_ended p.3.rows p.0 p.3.come_next);
           put = puts_then takes failures [] start text p.2 sink' (trailer_for to c) (Ok tt) out' sink' puts (puts_collected takes failures p.2 sink' (trailer_for to c) out' p.4);
           at_once = sent_at_once takes failures start st.text text p.2 sink' (trailer_for to c) (Ok tt) out' sink' puts (puts_collected takes failures p.2 sink' (trailer_for to c) out' p.4) (flat_map to.row p.3.rows, refl) (p.3.within st.within);
+          begins = sends_on takes failures st.put.pieces [] start text p.2 sink' (trailer_for to c) (Ok tt) out' sink' puts (puts_collected takes failures p.2 sink' (trailer_for to c) out' p.4) (sends_on takes failures st.put.pieces [] start st.text out sink (flat_map to.row p.3.rows) (Ok tt) p.2 sink' st.put p.3.put (prefix_of_itself st.put.pieces));
         },
       )
   end_steps ended is_ended stop.Memory r'' out' sink' p =
@@ -183,7 +189,7 @@ module _ {K : Type 0} (takes : K → List ℕ → K → Type 0) (failures : K �
 
 -- where a step leads from every place where the work stands
 abbrev pub StepsAnywhere : {K : Type 0} → (K → List ℕ → K → Type 0) → (K → ℕ) → Type 0 → RowReader → List ℕ → K → List ℕ → Result Unit (Stop Converted) → RowReader → List ℕ → K → FileWriting → Type 0
-StepsAnywhere {K} takes failures ended r out sink piece result r' out' sink' to = (file : FileReading) (start : K) (bytes : List ℕ) (stands : HasConverted takes failures file to start bytes r out sink) → StepConverts takes failures file to ended start (bytes ++ piece) stands.text result r' out' sink'
+StepsAnywhere {K} takes failures ended r out sink piece result r' out' sink' to = (file : FileReading) (start : K) (bytes : List ℕ) (stands : HasConverted takes failures file to start bytes r out sink) → StepConverts takes failures file to ended start (bytes ++ piece) stands.text stands.put.pieces result r' out' sink'
 
 pub steps_for : {K : Type 0} (takes : K → List ℕ → K → Type 0) (failures : K → ℕ) (ended : Type 0) (r : RowReader) (out : List ℕ) (sink : K) (piece : List ℕ) (result : Result Unit (Stop Converted)) (r' : RowReader) (out' : List ℕ) (sink' : K) (to to' : FileWriting) → to ≡ to'
     → StepsAnywhere takes failures ended r out sink piece result r' out' sink' to → StepsAnywhere takes failures ended r out sink piece result r' out' sink' to'
@@ -196,6 +202,8 @@ pub record Runs {S K : Type 0} (gives : S → List ℕ → S → Type 0) (source
   pub counted : length pieces ≡ count
   pub sound : source_failures source' ≡ source_failures source
   pub stands : HasConverted takes failures file to sink (concat pieces) r out sink'
+  pub nothing_left : 0 < length pieces → out ≡ []
+  pub at_once : IsSentAtOnce (AreAllConverted file to) pieces stands.put.pieces
 
 source_of : (ended : Type 0) (old mid new : ℕ) (pieces : List (List ℕ)) (s : Stop Converted) → mid ≡ old → StepsSource ended mid new (Err s) → StopsSource ended old new pieces s
 source_of ended old mid new pieces (stop.Answer converted.Whole) e s = (s.0, s.1 ∙ e)
@@ -238,17 +246,36 @@ stands_first takes failures to start r out fits e h on =
 
 module _ {S K : Type 0} (gives : S → List ℕ → S → Type 0) (source_failures : S → ℕ) (takes : K → List ℕ → K → Type 0) (failures : K → ℕ) (file : FileReading) (to : FileWriting) where
   pub runs_none : (source : S) (sink : K) (r : RowReader) (out : List ℕ) → HasConverted takes failures file to sink [] r out sink → Runs gives source_failures takes failures file to source sink 0 source r out sink
-  runs_none source sink r out st = record { pieces = []; received = refl; counted = refl; sound = refl; stands = st }
+  runs_none source sink r out st = record { pieces = []; received = refl; counted = refl; sound = refl; stands = st; nothing_left = λ some. absurd (omega (arith, some)); at_once = sent_at_first (AreAllConverted file to) st.put.pieces }
+
+  -- before one more piece, the head and all rows were sent
+  sent_before : (source : S) (sink : K) (n : ℕ) (source' : S) (r : RowReader) (out : List ℕ) (sink' : K) (piece : List ℕ) (runs : Runs gives source_failures takes failures file to source sink n source' r out sink') → IsSentAtOnce (AreAllConverted file to) (runs.pieces ++ piece ∷ []) runs.stands.put.pieces
+  sent_before source sink n source' r out sink' piece runs = received_on (AreAllConverted file to) runs.pieces runs.stands.put.pieces piece (λ some. subst (λ (text : List ℕ). AreAllConverted file to (concat runs.pieces) text) (sent_all takes failures sink runs.stands.text out sink' runs.stands.put (runs.nothing_left some)) (all_converted takes failures file to sink (concat runs.pieces) r out sink' runs.stands)) runs.at_once
 
   pub runs_more : (source : S) (sink : K) (n : ℕ) (source' : S) (r : RowReader) (out : List ℕ) (sink' : K) (piece : List ℕ) (source'' : S) (r' : RowReader) (out' : List ℕ) (sink'' : K) (ended : Type 0) (runs : Runs gives source_failures takes failures file to source sink n source' r out sink')
-      → gives source' piece source'' → source_failures source'' ≡ source_failures source' → StepConverts takes failures file to ended sink (concat runs.pieces ++ piece) runs.stands.text (Ok tt) r' out' sink''
+      → gives source' piece source'' → source_failures source'' ≡ source_failures source' → StepConverts takes failures file to ended sink (concat runs.pieces ++ piece) runs.stands.text runs.stands.put.pieces (Ok tt) r' out' sink'' → out' ≡ []
       → Runs gives source_failures takes failures file to source sink (n + 1) source'' r' out' sink''
-  runs_more source sink n source' r out sink' piece source'' r' out' sink'' ended runs p same next = record {
+  runs_more source sink n source' r out sink' piece source'' r' out' sink'' ended runs p same next none = record {
     pieces = runs.pieces ++ piece ∷ [];
     received = one_more gives source runs.pieces source' piece source'' runs.received p;
     counted = length-append runs.pieces (piece ∷ []) ∙ ap (λ (k : ℕ). k + 1) runs.counted;
     sound = same ∙ runs.sound;
-    stands = subst (λ (bytes : List ℕ). HasConverted takes failures file to sink bytes r' out' sink'') (joined runs.pieces piece) next;
+    stands = record {
+      rows = next.0.rows;
+      text = next.0.text;
+      is_file = next.0.is_file;
+      not_ended = next.0.not_ended;
+      read = subst (λ (bytes : List ℕ). HasReadBy r' bytes next.0.rows) (joined runs.pieces piece) next.0.read;
+      ending = next.0.ending;
+      good = next.0.good;
+      all = subst (λ (bytes : List ℕ). file false bytes ≡ after_rows next.0.rows (none_left next.0.ending)) (joined runs.pieces piece) next.0.all;
+      each_writable = next.0.each_writable;
+      each_row = next.0.each_row;
+      put = next.0.put;
+      within = next.0.within;
+    };
+    nothing_left = λ some. none;
+    at_once = sent_on (AreAllConverted file to) (runs.pieces ++ piece ∷ []) runs.stands.put.pieces next.0.put.pieces next.1 (sent_before source sink n source' r out sink' piece runs);
   }
 
   -- what stood before the last piece
@@ -256,14 +283,16 @@ module _ {S K : Type 0} (gives : S → List ℕ → S → Type 0) (source_failur
   stood_before sink earlier last bytes r out sink' st whole fits = record { earlier = earlier; last = last; whole = whole; a_piece = fits; all_converted = all_converted takes failures file to sink earlier r out sink' st }
 
   pub run_stops : (ended : Type 0) (source : S) (sink : K) (n : ℕ) (source' : S) (r : RowReader) (out : List ℕ) (sink' : K) (piece : List ℕ) (source'' : S) (s : Stop Converted) (r' : RowReader) (out' : List ℕ) (sink'' : K) (runs : Runs gives source_failures takes failures file to source sink n source' r out sink')
-      → length piece ≤ longest_piece → gives source' piece source'' → StepsSource ended (source_failures source') (source_failures source'') (Err s) → StepConverts takes failures file to ended sink (concat runs.pieces ++ piece) runs.stands.text (Err s) r' out' sink''
+      → length piece ≤ longest_piece → gives source' piece source'' → StepsSource ended (source_failures source') (source_failures source'') (Err s) → StepConverts takes failures file to ended sink (concat runs.pieces ++ piece) runs.stands.text runs.stands.put.pieces (Err s) r' out' sink''
       → HasRun gives source_failures ended takes failures file to source sink s source'' out' sink''
   run_stops ended source sink n source' r out sink' piece source'' s r' out' sink'' runs fits p src stops = record {
     pieces = runs.pieces ++ piece ∷ [];
     received = one_more gives source runs.pieces source' piece source'' runs.received p;
     before = runs.stands.text;
+    earlier = runs.stands.put.pieces;
+    at_once = sent_before source sink n source' r out sink' piece runs;
     converted_before = stood_before sink (concat runs.pieces) piece (concat (runs.pieces ++ piece ∷ [])) r out sink' runs.stands (sym (joined runs.pieces piece)) fits;
-    stops = subst (λ (bytes : List ℕ). Stops takes failures file to ended sink bytes runs.stands.text s out' sink'') (joined runs.pieces piece) stops;
+    stops = subst (λ (bytes : List ℕ). Stops takes failures file to ended sink bytes runs.stands.text runs.stands.put.pieces s out' sink'') (joined runs.pieces piece) stops;
     stops_source = source_of ended _ _ _ _ s runs.sound src;
   }
 
@@ -272,6 +301,8 @@ module _ {S K : Type 0} (gives : S → List ℕ → S → Type 0) (source_failur
     pieces = runs.pieces;
     received = runs.received;
     before = runs.stands.text;
+    earlier = runs.stands.put.pieces;
+    at_once = runs.at_once;
     converted_before = stood_before sink (concat runs.pieces) [] (concat runs.pieces) r out sink' runs.stands (sym (append-nil (concat runs.pieces))) (omega arith);
     stops = (runs.stands.ending, runs.stands.good, stands_put takes failures file to sink (concat runs.pieces) r out sink' runs.stands);
     stops_source = runs.counted ∙ e;

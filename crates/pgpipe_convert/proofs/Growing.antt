@@ -15,7 +15,7 @@ use Rattle.pgpipe_convert.specs.Convert.{FileReading, FileWriting, answered, non
 use Rattle.pgpipe_convert.specs.Private.Converting.{file_by, ended_of, rows_left, HasReadBy, ComeNext, ReadsOn, GivesRow, PutsRow, RowsArePut, PutsRows}
 use Rattle.pgpipe_base.specs.Outbox.{StaysWithin}
 use Rattle.pgpipe_base.specs.Outbox.{Puts}
-use Rattle.pgpipe_base.proofs.Pieces.{puts_none, puts_then}
+use Rattle.pgpipe_base.proofs.Pieces.{puts_none, puts_then, puts_as}
 use Rattle.pgpipe_convert.proofs.Readers.{reading_of}
 
 -- All rows of a list, and one more.
@@ -139,3 +139,15 @@ module _ {K : Type 0} (takes : K → List ℕ → K → Type 0) (failures : K �
       let more = goes_on_then at_end r g.rows r' (row ∷ []) r'' g.goes_on on in
       (rows_left at_end r'', p.1, record { rows = g.rows ++ row ∷ []; each_writable = one_more_writable to g.rows row g.each_writable p.0; come_next = left_next at_end r (g.rows ++ row ∷ []) r'' begun more; put = put_more g.rows row out' sink' (Err p.1) out'' sink'' g.put p.2; within = tt })
   row_stops r' out' sink' row r'' stop.Endless out'' sink'' begun g on p = p
+
+-- ---- what was put is sent
+
+module _ {K : Type 0} (takes : K → List ℕ → K → Type 0) (failures : K → ℕ) (at_end : Bool) (to : FileWriting) (r : RowReader) (out : List ℕ) (sink : K) (r' : RowReader) (out' : List ℕ) (sink' : K) (p : PutsRows takes failures at_end to r out sink (Ok tt) r' out' sink') where
+  abbrev all_sent : {A : Type 0} (result : Result A LinkFault) (out'' : List ℕ) (sink'' : K) → Puts {A = A} takes failures out' sink' [] result out'' sink'' → Puts {A = A} takes failures out sink (flat_map to.row p.2.rows) result out'' sink''
+  all_sent {A} result out'' sink'' q = puts_as takes failures out sink (flat_map to.row p.2.rows ++ []) (flat_map to.row p.2.rows) result out'' sink'' (append-nil (flat_map to.row p.2.rows)) (puts_then takes failures out sink (flat_map to.row p.2.rows) out' sink' [] result out'' sink'' p.2.put q)
+
+  pub rows_sent : (out'' : List ℕ) (sink'' : K) → Puts {A = Unit {0}} takes failures out' sink' [] (Ok tt) out'' sink'' → out'' ≡ [] → PutsRows takes failures at_end to r out sink (Ok tt) r' out'' sink''
+  rows_sent out'' sink'' q none = (p.0, p.1, record { rows = p.2.rows; each_writable = p.2.each_writable; come_next = p.2.come_next; put = all_sent (Ok tt) out'' sink'' q; within = λ w. omega (arith, ap (λ (l : List ℕ). length l) none) }, p.3)
+
+  pub rows_unsent : (f : LinkFault) (out'' : List ℕ) (sink'' : K) → Puts {A = Unit {0}} takes failures out' sink' [] (Err f) out'' sink'' → PutsRows takes failures at_end to r out sink (Err stop.SinkFailed) r' out'' sink''
+  rows_unsent f out'' sink'' q = (none_left p.0, f, record { rows = p.2.rows; each_writable = p.2.each_writable; come_next = p.2.come_next; put = all_sent (Err f) out'' sink'' q; within = tt })

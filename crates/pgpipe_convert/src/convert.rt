@@ -1,13 +1,14 @@
 //! Converting a file, over any source and any sink.
 
-ghost use Rattle.std.specs.Prelude.{◌≡◌, ◌<◌, ◌≤◌, ◌++◌, ℕ, List, [], length, false, true, IfOk};
+ghost use Rattle.std.specs.Prelude.{◌≡◌, ◌<◌, ◌≤◌, ◌++◌, ℕ, List, [], length, false, true, IfOk, OnOk};
 ghost use Rattle.std.specs.List.{FoldsTo, concat};
 ghost use Rattle.pg_wire.specs.Link.{HasRisen};
-ghost use Rattle.pgpipe_base.specs.Receiving.{longest_piece, HasStopped, CountsNoFailure};
-ghost use Rattle.pgpipe_convert.specs.Convert.{FileReading, file_of, file_with, writing_with, ConvertAnswers, ConversionAnswers, EndsFile};
+ghost use Rattle.pgpipe_base.specs.Receiving.{longest_piece, HasStopped, CountsNoFailure, IsSentAtOnce};
+ghost use Rattle.pg_copy.specs.Text.{default_options};
+ghost use Rattle.pgpipe_convert.specs.Convert.{FileReading, file_of, file_with, writing_with, AreAllConverted, ConvertAnswers, ConversionAnswers, EndsFile};
 ghost use Rattle.pgpipe_convert.specs.Private.Converting.{file_by, writing_by, ended_of, HasReadBy, HasConverted, IsAtStep, StepConverts, StepsSource, EndConverts, HasRun};
 
-use crate::copy_rows::{RowReader, put_rows};
+use crate::copy_rows::{RowReader, put_rows, send_rows};
 use crate::format::{Format, RowWriter};
 use pg_copy::{BinaryFault, RowFault, TextFault, TextOptions};
 use pg_wire::{Sink, Source};
@@ -41,7 +42,7 @@ struct Converting<'a> {
 }
 
 impl Converting<'_> {
-    // Receives a piece, and puts the rows that wait then.
+    // Receives a piece, and sends the rows that wait then.
     fn step<S: Source, K: Sink>(
         &mut self,
         source: &mut S,
@@ -55,9 +56,11 @@ impl Converting<'_> {
             (stands : HasConverted K.takes K.failures file (writing_by self.old.to) start bytes
             self.old.reader self.old.out.items sink.old)
             → StepConverts K.takes K.failures file (writing_by self.old.to) (S.has_ended source.new)
-            start (bytes ++ piece) stands.text result self.new.reader self.new.out.items sink.new) }
+            start (bytes ++ piece) stands.text stands.put.pieces result self.new.reader
+            self.new.out.items sink.new) }
         ensures source { StepsSource (S.has_ended source.new) (S.failures source.old)
             (S.failures source.new) result }
+        ensures nothing_left { OnOk result (self.new.out.items ≡ []) }
     {
         let count = match source.receive(self.into.as_mut_slice()) {
             Ok(0) => return Err(self.end(sink)),
@@ -65,7 +68,7 @@ impl Converting<'_> {
             Err(_) => return Err(Stop::SourceFailed),
         };
         self.reader.push(&self.into[..count])?;
-        put_rows(&mut self.reader, false, &self.to, &mut self.out, sink)
+        send_rows(&mut self.reader, &self.to, &mut self.out, sink)
     }
 
     // Puts what is left at the end of the input.
@@ -142,8 +145,8 @@ fn begin<'a>(
 /// format: each in its canonical form, in binary between the head and the trailer. Values of a binary file may have up to
 /// 1,073,741,823 bytes. The source is read to its end, also after the end mark of a text file.
 ///
-/// The head and the rows before a fault, or before a row that the format can't have, are sent, and no trailer. `Device` is
-/// answered where
+/// Before each `receive` but the first, the head and the rows of all that came are sent. The head and the rows before a fault, or
+/// before a row that the format can't have, are sent, and no trailer. `Device` is answered where
 /// - the sink failed in this call: a prefix of the file was sent, and what is written for all that was received but the
 ///   last piece is at most 65,536 bytes more; or
 /// - the source failed in this call or gave no end in 1,099,511,627,776 receives: the head and the rows in all that was
@@ -167,6 +170,11 @@ pub fn convert<S: Source, K: Sink>(
         (HasStopped (S.failures source.old) (S.failures source.new) received)
         (HasRisen (K.failures sink.old) (K.failures sink.new)) (S.has_ended source.new)
         (file_of from columns) to (concat received) (concat sent) result }
+    // before each receive but the first, the head and the rows of all that came had been sent
+    ensures at_once { (received sent : List (List ℕ))
+        × FoldsTo S.gives source.old received source.new × FoldsTo K.takes sink.old sent sink.new
+        × IsSentAtOnce (AreAllConverted (file_of from columns) (writing_with default_options to))
+        received sent }
     ensures ended { EndsFile (S.has_ended source.new) result }
     // where the answer isn't Device, neither failed
     ensures source { CountsNoFailure (S.failures source.old) result (S.failures source.new) }
@@ -196,6 +204,11 @@ pub fn convert_with<S: Source, K: Sink>(
         (HasRisen (K.failures sink.old) (K.failures sink.new)) (S.has_ended source.new)
         (file_with options.now from columns) (writing_with options.now to) (concat received)
         (concat sent) result }
+    // before each receive but the first, the head and the rows of all that came had been sent
+    ensures at_once { (received sent : List (List ℕ))
+        × FoldsTo S.gives source.old received source.new × FoldsTo K.takes sink.old sent sink.new
+        × IsSentAtOnce (AreAllConverted (file_with options.now from columns) (writing_with options.now to))
+        received sent }
     ensures ended { EndsFile (S.has_ended source.new) result }
     // where the answer isn't Device, neither failed
     ensures source { CountsNoFailure (S.failures source.old) result (S.failures source.new) }

@@ -1,6 +1,6 @@
 //! The rows of a file of either format, read from pieces and written after what is to be sent.
 
-ghost use Rattle.std.specs.Prelude.{◌≡◌, ◌<◌, ◌≤◌, [], ℕ, List, false, true, IfOk};
+ghost use Rattle.std.specs.Prelude.{◌≡◌, ◌<◌, ◌≤◌, [], ℕ, List, false, true, IfOk, OnOk};
 ghost use Rattle.pg_copy.specs.Row.{Row};
 ghost use Rattle.pg_copy.specs.BinaryReader.{HasReadBinary};
 ghost use Rattle.pg_copy.specs.TextReader.{HasReadText};
@@ -192,5 +192,25 @@ pub fn put_rows<K: Sink>(
             None => return Ok(()),
             Some(row) => put_row(to, &row, out, sink)?,
         }
+    }
+}
+
+/// Puts the rows that wait, and sends them.
+pub fn send_rows<K: Sink>(
+    reader: &mut RowReader,
+    to: &RowWriter<'_>,
+    out: &mut Vec<u8>,
+    sink: &mut K,
+) -> Result<(), Stop<Converted>>
+    requires begun { ended_of reader.old ≡ false }
+    requires read { (bytes : List ℕ) × (given : List Row) × HasReadBy reader.old bytes given }
+    ensures puts { PutsRows K.takes K.failures false (writing_by to.now) reader.old out.old.items
+        sink.old result reader.new out.new.items sink.new }
+    ensures nothing_left { OnOk result (out.new.items ≡ []) }
+{
+    put_rows(reader, false, to, out, sink)?;
+    match send(out, sink) {
+        Ok(()) => Ok(()),
+        Err(_) => Err(Stop::SinkFailed),
     }
 }

@@ -1,48 +1,69 @@
 -- What is written field by field is the lines of the rows.
-use Rattle.std.proofs.Common.{◌≡◌, ℕ, zero, suc, ◌+◌, ◌<◌, ◌≤◌, List, [], ◌∷◌, ◌++◌, length, take, drop, map, min, get_or, Option, Some, Result, Ok, Err, OnOk, refl, sym, ap, ◌∙◌, append_assoc, arith}
+use Rattle.std.proofs.Common.{◌≡◌, ℕ, zero, suc, ◌+◌, ◌<◌, ◌≤◌, Bool, true, false, cond, List, [], ◌∷◌, ◌++◌, length, take, drop, map, min, get_or, Option, Some, None, Result, Ok, Err, OnOk, inl, inr, refl, sym, ap, subst, ◌∙◌, append_assoc, arith}
 use Rattle.std.specs.List.{flat_map}
-use Rattle.std.proofs.lemmas.Bool.{lt-ltb, le-ltb, cond-true, cond-false}
+use Rattle.std.proofs.lemmas.Bool.{lt-ltb, le-ltb, ne_eqb, cases_lt, cond-true, cond-false}
 use Rattle.std.proofs.lemmas.List.{append-nil, map-append, take_more, length-drop, length-take-le}
 use Rattle.std.proofs.lemmas.Grind.{flat_map-append}
-use Rattle.pg_copy.specs.Row.{Row, most_fields}
-use Rattle.pg_copy.specs.Text.{default_options, delimiter, newline, written_field, written_fields}
+use Rattle.pg_copy.specs.fault.RowFault.{RowFault}
+use Rattle.pg_copy.specs.fault.RowFault.TheVariants as faults
+use Rattle.pg_copy.specs.TextLaws.{FieldsAreLine, WritesTextFields}
+use Rattle.pg_copy.specs.Row.{Row, most_fields, Writes}
+use Rattle.pg_copy.specs.Text.{Options, default_options, newline, is_like_null}
+use Rattle.pg_copy.specs.TextWriter.{next_fault, next_written, end_fault}
 use Rattle.pg_backend.specs.script.Logged.{Logged}
 use Rattle.pgpipe_files.proofs.Lists.{take-least}
 use Rattle.pgpipe_loop.specs.Lines.{text_line, text_lines, most_chunks, loaded_row, loaded_rows_of, loaded_rows}
-use Rattle.pgpipe_loop.specs.Private.Lines.{LineState, whole_lines, separator, with_field, with_fields, with_end, with_row, with_rows}
+use Rattle.pgpipe_loop.specs.Private.Lines.{LineState, whole_lines, with_field, with_fields, with_end, with_row, with_rows}
 
 -- ---- one field
 
-pub with_field-open : (s : LineState) (field : Option (List ℕ)) → s.fields < most_fields
-    → with_field s field ≡ record { text = s.text ++ separator s.fields ++ written_field default_options field; fields = s.fields + 1 }
+with_field-open : (s : LineState) (field : Option (List ℕ)) → s.fields < most_fields
+    → with_field s field ≡ record { text = s.text ++ next_written default_options s.fields field; fields = suc s.fields }
 unfolding with_field
 with_field-open s field lt = cond-true _ _ _ (lt-ltb s.fields most_fields lt)
 
-pub with_field-full : (s : LineState) (field : Option (List ℕ)) → most_fields ≤ s.fields → with_field s field ≡ s
+with_field-full : (s : LineState) (field : Option (List ℕ)) → most_fields ≤ s.fields → with_field s field ≡ s
 unfolding with_field
 with_field-full s field le = cond-false _ _ _ (le-ltb s.fields most_fields le)
 
-pub separator-some : (n : ℕ) → 0 < n → separator n ≡ delimiter ∷ []
-separator-some zero lt = absurd (omega arith)
-separator-some (suc n) lt = refl
+-- a field that could be written stands among the first 32,767, and one that is one too many doesn't
+has-room : (o : Options) (n : ℕ) (field : Option (List ℕ)) → next_fault o n field ≡ None → n < most_fields
+has-room o n field e = elim (cases_lt n most_fields) [
+  | inl lt ↦ lt
+  | inr le ↦
+      let full : next_fault o n field ≡ Some (faults.Width (suc n)) = cond-false _ _ _ (le-ltb n most_fields le) in
+      absurd cc
+]
 
-pub separator-none : (n : ℕ) → n ≤ 0 → separator n ≡ []
-separator-none zero le = refl
-separator-none (suc n) le = absurd (omega arith)
+has-none : (o : Options) (n k : ℕ) (field : Option (List ℕ)) → next_fault o n field ≡ Some (faults.Width k) → most_fields ≤ n
+has-none o n k field e = elim (cases_lt n most_fields) [
+  | inl lt ↦
+      let room : next_fault o n field ≡ cond (is_like_null o field) (Some (faults.LikeNull n)) None = cond-true _ _ _ (lt-ltb n most_fields lt) in
+      absurd (other (is_like_null o field) (sym room ∙ e))
+  | inr le ↦ le
+]
+  where
+    other : (like : Bool) → ◌≡◌ {A = Option RowFault} (cond like (Some (faults.LikeNull n)) None) (Some (faults.Width k)) → ⊥
+    other true h = absurd cc
+    other false h = absurd cc
 
-pub field_put : (inside s : LineState) (field : Option (List ℕ)) (a b : List ℕ) → inside ≡ s → inside.fields < most_fields → a ≡ inside.text ++ separator inside.fields → b ≡ a ++ written_field default_options field
-    → record { text = b; fields = inside.fields + 1 } ≡ with_field s field
-field_put inside s field a b e lt h k =
-    let text : b ≡ inside.text ++ separator inside.fields ++ written_field default_options field = k ∙ ap (λ (x : List ℕ). x ++ written_field default_options field) h in
-    ap (λ (x : List ℕ). record { text = x; fields = inside.fields + 1 }) text ∙ sym (with_field-open inside field lt) ∙ ap (λ (t : LineState). with_field t field) e
+pub field_put : (inside s : LineState) (o : Options) (field : Option (List ℕ)) (text : List ℕ) (fields : ℕ) → inside ≡ s → o ≡ default_options → next_fault o inside.fields field ≡ None
+    → text ≡ inside.text ++ next_written o inside.fields field → fields ≡ suc inside.fields → record { text = text; fields = fields } ≡ with_field s field
+field_put inside s o field text fields e d none h k =
+    let written : text ≡ inside.text ++ next_written default_options inside.fields field = h ∙ ap (λ (p : Options). inside.text ++ next_written p inside.fields field) d in
+    ap (λ (n : ℕ). record { text = text; fields = n }) k ∙ ap (λ (x : List ℕ). record { text = x; fields = suc inside.fields }) written
+    ∙ sym (with_field-open inside field (has-room o inside.fields field none)) ∙ ap (λ (t : LineState). with_field t field) e
 
-pub field_dropped : (inside s : LineState) (field : Option (List ℕ)) → inside ≡ s → most_fields ≤ inside.fields → s ≡ with_field s field
-field_dropped inside s field e le =
-    sym (ap (λ (t : LineState). with_field t field) (sym e) ∙ with_field-full inside field le ∙ e)
+pub field_dropped : (inside s : LineState) (o : Options) (k : ℕ) (f : RowFault) (field : Option (List ℕ)) (spelled text : List ℕ) (fields : ℕ) → inside ≡ s → f ≡ faults.Width k
+    → Writes (next_fault o inside.fields field) spelled inside.text (Err f) text → fields ≡ inside.fields → record { text = text; fields = fields } ≡ with_field s field
+field_dropped inside s o k f field spelled text fields e is h same =
+    let w : (next_fault o inside.fields field ≡ Some (faults.Width k)) × (text ≡ inside.text) = subst (λ (g : RowFault). Writes (next_fault o inside.fields field) spelled inside.text (Err g) text) is h in
+    ap (λ (n : ℕ). record { text = text; fields = n }) same ∙ ap (λ (x : List ℕ). record { text = x; fields = inside.fields }) w.1
+    ∙ sym (with_field-full inside field (has-none o inside.fields k field w.0)) ∙ ap (λ (t : LineState). with_field t field) e
 
-pub line_ended : (inside s : LineState) (b : List ℕ) → inside ≡ s → b ≡ inside.text ++ newline ∷ [] → record { text = b; fields = 0 } ≡ with_end s
+pub line_ended : (inside s : LineState) (text : List ℕ) (fields : ℕ) → inside ≡ s → text ≡ inside.text ++ newline ∷ [] → fields ≡ 0 → record { text = text; fields = fields } ≡ with_end s
 unfolding with_end
-line_ended inside s b e h = ap (λ (x : List ℕ). record { text = x; fields = 0 }) h ∙ ap with_end e
+line_ended inside s text fields e h k = ap (λ (n : ℕ). record { text = text; fields = n }) k ∙ ap (λ (x : List ℕ). record { text = x; fields = 0 }) h ∙ ap with_end e
 
 -- ---- fields and lines that are put one after the other
 
@@ -96,73 +117,58 @@ five_put old s1 s2 s3 s4 new first last xs ys zs h1 h2 h3 h4 h5 =
 
 -- ---- a line
 
--- the fields after the first, each after its delimiter
-abbrev tails : Row → List ℕ
-tails [] = []
-tails (field ∷ fields) = (delimiter ∷ written_field default_options field) ++ tails fields
+-- no text is written as null is, by the law of pg_copy
+abbrev NoneLikeNull : Type 0
+NoneLikeNull = (v : Option (List ℕ)) → is_like_null default_options v ≡ false
 
-written_fields-tails : (field : Option (List ℕ)) (fields : Row) → written_fields default_options (field ∷ fields) ≡ written_field default_options field ++ tails fields
-written_fields-tails field [] = sym (append-nil (written_field default_options field))
-written_fields-tails field (next ∷ fields) = ap (λ (x : List ℕ). written_field default_options field ++ (delimiter ∷ x)) (written_fields-tails next fields)
+-- fields that are put into a full line
+full_line : (text : List ℕ) (fields : Row) → with_fields (record { text = text; fields = most_fields }) fields ≡ record { text = text; fields = most_fields }
+full_line text [] = refl
+full_line text (field ∷ fields) =
+    ap (λ (s : LineState). with_fields s fields) (with_field-full (record { text = text; fields = most_fields }) field (omega arith)) ∙ full_line text fields
 
--- a line with a field, and with room for so many more
-pub later_fields : (room : ℕ) (text : List ℕ) (n : ℕ) (fields : Row) → suc n + room ≡ most_fields
-    → (with_fields (record { text = text; fields = suc n }) fields).text ≡ text ++ tails (take room fields)
-later_fields zero text n [] e = sym (append-nil text)
-later_fields (suc room) text n [] e = sym (append-nil text)
-later_fields zero text n (field ∷ fields) e =
-    let full : with_field (record { text = text; fields = suc n }) field ≡ record { text = text; fields = suc n } = with_field-full (record { text = text; fields = suc n }) field (omega arith) in
-    ap (λ (s : LineState). (with_fields s fields).text) full ∙ later_fields zero text n fields e
-later_fields (suc room) text n (field ∷ fields) e =
-    let put : with_field (record { text = text; fields = suc n }) field ≡ record { text = text ++ (delimiter ∷ []) ++ written_field default_options field; fields = suc n + 1 } = with_field-open (record { text = text; fields = suc n }) field (omega arith) in
-    let same : suc n + 1 ≡ suc (suc n) = omega arith in
-    ap (λ (s : LineState). (with_fields s fields).text) put
-    ∙ ap (λ (k : ℕ). (with_fields (record { text = text ++ (delimiter ∷ []) ++ written_field default_options field; fields = k }) fields).text) same
-    ∙ later_fields room (text ++ (delimiter ∷ []) ++ written_field default_options field) (suc n) fields (omega arith)
-    ∙ simp append_assoc
+-- fields that are put into a line with room for so many more: they are written one by one
+fields_written : NoneLikeNull → (room : ℕ) (text : List ℕ) (n : ℕ) (fields : Row) → n + room ≡ most_fields
+    → WritesTextFields default_options n (take room fields) text (with_fields (record { text = text; fields = n }) fields).text
+fields_written plain zero text n fields e =
+    let full : n ≡ most_fields = omega (arith, e) in
+    ap (λ (k : ℕ). (with_fields (record { text = text; fields = k }) fields).text) full ∙ ap (λ (s : LineState). s.text) (full_line text fields)
+fields_written plain (suc room) text n [] e = refl
+fields_written plain (suc room) text n (field ∷ fields) e =
+    let lt : n < most_fields = omega (arith, e) in
+    let put : with_field (record { text = text; fields = n }) field ≡ record { text = text ++ next_written default_options n field; fields = suc n } = with_field-open (record { text = text; fields = n }) field lt in
+    let none : next_fault default_options n field ≡ None = cond-true _ _ _ (lt-ltb n most_fields lt) ∙ cond-false _ _ _ (plain field) in (
+      text ++ next_written default_options n field,
+      (none, refl),
+      subst (λ (s : LineState). WritesTextFields default_options (suc n) (take room fields) (text ++ next_written default_options n field) (with_fields s fields).text) (sym put)
+          (fields_written plain room (text ++ next_written default_options n field) (suc n) fields (omega (arith, e))),
+    )
 
-regroup : (a b c d : List ℕ) → ((a ++ b) ++ c) ++ d ≡ a ++ ((b ++ c) ++ d)
-regroup a b c d = simp append_assoc
-
-pub line_of_row : (text : List ℕ) (row : Row) → with_row (whole_lines text) row ≡ whole_lines (text ++ text_line row)
+line_of_row : FieldsAreLine → NoneLikeNull → (text : List ℕ) (row : Row) → with_row (whole_lines text) row ≡ whole_lines (text ++ text_line row)
 unfolding with_end
-line_of_row text [] = refl
-line_of_row text (field ∷ fields) =
-    let put : with_field (whole_lines text) field ≡ record { text = text ++ [] ++ written_field default_options field; fields = 0 + 1 } = with_field-open (whole_lines text) field (omega arith) in
-    let same : 0 + 1 ≡ suc 0 = refl in
-    let first : text ++ [] ++ written_field default_options field ≡ text ++ written_field default_options field = ap (λ (x : List ℕ). x ++ written_field default_options field) (append-nil text) in
-    let later : (with_fields (with_field (whole_lines text) field) fields).text ≡ (text ++ written_field default_options field) ++ tails (take 32766 fields) =
-    ap (λ (s : LineState). (with_fields s fields).text) put
-    ∙ ap (λ (x : List ℕ). (with_fields (record { text = x; fields = 1 }) fields).text) first
-    ∙ later_fields 32766 (text ++ written_field default_options field) 0 fields refl in
-    let all : (with_fields (with_field (whole_lines text) field) fields).text ++ newline ∷ [] ≡ text ++ text_line (field ∷ fields) =
-    ap (λ (x : List ℕ). x ++ newline ∷ []) later
-    ∙ regroup text (written_field default_options field) (tails (take 32766 fields)) (newline ∷ [])
-    ∙ ap (λ (x : List ℕ). text ++ (x ++ newline ∷ [])) (sym (written_fields-tails field (take 32766 fields))) in
-    ap whole_lines all
+line_of_row law plain text [] = refl
+line_of_row law plain text (field ∷ fields) =
+    let mid = (with_fields (whole_lines text) (field ∷ fields)).text in
+    let some : end_fault (length (take most_fields (field ∷ fields))) ≡ None = cond-false _ _ _ (ne_eqb (length (take most_fields (field ∷ fields))) 0 (λ e. absurd (omega (arith, e)))) in
+    ap whole_lines (law.line default_options (take most_fields (field ∷ fields)) text mid (mid ++ newline ∷ []) (fields_written plain most_fields text 0 (field ∷ fields) refl) (some, refl)).1
 
-pub lines_of_rows : (text : List ℕ) (rows : List Row) → with_rows (whole_lines text) rows ≡ whole_lines (text ++ text_lines rows)
-lines_of_rows text [] = ap whole_lines (sym (append-nil text))
-lines_of_rows text (row ∷ rows) =
-    ap (λ (s : LineState). with_rows s rows) (line_of_row text row)
-    ∙ lines_of_rows (text ++ text_line row) rows
+lines_of_rows : FieldsAreLine → NoneLikeNull → (text : List ℕ) (rows : List Row) → with_rows (whole_lines text) rows ≡ whole_lines (text ++ text_lines rows)
+lines_of_rows law plain text [] = ap whole_lines (sym (append-nil text))
+lines_of_rows law plain text (row ∷ rows) =
+    ap (λ (s : LineState). with_rows s rows) (line_of_row law plain text row)
+    ∙ lines_of_rows law plain (text ++ text_line row) rows
     ∙ ap whole_lines (append_assoc text (text_line row) (text_lines rows))
 
 -- what stands in a text that had none
-pub whole_text : (rows : List Row) → (with_rows (whole_lines []) rows).text ≡ text_lines rows
-whole_text rows = ap (λ (s : LineState). s.text) (lines_of_rows [] rows)
+pub whole_text : FieldsAreLine → NoneLikeNull → (s : LineState) (rows : List Row) → s ≡ with_rows (whole_lines []) rows → s.text ≡ text_lines rows
+whole_text law plain s rows e = ap (λ (t : LineState). t.text) (e ∙ lines_of_rows law plain [] rows)
 
--- three lists of lines, and a list and two lines, in a text that had none
-pub three_put : (s1 s2 s3 : LineState) (text : List ℕ) (xs ys zs : List Row) → s1 ≡ with_rows (whole_lines []) xs → s2 ≡ with_rows s1 ys → s3 ≡ with_rows s2 zs → text ≡ s3.text
-    → text ≡ text_lines (xs ++ ys ++ zs)
-three_put s1 s2 s3 text xs ys zs h1 h2 h3 e =
-    e ∙ ap (λ (s : LineState). s.text) (after (whole_lines []) s2 s3 (xs ++ ys) zs (after (whole_lines []) s1 s2 xs ys h1 h2) h3) ∙ whole_text (xs ++ ys ++ zs)
+-- three lists of lines, and a list and two lines
+pub three_put : (old s1 s2 s3 : LineState) (xs ys zs : List Row) → s1 ≡ with_rows old xs → s2 ≡ with_rows s1 ys → s3 ≡ with_rows s2 zs → s3 ≡ with_rows old (xs ++ ys ++ zs)
+three_put old s1 s2 s3 xs ys zs h1 h2 h3 = after old s2 s3 (xs ++ ys) zs (after old s1 s2 xs ys h1 h2) h3
 
-pub two_after : (s1 s2 s3 : LineState) (text : List ℕ) (xs : List Row) (y z : Row) → s1 ≡ with_rows (whole_lines []) xs → s2 ≡ with_row s1 y → s3 ≡ with_row s2 z → text ≡ s3.text
-    → text ≡ text_lines (xs ++ y ∷ z ∷ [])
-two_after s1 s2 s3 text xs y z h1 h2 h3 e =
-    let both : s3 ≡ with_rows s1 (y ∷ z ∷ []) = h3 ∙ ap (λ (s : LineState). with_row s z) h2 in
-    e ∙ ap (λ (s : LineState). s.text) (after (whole_lines []) s1 s3 xs (y ∷ z ∷ []) h1 both) ∙ whole_text (xs ++ y ∷ z ∷ [])
+pub two_after : (old s1 s2 s3 : LineState) (xs : List Row) (y z : Row) → s1 ≡ with_rows old xs → s2 ≡ with_row s1 y → s3 ≡ with_row s2 z → s3 ≡ with_rows old (xs ++ y ∷ z ∷ [])
+two_after old s1 s2 s3 xs y z h1 h2 h3 = after old s1 s3 xs (y ∷ z ∷ []) h1 (h3 ∙ ap (λ (s : LineState). with_row s z) h2)
 
 -- ---- chunks that were loaded
 

@@ -23,11 +23,12 @@ use Rattle.pgpipe_show.specs.declared.decoding.Decoding.{Decoding}
 use Rattle.pgpipe_show.specs.declared.decoding.Decoding.TheVariants as decoding
 use Rattle.pgpipe_show.specs.Messages.{line, lines}
 use Rattle.pgpipe_base.specs.Outbox.{Puts}
+use Rattle.pg_wire.specs.link.LinkFault.{LinkFault}
 use Rattle.pgpipe_show.specs.Show.{length_limit, AreMessages, ComesAfter, IsClientSide, AreShown, AreAllShown, IsOpenFor, IsFaultyFor}
-use Rattle.pgpipe_show.specs.Private.Showing.{HasPut, PutsMessages, HasPutPackets, PutsPackets, end_stop, is_front, unshown, AreAt, IsSoundAt, HasShown, ArePut, Stops, StepShows, StepsSource}
+use Rattle.pgpipe_show.specs.Private.Showing.{HasPut, PutsMessages, HasPutPackets, PutsPackets, end_stop, is_front, unshown, AreAt, IsSoundAt, HasShown, GoesOn, ArePut, Stops, StepShows, StepsSource}
 use Rattle.pgpipe_show.proofs.MessageLines.{stream_append}
 use Rattle.pgpipe_show.proofs.PacketLines.{next_append, beginning_append}
-use Rattle.pgpipe_base.proofs.Pieces.{prefix_of_itself, prefix_of_more, puts_none, puts_then, sent_at_once}
+use Rattle.pgpipe_base.proofs.Pieces.{prefix_of_itself, puts_none, puts_then, puts_as, sends_on}
 
 -- ---- more bytes come
 
@@ -113,20 +114,20 @@ shown_within true bytes text n rest a = omega (arith, following_within n a.follo
 module _ {K : Type 0} (takes : K → List ℕ → K → Type 0) (failures : K → ℕ) (start : K) (bytes : List ℕ) where
   -- ---- what taking messages leads to
 
-  module _ {M : Type 0} (D : Direction M) (front : Bool) (n : Next) (kept before c : List ℕ) (s : K)
+  module _ {M : Type 0} (D : Direction M) (front : Bool) (n : Next) (kept : List ℕ) (earlier : List (List ℕ)) (c : List ℕ) (s : K)
       (more : (text : List ℕ) (ns : List M) (rest : List ℕ) → AreShown front bytes text n kept → IsStream D length_limit kept ns rest → AreShown front bytes (text ++ lines D ns) n rest)
       (faulty : (rest : List ℕ) (f : WireFault) → IsFaulty D length_limit rest f → IsFaultyFor front n rest f)
-      (p : ArePut takes failures front start bytes before n kept c s) where
-    abbrev all_put : (rest c' : List ℕ) (s' : K) → HasPut takes failures D c s kept rest c' s' → ArePut takes failures front start bytes before n rest c' s'
+      (p : ArePut takes failures front start bytes earlier n kept c s) where
+    abbrev all_put : (rest c' : List ℕ) (s' : K) → HasPut takes failures D c s kept rest c' s' → ArePut takes failures front start bytes earlier n rest c' s'
     all_put rest c' s' h = record {
       text = p.text ++ lines D h.messages;
-      begins = prefix_of_more before p.text (lines D h.messages) p.begins;
       shown = more p.text h.messages rest p.shown h.stream;
       put = puts_then takes failures [] start p.text c s (lines D h.messages) (Ok tt) c' s' p.put h.put;
+      begins = sends_on takes failures earlier [] start p.text c s (lines D h.messages) (Ok tt) c' s' p.put h.put p.begins;
       within = h.within p.within;
     }
 
-    messages_stop : (w : Stop Shown) (c' : List ℕ) (s' : K) → PutsMessages takes failures D c s kept (Err w) c' s' → Stops takes failures front start bytes before w c' s'
+    messages_stop : (w : Stop Shown) (c' : List ℕ) (s' : K) → PutsMessages takes failures D c s kept (Err w) c' s' → Stops takes failures front start bytes earlier w c' s'
     messages_stop (stop.Answer (shown.Fault f)) c' s' h = (n, h.0, all_put h.0 c' s' h.1, faulty h.0 f h.2)
     messages_stop stop.Memory c' s' h = (n, h.0, all_put h.0 c' s' h.1)
     messages_stop stop.SinkFailed c' s' h = record {
@@ -136,7 +137,7 @@ module _ {K : Type 0} (takes : K → List ℕ → K → Type 0) (failures : K �
       rest = h.rest;
       shown = more p.text h.messages h.rest p.shown h.stream;
       put = puts_then takes failures [] start p.text c s (lines D h.messages) (Err h.fault) c' s' p.put h.put;
-      at_once = sent_at_once takes failures start before p.text c s (lines D h.messages) (Err h.fault) c' s' p.put h.put p.begins p.within;
+      begins = sends_on takes failures earlier [] start p.text c s (lines D h.messages) (Err h.fault) c' s' p.put h.put p.begins;
     }
     messages_stop (stop.Answer shown.Whole) c' s' h = absurd h
     messages_stop (stop.Answer (shown.Rest k)) c' s' h = absurd h
@@ -149,37 +150,37 @@ module _ {K : Type 0} (takes : K → List ℕ → K → Type 0) (failures : K �
   front_more : (kept text : List ℕ) (ns : List _) (rest : List ℕ) → AreShown true bytes text next.Message kept → IsStream frontend length_limit kept ns rest → AreShown true bytes (text ++ lines frontend ns) next.Message rest
   front_more kept text ns rest a s = client_messages bytes text kept ns rest a s
 
-  module _ (kept before c : List ℕ) (s : K) (p : ArePut takes failures false start bytes before next.Message kept c s) where
-    pub back_ok : (d : SpellingsState) (c' : List ℕ) (s' : K) → PutsMessages takes failures backend c s kept (Ok d) c' s' → HasShown takes failures start bytes (decoding.Back d) c' s'
+  module _ (kept : List ℕ) (earlier : List (List ℕ)) (c : List ℕ) (s : K) (p : ArePut takes failures false start bytes earlier next.Message kept c s) where
+    pub back_ok : (d : SpellingsState) (c' : List ℕ) (s' : K) → PutsMessages takes failures backend c s kept (Ok d) c' s' → GoesOn takes failures start bytes earlier (decoding.Back d) c' s'
     back_ok d c' s' h =
-        let a = all_put backend false next.Message kept before c s (back_more kept) (λ rest f x. x) p d.stream.kept c' s' h.1 in
-        record { text = a.text; are_at = (h.0, a.shown.1, h.2); put = a.put; within = a.within }
+        let a = all_put backend false next.Message kept earlier c s (back_more kept) (λ rest f x. x) p d.stream.kept c' s' h.1 in
+        (record { text = a.text; are_at = (h.0, a.shown.1, h.2); put = a.put; within = a.within }, a.begins)
 
-    pub back_err : (w : Stop Shown) (c' : List ℕ) (s' : K) → PutsMessages takes failures backend c s kept (Err w) c' s' → Stops takes failures false start bytes before w c' s'
-    back_err w c' s' h = messages_stop backend false next.Message kept before c s (back_more kept) (λ rest f x. x) p w c' s' h
+    pub back_err : (w : Stop Shown) (c' : List ℕ) (s' : K) → PutsMessages takes failures backend c s kept (Err w) c' s' → Stops takes failures false start bytes earlier w c' s'
+    back_err w c' s' h = messages_stop backend false next.Message kept earlier c s (back_more kept) (λ rest f x. x) p w c' s' h
 
-  module _ (kept before c : List ℕ) (s : K) (p : ArePut takes failures true start bytes before next.Message kept c s) where
-    pub front_ok : (d : SpellingsState) (c' : List ℕ) (s' : K) → PutsMessages takes failures frontend c s kept (Ok d) c' s' → HasShown takes failures start bytes (decoding.Front d) c' s'
+  module _ (kept : List ℕ) (earlier : List (List ℕ)) (c : List ℕ) (s : K) (p : ArePut takes failures true start bytes earlier next.Message kept c s) where
+    pub front_ok : (d : SpellingsState) (c' : List ℕ) (s' : K) → PutsMessages takes failures frontend c s kept (Ok d) c' s' → GoesOn takes failures start bytes earlier (decoding.Front d) c' s'
     front_ok d c' s' h =
-        let a = all_put frontend true next.Message kept before c s (front_more kept) (λ rest f x. x) p d.stream.kept c' s' h.1 in
-        record { text = a.text; are_at = (h.0, a.shown, h.2); put = a.put; within = a.within }
+        let a = all_put frontend true next.Message kept earlier c s (front_more kept) (λ rest f x. x) p d.stream.kept c' s' h.1 in
+        (record { text = a.text; are_at = (h.0, a.shown, h.2); put = a.put; within = a.within }, a.begins)
 
-    pub front_err : (w : Stop Shown) (c' : List ℕ) (s' : K) → PutsMessages takes failures frontend c s kept (Err w) c' s' → Stops takes failures true start bytes before w c' s'
-    front_err w c' s' h = messages_stop frontend true next.Message kept before c s (front_more kept) (λ rest f x. x) p w c' s' h
+    pub front_err : (w : Stop Shown) (c' : List ℕ) (s' : K) → PutsMessages takes failures frontend c s kept (Err w) c' s' → Stops takes failures true start bytes earlier w c' s'
+    front_err w c' s' h = messages_stop frontend true next.Message kept earlier c s (front_more kept) (λ rest f x. x) p w c' s' h
 
   -- ---- what taking packets leads to
 
-  module _ (kept before c : List ℕ) (s : K) (p : ArePut takes failures true start bytes before next.Packet kept c s) where
-    abbrev pub packets_put : (n : Next) (rest c' : List ℕ) (s' : K) → HasPutPackets takes failures c s kept n rest c' s' → ArePut takes failures true start bytes before n rest c' s'
+  module _ (kept : List ℕ) (earlier : List (List ℕ)) (c : List ℕ) (s : K) (p : ArePut takes failures true start bytes earlier next.Packet kept c s) where
+    abbrev pub packets_put : (n : Next) (rest c' : List ℕ) (s' : K) → HasPutPackets takes failures c s kept n rest c' s' → ArePut takes failures true start bytes earlier n rest c' s'
     packets_put n rest c' s' h = record {
       text = p.text ++ packet_lines h.packets;
-      begins = prefix_of_more before p.text (packet_lines h.packets) p.begins;
       shown = client_packets bytes p.text kept h.packets n rest p.shown h.beginning h.next_is;
       put = puts_then takes failures [] start p.text c s (packet_lines h.packets) (Ok tt) c' s' p.put h.put;
+      begins = sends_on takes failures earlier [] start p.text c s (packet_lines h.packets) (Ok tt) c' s' p.put h.put p.begins;
       within = h.within p.within;
     }
 
-    pub packets_err : (w : Stop Shown) (d : FirstState) (c' : List ℕ) (s' : K) → PutsPackets takes failures c s kept (Err w) d c' s' → Stops takes failures true start bytes before w c' s'
+    pub packets_err : (w : Stop Shown) (d : FirstState) (c' : List ℕ) (s' : K) → PutsPackets takes failures c s kept (Err w) d c' s' → Stops takes failures true start bytes earlier w c' s'
     packets_err (stop.Answer (shown.Fault f)) d c' s' h = (next.Packet, h.0, packets_put next.Packet h.0 c' s' h.1, h.2)
     packets_err stop.Memory d c' s' h = (next.Packet, h.0, packets_put next.Packet h.0 c' s' h.1)
     packets_err stop.SinkFailed d c' s' h = record {
@@ -189,7 +190,7 @@ module _ {K : Type 0} (takes : K → List ℕ → K → Type 0) (failures : K �
       rest = h.rest;
       shown = client_packets bytes p.text kept h.packets (next_after h.packets) h.rest p.shown h.beginning refl;
       put = puts_then takes failures [] start p.text c s (packet_lines h.packets) (Err h.fault) c' s' p.put h.put;
-      at_once = sent_at_once takes failures start before p.text c s (packet_lines h.packets) (Err h.fault) c' s' p.put h.put p.begins p.within;
+      begins = sends_on takes failures earlier [] start p.text c s (packet_lines h.packets) (Err h.fault) c' s' p.put h.put p.begins;
     }
     packets_err (stop.Answer shown.Whole) d c' s' h = absurd h
     packets_err (stop.Answer (shown.Rest k)) d c' s' h = absurd h
@@ -197,86 +198,88 @@ module _ {K : Type 0} (takes : K → List ℕ → K → Type 0) (failures : K �
     packets_err stop.Endless d c' s' h = absurd h
 
     -- more packets may come
-    pub still_first : (n : Next) (d : FirstState) (c' : List ℕ) (s' : K) → n ≡ next.Packet → PutsPackets takes failures c s kept (Ok n) d c' s' → HasShown takes failures start bytes (decoding.First d) c' s'
+    pub still_first : (n : Next) (d : FirstState) (c' : List ℕ) (s' : K) → n ≡ next.Packet → PutsPackets takes failures c s kept (Ok n) d c' s' → GoesOn takes failures start bytes earlier (decoding.First d) c' s'
     still_first n d c' s' is puts =
         let h = subst (λ (x : Next). PutsPackets takes failures c s kept (Ok x) d c' s') is puts in
         let a = packets_put next.Packet d.kept c' s' h.2 in
-        record { text = a.text; are_at = (h.0, h.1, a.shown, h.3); put = a.put; within = a.within }
+        (record { text = a.text; are_at = (h.0, h.1, a.shown, h.3); put = a.put; within = a.within }, a.begins)
 
     -- a Startup came
     pub now_messages : (n : Next) (d : FirstState) (kept' c' : List ℕ) (s' : K) → n ≡ next.Message → kept' ≡ d.kept → PutsPackets takes failures c s kept (Ok n) d c' s'
-        → ArePut takes failures true start bytes before next.Message kept' c' s'
+        → ArePut takes failures true start bytes earlier next.Message kept' c' s'
     now_messages n d kept' c' s' is e puts =
         let h = subst (λ (x : Next). PutsPackets takes failures c s kept (Ok x) d c' s') is puts in
         let a = packets_put next.Message d.kept c' s' h.1 in
-        record { text = a.text; begins = a.begins; shown = subst (λ (k : List ℕ). AreShown true bytes a.text next.Message k) (sym e) a.shown; put = a.put; within = a.within }
+        record { text = a.text; shown = subst (λ (k : List ℕ). AreShown true bytes a.text next.Message k) (sym e) a.shown; put = a.put; begins = a.begins; within = a.within }
 
     -- a Cancel came
-    pub now_over : (n : Next) (size : ℕ) (d : FirstState) (c' : List ℕ) (s' : K) → n ≡ next.Nothing → size ≡ length d.kept → PutsPackets takes failures c s kept (Ok n) d c' s' → HasShown takes failures start bytes (decoding.Over size) c' s'
+    pub now_over : (n : Next) (size : ℕ) (d : FirstState) (c' : List ℕ) (s' : K) → n ≡ next.Nothing → size ≡ length d.kept → PutsPackets takes failures c s kept (Ok n) d c' s' → GoesOn takes failures start bytes earlier (decoding.Over size) c' s'
     now_over n size d c' s' is e puts =
         let h = subst (λ (x : Next). PutsPackets takes failures c s kept (Ok x) d c' s') is puts in
         let a = packets_put next.Nothing d.kept c' s' h.1 in
-        record { text = a.text; are_at = (d.kept, a.shown, e); put = a.put; within = a.within }
+        (record { text = a.text; are_at = (d.kept, a.shown, e); put = a.put; within = a.within }, a.begins)
 
 -- ---- a decoding and a piece
 
 module _ {K : Type 0} (takes : K → List ℕ → K → Type 0) (failures : K → ℕ) (start : K) (bytes piece c : List ℕ) (s : K) where
-  abbrev pub back_received : (d : SpellingsState) (st : HasShown takes failures start bytes (decoding.Back d) c s) → ArePut takes failures false start (bytes ++ piece) st.text next.Message (d.stream.kept ++ piece) c s
-  back_received d st = record { text = st.text; begins = prefix_of_itself st.text; shown = (refl, messages_received backend bytes st.text d.stream.kept piece st.are_at.1); put = st.put; within = st.within }
+  abbrev pub back_received : (d : SpellingsState) (st : HasShown takes failures start bytes (decoding.Back d) c s) → ArePut takes failures false start (bytes ++ piece) st.put.pieces next.Message (d.stream.kept ++ piece) c s
+  back_received d st = record { text = st.text; shown = (refl, messages_received backend bytes st.text d.stream.kept piece st.are_at.1); put = st.put; begins = prefix_of_itself st.put.pieces; within = st.within }
 
-  abbrev pub front_received : (d : SpellingsState) (st : HasShown takes failures start bytes (decoding.Front d) c s) → ArePut takes failures true start (bytes ++ piece) st.text next.Message (d.stream.kept ++ piece) c s
-  front_received d st = record { text = st.text; begins = prefix_of_itself st.text; shown = client_received bytes st.text next.Message d.stream.kept piece st.are_at.1; put = st.put; within = st.within }
+  abbrev pub front_received : (d : SpellingsState) (st : HasShown takes failures start bytes (decoding.Front d) c s) → ArePut takes failures true start (bytes ++ piece) st.put.pieces next.Message (d.stream.kept ++ piece) c s
+  front_received d st = record { text = st.text; shown = client_received bytes st.text next.Message d.stream.kept piece st.are_at.1; put = st.put; begins = prefix_of_itself st.put.pieces; within = st.within }
 
-  abbrev pub first_received : (d : FirstState) (st : HasShown takes failures start bytes (decoding.First d) c s) → ArePut takes failures true start (bytes ++ piece) st.text next.Packet (d.kept ++ piece) c s
-  first_received d st = record { text = st.text; begins = prefix_of_itself st.text; shown = client_received bytes st.text next.Packet d.kept piece st.are_at.2; put = st.put; within = st.within }
+  abbrev pub first_received : (d : FirstState) (st : HasShown takes failures start bytes (decoding.First d) c s) → ArePut takes failures true start (bytes ++ piece) st.put.pieces next.Packet (d.kept ++ piece) c s
+  first_received d st = record { text = st.text; shown = client_received bytes st.text next.Packet d.kept piece st.are_at.2; put = st.put; begins = prefix_of_itself st.put.pieces; within = st.within }
 
   pub kept_pushed : (d : FirstState) (r : Result Unit WireFault) (d' : FirstState) → false ≡ is_err r → FirstPushes d piece r d' → d.kept ++ piece ≡ d'.kept
   kept_pushed d (Ok x) d' e p = sym (ap (λ (x : FirstState). x.kept) p.1)
   kept_pushed d (Err f) d' e p = absurd cc
 
-  abbrev pub first_pushed : (d : FirstState) (r : Result Unit WireFault) (d' : FirstState) → false ≡ is_err r → FirstPushes d piece r d' → (st : HasShown takes failures start bytes (decoding.First d) c s) → ArePut takes failures true start (bytes ++ piece) st.text next.Packet d'.kept c s
+  abbrev pub first_pushed : (d : FirstState) (r : Result Unit WireFault) (d' : FirstState) → false ≡ is_err r → FirstPushes d piece r d' → (st : HasShown takes failures start bytes (decoding.First d) c s) → ArePut takes failures true start (bytes ++ piece) st.put.pieces next.Packet d'.kept c s
   first_pushed d r d' e p st = record {
     text = st.text;
-    begins = prefix_of_itself st.text;
     shown = subst (λ (k : List ℕ). AreShown true (bytes ++ piece) st.text next.Packet k) (kept_pushed d r d' e p) (client_received bytes st.text next.Packet d.kept piece st.are_at.2);
     put = st.put;
+    begins = prefix_of_itself st.put.pieces;
     within = st.within;
   }
 
   -- memory was refused before the piece was taken
-  pub first_refused : (d : FirstState) (st : HasShown takes failures start bytes (decoding.First d) c s) → Stops takes failures true start (bytes ++ piece) st.text stop.Memory c s
+  pub first_refused : (d : FirstState) (st : HasShown takes failures start bytes (decoding.First d) c s) → Stops takes failures true start (bytes ++ piece) st.put.pieces stop.Memory c s
   first_refused d st = (next.Packet, d.kept ++ piece, first_received d st)
 
   -- what comes after a Cancel
-  over_received : (n : ℕ) → HasShown takes failures start bytes (decoding.Over n) c s → HasShown takes failures start (bytes ++ piece) (decoding.Over (n + length piece)) c s
-  over_received n st =
-      let rest = st.are_at.0 in
-      record { text = st.text; are_at = (rest ++ piece, client_received bytes st.text next.Nothing rest piece st.are_at.1, ap (λ (k : ℕ). k + length piece) st.are_at.2 ∙ sym (length-append rest piece)); put = st.put; within = st.within }
+  abbrev over_received : (n : ℕ) → HasShown takes failures start bytes (decoding.Over n) c s → HasShown takes failures start (bytes ++ piece) (decoding.Over (n + length piece)) c s
+  over_received n st = record { text = st.text; are_at = (st.are_at.0 ++ piece, client_received bytes st.text next.Nothing st.are_at.0 piece st.are_at.1, ap (λ (k : ℕ). k + length piece) st.are_at.2 ∙ sym (length-append st.are_at.0 piece)); put = st.put; within = st.within }
 
 module _ {K : Type 0} (takes : K → List ℕ → K → Type 0) (failures : K → ℕ) (start : K) (bytes piece c : List ℕ) (s : K) (at : Decoding) (st : HasShown takes failures start bytes at c s) where
   abbrev as_it_is : (at' : Decoding) → at ≡ at' → HasShown takes failures start bytes at' c s
   as_it_is at' is = record { text = st.text; are_at = subst (λ (x : Decoding). AreAt bytes st.text x) is st.are_at; put = st.put; within = st.within }
 
-  side_of : (at' : Decoding) (h : Stop Shown) (c' : List ℕ) (s' : K) → at ≡ at' → Stops takes failures (is_front at') start (bytes ++ piece) st.text h c' s' → Stops takes failures (is_front at) start (bytes ++ piece) st.text h c' s'
-  side_of at' h c' s' is = subst (λ (f : Bool). Stops takes failures f start (bytes ++ piece) st.text h c' s') (sym (ap is_front is))
+  side_of : (at' : Decoding) (h : Stop Shown) (c' : List ℕ) (s' : K) → at ≡ at' → Stops takes failures (is_front at') start (bytes ++ piece) st.put.pieces h c' s' → Stops takes failures (is_front at) start (bytes ++ piece) st.put.pieces h c' s'
+  side_of at' h c' s' is = subst (λ (f : Bool). Stops takes failures f start (bytes ++ piece) st.put.pieces h c' s') (sym (ap is_front is))
 
-  pub take_back_ok : (d d' : SpellingsState) (c' : List ℕ) (s' : K) → at ≡ decoding.Back d → PutsMessages takes failures backend c s (d.stream.kept ++ piece) (Ok d') c' s' → StepShows takes failures (is_front at) start (bytes ++ piece) st.text (Ok (decoding.Back d')) c' s'
-  take_back_ok d d' c' s' is h = (sym (ap is_front is), back_ok takes failures start (bytes ++ piece) (d.stream.kept ++ piece) st.text c s (back_received takes failures start bytes piece c s d (as_it_is (decoding.Back d) is)) d' c' s' h)
+  pub take_back_ok : (d d' : SpellingsState) (c' : List ℕ) (s' : K) → at ≡ decoding.Back d → PutsMessages takes failures backend c s (d.stream.kept ++ piece) (Ok d') c' s' → StepShows takes failures (is_front at) start (bytes ++ piece) st.put.pieces (Ok (decoding.Back d')) c' s'
+  take_back_ok d d' c' s' is h =
+      let on = back_ok takes failures start (bytes ++ piece) (d.stream.kept ++ piece) st.put.pieces c s (back_received takes failures start bytes piece c s d (as_it_is (decoding.Back d) is)) d' c' s' h in
+      (sym (ap is_front is), on.0, on.1)
 
-  pub take_back_err : (d : SpellingsState) (w : Stop Shown) (c' : List ℕ) (s' : K) → at ≡ decoding.Back d → PutsMessages takes failures backend c s (d.stream.kept ++ piece) (Err w) c' s' → Stops takes failures (is_front at) start (bytes ++ piece) st.text w c' s'
-  take_back_err d w c' s' is h = side_of (decoding.Back d) w c' s' is (back_err takes failures start (bytes ++ piece) (d.stream.kept ++ piece) st.text c s (back_received takes failures start bytes piece c s d (as_it_is (decoding.Back d) is)) w c' s' h)
+  pub take_back_err : (d : SpellingsState) (w : Stop Shown) (c' : List ℕ) (s' : K) → at ≡ decoding.Back d → PutsMessages takes failures backend c s (d.stream.kept ++ piece) (Err w) c' s' → Stops takes failures (is_front at) start (bytes ++ piece) st.put.pieces w c' s'
+  take_back_err d w c' s' is h = side_of (decoding.Back d) w c' s' is (back_err takes failures start (bytes ++ piece) (d.stream.kept ++ piece) st.put.pieces c s (back_received takes failures start bytes piece c s d (as_it_is (decoding.Back d) is)) w c' s' h)
 
-  pub take_first : (d : FirstState) (r : Result Decoding (Stop Shown)) (c' : List ℕ) (s' : K) → at ≡ decoding.First d → ((stands : HasShown takes failures start bytes (decoding.First d) c s) → StepShows takes failures true start (bytes ++ piece) stands.text r c' s') → StepShows takes failures (is_front at) start (bytes ++ piece) st.text r c' s'
-  take_first d r c' s' is h = subst (λ (f : Bool). StepShows takes failures f start (bytes ++ piece) st.text r c' s') (sym (ap is_front is)) (h (as_it_is (decoding.First d) is))
+  pub take_first : (d : FirstState) (r : Result Decoding (Stop Shown)) (c' : List ℕ) (s' : K) → at ≡ decoding.First d → ((stands : HasShown takes failures start bytes (decoding.First d) c s) → StepShows takes failures true start (bytes ++ piece) stands.put.pieces r c' s') → StepShows takes failures (is_front at) start (bytes ++ piece) st.put.pieces r c' s'
+  take_first d r c' s' is h = subst (λ (f : Bool). StepShows takes failures f start (bytes ++ piece) st.put.pieces r c' s') (sym (ap is_front is)) (h (as_it_is (decoding.First d) is))
 
-  pub take_front_ok : (d d' : SpellingsState) (c' : List ℕ) (s' : K) → at ≡ decoding.Front d → PutsMessages takes failures frontend c s (d.stream.kept ++ piece) (Ok d') c' s' → StepShows takes failures (is_front at) start (bytes ++ piece) st.text (Ok (decoding.Front d')) c' s'
-  take_front_ok d d' c' s' is h = (sym (ap is_front is), front_ok takes failures start (bytes ++ piece) (d.stream.kept ++ piece) st.text c s (front_received takes failures start bytes piece c s d (as_it_is (decoding.Front d) is)) d' c' s' h)
+  pub take_front_ok : (d d' : SpellingsState) (c' : List ℕ) (s' : K) → at ≡ decoding.Front d → PutsMessages takes failures frontend c s (d.stream.kept ++ piece) (Ok d') c' s' → StepShows takes failures (is_front at) start (bytes ++ piece) st.put.pieces (Ok (decoding.Front d')) c' s'
+  take_front_ok d d' c' s' is h =
+      let on = front_ok takes failures start (bytes ++ piece) (d.stream.kept ++ piece) st.put.pieces c s (front_received takes failures start bytes piece c s d (as_it_is (decoding.Front d) is)) d' c' s' h in
+      (sym (ap is_front is), on.0, on.1)
 
-  pub take_front_err : (d : SpellingsState) (w : Stop Shown) (c' : List ℕ) (s' : K) → at ≡ decoding.Front d → PutsMessages takes failures frontend c s (d.stream.kept ++ piece) (Err w) c' s' → Stops takes failures (is_front at) start (bytes ++ piece) st.text w c' s'
-  take_front_err d w c' s' is h = side_of (decoding.Front d) w c' s' is (front_err takes failures start (bytes ++ piece) (d.stream.kept ++ piece) st.text c s (front_received takes failures start bytes piece c s d (as_it_is (decoding.Front d) is)) w c' s' h)
+  pub take_front_err : (d : SpellingsState) (w : Stop Shown) (c' : List ℕ) (s' : K) → at ≡ decoding.Front d → PutsMessages takes failures frontend c s (d.stream.kept ++ piece) (Err w) c' s' → Stops takes failures (is_front at) start (bytes ++ piece) st.put.pieces w c' s'
+  take_front_err d w c' s' is h = side_of (decoding.Front d) w c' s' is (front_err takes failures start (bytes ++ piece) (d.stream.kept ++ piece) st.put.pieces c s (front_received takes failures start bytes piece c s d (as_it_is (decoding.Front d) is)) w c' s' h)
 
-  pub take_over : (n : ℕ) → at ≡ decoding.Over n → StepShows takes failures (is_front at) start (bytes ++ piece) st.text (Ok (decoding.Over (n + length piece))) c s
-  take_over n is = (sym (ap is_front is), over_received takes failures start bytes piece c s n (as_it_is (decoding.Over n) is))
+  pub take_over : (n : ℕ) → at ≡ decoding.Over n → StepShows takes failures (is_front at) start (bytes ++ piece) st.put.pieces (Ok (decoding.Over (n + length piece))) c s
+  take_over n is = (sym (ap is_front is), over_received takes failures start bytes piece c s n (as_it_is (decoding.Over n) is), prefix_of_itself st.put.pieces)
 
 -- ---- what is received
 
@@ -306,22 +309,22 @@ module _ {K : Type 0} (takes : K → List ℕ → K → Type 0) (failures : K �
   sound_at (decoding.Over n) st = tt
 
   -- the work may stop at any time
-  pub at_any_time : (at : Decoding) (st : HasShown takes failures start bytes at c s) → (n : Next) × (rest : List ℕ) × ArePut takes failures (is_front at) start bytes st.text n rest c s × IsOpenFor (is_front at) n rest
-  at_any_time at st = let a = all_shown at st in (a.n, a.rest, record { text = st.text; begins = prefix_of_itself st.text; shown = a.shown; put = st.put; within = st.within }, a.is_open)
+  pub at_any_time : (at : Decoding) (st : HasShown takes failures start bytes at c s) → (n : Next) × (rest : List ℕ) × ArePut takes failures (is_front at) start bytes st.put.pieces n rest c s × IsOpenFor (is_front at) n rest
+  at_any_time at st = let a = all_shown at st in (a.n, a.rest, record { text = st.text; shown = a.shown; put = st.put; begins = prefix_of_itself st.put.pieces; within = st.within }, a.is_open)
 
-  at_end : (at : Decoding) (st : HasShown takes failures start bytes at c s) (size : ℕ) → size ≡ unshown at → Stops takes failures (is_front at) start bytes st.text (end_stop size) c s
-  at_end at st zero e = let a = all_shown at st in (a.n, a.rest, record { text = st.text; begins = prefix_of_itself st.text; shown = a.shown; put = st.put; within = st.within }, a.is_open, e ∙ kept_is at st)
-  at_end at st (suc n) e = let a = all_shown at st in (a.n, a.rest, record { text = st.text; begins = prefix_of_itself st.text; shown = a.shown; put = st.put; within = st.within }, a.is_open, e ∙ kept_is at st, omega arith)
+  at_end : (at : Decoding) (st : HasShown takes failures start bytes at c s) (size : ℕ) → size ≡ unshown at → Stops takes failures (is_front at) start bytes st.put.pieces (end_stop size) c s
+  at_end at st zero e = let a = all_shown at st in (a.n, a.rest, record { text = st.text; shown = a.shown; put = st.put; begins = prefix_of_itself st.put.pieces; within = st.within }, a.is_open, e ∙ kept_is at st)
+  at_end at st (suc n) e = let a = all_shown at st in (a.n, a.rest, record { text = st.text; shown = a.shown; put = st.put; begins = prefix_of_itself st.put.pieces; within = st.within }, a.is_open, e ∙ kept_is at st, omega arith)
 
   -- the source has ended
-  pub ended_at : (n : ℕ) (into : List ℕ) (at : Decoding) (size : ℕ) → n ≡ 0 → size ≡ unshown at → (st : HasShown takes failures start bytes at c s) → Stops takes failures (is_front at) start (bytes ++ take n into) st.text (end_stop size) c s
+  pub ended_at : (n : ℕ) (into : List ℕ) (at : Decoding) (size : ℕ) → n ≡ 0 → size ≡ unshown at → (st : HasShown takes failures start bytes at c s) → Stops takes failures (is_front at) start (bytes ++ take n into) st.put.pieces (end_stop size) c s
   ended_at n into at size none e st =
       let same : bytes ≡ bytes ++ take n into = sym (ap (λ (k : ℕ). bytes ++ take k into) none ∙ append-nil bytes) in
-      subst (λ (b : List ℕ). Stops takes failures (is_front at) start b st.text (end_stop size) c s) same (at_end at st size e)
+      subst (λ (b : List ℕ). Stops takes failures (is_front at) start b st.put.pieces (end_stop size) c s) same (at_end at st size e)
 
   -- the source has failed
-  pub failed_at : (at : Decoding) (st : HasShown takes failures start bytes at c s) → Stops takes failures (is_front at) start (bytes ++ []) st.text stop.SourceFailed c s
-  failed_at at st = subst (λ (b : List ℕ). Stops takes failures (is_front at) start b st.text stop.SourceFailed c s) (sym (append-nil bytes)) (at_any_time at st)
+  pub failed_at : (at : Decoding) (st : HasShown takes failures start bytes at c s) → Stops takes failures (is_front at) start (bytes ++ []) st.put.pieces stop.SourceFailed c s
+  failed_at at st = subst (λ (b : List ℕ). Stops takes failures (is_front at) start b st.put.pieces stop.SourceFailed c s) (sym (append-nil bytes)) (at_any_time at st)
 
   pub at_begin : (at : Decoding) → bytes ≡ [] → AreAt [] [] at → c ≡ [] → s ≡ start → HasShown takes failures start bytes at c s
   at_begin at none a empty same = record {
@@ -330,6 +333,33 @@ module _ {K : Type 0} (takes : K → List ℕ → K → Type 0) (failures : K �
     put = subst (λ (k : List ℕ). Puts {A = Unit {0}} takes failures [] start [] (Ok tt) k s) (sym empty) (subst (λ (k : K). Puts {A = Unit {0}} takes failures [] start [] (Ok tt) [] k) (sym same) (puts_none takes failures [] start));
     within = omega (arith, ap (λ (k : List ℕ). length k) empty);
   }
+
+-- ---- what was collected is sent
+
+module _ {K : Type 0} (takes : K → List ℕ → K → Type 0) (failures : K → ℕ) (front : Bool) (start : K) (bytes : List ℕ) (earlier : List (List ℕ)) (at : Decoding) (c : List ℕ) (s : K) (step : StepShows takes failures front start bytes earlier (Ok at) c s) where
+  -- the same text, sent in more pieces
+  abbrev all_sent : {A : Type 0} (r : Result A LinkFault) (c' : List ℕ) (s' : K) → Puts {A = A} takes failures c s [] r c' s' → Puts {A = A} takes failures [] start step.1.text r c' s'
+  all_sent {A} r c' s' p = puts_as takes failures [] start (step.1.text ++ []) step.1.text r c' s' (append-nil step.1.text) (puts_then takes failures [] start step.1.text c s [] r c' s' step.1.put p)
+
+  pub flushed : (c' : List ℕ) (s' : K) → Puts {A = Unit {0}} takes failures c s [] (Ok tt) c' s' → c' ≡ [] → StepShows takes failures front start bytes earlier (Ok at) c' s'
+  flushed c' s' p none = (
+    step.0,
+    record { text = step.1.text; are_at = step.1.are_at; put = all_sent (Ok tt) c' s' p; within = omega (arith, ap (λ (l : List ℕ). length l) none) },
+    sends_on takes failures earlier [] start step.1.text c s [] (Ok tt) c' s' step.1.put p step.2,
+  )
+
+  pub unflushed : (f : LinkFault) (c' : List ℕ) (s' : K) → Puts {A = Unit {0}} takes failures c s [] (Err f) c' s' → StepShows takes failures front start bytes earlier (Err stop.SinkFailed) c' s'
+  unflushed f c' s' p =
+      let all = all_shown takes failures start bytes c s at step.1 in
+      record {
+        fault = f;
+        text = step.1.text;
+        n = all.n;
+        rest = all.rest;
+        shown = subst (λ (x : Bool). AreShown x bytes step.1.text all.n all.rest) step.0 all.shown;
+        put = all_sent (Err f) c' s' p;
+        begins = sends_on takes failures earlier [] start step.1.text c s [] (Err f) c' s' step.1.put p step.2;
+      }
 
 -- the source has ended, and didn't fail
 pub end_of_source : (A ended : Type 0) (old new size : ℕ) → ended → new ≡ old → StepsSource {A = A} ended old new (Err (end_stop size))

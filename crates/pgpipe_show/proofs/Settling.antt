@@ -1,5 +1,5 @@
 -- What stands once all is sent.
-use Rattle.std.proofs.Common.{◌≡◌, ℕ, Bool, true, false, List, [], ◌∷◌, ◌++◌, Result, Ok, Err, refl, sym, ap, subst, ◌∙◌, inl, inr, append-nil, length, arith}
+use Rattle.std.proofs.Common.{◌≡◌, ℕ, ◌+◌, ◌≤◌, Bool, true, false, List, [], ◌∷◌, ◌++◌, Result, Ok, Err, refl, sym, ap, subst, ◌∙◌, inl, inr, append-nil, length, arith}
 use Rattle.std.specs.List.{FoldsTo, concat}
 use Rattle.pg_wire.specs.link.LinkFault.{LinkFault}
 use Rattle.pg_wire.specs.Link.{HasRisen}
@@ -11,7 +11,7 @@ use Rattle.pgpipe_show.specs.declared.show.Shown.{Shown}
 use Rattle.pgpipe_show.specs.declared.show.Shown.TheVariants as shown
 use Rattle.pgpipe_base.specs.declared.fault.ToolFault.{ToolFault}
 use Rattle.pgpipe_base.specs.declared.fault.ToolFault.TheVariants as fault
-use Rattle.pgpipe_base.specs.Outbox.{Puts}
+use Rattle.pgpipe_base.specs.Outbox.{Puts, most_collected}
 use Rattle.pgpipe_base.specs.Stop.{Settles, answer_of}
 use mathlib.Core.List.{IsPrefix}
 use Rattle.pgpipe_show.specs.Show.{length_limit, AreShown, AreAllShown, AreShownBefore, AreMostlyShown, ArePartlyShown, IsShownAtOnce, ShowAnswers}
@@ -20,7 +20,7 @@ use Rattle.pgpipe_show.specs.Private.Showing.{ArePut, HasSinkFailed, Stops, Stop
 use Rattle.pg_wire.specs.Backend.{backend}
 use Rattle.pg_wire.proofs.Rests.{short_open}
 use Rattle.pg_wire.proofs.Packets.{short_open as short_packet_open}
-use Rattle.pgpipe_base.proofs.Pieces.{puts_then, sent_at_once}
+use Rattle.pgpipe_base.proofs.Pieces.{puts_then, sends_on, concat_prefix, first_within}
 use Rattle.pgpipe_show.proofs.Decodings.{client_begins}
 
 nothing : (xs : List ℕ) → 0 ≡ length xs → xs ≡ []
@@ -28,58 +28,63 @@ nothing [] e = refl
 nothing (x ∷ xs) e = absurd (omega (arith, e))
 
 module _ {K : Type 0} (takes : K → List ℕ → K → Type 0) (failures : K → ℕ) (front : Bool) where
-  -- these bytes were shown, and the text was sent
-  abbrev pub Sends : K → (List ℕ → Type 0) → K → Type 0
-  Sends start P s = (pieces : List (List ℕ)) × FoldsTo takes start pieces s × P (concat pieces)
+  -- this holds of the text that was sent, and these sends were the first
+  abbrev pub Sends : K → List (List ℕ) → (List ℕ → Type 0) → K → Type 0
+  Sends start earlier P s = (pieces : List (List ℕ)) × FoldsTo takes start pieces s × P (concat pieces) × IsPrefix earlier pieces
 
   -- what was put was sent, and the sink didn't fail
-  whole : (start : K) (bytes before : List ℕ) (n : Next) (rest c : List ℕ) (s : K) (c' : List ℕ) (s' : K) (put : ArePut takes failures front start bytes before n rest c s) → Puts {A = Unit {0}} takes failures c s [] (Ok tt) c' s' → c' ≡ []
-      → Sends start (λ text. (put.text ≡ text) × AreShown front bytes text n rest) s' × (failures s' ≡ failures start)
-  whole start bytes before n rest c s c' s' put p none =
+  whole : (start : K) (bytes : List ℕ) (earlier : List (List ℕ)) (n : Next) (rest c : List ℕ) (s : K) (c' : List ℕ) (s' : K) (put : ArePut takes failures front start bytes earlier n rest c s) → Puts {A = Unit {0}} takes failures c s [] (Ok tt) c' s' → c' ≡ []
+      → Sends start earlier (λ text. (put.text ≡ text) × AreShown front bytes text n rest) s' × (failures s' ≡ failures start)
+  whole start bytes earlier n rest c s c' s' put p none =
       let all = puts_then takes failures [] start put.text c s [] (Ok tt) c' s' put.put p in
       let sent : put.text ≡ concat all.pieces = sym (append-nil put.text) ∙ all.sent ∙ ap (λ (t : List ℕ). concat all.pieces ++ t) none ∙ append-nil (concat all.pieces) in
-      ((all.pieces, all.calls, (sent, subst (λ (t : List ℕ). AreShown front bytes t n rest) sent put.shown)), all.counted)
+      ((all.pieces, all.calls, (sent, subst (λ (t : List ℕ). AreShown front bytes t n rest) sent put.shown), sends_on takes failures earlier [] start put.text c s [] (Ok tt) c' s' put.put p put.begins), all.counted)
 
   -- the sink failed: a prefix was sent, little more was received, and the failure was counted
-  abbrev pub Fails : K → List ℕ → K → Type 0
-  Fails start bytes s = Sends start (λ text. ArePartlyShown front bytes text × IsShownAtOnce front bytes text) s × HasRisen (failures start) (failures s)
+  abbrev pub Fails : K → List ℕ → List (List ℕ) → K → Type 0
+  Fails start bytes earlier s = Sends start earlier (λ text. ArePartlyShown front bytes text × IsShownAtOnce front bytes text) s × HasRisen (failures start) (failures s)
 
-  partly : (start : K) (bytes before : List ℕ) (n : Next) (rest c : List ℕ) (s : K) (f : LinkFault) (c' : List ℕ) (s' : K) → AreShownBefore front bytes before → ArePut takes failures front start bytes before n rest c s → Puts {A = Unit {0}} takes failures c s [] (Err f) c' s' → Fails start bytes s'
-  partly start bytes before n rest c s f c' s' b h p =
+  -- what was sent before is a part of what was sent
+  enough : (earlier pieces : List (List ℕ)) → IsPrefix earlier pieces → length (concat earlier) ≤ most_collected + length (concat pieces)
+  enough earlier pieces b = omega (arith, first_within earlier pieces b)
+
+  partly : (start : K) (bytes : List ℕ) (earlier : List (List ℕ)) (n : Next) (rest c : List ℕ) (s : K) (f : LinkFault) (c' : List ℕ) (s' : K) → AreShownBefore front bytes (concat earlier) → ArePut takes failures front start bytes earlier n rest c s → Puts {A = Unit {0}} takes failures c s [] (Err f) c' s' → Fails start bytes earlier s'
+  partly start bytes earlier n rest c s f c' s' b h p =
       let all = puts_then takes failures [] start h.text c s [] (Err f) c' s' h.put p in
-      ((all.pieces, all.calls, ((h.text, rest, n, h.shown, (all.sent.0, all.sent.1 ∙ append-nil h.text)), (before, b, sent_at_once takes failures start before h.text c s [] (Err f) c' s' h.put p h.begins h.within))), all.counted)
+      let first = sends_on takes failures earlier [] start h.text c s [] (Err f) c' s' h.put p h.begins in
+      ((all.pieces, all.calls, ((h.text, rest, n, h.shown, (all.sent.0, all.sent.1 ∙ append-nil h.text)), (concat earlier, b, enough earlier all.pieces first)), first), all.counted)
 
-  broken : (start : K) (bytes before c : List ℕ) (s : K) → AreShownBefore front bytes before → HasSinkFailed takes failures front start bytes before c s → Fails start bytes s
-  broken start bytes before c s b h = ((h.put.pieces, h.put.calls, ((h.text, h.rest, h.n, h.shown, (h.put.sent.0, h.put.sent.1)), (before, b, h.at_once))), h.put.counted)
+  broken : (start : K) (bytes : List ℕ) (earlier : List (List ℕ)) (c : List ℕ) (s : K) → AreShownBefore front bytes (concat earlier) → HasSinkFailed takes failures front start bytes earlier c s → Fails start bytes earlier s
+  broken start bytes earlier c s b h = ((h.put.pieces, h.put.calls, ((h.text, h.rest, h.n, h.shown, (h.put.sent.0, h.put.sent.1)), (concat earlier, b, enough earlier h.put.pieces h.begins)), h.begins), h.put.counted)
 
   -- where all was sent, the answer speaks of the source alone
-  module _ (received : List (List ℕ)) (old new : ℕ) (broke : Type 0) (start : K) (bytes before : List ℕ) where
+  module _ (received : List (List ℕ)) (old new : ℕ) (broke : Type 0) (start : K) (bytes : List ℕ) (earlier : List (List ℕ)) where
     abbrev pub Answered : List ℕ → Stop Shown → Type 0
     Answered text h = ShowAnswers (HasStopped old new received) broke front bytes text (answer_of h)
 
-    pub settled : (ends : Type 0) (h : Stop Shown) (c : List ℕ) (s s' : K) → AreShownBefore front bytes before → Stops takes failures front start bytes before h c s → StopsSource ends old new received h → Settles takes failures h c s (Ok tt) s'
-        → Sends start (λ text. Answered text h) s' × (failures s' ≡ failures start)
+    pub settled : (ends : Type 0) (h : Stop Shown) (c : List ℕ) (s s' : K) → AreShownBefore front bytes (concat earlier) → Stops takes failures front start bytes earlier h c s → StopsSource ends old new received h → Settles takes failures h c s (Ok tt) s'
+        → Sends start earlier (λ text. Answered text h) s' × (failures s' ≡ failures start)
     settled _ (stop.Answer shown.Whole) c s s' b hs why st =
-        let w = whole start bytes before hs.0 hs.1 c s [] s' hs.2 st refl in
-        ((w.0.0, w.0.1, (hs.0, subst (λ (r : List ℕ). AreShown front bytes (concat w.0.0) hs.0 r) (nothing hs.1 hs.4) w.0.2.1)), w.1)
-    settled _ (stop.Answer (shown.Rest size)) c s s' b hs why st = let w = whole start bytes before hs.0 hs.1 c s [] s' hs.2 st refl in ((w.0.0, w.0.1, (hs.0, hs.1, w.0.2.1, hs.3, hs.4, hs.5)), w.1)
-    settled _ (stop.Answer (shown.Fault f)) c s s' b hs why st = let w = whole start bytes before hs.0 hs.1 c s [] s' hs.2 st refl in ((w.0.0, w.0.1, (hs.0, hs.1, w.0.2.1, hs.3)), w.1)
+        let w = whole start bytes earlier hs.0 hs.1 c s [] s' hs.2 st refl in
+        ((w.0.0, w.0.1, (hs.0, subst (λ (r : List ℕ). AreShown front bytes (concat w.0.0) hs.0 r) (nothing hs.1 hs.4) w.0.2.1), w.0.3), w.1)
+    settled _ (stop.Answer (shown.Rest size)) c s s' b hs why st = let w = whole start bytes earlier hs.0 hs.1 c s [] s' hs.2 st refl in ((w.0.0, w.0.1, (hs.0, hs.1, w.0.2.1, hs.3, hs.4, hs.5), w.0.3), w.1)
+    settled _ (stop.Answer (shown.Fault f)) c s s' b hs why st = let w = whole start bytes earlier hs.0 hs.1 c s [] s' hs.2 st refl in ((w.0.0, w.0.1, (hs.0, hs.1, w.0.2.1, hs.3), w.0.3), w.1)
     settled _ stop.Memory c s s' b hs why st =
-        let w = whole start bytes before hs.0 hs.1 c s [] s' hs.2 st refl in
-        ((w.0.0, w.0.1, record { before = before; shown_before = b; begins = subst (λ (t : List ℕ). IsPrefix before t) w.0.2.0 hs.2.begins; n = hs.0; rest = hs.1; shown = w.0.2.1 }), w.1)
-    settled _ stop.SourceFailed c s s' b hs why st = let w = whole start bytes before hs.0 hs.1 c s [] s' hs.2 st refl in ((w.0.0, w.0.1, inr (inl why, record { n = hs.0; rest = hs.1; shown = w.0.2.1; is_open = hs.3 })), w.1)
+        let w = whole start bytes earlier hs.0 hs.1 c s [] s' hs.2 st refl in
+        ((w.0.0, w.0.1, record { before = concat earlier; shown_before = b; begins = concat_prefix earlier w.0.0 w.0.3; n = hs.0; rest = hs.1; shown = w.0.2.1 }, w.0.3), w.1)
+    settled _ stop.SourceFailed c s s' b hs why st = let w = whole start bytes earlier hs.0 hs.1 c s [] s' hs.2 st refl in ((w.0.0, w.0.1, inr (inl why, record { n = hs.0; rest = hs.1; shown = w.0.2.1; is_open = hs.3 }), w.0.3), w.1)
     settled _ stop.SinkFailed c s s' b hs why st = absurd cc
-    settled _ stop.Endless c s s' b hs why st = let w = whole start bytes before hs.0 hs.1 c s [] s' hs.2 st refl in ((w.0.0, w.0.1, inr (inr why, record { n = hs.0; rest = hs.1; shown = w.0.2.1; is_open = hs.3 })), w.1)
+    settled _ stop.Endless c s s' b hs why st = let w = whole start bytes earlier hs.0 hs.1 c s [] s' hs.2 st refl in ((w.0.0, w.0.1, inr (inr why, record { n = hs.0; rest = hs.1; shown = w.0.2.1; is_open = hs.3 }), w.0.3), w.1)
 
   -- the sink failed
-  pub unsettled : (start : K) (bytes before : List ℕ) (h : Stop Shown) (c : List ℕ) (s : K) (f : LinkFault) (s' : K) → AreShownBefore front bytes before → Stops takes failures front start bytes before h c s → Settles takes failures h c s (Err f) s' → Fails start bytes s'
-  unsettled start bytes before (stop.Answer shown.Whole) c s f s' b hs st = partly start bytes before hs.0 hs.1 c s f [] s' b hs.2 st
-  unsettled start bytes before (stop.Answer (shown.Rest size)) c s f s' b hs st = partly start bytes before hs.0 hs.1 c s f [] s' b hs.2 st
-  unsettled start bytes before (stop.Answer (shown.Fault g)) c s f s' b hs st = partly start bytes before hs.0 hs.1 c s f [] s' b hs.2 st
-  unsettled start bytes before stop.Memory c s f s' b hs st = partly start bytes before hs.0 hs.1 c s f [] s' b hs.2 st
-  unsettled start bytes before stop.SourceFailed c s f s' b hs st = partly start bytes before hs.0 hs.1 c s f [] s' b hs.2 st
-  unsettled start bytes before stop.SinkFailed c s f s' b hs st = subst (λ (k : K). Fails start bytes k) (sym st.1) (broken start bytes before c s b hs)
-  unsettled start bytes before stop.Endless c s f s' b hs st = partly start bytes before hs.0 hs.1 c s f [] s' b hs.2 st
+  pub unsettled : (start : K) (bytes : List ℕ) (earlier : List (List ℕ)) (h : Stop Shown) (c : List ℕ) (s : K) (f : LinkFault) (s' : K) → AreShownBefore front bytes (concat earlier) → Stops takes failures front start bytes earlier h c s → Settles takes failures h c s (Err f) s' → Fails start bytes earlier s'
+  unsettled start bytes earlier (stop.Answer shown.Whole) c s f s' b hs st = partly start bytes earlier hs.0 hs.1 c s f [] s' b hs.2 st
+  unsettled start bytes earlier (stop.Answer (shown.Rest size)) c s f s' b hs st = partly start bytes earlier hs.0 hs.1 c s f [] s' b hs.2 st
+  unsettled start bytes earlier (stop.Answer (shown.Fault g)) c s f s' b hs st = partly start bytes earlier hs.0 hs.1 c s f [] s' b hs.2 st
+  unsettled start bytes earlier stop.Memory c s f s' b hs st = partly start bytes earlier hs.0 hs.1 c s f [] s' b hs.2 st
+  unsettled start bytes earlier stop.SourceFailed c s f s' b hs st = partly start bytes earlier hs.0 hs.1 c s f [] s' b hs.2 st
+  unsettled start bytes earlier stop.SinkFailed c s f s' b hs st = subst (λ (k : K). Fails start bytes earlier k) (sym st.1) (broken start bytes earlier c s b hs)
+  unsettled start bytes earlier stop.Endless c s f s' b hs st = partly start bytes earlier hs.0 hs.1 c s f [] s' b hs.2 st
 
 -- a count that stayed
 pub counts_none : (old : ℕ) (r : Result Shown ToolFault) (new : ℕ) → new ≡ old → CountsNoFailure old r new

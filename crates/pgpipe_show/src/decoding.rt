@@ -1,6 +1,6 @@
 //! How far the reading has come.
 
-ghost use Rattle.std.specs.Prelude.{◌≡◌, ◌<◌, ◌+◌, ◌^◌, ◌++◌, [], length, true, false, None, ℕ, List};
+ghost use Rattle.std.specs.Prelude.{◌≡◌, ◌<◌, ◌+◌, ◌^◌, ◌++◌, [], length, true, false, None, ℕ, List, OnOk};
 ghost use Rattle.pgpipe_show.specs.declared.decoding.Decoding.TheVariants.{First};
 ghost use Rattle.pgpipe_show.specs.Private.Showing.{is_front, unshown, AreAt, IsSoundAt, HasShown, StepShows, LeavesSource};
 
@@ -37,7 +37,7 @@ fn take_packets<K: Sink>(
     ensures steps { (start : K) (bytes : List ℕ)
         (stands : HasShown K.takes K.failures start bytes (First decoder) outbox.old sink.old)
         → StepShows K.takes K.failures true start (bytes
-        ++ piece.now) stands.text result outbox.new sink.new }
+        ++ piece.now) stands.put.pieces result outbox.new sink.new }
     ensures source { LeavesSource result }
 {
     let mut first = decoder;
@@ -92,7 +92,7 @@ impl Decoding {
         ensures steps { (start : K) (bytes : List ℕ)
             (stands : HasShown K.takes K.failures start bytes self outbox.old sink.old)
             → StepShows K.takes K.failures (is_front self) start (bytes
-            ++ piece.now) stands.text result outbox.new sink.new }
+            ++ piece.now) stands.put.pieces result outbox.new sink.new }
         ensures source { LeavesSource result }
     {
         match self {
@@ -106,6 +106,30 @@ impl Decoding {
                 Ok(Decoding::Front(spellings))
             }
             Decoding::Over(count) => Ok(Decoding::Over(count + piece.len())),
+        }
+    }
+
+    /// Takes a piece, and sends the lines of the packets and messages that are whole then.
+    pub fn send<K: Sink>(
+        self,
+        piece: &[u8],
+        spelled: &mut Vec<u8>,
+        outbox: &mut Outbox,
+        sink: &mut K,
+    ) -> Result<Decoding, Stop<Shown>>
+        requires sound { IsSoundAt self }
+        requires room { unshown self + length piece.now < 2 ^ 64 }
+        ensures steps { (start : K) (bytes : List ℕ)
+            (stands : HasShown K.takes K.failures start bytes self outbox.old sink.old)
+            → StepShows K.takes K.failures (is_front self) start (bytes
+            ++ piece.now) stands.put.pieces result outbox.new sink.new }
+        ensures source { LeavesSource result }
+        ensures nothing_left { OnOk result (outbox.new ≡ []) }
+    {
+        let next = self.take(piece, spelled, outbox, sink)?;
+        match outbox.flush(sink) {
+            Ok(()) => Ok(next),
+            Err(_) => Err(Stop::SinkFailed),
         }
     }
 }

@@ -1,10 +1,10 @@
 //! Showing a stream, over any source and any sink.
 
-ghost use Rattle.std.specs.Prelude.{◌≡◌, ◌<◌, ◌≤◌, ◌+◌, ◌^◌, ◌++◌, ℕ, List, [], length, IfOk};
+ghost use Rattle.std.specs.Prelude.{◌≡◌, ◌<◌, ◌≤◌, ◌+◌, ◌^◌, ◌++◌, ℕ, List, [], length, IfOk, OnOk};
 ghost use Rattle.std.specs.List.{FoldsTo, concat};
 ghost use Rattle.pg_wire.specs.Link.{HasRisen};
-ghost use Rattle.pgpipe_base.specs.Receiving.{longest_piece, HasStopped, CountsNoFailure};
-ghost use Rattle.pgpipe_show.specs.Show.{ShowAnswers, EndsStream};
+ghost use Rattle.pgpipe_base.specs.Receiving.{longest_piece, HasStopped, CountsNoFailure, IsSentAtOnce};
+ghost use Rattle.pgpipe_show.specs.Show.{AreAllShown, ShowAnswers, EndsStream};
 ghost use Rattle.pgpipe_show.specs.Private.Showing.{is_front, unshown, IsSoundAt, HasShown, StepShows, StepsSource, HasRun};
 
 use crate::decoding::Decoding;
@@ -38,7 +38,7 @@ struct Showing {
 }
 
 impl Showing {
-    // Receives a piece, and puts the lines of what is whole then.
+    // Receives a piece, and sends the lines of what is whole then.
     fn step<S: Source, K: Sink>(
         &mut self,
         decoding: Decoding,
@@ -52,16 +52,17 @@ impl Showing {
             × ((start : K) (bytes : List ℕ)
             (stands : HasShown K.takes K.failures start bytes decoding self.old.outbox sink.old)
             → StepShows K.takes K.failures (is_front decoding) start (bytes
-            ++ piece) stands.text result self.new.outbox sink.new) }
+            ++ piece) stands.put.pieces result self.new.outbox sink.new) }
         ensures source { StepsSource (S.has_ended source.new) (S.failures source.old)
             (S.failures source.new) result }
+        ensures nothing_left { OnOk result (self.new.outbox ≡ []) }
     {
         let count = match source.receive(self.into.as_mut_slice()) {
             Ok(0) => return Err(end_stop(decoding.kept())),
             Ok(count) => count,
             Err(_) => return Err(Stop::SourceFailed),
         };
-        decoding.take(
+        decoding.send(
             &self.into[..count],
             &mut self.spelled,
             &mut self.outbox,
@@ -76,7 +77,8 @@ impl Showing {
         source: &mut S,
         sink: &mut K,
     ) -> Stop<Shown>
-        requires { HasShown K.takes K.failures sink.old [] decoding self.old.outbox sink.old }
+        requires stands { HasShown K.takes K.failures sink.old [] decoding self.old.outbox sink.old }
+        requires nothing_left { self.old.outbox ≡ [] }
         ensures { HasRun S.gives S.failures (S.has_ended source.new) K.takes K.failures
             (is_front decoding) source.old sink.old result source.new self.new.outbox sink.new }
     {
@@ -110,7 +112,7 @@ fn begin(alloc: Global) -> Result<Showing, AllocError>
 /// Startup. A packet's line is `startup`, `cancel`, `ssl` or `gss`, a space, its length in decimal, a space, and the bytes
 /// after the length in hexadecimal. What comes after a Cancel is the rest.
 ///
-/// The lines before a fault or a rest are sent. `Device` is answered where
+/// Before each `receive` the lines for all that came are sent. The lines before a fault or a rest are sent. `Device` is answered where
 /// - the sink failed in this call: a prefix of the lines was sent, and the lines for all that was received but the last
 ///   piece are at most 65,536 bytes more; or
 /// - the source failed in this call or gave no end in 1,099,511,627,776 receives: the lines for all that was received were
@@ -130,6 +132,10 @@ pub fn show<S: Source, K: Sink>(
         (HasStopped (S.failures source.old) (S.failures source.new) received)
         (HasRisen (K.failures sink.old) (K.failures sink.new))
         front (concat received) (concat sent) result }
+    // before each receive but the first, the lines for all that came had been sent
+    ensures at_once { (received sent : List (List ℕ))
+        × FoldsTo S.gives source.old received source.new × FoldsTo K.takes sink.old sent sink.new
+        × IsSentAtOnce (AreAllShown front) received sent }
     ensures ended { EndsStream (S.has_ended source.new) result }
     // where the answer isn't Device, neither failed
     ensures source { CountsNoFailure (S.failures source.old) result (S.failures source.new) }

@@ -1,4 +1,4 @@
-use crate::links::{Paper, broke_after, sheet, source_of};
+use crate::links::{Paper, sheet, source_of, took};
 use pg_copy::{BinaryFault, RowFault, TextFault, TextOptions};
 use pgpipe_base::ToolFault;
 use pgpipe_convert::convert::{Converted, convert};
@@ -222,10 +222,10 @@ fn a_source_that_fails(rt: HostRuntime) {
     }
 }
 
-/// Whether a beginning of the row's file is written, where the sink fails after so many sends.
-fn converts_to(alloc: Global, sends: u8) -> bool {
+/// Whether so many bytes of the row's file are written, where this send fails.
+fn converts_to(alloc: Global, call: u64, size: usize) -> bool {
     let mut source = source_of(TEXT_ROW, 5, 0);
-    let mut sink = sheet(alloc, u64::from(sends) + 1);
+    let mut sink = sheet(alloc, call);
     let answer = convert(
         alloc,
         Format::Text,
@@ -234,13 +234,13 @@ fn converts_to(alloc: Global, sends: u8) -> bool {
         &mut source,
         &mut sink,
     );
-    answer == Err(ToolFault::Device) && broke_after(&sink, sends, BINARY_ROW)
+    answer == Err(ToolFault::Device) && took(&sink, size, BINARY_ROW)
 }
 
 #[test]
 fn a_sink_that_fails(rt: HostRuntime) {
-    // 32 bytes make five sends
-    for sends in 0..5 {
-        assert!(rt; converts_to(rt.alloc(), sends), "after {sends}");
+    // the head and the row, 30 bytes, are sent before the end is found, and the trailer after it
+    for (call, size) in [(1, 0), (2, 7), (5, 28), (6, 30)] {
+        assert!(rt; converts_to(rt.alloc(), call, size), "at {call}");
     }
 }

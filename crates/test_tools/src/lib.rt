@@ -8,6 +8,8 @@ mod carriers;
 #[cfg(test)]
 mod convert;
 #[cfg(test)]
+mod failures;
+#[cfg(test)]
 mod lines;
 #[cfg(test)]
 mod links;

@@ -80,7 +80,7 @@ pub(crate) fn sheet(alloc: Global, fails_at: u64) -> Paper {
     }
 }
 
-/// Whether what was taken is what a sink took that failed after so many sends of this text.
-pub(crate) fn broke_after(paper: &Paper, sends: u8, text: &[u8]) -> bool {
-    paper.text.len() == 7 * usize::from(sends) && text.starts_with(paper.text.as_slice())
+/// Whether just so many bytes of this text were taken.
+pub(crate) fn took(paper: &Paper, size: usize, text: &[u8]) -> bool {
+    paper.text.len() == size && text.starts_with(paper.text.as_slice())
 }

@@ -1,4 +1,4 @@
-use crate::links::{broke_after, sheet, source_of};
+use crate::links::{sheet, source_of, took};
 use pg_wire::WireFault;
 use pgpipe_base::ToolFault;
 use pgpipe_show::show::{Shown, show};
@@ -119,26 +119,35 @@ fn a_client_that_fails(rt: HostRuntime) {
     }
 }
 
-/// Whether a beginning of these lines is sent of these bytes, five at a time, where the sink fails after so many sends.
-fn shows_to(alloc: Global, front: bool, bytes: &[u8], sends: u8, lines: &[u8]) -> bool {
+/// Whether so many bytes of these lines are sent of these bytes, five at a time, where this send fails.
+fn shows_to(
+    alloc: Global,
+    front: bool,
+    bytes: &[u8],
+    call: u64,
+    size: usize,
+    lines: &[u8],
+) -> bool {
     let mut source = source_of(bytes, 5, 0);
-    let mut sink = sheet(alloc, u64::from(sends) + 1);
+    let mut sink = sheet(alloc, call);
     let shown = show(alloc, front, &mut source, &mut sink);
-    shown == Err(ToolFault::Device) && broke_after(&sink, sends, lines)
+    shown == Err(ToolFault::Device) && took(&sink, size, lines)
 }
 
 #[test]
 fn a_sink_that_fails(rt: HostRuntime) {
-    for sends in 0..4 {
+    // the lines of a piece, of 7, 9 and 6 bytes, are sent before the next comes, at most seven bytes a send
+    for (call, size) in [(1, 0), (2, 7), (3, 14), (4, 16)] {
         assert!(rt;
-            shows_to(rt.alloc(), false, STREAM, sends, LINES),
-            "after {sends}"
+            shows_to(rt.alloc(), false, STREAM, call, size, LINES),
+            "at {call}"
         );
     }
-    for sends in 0..11 {
+    // so are these, of 15, 36 and 24 bytes
+    for (call, size) in [(1, 0), (3, 14), (4, 15), (9, 50), (10, 51), (13, 72)] {
         assert!(rt;
-            shows_to(rt.alloc(), true, CLIENT, sends, CLIENT_LINES),
-            "after {sends}"
+            shows_to(rt.alloc(), true, CLIENT, call, size, CLIENT_LINES),
+            "at {call}"
         );
     }
 }

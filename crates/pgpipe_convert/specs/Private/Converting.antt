@@ -18,10 +18,10 @@ use Rattle.pgpipe_convert.specs.declared.copy_rows.RowReader.{RowReader}
 use Rattle.pgpipe_convert.specs.declared.copy_rows.RowReader.TheVariants as reader
 use Rattle.pgpipe_base.specs.declared.stop.Stop.{Stop}
 use Rattle.pgpipe_base.specs.declared.stop.Stop.TheVariants as stop
-use Rattle.pgpipe_convert.specs.Convert.{FileReading, text_file, binary_file, answered, none_left, IsEnd, FileWriting, writing_with, IsWritable, trailer_for, AreConverted, IsAnswerFor, AreConvertedBefore}
+use Rattle.pgpipe_convert.specs.Convert.{FileReading, text_file, binary_file, answered, none_left, IsEnd, FileWriting, writing_with, IsWritable, trailer_for, AreConverted, IsAnswerFor, AreAllConverted, AreConvertedBefore}
 use Rattle.pgpipe_base.specs.Outbox.{most_collected, Puts, StaysWithin}
 use mathlib.Core.List.{IsPrefix}
-use Rattle.pgpipe_base.specs.Receiving.{most_receives}
+use Rattle.pgpipe_base.specs.Receiving.{most_receives, IsSentAtOnce}
 
 -- why the work stops where a reader of text answers a fault
 abbrev pub text_stop : TextFault → Stop Converted
@@ -63,7 +63,8 @@ abbrev pub HasReadBy : RowReader → List ℕ → List Row → Type 0
 HasReadBy (reader.Text s) bytes given = HasReadText s bytes given
 HasReadBy (reader.Binary s) bytes given = HasReadBinary s bytes given
 
--- Whatever it was given and has given before: these rows come next in the file, and this is left of it then.
+-- Whatever it was given and has given before: these rows come next in the file, and this is left of
+-- it then.
 abbrev pub ComeNext : Bool → RowReader → List Row → RowsRead Converted → Type 0
 ComeNext at_end r rows left = (bytes : List ℕ) (given : List Row) → HasReadBy r bytes given
     → file_by r at_end bytes ≡ after_rows (given ++ rows) left
@@ -110,8 +111,8 @@ GivesRow at_end r (Err _) r' = ⊥
 abbrev pub writing_by : RowWriter → FileWriting
 writing_by w = writing_with w.options.now w.format
 
--- A row is put, and no more is collected than there is room for; or it can't be written, or memory for it was refused, and then
--- nothing was put; or the sink failed.
+-- A row is put, and no more is collected than there is room for; or it can't be written, or memory
+-- for it was refused, and then nothing was put; or the sink failed.
 abbrev pub PutsRow : {K : Type 0} → (K → List ℕ → K → Type 0) → (K → ℕ) → FileWriting → Row
     → List ℕ → K → Result Unit (Stop Converted) → List ℕ → K → Type 0
 PutsRow takes failures to row out sink (Ok x) out' sink' = IsWritable to row
@@ -156,7 +157,8 @@ PutsRows takes failures at_end to r out sink (Err stop.SinkFailed) r' out' sink'
     × RowsArePut {A = Unit {0}} takes failures at_end to r out sink left (Err fault) out' sink'
 PutsRows takes failures at_end to r out sink (Err _) r' out' sink' = ⊥
 
--- All the rows that are left were put, and the trailer after them; or those before what stopped the work.
+-- All the rows that are left were put, and the trailer after them; or those before what stopped the
+-- work.
 abbrev pub EndConverts : {K : Type 0} → (K → List ℕ → K → Type 0) → (K → ℕ) → FileWriting
     → RowReader → List ℕ → K → Stop Converted → List ℕ → K → Type 0
 EndConverts takes failures to r out sink (stop.Answer c) out' sink' = (left : RowsRead Converted)
@@ -193,47 +195,52 @@ pub record HasConverted {K : Type 0} (takes : K → List ℕ → K → Type 0) (
   pub put : Puts {A = Unit {0}} takes failures [] start text (Ok tt) out sink
   pub within : length out ≤ most_collected
 
--- The head and rows of the bytes received were put, so far as the result says, with more after them, and what was put before is
--- no more than what was sent and what may be collected.
+-- The head and rows of the bytes received were put, so far as the result says, with more after
+-- them, and what was put before is no more than what was sent and what may be collected. These sends
+-- were the first.
 pub record ArePut {K A : Type 0} (takes : K → List ℕ → K → Type 0) (failures : K → ℕ)
     (file : FileReading) (to : FileWriting) (ended : Type 0) (start : K) (bytes before : List ℕ)
-    (left : RowsRead Converted) (more : List ℕ) (result : Result A LinkFault) (out : List ℕ)
-    (sink : K) : Type 0 where
+    (earlier : List (List ℕ)) (left : RowsRead Converted) (more : List ℕ)
+    (result : Result A LinkFault) (out : List ℕ) (sink : K) : Type 0 where
   pub text : List ℕ
   pub are_converted : AreConverted file to ended bytes left text
   pub put : Puts takes failures [] start (text ++ more) result out sink
   pub at_once : length before ≤ most_collected + length (concat put.pieces)
+  pub begins : IsPrefix earlier put.pieces
 
--- What stands where the work stops, in a step before which this text was put.
+-- What stands where the work stops, in a step before which this text was put by these sends.
 abbrev pub Stops : {K : Type 0} → (K → List ℕ → K → Type 0) → (K → ℕ) → FileReading → FileWriting
-    → Type 0 → K → List ℕ → List ℕ → Stop Converted → List ℕ → K → Type 0
-Stops takes failures file to ended start bytes before (stop.Answer c) out sink =
+    → Type 0 → K → List ℕ → List ℕ → List (List ℕ) → Stop Converted → List ℕ → K → Type 0
+Stops takes failures file to ended start bytes before earlier (stop.Answer c) out sink =
     (left : RowsRead Converted) × IsAnswerFor to left c
-    × ArePut {A = Unit {0}} takes failures file to ended start bytes before left (trailer_for to c)
-    (Ok tt) out sink
-Stops takes failures file to ended start bytes before stop.Memory out sink =
+    × ArePut {A = Unit {0}} takes failures file to ended start bytes before earlier left
+    (trailer_for to c) (Ok tt) out sink
+Stops takes failures file to ended start bytes before earlier stop.Memory out sink =
     (left : RowsRead Converted)
-    × (put : ArePut {A = Unit {0}} takes failures file to ended start bytes before left [] (Ok tt)
-    out sink) × IsPrefix before put.text
-Stops takes failures file to ended start bytes before stop.SinkFailed out sink =
+    × (put : ArePut {A = Unit {0}} takes failures file to ended start bytes before earlier left []
+    (Ok tt) out sink) × IsPrefix before put.text
+Stops takes failures file to ended start bytes before earlier stop.SinkFailed out sink =
     (left : RowsRead Converted) × (fault : LinkFault)
-    × ArePut {A = Unit {0}} takes failures file to ended start bytes before left [] (Err fault) out
-    sink
-Stops takes failures file to ended start bytes before _ out sink =
+    × ArePut {A = Unit {0}} takes failures file to ended start bytes before earlier left []
+    (Err fault) out sink
+Stops takes failures file to ended start bytes before earlier _ out sink =
     (ending : RowsEnding Converted) × IsGood ending
-    × ArePut {A = Unit {0}} takes failures file to ⊥ start bytes before (none_left ending) []
-    (Ok tt) out sink
+    × ArePut {A = Unit {0}} takes failures file to ⊥ start bytes before earlier (none_left ending)
+    [] (Ok tt) out sink
 
--- Where a step of the work leads, before which this text was put.
+-- Where a step of the work leads, before which this text was put by these sends.
 abbrev pub StepConverts : {K : Type 0} → (K → List ℕ → K → Type 0) → (K → ℕ) → FileReading
-    → FileWriting → Type 0 → K → List ℕ → List ℕ → Result Unit (Stop Converted) → RowReader
+    → FileWriting → Type 0 → K → List ℕ → List ℕ → List (List ℕ) → Result Unit (Stop Converted)
+    → RowReader
     → List ℕ → K → Type 0
-StepConverts takes failures file to ended start bytes before (Ok x) r out sink =
-    HasConverted takes failures file to start bytes r out sink
-StepConverts takes failures file to ended start bytes before (Err s) r out sink =
-    Stops takes failures file to ended start bytes before s out sink
+StepConverts takes failures file to ended start bytes before earlier (Ok x) r out sink =
+    (stands : HasConverted takes failures file to start bytes r out sink)
+    × IsPrefix earlier stands.put.pieces
+StepConverts takes failures file to ended start bytes before earlier (Err s) r out sink =
+    Stops takes failures file to ended start bytes before earlier s out sink
 
--- What a stop says of the source: it has ended where the file is whole, it failed, or it didn't fail.
+-- What a stop says of the source: it has ended where the file is whole, it failed, or it didn't
+-- fail.
 abbrev pub StepsSource : Type 0 → ℕ → ℕ → Result Unit (Stop Converted) → Type 0
 StepsSource ended old new (Err (stop.Answer converted.Whole)) = ended × (new ≡ old)
 StepsSource ended old new (Err stop.SourceFailed) = HasRisen old new
@@ -256,5 +263,7 @@ pub record HasRun {S K : Type 0} (gives : S → List ℕ → S → Type 0) (sour
   pub received : FoldsTo gives source pieces source'
   pub before : List ℕ
   pub converted_before : AreConvertedBefore file to (concat pieces) before
-  pub stops : Stops takes failures file to ended start (concat pieces) before s out sink
+  pub earlier : List (List ℕ)
+  pub at_once : IsSentAtOnce (AreAllConverted file to) pieces earlier
+  pub stops : Stops takes failures file to ended start (concat pieces) before earlier s out sink
   pub stops_source : StopsSource ended (source_failures source) (source_failures source') pieces s

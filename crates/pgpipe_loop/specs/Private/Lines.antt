@@ -1,7 +1,8 @@
 -- Lines that are written field by field.
-use Rattle.std.specs.Prelude.{ℕ, zero, suc, ◌+◌, nat_lt, if◌then◌else◌, List, [], ◌∷◌, ◌++◌, Option}
+use Rattle.std.specs.Prelude.{ℕ, suc, nat_lt, if◌then◌else◌, List, [], ◌∷◌, ◌++◌, Option}
 use Rattle.pg_copy.specs.Row.{Row, most_fields}
-use Rattle.pg_copy.specs.Text.{default_options, delimiter, newline, written_field}
+use Rattle.pg_copy.specs.Text.{default_options, newline}
+use Rattle.pg_copy.specs.TextWriter.{next_written}
 
 -- the text so far, and how many fields its open line has
 pub record LineState : Type 0 where
@@ -12,17 +13,12 @@ pub record LineState : Type 0 where
 abbrev pub whole_lines : List ℕ → LineState
 whole_lines text = record { text = text; fields = 0 }
 
--- what parts a field from those before it
-abbrev pub separator : ℕ → List ℕ
-separator zero = []
-separator (suc n) = delimiter ∷ []
-
 -- one field more, if the line may have it
 unfoldable pub with_field : LineState → Option (List ℕ) → LineState
 with_field s field =
     if nat_lt s.fields most_fields then record {
-      text = s.text ++ separator s.fields ++ written_field default_options field;
-      fields = s.fields + 1;
+      text = s.text ++ next_written default_options s.fields field;
+      fields = suc s.fields;
     }
     else s
 

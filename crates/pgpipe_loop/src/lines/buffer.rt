@@ -1,37 +1,16 @@
 //! Lines of COPY text, written field by field.
 
-ghost use Rattle.std.specs.Prelude.{◌≡◌, ◌++◌, [], OnOk, option_copied};
+ghost use Rattle.std.specs.Prelude.{◌≡◌, [], List, Some, OnOk, option_copied};
 ghost use Rattle.std.specs.Fmt.{decimal, signed_decimal};
-ghost use Rattle.pg_copy.specs.Text.{default_options, written_field};
-ghost use Rattle.pgpipe_loop.specs.Private.Lines.{separator, whole_lines, with_field, with_end, with_row, with_rows};
+ghost use Rattle.pg_copy.specs.Row.{Row};
+ghost use Rattle.pgpipe_loop.specs.Lines.{text_lines};
+ghost use Rattle.pgpipe_loop.specs.Private.Lines.{whole_lines, with_field, with_end, with_row, with_rows};
 
-use pg_copy::write_text_field;
+use pg_copy::laws::{fields_are_line, text_round_trip};
+use pg_copy::{RowFault, TextRowWriter};
 use std::alloc::{AllocError, Global};
 use std::marker::Model;
 use std::string::ToString;
-
-// The most fields of a line.
-const MOST_FIELDS: usize = 32_767;
-
-// Puts what parts a field from so many before it.
-fn put_separator(fields: usize, text: &mut Vec<u8>) -> Result<(), AllocError>
-    ensures { OnOk result (text.new.items ≡ text.old.items ++ separator fields) }
-{
-    if fields > 0 {
-        text.push(b'\t')?;
-    }
-    Ok(())
-}
-
-fn put_value(field: Option<&[u8]>, text: &mut Vec<u8>) -> Result<(), AllocError>
-    ensures { OnOk result (text.new.items
-        ≡ text.old.items ++ written_field default_options (option_copied field.entry)) }
-{
-    match write_text_field(field, text) {
-        Ok(()) => Ok(()),
-        Err(_) => Err(AllocError),
-    }
-}
 
 /// Lines of COPY text. What is put stands in the open line, which has at most its first 32,767 fields. Where memory was refused, the
 /// text is of no use.
@@ -39,15 +18,19 @@ fn put_value(field: Option<&[u8]>, text: &mut Vec<u8>) -> Result<(), AllocError>
 pub struct LineBuffer {
     alloc: Global,
     text: Vec<u8>,
-    fields: usize,
+    row: TextRowWriter,
 }
 
 impl Model for LineBuffer {
+    ghost use Rattle.std.specs.Prelude.{◌≡◌};
+    ghost use Rattle.pg_copy.specs.Text.{default_options};
     ghost use Rattle.pgpipe_loop.specs.Private.Lines.{LineState};
 
     ghost Value = { LineState };
 
-    ghost view = { λ l. record { text = l.text.items; fields = l.fields } };
+    ghost view = { λ l. record { text = l.text.items; fields = l.row.fields } };
+
+    ghost invariant = { λ l. l.row.options ≡ default_options };
 }
 
 impl LineBuffer {
@@ -58,29 +41,30 @@ impl LineBuffer {
         LineBuffer {
             alloc,
             text: Vec::new(alloc),
-            fields: 0,
+            row: TextRowWriter::new(),
         }
     }
 
-    /// The text.
+    /// The text, which is the canonical lines of the rows that were put.
     pub fn into_text(self) -> Vec<u8>
-        ensures { result.items ≡ self.text }
+        ensures { (rows : List Row) → self ≡ with_rows (whole_lines []) rows
+            → result.items ≡ text_lines rows }
     {
+        fields_are_line();
+        text_round_trip();
         let LineBuffer { text, .. } = self;
         text
     }
 
-    /// Puts a field into the open line.
+    /// Puts a field into the open line, unless that has all its fields.
     pub fn put(&mut self, field: Option<&[u8]>) -> Result<(), AllocError>
         ensures { OnOk result (self.new ≡ with_field self.old (option_copied field.entry)) }
     {
-        if self.fields >= MOST_FIELDS {
-            return Ok(());
+        match self.row.field(field, &mut self.text) {
+            Ok(()) => Ok(()),
+            Err(RowFault::Width(_)) => Ok(()),
+            Err(_) => Err(AllocError),
         }
-        put_separator(self.fields, &mut self.text)?;
-        put_value(field, &mut self.text)?;
-        self.fields += 1;
-        Ok(())
     }
 
     /// Puts a text into the open line.
@@ -106,13 +90,14 @@ impl LineBuffer {
         self.put_text(digits.as_bytes())
     }
 
-    /// Closes the open line.
+    /// Closes the open line, which has a field.
     pub fn end(&mut self) -> Result<(), AllocError>
         ensures { OnOk result (self.new ≡ with_end self.old) }
     {
-        self.text.push(b'\n')?;
-        self.fields = 0;
-        Ok(())
+        match self.row.end(&mut self.text) {
+            Ok(()) => Ok(()),
+            Err(_) => Err(AllocError),
+        }
     }
 }
 

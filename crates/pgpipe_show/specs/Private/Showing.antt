@@ -1,5 +1,5 @@
 -- How far the work has come.
-use Rattle.std.specs.Prelude.{ℕ, zero, suc, ◌≡◌, ◌<◌, ◌≤◌, ◌+◌, Bool, true, false, List, [], length, None, Result, Ok, Err}
+use Rattle.std.specs.Prelude.{ℕ, zero, suc, ◌≡◌, ◌<◌, ◌≤◌, Bool, true, false, List, [], length, None, Result, Ok, Err}
 use Rattle.std.specs.List.{FoldsTo, concat}
 use Rattle.pg_wire.specs.declared.fault.WireFault.{WireFault}
 use Rattle.pg_wire.specs.declared.fault.WireFault.TheVariants as wire
@@ -26,8 +26,8 @@ use Rattle.pgpipe_show.specs.declared.decoding.Decoding.TheVariants as decoding
 use Rattle.pgpipe_show.specs.Messages.{lines}
 use Rattle.pgpipe_base.specs.Outbox.{most_collected, Puts, StaysWithin}
 use mathlib.Core.List.{IsPrefix}
-use Rattle.pgpipe_show.specs.Show.{length_limit, AreMessages, IsClientSide, AreShown, IsOpenFor, IsFaultyFor, AreShownBefore}
-use Rattle.pgpipe_base.specs.Receiving.{most_receives}
+use Rattle.pgpipe_show.specs.Show.{length_limit, AreMessages, IsClientSide, AreShown, IsOpenFor, IsFaultyFor, AreAllShown, AreShownBefore}
+use Rattle.pgpipe_base.specs.Receiving.{most_receives, IsSentAtOnce}
 
 -- why the work stops where a decoder answers a fault
 abbrev pub fault_stop : WireFault → Stop Shown
@@ -39,8 +39,8 @@ abbrev pub end_stop : ℕ → Stop Shown
 end_stop zero = stop.Answer shown.Whole
 end_stop (suc n) = stop.Answer (shown.Rest (suc n))
 
--- A line is put, and no more is collected than there is room for; or memory was refused, and then nothing was put; or the sink
--- failed.
+-- A line is put, and no more is collected than there is room for; or memory was refused, and then
+-- nothing was put; or the sink failed.
 abbrev pub PutsLine : {K : Type 0} → (K → List ℕ → K → Type 0) → (K → ℕ) → List ℕ → K → List ℕ
     → Result Unit (Stop Shown) → List ℕ → K → Type 0
 PutsLine takes failures collected sink text (Ok x) collected' sink' =
@@ -183,58 +183,67 @@ pub record HasShown {K : Type 0} (takes : K → List ℕ → K → Type 0) (fail
   pub put : Puts {A = Unit {0}} takes failures [] start text (Ok tt) collected sink
   pub within : length collected ≤ most_collected
 
--- The lines for the bytes received are put, but for this rest, and this text is a prefix of them.
+-- The lines for the bytes received are put, but for this rest, and these sends were the first.
 pub record ArePut {K : Type 0} (takes : K → List ℕ → K → Type 0) (failures : K → ℕ) (front : Bool)
-    (start : K) (bytes before : List ℕ) (n : Next) (rest collected : List ℕ)
+    (start : K) (bytes : List ℕ) (earlier : List (List ℕ)) (n : Next) (rest collected : List ℕ)
     (sink : K) : Type 0 where
   pub text : List ℕ
-  pub begins : IsPrefix before text
   pub shown : AreShown front bytes text n rest
   pub put : Puts {A = Unit {0}} takes failures [] start text (Ok tt) collected sink
+  pub begins : IsPrefix earlier put.pieces
   pub within : length collected ≤ most_collected
 
--- The sink failed in the midst of the lines, and this text is no more than what was sent and what may be collected.
+-- The sink failed in the midst of the lines, and these sends were the first.
 pub record HasSinkFailed {K : Type 0} (takes : K → List ℕ → K → Type 0) (failures : K → ℕ)
-    (front : Bool) (start : K) (bytes before collected : List ℕ) (sink : K) : Type 0 where
+    (front : Bool) (start : K) (bytes : List ℕ) (earlier : List (List ℕ)) (collected : List ℕ)
+    (sink : K) : Type 0 where
   pub fault : LinkFault
   pub text : List ℕ
   pub n : Next
   pub rest : List ℕ
   pub shown : AreShown front bytes text n rest
   pub put : Puts {A = Unit {0}} takes failures [] start text (Err fault) collected sink
-  pub at_once : length before ≤ most_collected + length (concat put.pieces)
+  pub begins : IsPrefix earlier put.pieces
 
--- What stands where the work stops, in a step before which this text was shown.
-abbrev pub Stops : {K : Type 0} → (K → List ℕ → K → Type 0) → (K → ℕ) → Bool → K → List ℕ → List ℕ
-    → Stop Shown → List ℕ → K → Type 0
-Stops takes failures front start bytes before (stop.Answer shown.Whole) collected sink = (n : Next)
-    × (rest : List ℕ) × ArePut takes failures front start bytes before n rest collected sink
+-- What stands where the work stops, in a step before which these sends were made.
+abbrev pub Stops : {K : Type 0} → (K → List ℕ → K → Type 0) → (K → ℕ) → Bool → K → List ℕ
+    → List (List ℕ) → Stop Shown → List ℕ → K → Type 0
+Stops takes failures front start bytes earlier (stop.Answer shown.Whole) collected sink = (n : Next)
+    × (rest : List ℕ) × ArePut takes failures front start bytes earlier n rest collected sink
     × IsOpenFor front n rest × (0 ≡ length rest)
-Stops takes failures front start bytes before (stop.Answer (shown.Rest size)) collected sink =
+Stops takes failures front start bytes earlier (stop.Answer (shown.Rest size)) collected sink =
     (n : Next) × (rest : List ℕ)
-    × ArePut takes failures front start bytes before n rest collected sink
+    × ArePut takes failures front start bytes earlier n rest collected sink
     × IsOpenFor front n rest × (size ≡ length rest) × (0 < size)
-Stops takes failures front start bytes before (stop.Answer (shown.Fault f)) collected sink =
+Stops takes failures front start bytes earlier (stop.Answer (shown.Fault f)) collected sink =
     (n : Next)
-    × (rest : List ℕ) × ArePut takes failures front start bytes before n rest collected sink
+    × (rest : List ℕ) × ArePut takes failures front start bytes earlier n rest collected sink
     × IsFaultyFor front n rest f
-Stops takes failures front start bytes before stop.Memory collected sink = (n : Next)
-    × (rest : List ℕ) × ArePut takes failures front start bytes before n rest collected sink
-Stops takes failures front start bytes before stop.SinkFailed collected sink =
-    HasSinkFailed takes failures front start bytes before collected sink
-Stops takes failures front start bytes before _ collected sink = (n : Next) × (rest : List ℕ)
-    × ArePut takes failures front start bytes before n rest collected sink × IsOpenFor front n rest
+Stops takes failures front start bytes earlier stop.Memory collected sink = (n : Next)
+    × (rest : List ℕ) × ArePut takes failures front start bytes earlier n rest collected sink
+Stops takes failures front start bytes earlier stop.SinkFailed collected sink =
+    HasSinkFailed takes failures front start bytes earlier collected sink
+Stops takes failures front start bytes earlier _ collected sink = (n : Next) × (rest : List ℕ)
+    × ArePut takes failures front start bytes earlier n rest collected sink × IsOpenFor front n rest
 
--- Where a step of the work leads, before which this text was shown.
+-- The lines for the bytes received are put as before, and these sends were the first.
+abbrev pub GoesOn : {K : Type 0} → (K → List ℕ → K → Type 0) → (K → ℕ) → K → List ℕ
+    → List (List ℕ) → Decoding → List ℕ → K → Type 0
+GoesOn takes failures start bytes earlier at collected sink =
+    (shown : HasShown takes failures start bytes at collected sink)
+    × IsPrefix earlier shown.put.pieces
+
+-- Where a step of the work leads, before which these sends were made.
 abbrev pub StepShows : {K : Type 0} → (K → List ℕ → K → Type 0) → (K → ℕ) → Bool → K → List ℕ
-    → List ℕ
-    → Result Decoding (Stop Shown) → List ℕ → K → Type 0
-StepShows takes failures front start bytes before (Ok s) collected sink = (is_front s ≡ front)
-    × HasShown takes failures start bytes s collected sink
-StepShows takes failures front start bytes before (Err h) collected sink =
-    Stops takes failures front start bytes before h collected sink
+    → List (List ℕ) → Result Decoding (Stop Shown) → List ℕ → K → Type 0
+StepShows takes failures front start bytes earlier (Ok s) collected sink = (is_front s ≡ front)
+    × (shown : HasShown takes failures start bytes s collected sink)
+    × IsPrefix earlier shown.put.pieces
+StepShows takes failures front start bytes earlier (Err h) collected sink =
+    Stops takes failures front start bytes earlier h collected sink
 
--- What a stop says of the source: it has ended, it failed in these calls, it gave no end in so many, or it didn't fail.
+-- What a stop says of the source: it has ended, it failed in these calls, it gave no end in so many,
+-- or it didn't fail.
 abbrev pub StopsSource : Type 0 → ℕ → ℕ → List (List ℕ) → Stop Shown → Type 0
 StopsSource ended old new pieces (stop.Answer shown.Whole) = ended × (new ≡ old)
 StopsSource ended old new pieces (stop.Answer (shown.Rest size)) = ended × (new ≡ old)
@@ -249,9 +258,10 @@ pub record HasRun {S K : Type 0} (gives : S → List ℕ → S → Type 0) (sour
     (sink : K) : Type 0 where
   pub pieces : List (List ℕ)
   pub received : FoldsTo gives source pieces source'
-  pub before : List ℕ
-  pub shown_before : AreShownBefore front (concat pieces) before
-  pub stops : Stops takes failures front start (concat pieces) before s collected sink
+  pub earlier : List (List ℕ)
+  pub shown_before : AreShownBefore front (concat pieces) (concat earlier)
+  pub at_once : IsSentAtOnce (AreAllShown front) pieces earlier
+  pub stops : Stops takes failures front start (concat pieces) earlier s collected sink
   pub stops_source : StopsSource ended (source_failures source) (source_failures source') pieces s
 
 -- One call of receive gave these bytes, and the work went on with them.

@@ -1,7 +1,10 @@
 use Rattle.std.proofs.Common.{◌≡◌, ◌++◌, take, sym, ap, ◌∙◌, take-append-drop}
 use Rattle.std.proofs.lemmas.Result.{err_from_is_err_and}
-use Rattle.pgpipe_base.proofs.Pieces.{some_more, some_fails}
+use Rattle.pgpipe_base.proofs.Pieces.{none_yet, some_more, some_fails}
 use Rattle.pgpipe_base.proofs.outbox.Outbox.put_all.Goals as goal
+
+pub loop-rest-init : goal.loop-rest-init
+loop-rest-init g c = none_yet g.K.Sink.takes g.K.Sink.failures _ _ _
 
 pub returns-in_err-make_room : goal.returns-in_err-make_room
 returns-in_err-make_room g c =

@@ -20,7 +20,7 @@ loop-preserved g c =
     let file = file_by c.args.self.now.reader in
     let ended = g.S.Source.has_ended c.step.new.source in
     let steps = steps_for g.K.Sink.takes g.K.Sink.failures ended c.loop.self.reader c.loop.self.out.items c.loop.sink step.0 (Ok c.in_default.field-0) c.step.new.self.reader c.step.new.self.out.items c.step.new.sink (writing_by c.loop.self.to) (writing_by c.args.self.now.to) (ap writing_by c.loop.invariant.0) step.3 in
-    (c.in_default.ensures.to ∙ c.loop.invariant.0, runs_more g.S.Source.gives g.S.Source.failures g.K.Sink.takes g.K.Sink.failures file (writing_by c.args.self.now.to) c.args.source.now c.args.sink.now c.loop.counter c.loop.source c.loop.self.reader c.loop.self.out.items c.loop.sink step.0 c.step.new.source c.step.new.self.reader c.step.new.self.out.items c.step.new.sink ended r step.2 c.in_default.ensures.source (steps file c.args.sink.now (concat r.pieces) r.stands))
+    (c.in_default.ensures.to ∙ c.loop.invariant.0, runs_more g.S.Source.gives g.S.Source.failures g.K.Sink.takes g.K.Sink.failures file (writing_by c.args.self.now.to) c.args.source.now c.args.sink.now c.loop.counter c.loop.source c.loop.self.reader c.loop.self.out.items c.loop.sink step.0 c.step.new.source c.step.new.self.reader c.step.new.self.out.items c.step.new.sink ended r step.2 c.in_default.ensures.source (steps file c.args.sink.now (concat r.pieces) r.stands) c.in_default.ensures.nothing_left)
 
 pub returns : goal.returns
 returns g c = run_endless g.S.Source.gives g.S.Source.failures g.K.Sink.takes g.K.Sink.failures (file_by c.args.self.now.reader) (writing_by c.args.self.now.to) (g.S.Source.has_ended c.loop.source) c.args.source.now c.args.sink.now c.loop.counter c.loop.source c.loop.self.reader c.loop.self.out.items c.loop.sink (omega (arith, c.loop-test.false, c.loop.auto.counter-end)) c.loop.invariant.1

@@ -26,4 +26,4 @@ returns-clause-steps g c =
     let same : c.deref.result.now ≡ c.receive.new.into = read_back c.args.self.now.into.len c.receive.new.into c.args.self.now.into.items c.deref.result.now c.deref.ensures.value (omega arith) in
     let taken : TakesPiece c.args.self.now.reader (take c.in-Ok.count c.deref.result.now) (Ok c.in_ok-push.field-0) c.push.new.self = c.in_ok-push.ensures in
     let took : TakesPiece c.args.self.now.reader (take c.in-Ok.count c.receive.new.into) (Ok c.in_ok-push.field-0) c.push.new.self = subst (λ (l : List ℕ). TakesPiece c.args.self.now.reader (take c.in-Ok.count l) (Ok c.in_ok-push.field-0) c.push.new.self) same taken in
-    (take c.in-Ok.count c.receive.new.into, piece_within c.in-Ok.count c.receive.new.into (omega arith), c.in-Ok.ensures.bytes, λ file start bytes st. piece_steps g.K.Sink.takes g.K.Sink.failures file (writing_by c.args.self.now.to) start bytes c.args.self.now.reader c.args.self.now.out.items c.args.sink.now st (take c.in-Ok.count c.receive.new.into) c.push.new.self took.0 took.1 took.2 (g.S.Source.has_ended c.receive.new.self) c.put_rows.result c.put_rows.new.reader c.put_rows.new.out.items c.put_rows.new.sink c.put_rows.ensures)
+    (take c.in-Ok.count c.receive.new.into, piece_within c.in-Ok.count c.receive.new.into (omega arith), c.in-Ok.ensures.bytes, λ file start bytes st. piece_steps g.K.Sink.takes g.K.Sink.failures file (writing_by c.args.self.now.to) start bytes c.args.self.now.reader c.args.self.now.out.items c.args.sink.now st (take c.in-Ok.count c.receive.new.into) c.push.new.self took.0 took.1 took.2 (g.S.Source.has_ended c.receive.new.self) c.send_rows.result c.send_rows.new.reader c.send_rows.new.out.items c.send_rows.new.sink c.send_rows.ensures.puts)

@@ -23,7 +23,7 @@ pub loop-preserved : goal.loop-preserved
 loop-preserved g c =
     let r = c.loop.invariant in
     let step = c.in-Ok.ensures.steps in
-    runs_more g.S.Source.gives g.S.Source.failures g.K.Sink.takes g.K.Sink.failures (is_front c.args.decoding) c.args.source.now c.args.sink.now c.loop.counter c.loop.source c.loop.decoding c.loop.self.outbox c.loop.sink step.0 c.step.new.source c.in-Ok.next c.step.new.self.outbox c.step.new.sink r step.1 step.2 c.in-Ok.ensures.source (step.3 c.args.sink.now (concat r.pieces) r.stands)
+    runs_more g.S.Source.gives g.S.Source.failures g.K.Sink.takes g.K.Sink.failures (is_front c.args.decoding) c.args.source.now c.args.sink.now c.loop.counter c.loop.source c.loop.decoding c.loop.self.outbox c.loop.sink step.0 c.step.new.source c.in-Ok.next c.step.new.self.outbox c.step.new.sink r step.1 step.2 c.in-Ok.ensures.source (step.3 c.args.sink.now (concat r.pieces) r.stands) c.in-Ok.ensures.nothing_left
 
 pub returns : goal.returns
 returns g c = run_endless g.S.Source.gives g.S.Source.failures g.K.Sink.takes g.K.Sink.failures (is_front c.args.decoding) (g.S.Source.has_ended c.loop.source) c.args.source.now c.args.sink.now c.loop.counter c.loop.source c.loop.decoding c.loop.self.outbox c.loop.sink (omega (arith, c.loop-test.false, c.loop.auto.counter-end)) c.loop.invariant

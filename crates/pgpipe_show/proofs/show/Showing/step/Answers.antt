@@ -24,4 +24,4 @@ returns-in-Err-clause-steps g c = ([], omega arith, c.in-Err.ensures.bytes, λ s
 pub returns-clause-steps : goal.returns-clause-steps
 returns-clause-steps g c =
     let same : c.deref.result.now ≡ c.receive.new.into = read_back c.args.self.now.into.len c.receive.new.into c.args.self.now.into.items c.deref.result.now c.deref.ensures.value (omega arith) in
-    (take c.in-Ok.count c.receive.new.into, piece_within c.in-Ok.count c.receive.new.into (omega arith), c.in-Ok.ensures.bytes, rw same at c.take.ensures.steps)
+    (take c.in-Ok.count c.receive.new.into, piece_within c.in-Ok.count c.receive.new.into (omega arith), c.in-Ok.ensures.bytes, rw same at c.send.ensures.steps)
