@@ -1,0 +1,81 @@
+//! How the program fails.
+
+use pg_client::{CallFault, FeedFault};
+use std::alloc::AllocError;
+use std::io;
+use thiserror::Error;
+
+/// Why the program ends with a status other than 0.
+#[derive(Debug, Drop, Error)]
+pub enum Failure {
+    /// The server answered an error, which was printed as it came.
+    #[error("the server answered an error")]
+    Refused,
+    /// The server can't be reached.
+    #[error("no connection: {0}")]
+    Unreachable(io::Error),
+    /// The connection was lost before the session had begun.
+    #[error("the server ended the connection before the session had begun")]
+    NoAnswer,
+    /// The server refused the session with an error, which was printed.
+    #[error("the server refused the session")]
+    Rejected,
+    /// The server didn't begin the session.
+    #[error("no session: {0}")]
+    NoSession(FeedFault),
+    /// The server asks for a way of authentication that is left out.
+    #[error("no session: the server asks for SCRAM, and docs/GUIDE.md says what helps")]
+    Scram,
+    /// The connection was lost while a query was outstanding. Which one was printed.
+    #[error("the connection was lost")]
+    Lost,
+    /// The words are wrong, for this reason.
+    #[error("{0}; hello_pg --help tells more")]
+    Words(&'static str),
+    /// The client refuses a call, as for a query that is too long.
+    #[error("{0}")]
+    Call(CallFault),
+    /// A file can't be opened or read.
+    #[error("file: {0}")]
+    File(io::Error),
+    /// The output can't be written.
+    #[error("the output can't be written")]
+    Output,
+    /// Memory was refused.
+    #[error("no memory")]
+    Memory,
+}
+
+impl Failure {
+    /// The program's exit status.
+    pub fn status(&self) -> u8 {
+        match self {
+            Failure::Refused => 1,
+            Failure::Unreachable(_)
+            | Failure::NoAnswer
+            | Failure::Rejected
+            | Failure::NoSession(_)
+            | Failure::Scram => 2,
+            Failure::Lost => 3,
+            Failure::Words(_) => 4,
+            Failure::Call(_) | Failure::File(_) | Failure::Output | Failure::Memory => 5,
+        }
+    }
+
+    /// Whether nothing was printed of it yet.
+    pub fn is_untold(&self) -> bool {
+        !matches!(self, Failure::Refused | Failure::Rejected | Failure::Lost)
+    }
+}
+
+impl From<AllocError> for Failure {
+    fn from(_refused: AllocError) -> Failure {
+        Failure::Memory
+    }
+}
+
+impl From<CallFault> for Failure {
+    fn from(fault: CallFault) -> Failure {
+        Failure::Call(fault)
+    }
+}
