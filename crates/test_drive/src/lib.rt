@@ -4,6 +4,12 @@
 #![tactic(auto)]
 
 #[cfg(test)]
+mod early;
+#[cfg(test)]
+mod early_line;
+#[cfg(test)]
+mod failures;
+#[cfg(test)]
 mod line;
 #[cfg(test)]
 mod requests;

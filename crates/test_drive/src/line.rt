@@ -1,6 +1,6 @@
 //! A link in memory, which fails where a test wants it, and the clients that are driven over it.
 
-use pg_client::{Client, FeedFault, Loss, Settings};
+use pg_client::{CallFault, Client, FeedFault, Loss, Phase, Settings};
 use pg_drive::{DriveFault, Driven, drive};
 use pg_wire::{LinkFault, Request, Seq, Sink, Source};
 use std::alloc::{AllocError, Global};
@@ -93,7 +93,8 @@ fn fresh(alloc: Global, password: Option<Seq<u8>>) -> Result<Client, AllocError>
     Ok(Client::new(alloc, settings))
 }
 
-/// A client, what it has put out, and the link that it is driven over.
+/// A client, what it has put out, and the link that it is driven over. What a test asks of it answers whether it was so: only
+/// the test's end then lets it go, since to prove that takes long.
 #[derive(Drop)]
 pub(crate) struct Driving<'a> {
     pub(crate) client: Client,
@@ -101,23 +102,32 @@ pub(crate) struct Driving<'a> {
     pub(crate) link: Line<'a>,
 }
 
-/// A client that was started, and the startup packet.
-fn started(alloc: Global, password: Option<Seq<u8>>) -> Result<(Client, Vec<u8>), Fail> {
-    let mut client = fresh(alloc, password)?;
-    let mut out = Vec::new(alloc);
-    client.start(&mut out)?;
-    Ok((client, out))
-}
-
 impl<'a> Driving<'a> {
+    fn new(
+        alloc: Global,
+        password: Option<Seq<u8>>,
+        link: Line<'a>,
+    ) -> Result<Driving<'a>, AllocError> {
+        Ok(Driving {
+            client: fresh(alloc, password)?,
+            out: Vec::new(alloc),
+            link,
+        })
+    }
+
     /// A client that was started, and whose startup packet waits to be sent.
     pub(crate) fn started(
         alloc: Global,
         password: Option<Seq<u8>>,
         link: Line<'a>,
     ) -> Result<Driving<'a>, Fail> {
-        let (client, out) = started(alloc, password)?;
-        Ok(Driving { client, out, link })
+        let mut it = Driving::new(alloc, password, link)?;
+        it.start()?;
+        Ok(it)
+    }
+
+    fn start(&mut self) -> Result<(), CallFault> {
+        self.client.start(&mut self.out)
     }
 
     /// A client that has made a request, whose message waits to be sent.
@@ -126,11 +136,16 @@ impl<'a> Driving<'a> {
         request: Request,
         link: Line<'a>,
     ) -> Result<Driving<'a>, Fail> {
-        let (mut client, mut out) = started(alloc, None)?;
-        client.feed(&WELCOME, &mut out)?;
-        out.clear();
-        match client.request(request, &mut out) {
-            Ok(()) => Ok(Driving { client, out, link }),
+        let mut it = Driving::started(alloc, None, link)?;
+        it.ask(request)?;
+        Ok(it)
+    }
+
+    fn ask(&mut self, request: Request) -> Result<(), Fail> {
+        self.feed(&WELCOME)?;
+        self.out.clear();
+        match self.client.request(request, &mut self.out) {
+            Ok(()) => Ok(()),
             Err((_, fault)) => Err(fault.into()),
         }
     }
@@ -143,6 +158,41 @@ impl<'a> Driving<'a> {
     /// Drives the client, with at most so many receives.
     pub(crate) fn drive(&mut self, turns: u32) -> Result<Driven, DriveFault> {
         drive(&mut self.client, &mut self.out, &mut self.link, turns)
+    }
+
+    /// Driven with at most so many receives, it answers so.
+    pub(crate) fn gives(&mut self, turns: u32, answer: Result<Driven, DriveFault>) -> bool {
+        self.drive(turns) == answer
+    }
+
+    /// Driven so, it hands this loss back, as the bytes have ended.
+    pub(crate) fn loses(&mut self, turns: u32, loss: Loss) -> bool {
+        self.gives(turns, Ok(Driven::Lost(loss)))
+    }
+
+    /// Driven so, it hands this loss back, as the link failed.
+    pub(crate) fn fails(&mut self, turns: u32, loss: Loss) -> bool {
+        self.gives(turns, Err(DriveFault::Link(loss)))
+    }
+
+    /// The client stands in this phase.
+    pub(crate) fn stands(&self, phase: Phase) -> bool {
+        self.client.phase() == phase
+    }
+
+    /// Just these bytes were sent.
+    pub(crate) fn has_sent(&self, bytes: &[u8]) -> bool {
+        self.link.taken.as_slice() == bytes
+    }
+
+    /// Just these bytes wait to be sent.
+    pub(crate) fn has_to_send(&self, bytes: &[u8]) -> bool {
+        self.out.as_slice() == bytes
+    }
+
+    /// Just these bytes are left to be received.
+    pub(crate) fn has_to_receive(&self, bytes: &[u8]) -> bool {
+        self.link.gives == bytes
     }
 }
 

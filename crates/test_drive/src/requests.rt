@@ -1,6 +1,6 @@
 use crate::line::{Driving, line_of};
 use pg_client::{Cause, Loss, Phase};
-use pg_drive::{DriveFault, Driven};
+use pg_drive::Driven;
 use pg_wire::{Request, Seq};
 use std::alloc::{AllocError, Global};
 use std::test::Fail;
@@ -20,14 +20,27 @@ fn asked(alloc: Global, gives: &[u8], most: usize) -> Result<Driving<'_>, Fail> 
     Driving::asked(alloc, query(alloc)?, line_of(alloc, gives, most))
 }
 
+/// The query is lost, after an error or not.
+fn query_lost(alloc: Global, seen_error: bool) -> Result<Loss, AllocError> {
+    Ok(Loss {
+        unsettled: Some(query(alloc)?),
+        seen_error,
+    })
+}
+
+/// A settled group is taken.
+fn settles(it: &mut Driving<'_>) -> bool {
+    it.client.take_settled().is_some()
+}
+
 #[test]
 fn a_group_settles(rt: HostRuntime) -> Result<(), Fail> {
     let mut it = asked(rt.alloc(), ANSWER, 1)?;
-    assert_eq!(rt; it.drive(14), Ok(Driven::Settled));
+    assert!(rt; it.gives(14, Ok(Driven::Settled)));
     // it waits also where no piece is to be received
-    assert_eq!(rt; it.drive(0), Ok(Driven::TurnsUsed));
+    assert!(rt; it.gives(0, Ok(Driven::TurnsUsed)));
     assert!(rt; it.client.has_settled());
-    assert!(rt; it.client.take_settled().is_some());
+    assert!(rt; settles(&mut it));
     assert!(rt; !it.client.has_settled());
     Ok(())
 }
@@ -35,8 +48,8 @@ fn a_group_settles(rt: HostRuntime) -> Result<(), Fail> {
 #[test]
 fn a_group_that_waits_is_seen_after_a_piece(rt: HostRuntime) -> Result<(), Fail> {
     let mut it = asked(rt.alloc(), b"N\0\0\0\x05\0", 3)?;
-    it.feed(ANSWER)?;
-    assert_eq!(rt; it.drive(9), Ok(Driven::Settled));
+    assert!(rt; it.feed(ANSWER).is_ok());
+    assert!(rt; it.gives(9, Ok(Driven::Settled)));
     assert_eq!(rt; it.link.gives.len(), 3);
     Ok(())
 }
@@ -44,34 +57,27 @@ fn a_group_that_waits_is_seen_after_a_piece(rt: HostRuntime) -> Result<(), Fail>
 #[test]
 fn a_copy_is_awaited(rt: HostRuntime) -> Result<(), Fail> {
     let mut it = asked(rt.alloc(), COPY_IN, 1)?;
-    assert_eq!(rt; it.drive(9), Ok(Driven::CopyIn));
-    assert_eq!(rt; it.client.phase(), Phase::CopyingIn);
-    assert!(rt; it.link.gives.is_empty());
+    assert!(rt; it.gives(9, Ok(Driven::CopyIn)));
+    assert!(rt; it.stands(Phase::CopyingIn));
+    assert!(rt; it.has_to_receive(b""));
     Ok(())
 }
 
 #[test]
 fn a_request_is_lost(rt: HostRuntime) -> Result<(), Fail> {
+    let lost = query_lost(rt.alloc(), true)?;
     let mut it = asked(rt.alloc(), b"E\0\0\0\x05\0", 40)?;
-    let loss = Loss {
-        unsettled: Some(query(rt.alloc())?),
-        seen_error: true,
-    };
-    assert_eq!(rt; it.drive(2), Ok(Driven::Lost(loss)));
-    assert_eq!(rt; it.client.phase(), Phase::Closed(Cause::Lost));
+    assert!(rt; it.loses(2, lost));
+    assert!(rt; it.stands(Phase::Closed(Cause::Lost)));
     Ok(())
 }
 
 #[test]
 fn a_request_is_lost_with_the_link(rt: HostRuntime) -> Result<(), Fail> {
+    let lost = query_lost(rt.alloc(), false)?;
     let mut it = asked(rt.alloc(), ANSWER, 13)?;
     it.link.fails_at_receive = 2;
-    let loss = Loss {
-        unsettled: Some(query(rt.alloc())?),
-        seen_error: false,
-    };
-    let failed = Err(DriveFault::Link(loss));
-    assert_eq!(rt; it.drive(2), failed);
+    assert!(rt; it.fails(2, lost));
     assert_eq!(rt; it.link.failures, 1);
     Ok(())
 }

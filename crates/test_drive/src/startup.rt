@@ -7,10 +7,10 @@ use std::test::Fail;
 #[test]
 fn it_ends_at_its_last_byte(rt: HostRuntime) -> Result<(), Fail> {
     let mut it = Driving::started(rt.alloc(), None, line_of(rt.alloc(), &WELCOME, 1))?;
-    assert_eq!(rt; it.drive(15), Ok(Driven::Ready));
-    assert_eq!(rt; it.client.phase(), Phase::Ready);
-    assert_eq!(rt; it.link.taken.as_slice(), STARTUP.as_slice());
-    assert!(rt; it.out.is_empty());
+    assert!(rt; it.gives(15, Ok(Driven::Ready)));
+    assert!(rt; it.stands(Phase::Ready));
+    assert!(rt; it.has_sent(&STARTUP));
+    assert!(rt; it.has_to_send(b""));
     assert_eq!(rt; it.link.failures, 0);
     Ok(())
 }
@@ -18,22 +18,22 @@ fn it_ends_at_its_last_byte(rt: HostRuntime) -> Result<(), Fail> {
 #[test]
 fn the_turns_are_used_before(rt: HostRuntime) -> Result<(), Fail> {
     let mut it = Driving::started(rt.alloc(), None, line_of(rt.alloc(), &WELCOME, 1))?;
-    assert_eq!(rt; it.drive(14), Ok(Driven::TurnsUsed));
-    assert_eq!(rt; it.client.phase(), Phase::Starting);
+    assert!(rt; it.gives(14, Ok(Driven::TurnsUsed)));
+    assert!(rt; it.stands(Phase::Starting));
     assert_eq!(rt; it.link.gives.len(), 1);
     // it goes on by the next call
-    assert_eq!(rt; it.drive(1), Ok(Driven::Ready));
+    assert!(rt; it.gives(1, Ok(Driven::Ready)));
     // and Ready isn't answered once more
-    assert_eq!(rt; it.drive(0), Ok(Driven::TurnsUsed));
+    assert!(rt; it.gives(0, Ok(Driven::TurnsUsed)));
     Ok(())
 }
 
 #[test]
 fn without_turns_it_is_sent_alone(rt: HostRuntime) -> Result<(), Fail> {
     let mut it = Driving::started(rt.alloc(), None, line_of(rt.alloc(), &WELCOME, 3))?;
-    assert_eq!(rt; it.drive(0), Ok(Driven::TurnsUsed));
-    assert_eq!(rt; it.link.taken.as_slice(), STARTUP.as_slice());
-    assert_eq!(rt; it.link.gives, WELCOME.as_slice());
+    assert!(rt; it.gives(0, Ok(Driven::TurnsUsed)));
+    assert!(rt; it.has_sent(&STARTUP));
+    assert!(rt; it.has_to_receive(&WELCOME));
     Ok(())
 }
 
@@ -41,9 +41,9 @@ fn without_turns_it_is_sent_alone(rt: HostRuntime) -> Result<(), Fail> {
 fn however_many_bytes_are_taken_at_once(rt: HostRuntime) -> Result<(), Fail> {
     for most in 1..20 {
         let mut it = Driving::started(rt.alloc(), None, line_of(rt.alloc(), &WELCOME, most))?;
-        assert_eq!(rt; it.drive(15), Ok(Driven::Ready));
-        assert_eq!(rt; it.link.taken.as_slice(), STARTUP.as_slice());
-        assert!(rt; it.out.is_empty());
+        assert!(rt; it.gives(15, Ok(Driven::Ready)));
+        assert!(rt; it.has_sent(&STARTUP));
+        assert!(rt; it.has_to_send(b""));
     }
     Ok(())
 }
@@ -51,9 +51,8 @@ fn however_many_bytes_are_taken_at_once(rt: HostRuntime) -> Result<(), Fail> {
 #[test]
 fn the_bytes_end_before(rt: HostRuntime) -> Result<(), Fail> {
     let mut it = Driving::started(rt.alloc(), None, line_of(rt.alloc(), &WELCOME[..14], 1))?;
-    let lost = Ok(Driven::Lost(nothing_lost()));
-    assert_eq!(rt; it.drive(20), lost);
-    assert_eq!(rt; it.client.phase(), Phase::Closed(Cause::Lost));
+    assert!(rt; it.loses(20, nothing_lost()));
+    assert!(rt; it.stands(Phase::Closed(Cause::Lost)));
     assert_eq!(rt; it.link.failures, 0);
     Ok(())
 }
@@ -62,9 +61,8 @@ fn the_bytes_end_before(rt: HostRuntime) -> Result<(), Fail> {
 fn a_receive_fails_before(rt: HostRuntime) -> Result<(), Fail> {
     let mut it = Driving::started(rt.alloc(), None, line_of(rt.alloc(), &WELCOME, 1))?;
     it.link.fails_at_receive = 15;
-    let failed = Err(DriveFault::Link(nothing_lost()));
-    assert_eq!(rt; it.drive(20), failed);
-    assert_eq!(rt; it.client.phase(), Phase::Closed(Cause::Lost));
+    assert!(rt; it.fails(20, nothing_lost()));
+    assert!(rt; it.stands(Phase::Closed(Cause::Lost)));
     assert_eq!(rt; it.link.failures, 1);
     Ok(())
 }
@@ -74,12 +72,11 @@ fn a_send_fails(rt: HostRuntime) -> Result<(), Fail> {
     for sent in 0..16usize {
         let mut it = Driving::started(rt.alloc(), None, line_of(rt.alloc(), &WELCOME, 1))?;
         it.link.fails_at_send = sent as u64 + 1;
-        let failed = Err(DriveFault::Link(nothing_lost()));
-        assert_eq!(rt; it.drive(20), failed);
-        assert_eq!(rt; it.client.phase(), Phase::Closed(Cause::Lost));
-        assert_eq!(rt; it.link.taken.as_slice(), &STARTUP[..sent]);
-        assert_eq!(rt; it.out.as_slice(), &STARTUP[sent..]);
-        assert_eq!(rt; it.link.gives, WELCOME.as_slice());
+        assert!(rt; it.fails(20, nothing_lost()));
+        assert!(rt; it.stands(Phase::Closed(Cause::Lost)));
+        assert!(rt; it.has_sent(&STARTUP[..sent]));
+        assert!(rt; it.has_to_send(&STARTUP[sent..]));
+        assert!(rt; it.has_to_receive(&WELCOME));
     }
     Ok(())
 }
@@ -98,10 +95,10 @@ fn a_password_is_sent(rt: HostRuntime) -> Result<(), Fail> {
         Some(password),
         line_of(rt.alloc(), &QUESTION, 2),
     )?;
-    assert_eq!(rt; it.drive(5), Ok(Driven::TurnsUsed));
+    assert!(rt; it.gives(5, Ok(Driven::TurnsUsed)));
     assert!(rt; it.link.taken.starts_with(&STARTUP));
     assert!(rt; it.link.taken.ends_with(&PASSWORD));
-    assert!(rt; it.out.is_empty());
+    assert!(rt; it.has_to_send(b""));
     Ok(())
 }
 
@@ -114,9 +111,8 @@ fn a_password_is_sent_in_part(rt: HostRuntime) -> Result<(), Fail> {
         line_of(rt.alloc(), &QUESTION, 4),
     )?;
     it.link.fails_at_send = 6;
-    let failed = Err(DriveFault::Link(nothing_lost()));
-    assert_eq!(rt; it.drive(9), failed);
-    assert_eq!(rt; it.out.as_slice(), &PASSWORD[4..]);
+    assert!(rt; it.fails(9, nothing_lost()));
+    assert!(rt; it.has_to_send(&PASSWORD[4..]));
     Ok(())
 }
 
@@ -125,9 +121,9 @@ fn a_closed_client_sends_and_takes_nothing(rt: HostRuntime) -> Result<(), Fail> 
     let mut it = Driving::started(rt.alloc(), None, line_of(rt.alloc(), &WELCOME, 40))?;
     let _ = it.client.lost();
     let closed = Err(DriveFault::Feed(FeedFault::Closed));
-    assert_eq!(rt; it.drive(2), closed);
-    assert_eq!(rt; it.link.taken.as_slice(), STARTUP.as_slice());
-    assert!(rt; it.link.gives.is_empty());
+    assert!(rt; it.gives(2, closed));
+    assert!(rt; it.has_sent(&STARTUP));
+    assert!(rt; it.has_to_receive(b""));
     Ok(())
 }
 
@@ -136,8 +132,8 @@ fn nothing_may_come_before_it(rt: HostRuntime) -> Result<(), Fail> {
     let alloc = rt.alloc();
     let mut it = Driving::started(alloc, None, line_of(alloc, &WELCOME[9..], 40))?;
     let refused = DriveFault::Feed(FeedFault::Unexpected(b'Z'));
-    assert_eq!(rt; it.drive(2), Err(refused));
-    assert_eq!(rt; it.client.phase(), Phase::Closed(Cause::Unexpected));
+    assert!(rt; it.gives(2, Err(refused)));
+    assert!(rt; it.stands(Phase::Closed(Cause::Unexpected)));
     Ok(())
 }
 

@@ -8,7 +8,6 @@ use pg_backend::{
 };
 use pg_wire::{CopyHead, Seq, Status, WireFault};
 use std::alloc::{AllocError, Global};
-use std::process::Abort;
 use std::test::Fail;
 
 /// An SSLRequest, and a Startup with the user `u`.
@@ -51,21 +50,85 @@ fn begin(alloc: Global, script: Script) -> Result<Backend, ScriptFault> {
     Ok(Backend::new(alloc, script, 1_073_741_823))
 }
 
-/// Steps until nothing whole waits.
-fn run(backend: &mut Backend, out: &mut Vec<u8>) -> Result<(), BackendFault> {
-    for _ in 0..100 {
-        match backend.step(out) {
-            Ok(true) => {}
-            Ok(false) => return Ok(()),
-            Err(BackendFault::Closed) => return Ok(()),
-            Err(fault) => return Err(fault),
-        }
+/// A backend, and what it has put out. What a test asks of it answers whether it was so: only the test's end then lets it go,
+/// since to prove that takes long.
+#[derive(Drop)]
+struct Serving {
+    backend: Backend,
+    out: Vec<u8>,
+}
+
+/// A backend that plays this script, and has put nothing out.
+fn backend_of(alloc: Global, script: Script) -> Result<Serving, ScriptFault> {
+    Ok(Serving {
+        backend: begin(alloc, script)?,
+        out: Vec::new(alloc),
+    })
+}
+
+impl Serving {
+    /// Takes these bytes.
+    fn takes(&mut self, bytes: &[u8]) -> bool {
+        self.backend.push(bytes).is_ok()
     }
-    Ok(())
+
+    /// Answers a step so.
+    fn steps(&mut self, answer: Result<bool, BackendFault>) -> bool {
+        self.backend.step(&mut self.out) == answer
+    }
+
+    /// Steps until nothing whole waits.
+    fn runs(&mut self) -> bool {
+        for _ in 0..100 {
+            match self.backend.step(&mut self.out) {
+                Ok(true) => {}
+                Ok(false) | Err(BackendFault::Closed) => return true,
+                Err(_) => return false,
+            }
+        }
+        true
+    }
+
+    /// What was put out is taken off.
+    fn sends(&mut self) -> bool {
+        self.out.clear();
+        true
+    }
+
+    /// Takes these bytes and steps until nothing whole waits, and what was put out is taken off.
+    fn opens(&mut self, opening: &[u8]) -> bool {
+        self.takes(opening) && self.runs() && self.sends()
+    }
+
+    /// Has put just these bytes out.
+    fn has_put(&self, bytes: &[u8]) -> bool {
+        self.out.as_slice() == bytes
+    }
+
+    /// What it has put out begins and ends so.
+    fn has_put_from_to(&self, begins: &[u8], ends: &[u8]) -> bool {
+        self.out.as_slice().starts_with(begins) && self.out.as_slice().ends_with(ends)
+    }
+
+    /// Is in this phase, and has logged so many requests.
+    fn stands(&self, phase: BackPhase, logged: usize) -> bool {
+        self.backend.phase() == phase && self.backend.log().len() == logged
+    }
+
+    /// One step does what the case says.
+    fn fits(&mut self, case: &Case<'_>) -> bool {
+        let answered = self.opens(case.opening)
+            && self.takes(case.input)
+            && self.steps(case.answer);
+        answered
+            && self.has_put_from_to(case.begins, case.ends)
+            && self.out.is_empty() == case.begins.is_empty()
+            && self.stands(case.phase, case.logged)
+    }
 }
 
 /// What one step of a backend without answers does, after this opening: its output begins and ends so.
-#[derive(Drop)]
+#[derive(Clone, Copy)]
 struct Case<'a> {
     opening: &'a [u8],
     input: &'a [u8],
@@ -76,39 +139,14 @@ struct Case<'a> {
     logged: usize,
 }
 
-/// A backend without answers that has taken these bytes.
-fn opened(alloc: Global, opening: &[u8]) -> Result<Backend, Fail> {
-    let mut backend = begin(alloc, silent(alloc))?;
-    let mut out = Vec::new(alloc);
-    backend.push(opening)?;
-    run(&mut backend, &mut out)?;
-    Ok(backend)
-}
-
-fn check_case(rt: &impl Abort, alloc: Global, case: &Case<'_>) -> Result<(), Fail> {
-    let mut backend = opened(alloc, case.opening)?;
-    backend.push(case.input)?;
-    let mut out = Vec::new(alloc);
-    assert!(rt; backend.step(&mut out) == case.answer);
-    assert!(rt; out.as_slice().starts_with(case.begins));
-    assert!(rt; out.as_slice().ends_with(case.ends));
-    assert!(rt; out.is_empty() == case.begins.is_empty());
-    assert!(rt; backend.phase() == case.phase);
-    assert!(rt; backend.log().len() == case.logged);
-    Ok(())
-}
-
 #[test]
 fn a_connection_is_opened(rt: HostRuntime) -> Result<(), Fail> {
-    let alloc = rt.alloc();
-    let mut backend = begin(alloc, silent(alloc))?;
-    let mut out = Vec::new(alloc);
-    backend.push(&OPENING)?;
-    assert_eq!(rt; backend.step(&mut out), Ok(true));
-    assert_eq!(rt; backend.step(&mut out), Ok(true));
-    let welcome = b"NR\0\0\0\x08\0\0\0\0Z\0\0\0\x05I";
-    assert_eq!(rt; out.as_slice(), welcome.as_slice());
-    assert_eq!(rt; backend.phase(), BackPhase::Ready);
+    let mut it = backend_of(rt.alloc(), silent(rt.alloc()))?;
+    assert!(rt; it.takes(&OPENING));
+    assert!(rt; it.steps(Ok(true)));
+    assert!(rt; it.steps(Ok(true)));
+    assert!(rt; it.has_put(b"NR\0\0\0\x08\0\0\0\0Z\0\0\0\x05I"));
+    assert!(rt; it.stands(BackPhase::Ready, 0));
     Ok(())
 }
 
@@ -172,8 +210,10 @@ fn single_inputs_are_answered(rt: HostRuntime) -> Result<(), Fail> {
             logged: 0,
         },
     ];
-    for case in &cases {
-        check_case(&rt, rt.alloc(), case)?;
+    for case in cases {
+        let mut it = backend_of(rt.alloc(), silent(rt.alloc()))?;
+        let input = case.input;
+        assert!(rt; it.fits(&case), "{input:?}");
     }
     Ok(())
 }

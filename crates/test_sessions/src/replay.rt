@@ -1,16 +1,19 @@
-//! A session made again with a client.
+//! A session made again with a client, and an early client beside it.
 
 ghost use Rattle.std.specs.Prelude.{◌≡◌, IfOk, option_copied};
 ghost use Rattle.test_sessions.specs.Entry.{password_of};
 
+use crate::early::Early;
 use crate::entry::Entry;
+use crate::line::Line;
 use anyhow::{Result, bail};
 use pg_client::{Call, Cause, Client, FeedFault, Loss, Phase, Settings, Settled};
+use pg_drive::{DriveFault, Driven, drive};
 use pg_wire::{Part, Request, Seq, Step};
 use std::alloc::Global;
 use std::mem;
 
-/// How the server's bytes are cut into pieces.
+/// How the server's bytes come to a client.
 #[derive(Clone, Copy, Debug)]
 pub enum StreamCut {
     /// They are fed as they came.
@@ -19,7 +22,12 @@ pub enum StreamCut {
     Everywhere,
     /// In two, after so many bytes.
     At(usize),
+    /// Over a link, by which the client is driven. It gives and takes so many bytes at a time.
+    Link(usize),
 }
+
+// How many bytes a link gives and takes where the bytes are fed, and only what the client sends goes over it.
+const PIECE: usize = 4_096;
 
 /// What came of a session.
 #[derive(Debug, PartialEq, Drop)]
@@ -32,11 +40,14 @@ pub struct SessionEnd {
 
 // A client, and what came of it so far.
 #[derive(Drop)]
-struct Running {
+struct Running<'a> {
     client: Client,
+    early: Early<'a>,
+    /// What the client sends over.
+    line: Line<'a>,
     /// The steps of the group that isn't asked for yet.
     steps: Vec<Step>,
-    /// What the client put out since it was last compared.
+    /// What the client put out and didn't send.
     out: Vec<u8>,
     settled: Vec<Settled>,
     refusal: Option<FeedFault>,
@@ -82,25 +93,44 @@ fn call(client: &mut Client, made: &Call, out: &mut Vec<u8>) -> Result<()> {
     Ok(())
 }
 
-impl Running {
-    fn new(alloc: Global, settings: Settings) -> Running
+// What a driven client answered to its piece.
+fn fed_of(driven: Result<Driven, DriveFault>) -> Result<Result<(), FeedFault>> {
+    match driven {
+        Ok(Driven::Lost(_)) => bail!("there are bytes left to give"),
+        Ok(_) => Ok(Ok(())),
+        Err(DriveFault::Feed(fault)) => Ok(Err(fault)),
+        Err(fault) => Err(fault.into()),
+    }
+}
+
+impl<'a> Running<'a> {
+    fn new(alloc: Global, settings: Settings, cut: StreamCut) -> Result<Running<'a>>
         requires { settings.limit ≡ 65536 }
     {
-        Running {
+        let most = match cut {
+            StreamCut::Link(most) => most,
+            _ => PIECE,
+        };
+        Ok(Running {
+            early: Early::new(alloc, settings.clone()?, most),
             client: Client::new(alloc, settings),
+            line: Line::new(alloc, most),
             steps: Vec::new(alloc),
             out: Vec::new(alloc),
             settled: Vec::new(alloc),
             refusal: None,
-        }
+        })
+    }
+
+    fn is_closed(&self) -> bool {
+        matches!(self.client.phase(), Phase::Closed(_))
     }
 
     // Notes why the client isn't let in. Bytes that come after that, or after a Terminate, are refused.
-    fn feed_piece(&mut self, piece: &[u8]) -> Result<()> {
-        let closed = matches!(self.client.phase(), Phase::Closed(_));
-        match self.client.feed(piece, &mut self.out) {
-            Err(FeedFault::Closed) if closed => {}
-            Ok(()) if closed => bail!("a closed client takes bytes"),
+    fn note(&mut self, was_closed: bool, fed: Result<(), FeedFault>) -> Result<()> {
+        match fed {
+            Err(FeedFault::Closed) if was_closed => {}
+            Ok(()) if was_closed => bail!("a closed client takes bytes"),
             Err(fault @ (FeedFault::StartupError(_) | FeedFault::UnsupportedAuth(_))) => {
                 self.refusal = Some(fault);
             }
@@ -109,7 +139,39 @@ impl Running {
         Ok(())
     }
 
-    fn feed(&mut self, bytes: &[u8], cut: StreamCut) -> Result<()> {
+    // Feeds a piece.
+    fn feed_piece(&mut self, piece: &[u8]) -> Result<()> {
+        let was_closed = self.is_closed();
+        let fed = self.client.feed(piece, &mut self.out);
+        if !self.early.answers(piece, &fed) {
+            bail!("an early client answers otherwise");
+        }
+        self.note(was_closed, fed)
+    }
+
+    // Drives with a piece of the link's bytes.
+    fn drive_piece(&mut self) -> Result<()> {
+        let was_closed = self.is_closed();
+        let fed = fed_of(drive(&mut self.client, &mut self.out, &mut self.line, 1))?;
+        if !self.early.drives(&fed) {
+            bail!("an early client is driven otherwise");
+        }
+        self.note(was_closed, fed)
+    }
+
+    // Drives until these bytes have come.
+    fn drive_through(&mut self, bytes: &'a [u8]) -> Result<()> {
+        self.line.gives = bytes;
+        self.early.give(bytes);
+        for _ in 0..bytes.len() {
+            if !self.line.gives.is_empty() {
+                self.drive_piece()?;
+            }
+        }
+        Ok(())
+    }
+
+    fn feed(&mut self, bytes: &'a [u8], cut: StreamCut) -> Result<()> {
         match cut {
             StreamCut::Nowhere => self.feed_piece(bytes)?,
             StreamCut::Everywhere => {
@@ -122,47 +184,76 @@ impl Running {
                 self.feed_piece(front)?;
                 self.feed_piece(back)?;
             }
+            StreamCut::Link(_) => self.drive_through(bytes)?,
         }
         Ok(())
     }
 
-    fn make(&mut self, alloc: Global, entry: &Entry, cut: StreamCut) -> Result<()> {
-        let Running {
-            client,
-            steps,
-            out,
-            ..
-        } = self;
+    // Whether both clients have sent just these bytes since the last time.
+    fn has_sent(&mut self, bytes: &[u8]) -> Result<bool> {
+        drive(&mut self.client, &mut self.out, &mut self.line, 0)?;
+        Ok(self.line.has_taken(bytes) && self.early.has_sent(bytes))
+    }
+
+    // Makes a call of both clients.
+    fn call(&mut self, made: &Call) -> Result<()> {
+        call(&mut self.client, made, &mut self.out)?;
+        self.early.call(made)
+    }
+
+    // Asks for a group of the steps before.
+    fn sync(&mut self, alloc: Global) -> Result<()> {
+        let steps = mem::replace(&mut self.steps, Vec::new(alloc));
+        self.call(&Call::Request(Request::Group(Seq::new(steps))))
+    }
+
+    fn make(&mut self, alloc: Global, entry: &'a Entry, cut: StreamCut) -> Result<()> {
         match entry {
-            Entry::Start(_) => call(client, &Call::Start, out)?,
+            Entry::Start(_) => self.call(&Call::Start)?,
             Entry::Password(_) => {}
-            Entry::Step(step) => steps.push(step.clone()?)?,
-            Entry::Sync => {
-                let steps = mem::replace(steps, Vec::new(alloc));
-                request(client, Request::Group(Seq::new(steps)), out)?;
-            }
-            Entry::Call(made) => call(client, made, out)?,
+            Entry::Step(step) => self.steps.push(step.clone()?)?,
+            Entry::Sync => self.sync(alloc)?,
+            Entry::Call(made) => self.call(made)?,
             Entry::Sent(bytes) => {
-                if out.as_slice() != bytes.as_slice() {
+                if !self.has_sent(bytes.as_slice())? {
                     bail!("the client sends other bytes than {:?}", bytes);
                 }
-                out.clear();
             }
             Entry::Bytes(bytes) => self.feed(bytes.as_slice(), cut)?,
         }
         Ok(())
     }
 
-    // Takes what is settled. The client has to know its status.
-    fn settle(&mut self) -> Result<()> {
-        let Some(group) = self.client.take_settled() else {
-            return Ok(());
-        };
-        compare_shown(&self.client, &group)?;
+    // The client has to know what is settled and its status.
+    fn check_settled(&self, group: &Settled) -> Result<()> {
+        compare_shown(&self.client, group)?;
         if self.client.status() != Some(group.outcome.status) {
             bail!("the client knows another status");
         }
-        self.settled.push(group)?;
+        Ok(())
+    }
+
+    // Takes what is settled. The early client has to stand where the client stands.
+    fn settle(&mut self) -> Result<()> {
+        let settled = self.client.take_settled();
+        if !self
+            .early
+            .agrees(&self.client, self.out.as_slice(), settled.as_ref())
+        {
+            bail!("an early client comes to something else");
+        }
+        if let Some(group) = settled {
+            self.check_settled(&group)?;
+            self.settled.push(group)?;
+        }
+        Ok(())
+    }
+
+    fn make_all(&mut self, alloc: Global, entries: &'a [Entry], cut: StreamCut) -> Result<()> {
+        for entry in entries {
+            self.make(alloc, entry, cut)?;
+            self.settle()?;
+        }
         Ok(())
     }
 
@@ -171,7 +262,7 @@ impl Running {
         if self.refusal.is_none() && self.client.phase() != Phase::Closed(Cause::Terminated) {
             bail!("the session ends in {:?}", self.client.phase());
         }
-        if !self.steps.is_empty() || !self.out.is_empty() {
+        if !self.steps.is_empty() || !self.out.is_empty() || !self.line.taken.is_empty() {
             bail!("steps or bytes are left over");
         }
         Ok(())
@@ -240,10 +331,7 @@ fn settings_of(alloc: Global, entries: &[Entry]) -> Result<Settings>
 
 /// Makes the session again.
 pub fn replay(alloc: Global, entries: &[Entry], cut: StreamCut) -> Result<SessionEnd> {
-    let mut running = Running::new(alloc, settings_of(alloc, entries)?);
-    for entry in entries {
-        running.make(alloc, entry, cut)?;
-        running.settle()?;
-    }
+    let mut running = Running::new(alloc, settings_of(alloc, entries)?, cut)?;
+    running.make_all(alloc, entries, cut)?;
     running.end()
 }

@@ -1,11 +1,10 @@
 //! Clients that are asked for a password.
 
-use super::{begin, run, silent};
+use super::{Serving, backend_of, silent};
 use crate::values::text;
-use pg_backend::{Auth, BackPhase, Backend, BackendFault, Script};
+use pg_backend::{Auth, BackPhase, BackendFault, Script, ScriptFault};
 use pg_wire::WireFault;
 use std::alloc::{AllocError, Global};
-use std::process::Abort;
 use std::test::Fail;
 
 /// A Startup with the users `x` and `c`, of which the last counts.
@@ -19,7 +18,7 @@ const WRONG: &[u8] = b"E\0\0\0\x3ASFATAL\0VFATAL\0C28P01\0Mpassword authenticati
 const UNEXPECTED: &[u8] = b"E\0\0\0\x2ESFATAL\0VFATAL\0C08P01\0Munexpected message\0\0";
 
 /// What one step does with this input where a password is awaited.
-#[derive(Drop)]
+#[derive(Clone, Copy)]
 struct Case<'a> {
     input: &'a [u8],
     said: &'a [u8],
@@ -38,36 +37,32 @@ fn md5(alloc: Global) -> Result<Auth, AllocError> {
     })
 }
 
-/// A backend that has asked a client this question.
-fn asking(rt: &impl Abort, alloc: Global, auth: Auth, question: &[u8]) -> Result<Backend, Fail> {
+/// A backend that lets clients in so.
+fn admitting(alloc: Global, auth: Auth) -> Result<Serving, ScriptFault> {
     let script = Script {
         auth,
         ..silent(alloc)
     };
-    let mut backend = begin(alloc, script)?;
-    let mut out = Vec::new(alloc);
-    backend.push(STARTUP)?;
-    assert_eq!(rt; backend.step(&mut out), Ok(true));
-    assert_eq!(rt; out.as_slice(), question);
-    assert_eq!(rt; backend.phase(), BackPhase::Password);
-    Ok(backend)
+    backend_of(alloc, script)
 }
 
-fn check_case(
-    rt: &impl Abort,
-    alloc: Global,
-    auth: Auth,
-    question: &[u8],
-    case: &Case<'_>,
-) -> Result<(), Fail> {
-    let mut backend = asking(rt, alloc, auth, question)?;
-    let mut out = Vec::new(alloc);
-    backend.push(case.input)?;
-    assert!(rt; backend.step(&mut out) == case.answer);
-    assert_eq!(rt; out.as_slice(), case.said);
-    assert_eq!(rt; backend.phase(), case.phase);
-    assert!(rt; backend.log().is_empty());
-    Ok(())
+impl Serving {
+    /// Is in this phase, and has logged nothing.
+    fn waits(&self, phase: BackPhase) -> bool {
+        self.stands(phase, 0)
+    }
+
+    /// Asks a client this question, which is taken off.
+    fn asks(&mut self, question: &[u8]) -> bool {
+        let asked = self.takes(STARTUP) && self.steps(Ok(true)) && self.has_put(question);
+        asked && self.waits(BackPhase::Password) && self.sends()
+    }
+
+    /// One step does what the case says.
+    fn lets_in(&mut self, case: &Case<'_>) -> bool {
+        let answered = self.takes(case.input) && self.steps(case.answer);
+        answered && self.has_put(case.said) && self.waits(case.phase)
+    }
 }
 
 #[test]
@@ -123,8 +118,11 @@ fn a_cleartext_password_is_asked_for(rt: HostRuntime) -> Result<(), Fail> {
         },
     ];
     let question = b"R\0\0\0\x08\0\0\0\x03";
-    for case in &cases {
-        check_case(&rt, rt.alloc(), cleartext(rt.alloc())?, question, case)?;
+    for case in cases {
+        let mut it = admitting(rt.alloc(), cleartext(rt.alloc())?)?;
+        let input = case.input;
+        assert!(rt; it.asks(question));
+        assert!(rt; it.lets_in(&case), "{input:?}");
     }
     Ok(())
 }
@@ -146,37 +144,37 @@ fn an_md5_answer_is_asked_for(rt: HostRuntime) -> Result<(), Fail> {
         },
     ];
     let question = b"R\0\0\0\x0C\0\0\0\x05\x01\x02\x03\x04";
-    for case in &cases {
-        check_case(&rt, rt.alloc(), md5(rt.alloc())?, question, case)?;
+    for case in cases {
+        let mut it = admitting(rt.alloc(), md5(rt.alloc())?)?;
+        let input = case.input;
+        assert!(rt; it.asks(question));
+        assert!(rt; it.lets_in(&case), "{input:?}");
     }
     Ok(())
 }
 
 #[test]
 fn a_client_that_is_let_in_is_answered(rt: HostRuntime) -> Result<(), Fail> {
-    let alloc = rt.alloc();
-    let mut backend = asking(&rt, alloc, cleartext(alloc)?, b"R\0\0\0\x08\0\0\0\x03")?;
-    let mut out = Vec::new(alloc);
-    backend.push(b"p\0\0\0\x07ab\0Q\0\0\0\x0DSELECT 1\0")?;
-    run(&mut backend, &mut out)?;
-    assert!(rt; out.as_slice().starts_with(WELCOME));
-    assert_eq!(rt; backend.log().len(), 1);
-    assert_eq!(rt; backend.phase(), BackPhase::Ready);
+    let mut it = admitting(rt.alloc(), cleartext(rt.alloc())?)?;
+    assert!(rt; it.asks(b"R\0\0\0\x08\0\0\0\x03"));
+    assert!(rt; it.takes(b"p\0\0\0\x07ab\0Q\0\0\0\x0DSELECT 1\0"));
+    assert!(rt; it.runs());
+    assert!(rt; it.has_put_from_to(WELCOME, b""));
+    assert!(rt; it.stands(BackPhase::Ready, 1));
     // a password is no message of the session
-    backend.push(b"p\0\0\0\x07ab\0")?;
-    assert_eq!(rt; backend.step(&mut out), Err(BackendFault::Unexpected(b'p')));
+    assert!(rt; it.takes(b"p\0\0\0\x07ab\0"));
+    assert!(rt; it.steps(Err(BackendFault::Unexpected(b'p'))));
     Ok(())
 }
 
 #[test]
 fn a_client_that_is_refused_stays_out(rt: HostRuntime) -> Result<(), Fail> {
-    let alloc = rt.alloc();
-    let mut backend = asking(&rt, alloc, cleartext(alloc)?, b"R\0\0\0\x08\0\0\0\x03")?;
-    let mut out = Vec::new(alloc);
-    backend.push(b"p\0\0\0\x06a\0p\0\0\0\x07ab\0")?;
-    assert_eq!(rt; backend.step(&mut out), Ok(true));
-    assert_eq!(rt; backend.step(&mut out), Err(BackendFault::Closed));
-    assert_eq!(rt; out.as_slice(), WRONG);
-    assert_eq!(rt; backend.push(b"Q"), Err(BackendFault::Closed));
+    let mut it = admitting(rt.alloc(), cleartext(rt.alloc())?)?;
+    assert!(rt; it.asks(b"R\0\0\0\x08\0\0\0\x03"));
+    assert!(rt; it.takes(b"p\0\0\0\x06a\0p\0\0\0\x07ab\0"));
+    assert!(rt; it.steps(Ok(true)));
+    assert!(rt; it.steps(Err(BackendFault::Closed)));
+    assert!(rt; it.has_put(WRONG));
+    assert!(rt; it.backend.push(b"Q") == Err(BackendFault::Closed));
     Ok(())
 }

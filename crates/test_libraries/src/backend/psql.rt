@@ -2,9 +2,9 @@
 
 ghost use Rattle.std.specs.Prelude.{◌<◌};
 
-use super::{answer, begin, copy_in, run, silent};
+use super::{Serving, answer, backend_of, copy_in, silent};
 use crate::values::{row, text};
-use pg_backend::{BackPhase, Backend, Script, ScriptPart};
+use pg_backend::{BackPhase, Script, ScriptPart};
 use pg_wire::{Column, Seq};
 use std::alloc::{AllocError, Global};
 use std::test::Fail;
@@ -52,45 +52,65 @@ fn script(alloc: Global) -> Result<Script, AllocError> {
     })
 }
 
-/// What the backend sends for a session in pieces of this many bytes.
-fn served(alloc: Global, session: &[u8], size: usize) -> Result<(Backend, Vec<u8>), Fail>
-    requires { 0 < size }
-{
-    let mut backend = begin(alloc, script(alloc)?)?;
-    let mut out = Vec::new(alloc);
-    for piece in session.chunks(size) {
-        backend.push(piece)?;
-        run(&mut backend, &mut out)?;
+/// A backend that plays the script.
+fn playing(alloc: Global) -> Result<Serving, Fail> {
+    Ok(backend_of(alloc, script(alloc)?)?)
+}
+
+impl Serving {
+    /// Serves a session in pieces of this many bytes.
+    fn serves(&mut self, session: &[u8], size: usize) -> bool
+        requires { 0 < size }
+    {
+        let mut served = true;
+        for piece in session.chunks(size) {
+            served = served && self.takes(piece) && self.runs();
+        }
+        served
     }
-    Ok((backend, out))
+
+    /// Has loaded this chunk by its second request.
+    fn has_loaded(&self, chunk: Seq<u8>) -> bool {
+        let loaded = self
+            .backend
+            .log()
+            .get(1)
+            .map(|logged| logged.loaded.as_slice());
+        loaded == Some(&[chunk])
+    }
+
+    /// Has put out and logged the same.
+    fn is_as(&self, other: &Serving) -> bool {
+        self.out == other.out && self.backend.log() == other.backend.log()
+    }
 }
 
 #[test]
 fn psql_is_served(rt: HostRuntime) -> Result<(), Fail> {
-    let (backend, sent) = served(rt.alloc(), &SESSION, SESSION.len())?;
-    assert!(rt; backend.phase() == BackPhase::Closed);
-    assert!(rt; backend.log().len() == 3);
+    let mut it = playing(rt.alloc())?;
+    assert!(rt; it.serves(&SESSION, SESSION.len()));
+    assert!(rt; it.stands(BackPhase::Closed, 3));
     let begins = b"NR\0\0\0\x08\0\0\0\0Z\0\0\0\x05IT";
     let ends = b"C\0\0\0\x0BCOPY 2\0Z\0\0\0\x05II\0\0\0\x04Z\0\0\0\x05I";
-    assert!(rt; sent.as_slice().starts_with(begins));
-    assert!(rt; sent.as_slice().ends_with(ends));
+    assert!(rt; it.has_put_from_to(begins, ends));
     Ok(())
 }
 
 #[test]
 fn psql_loads_two_rows(rt: HostRuntime) -> Result<(), Fail> {
     let chunk = text(rt.alloc(), b"a\nb\n")?;
-    let (backend, _sent) = served(rt.alloc(), &SESSION, SESSION.len())?;
-    let loaded = backend.log().get(1).map(|logged| logged.loaded.as_slice());
-    assert!(rt; loaded == Some(&[chunk]));
+    let mut it = playing(rt.alloc())?;
+    assert!(rt; it.serves(&SESSION, SESSION.len()));
+    assert!(rt; it.has_loaded(chunk));
     Ok(())
 }
 
 #[test]
 fn psql_is_served_a_byte_at_a_time(rt: HostRuntime) -> Result<(), Fail> {
-    let (whole, sent) = served(rt.alloc(), &SESSION, SESSION.len())?;
-    let (cut, sent_cut) = served(rt.alloc(), &SESSION, 1)?;
-    assert!(rt; sent == sent_cut);
-    assert!(rt; whole.log() == cut.log());
+    let mut whole = playing(rt.alloc())?;
+    assert!(rt; whole.serves(&SESSION, SESSION.len()));
+    let mut cut = playing(rt.alloc())?;
+    assert!(rt; cut.serves(&SESSION, 1));
+    assert!(rt; whole.is_as(&cut));
     Ok(())
 }
