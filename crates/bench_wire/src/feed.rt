@@ -2,14 +2,14 @@
 
 use anyhow::bail;
 use pg_client::{Client, Settings};
-use pg_wire::{LONGEST, Request, Seq};
+use pg_wire::{Request, Seq};
 use std::alloc::Global;
 
 /// AuthenticationOk and ReadyForQuery, with which a session begins.
-const WELCOME: [u8; 15] = [0x52, 0, 0, 0, 8, 0, 0, 0, 0, 0x5A, 0, 0, 0, 5, 0x49];
+pub(crate) const WELCOME: [u8; 15] = [0x52, 0, 0, 0, 8, 0, 0, 0, 0, 0x5A, 0, 0, 0, 5, 0x49];
 
 /// A RowDescription without columns: a client doesn't count the values of a row.
-const COLUMNS: [u8; 7] = [0x54, 0, 0, 0, 6, 0, 0];
+pub(crate) const COLUMNS: [u8; 7] = [0x54, 0, 0, 0, 6, 0, 0];
 
 /// How many bytes of the stream stand before its rows, those of AuthenticationOk.
 const BEFORE: usize = 9;
@@ -17,20 +17,25 @@ const BEFORE: usize = 9;
 /// How many bytes of the stream stand after its rows, those of ReadyForQuery.
 const AFTER: usize = 6;
 
+/// What a client asks for.
+pub(crate) fn asked(alloc: Global) -> anyhow::Result<Request> {
+    Ok(Request::Query(Seq::from_slice(alloc, b"SELECT")?))
+}
+
+/// The rows of the stream.
+pub(crate) fn rows_of(stream: &[u8]) -> anyhow::Result<&[u8]> {
+    if stream.len() < BEFORE + AFTER {
+        bail!("a stream has rows");
+    }
+    Ok(&stream[BEFORE..stream.len() - AFTER])
+}
+
 /// A client that has asked for rows, of which the columns have come.
 fn asking(alloc: Global, out: &mut Vec<u8>) -> anyhow::Result<Client> {
-    let settings = Settings {
-        user: Seq::from_slice(alloc, b"u")?,
-        database: None,
-        pairs: Seq::new(Vec::new(alloc)),
-        password: None,
-        limit: LONGEST,
-    };
-    let mut client = Client::new(alloc, settings);
+    let mut client = Client::new(alloc, Settings::new(alloc, Seq::from_slice(alloc, b"u")?));
     client.start(out)?;
     client.feed(&WELCOME, out)?;
-    let request = Request::Query(Seq::from_slice(alloc, b"SELECT")?);
-    if client.request(request, out).is_err() {
+    if client.request(asked(alloc)?, out).is_err() {
         bail!("the request is refused");
     }
     client.feed(&COLUMNS, out)?;
@@ -39,12 +44,12 @@ fn asking(alloc: Global, out: &mut Vec<u8>) -> anyhow::Result<Client> {
 
 /// Feeds the rows of the stream to a client, in pieces of so many bytes.
 pub fn feed(alloc: Global, stream: &[u8], piece: usize) -> anyhow::Result<u64> {
-    if piece == 0 || stream.len() < BEFORE + AFTER {
-        bail!("a piece has a byte at least, and a stream has rows");
+    if piece == 0 {
+        bail!("a piece has a byte at least");
     }
+    let rows = rows_of(stream)?;
     let mut out = Vec::new(alloc);
     let mut client = asking(alloc, &mut out)?;
-    let rows = &stream[BEFORE..stream.len() - AFTER];
     for bytes in rows.chunks(piece) {
         client.feed(bytes, &mut out)?;
     }

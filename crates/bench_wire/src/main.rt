@@ -1,10 +1,12 @@
 //! Does one work, to be timed (`bench/wire`), and prints a number that it comes to. The words are the work and a number:
 //! - `owned` and `lent` read the stream of a backend on standard input in pieces of so many bytes: how many bytes the values of its rows have;
 //! - `feed` feeds it to a client, as the rows of a query: how many bytes were fed;
+//! - `early` gives it to an early client, which lends the rows: how many bytes their values have;
 //! - `bind` writes a Bind of so many values, a million values in all: how many bytes were written.
 #![tactic(auto)]
 
 mod bind;
+mod early;
 mod feed;
 
 use anyhow::{Context, bail};
@@ -27,7 +29,7 @@ fn size_of(message: &BackMessage) -> u64 {
 }
 
 /// The same of a row that is lent.
-fn size_of_lent(row: &RowView<'_>) -> u64 {
+pub(crate) fn size_of_lent(row: &RowView<'_>) -> u64 {
     let mut size = 0u64;
     for value in row.values() {
         if let Some(value) = value {
@@ -99,6 +101,7 @@ fn main(rt: HostRuntime) -> anyhow::Result<()> {
         "owned" => decode(alloc, stream.as_slice(), piece, false)?,
         "lent" => decode(alloc, stream.as_slice(), piece, true)?,
         "feed" => feed::feed(alloc, stream.as_slice(), piece)?,
+        "early" => early::lend(alloc, stream.as_slice(), piece)?,
         "bind" => bind::bind(alloc, piece)?,
         other => bail!("no work: {other}"),
     };

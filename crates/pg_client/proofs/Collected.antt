@@ -27,7 +27,7 @@ use Rattle.pg_client.specs.Stand.{Effect, Leads, Settles, Rejected, hear}
 use Rattle.pg_client.specs.Private.Collecting.{client_of, collecting}
 use Rattle.pg_client.specs.Private.Collector.{EndsBy, EndsIn, HearsIn, TakesKey, TellsBy, with_settled}
 use Rattle.pg_client.specs.Private.Hearing.{HearsAs, HearsParameter, HearsReady, ReadyDoes, fault_at}
-use Rattle.pg_client.specs.Private.Machine.{MachineView, client_at, FeedsMachine, FeedsTold, Goes, LeadsFrom, Seen}
+use Rattle.pg_client.specs.Private.Machine.{MachineView, client_at, FeedsMachine, FeedsTold, Goes, keeping, LeadsFrom, Seen}
 use Rattle.pg_client.proofs.Lifetime.{taken}
 
 -- ---- answers
@@ -59,8 +59,8 @@ seen_as m Is s = s m.collector.stand m.collector.settled.items (refl, refl)
 
 pub goes_as : (m n : MachineView Collecting) (Does : ClientView → ClientView → Type 0) → Goes collecting m n Does → Does (client_of m) (client_of n)
 goes_as m n Does g =
-    let x = g m.collector.stand m.collector.settled.items (refl, refl) in
-    subst (Does (client_of m)) (client_is n x.0 m.collector.settled.items x.1) x.2
+    let x = g.1 m.kept m.collector.stand m.collector.settled.items (refl, refl) in
+    subst (Does (client_of m)) (ap (λ (bs : List ℕ). client_at (keeping n bs) x.0 m.collector.settled.items) (sym g.0) ∙ client_is n x.0 m.collector.settled.items x.1) x.2
 
 module _ (old : ClientView) (m n : MachineView Collecting) (same : client_of m ≡ old) where
   pub phases : {A E : Type 0} (r : Result A E) (from to : Phase) (c : Call) (before after : List ℕ) → OnOk r (Goes collecting m n (LeadsFrom from to c before after)) → OnOk r ((phase_of old ≡ from) × (phase_of (client_of n) ≡ to))
@@ -115,7 +115,7 @@ module _ (old : ClientView) (m n : MachineView Collecting) (same : client_of m �
 
 module _ (old : ClientView) (m n : MachineView Collecting) (same : client_of m ≡ old) (loss : Loss) (h : Goes collecting m n (λ (x y : ClientView). HandsBack x loss × Carries x y with_handed_back)) where
   pub settled_stays : n.collector.settled.items ≡ old.settled
-  settled_stays = sym (h m.collector.stand m.collector.settled.items (refl, refl)).1.1 ∙ ap (λ (x : ClientView). x.settled) same
+  settled_stays = sym (h.1 m.kept m.collector.stand m.collector.settled.items (refl, refl)).1.1 ∙ ap (λ (x : ClientView). x.settled) same
 
   pub hands_back : HandsBack old loss
   hands_back = subst (λ (x : ClientView). HandsBack x loss) same (goes_as m n (λ (x y : ClientView). HandsBack x loss × Carries x y with_handed_back) h).0

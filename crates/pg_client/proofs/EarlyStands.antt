@@ -132,7 +132,7 @@ same_unsettled : (stand : Stand) → HasSameUnsettled stand stand
 same_unsettled stand = record { request = refl; error = refl }
 
 -- there a message leads an early client
-abbrev Led : Stand → BackMessage → Option EarlyStand → Type 0
+abbrev pub Led : Stand → BackMessage → Option EarlyStand → Type 0
 Led stand m None = hear stand m ≡ Rejected
 Led stand m (Some x) = (now : Stand) × (x ≡ early_stand now) × (hear stand m ≡ Leads now)
 

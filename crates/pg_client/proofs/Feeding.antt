@@ -56,12 +56,12 @@ each_more limit (x ∷ xs) m all one = (all.0, each_more limit xs m all.1 one)
 module _ (before : ℕ) (past : History) (client : ClientView) (r : IsHearing before past client) where
   module _ (m : BackMessage) (more : List ℕ) (within : IsWithin backend client.settings.limit m) (begins : client.kept ≡ spelling backend m ++ more) where
     -- all that happened, with the message
-    came : merged past.calls (with_ends 0 (past.heard ++ m ∷ [])) ≡ happenings past ++ Came m ∷ []
+    pub came : merged past.calls (with_ends 0 (past.heard ++ m ∷ [])) ≡ happenings past ++ Came m ∷ []
     came = ap (merged past.calls) (with_ends-more 0 past.heard m)
         ∙ merged-came past.calls m (0 + length (flat_map (spelling backend) past.heard) + length (spelling backend m)) (with_ends 0 past.heard)
         (made_before_all past.calls before (0 + length (flat_map (spelling backend) past.heard) + length (spelling backend m)) (omega (arith, r.late m more within begins)) r.places)
 
-    heard_bytes : flat_map (spelling backend) (past.heard ++ m ∷ []) ≡ flat_map (spelling backend) past.heard ++ spelling backend m
+    pub heard_bytes : flat_map (spelling backend) (past.heard ++ m ∷ []) ≡ flat_map (spelling backend) past.heard ++ spelling backend m
     heard_bytes = flat_map-append (spelling backend) past.heard (m ∷ []) ∙ ap (λ (bs : List ℕ). flat_map (spelling backend) past.heard ++ bs) (append-nil (spelling backend m))
 
     answer : List ℕ
@@ -200,7 +200,7 @@ named_answers settings hs rest piece _ closed n h e = absurd n
 abbrev Closes : History → List ℕ → FeedFault → ClientView → Type 0
 Closes past piece f new = IsHistoryOf past new × FeedAnswers new.settings (happenings past) past.rest piece (Err f) new.closed
 
-module _ (before : ℕ) (past : History) (client : ClientView) (r : IsHearing before past client) (piece : List ℕ) (some : 0 < length piece) where
+module _ (before : ℕ) (past : History) (client : ClientView) (r : IsHearing before past client) (piece : List ℕ) (of_piece : length past.fed ≡ before + length piece) where
   named_closes : (f : FeedFault) (new : ClientView) → IsNamed f → IsRefusedAt client.settings (happenings past) client.kept f → HearsNothing client new → new.closed ≡ cause_of f → Closes (record past { rest = client.kept }) piece f new
   named_closes f new n refused nothing e = (
     by (cause_of f) refl (named_ends client.settings (happenings past) client.kept new.kept f n refused),
@@ -217,7 +217,9 @@ module _ (before : ℕ) (past : History) (client : ClientView) (r : IsHearing be
     (subst (λ (x : Settings). IsFaulty backend x.limit client.kept w) (sym h.1.settings) h.0, h.2),
   )
   fault_closes feeding.Memory new out end h =
-      (closed_history before past client r new cause.Memory h.0 h.1 (λ e. cc) tt, (some, h.1))
+      let fed : length past.fed ≡ length (flat_map (spelling backend) past.heard ++ client.kept) = ap length r.stream.whole in
+      let some : 0 < length piece = omega (arith, of_piece, fed, length-append (flat_map (spelling backend) past.heard) client.kept, ap length h.3, length-append (spelling backend h.0) h.1, r.late h.0 h.1 h.2 h.3) in
+      (closed_history before past client r new cause.Memory h.4 h.5 (λ e. cc) tt, (some, h.5))
   fault_closes f new out end h =
       let m = h.0 in
       let named : IsNamed f = subst IsNamed (sym h.5) (fault_named client.stand m) in
@@ -238,7 +240,7 @@ nothing_heard : (past : History) (rest : List ℕ) → record past { rest = rest
 nothing_heard past rest = ap (λ (ms : List BackMessage). record past { heard = ms; rest = rest }) (sym (append-nil past.heard)) ∙ ap (λ (bs : List ℕ). record past { heard = past.heard ++ []; rest = rest; sent = bs }) (sym (append-nil past.sent))
 
 -- and one of which more was heard twice
-heard_twice : (ms ns : List BackMessage) (middle rest first second : List ℕ) (past : History) → with_heard ns rest second (with_heard ms middle first past) ≡ with_heard (ms ++ ns) rest (first ++ second) past
+pub heard_twice : (ms ns : List BackMessage) (middle rest first second : List ℕ) (past : History) → with_heard ns rest second (with_heard ms middle first past) ≡ with_heard (ms ++ ns) rest (first ++ second) past
 heard_twice ms ns middle rest first second past =
     ap (λ (xs : List BackMessage). record past { heard = xs; rest = rest; sent = (past.sent ++ first) ++ second }) (append_assoc past.heard ms ns)
     ∙ ap (λ (xs : List ℕ). record past { heard = past.heard ++ (ms ++ ns); rest = rest; sent = xs }) (append_assoc past.sent first second)
@@ -309,7 +311,7 @@ pub goes_end : (old : ClientView) (was : Telling) (now : ClientView) (is : Telli
 goes_end old was now is new next start out end g h same = record {
   added = g.added;
   put = h.2 ∙ g.put;
-  hears = λ before past piece some r.
+  hears = λ before past piece of_piece r.
       let k = g.history before past r in
       subst (λ (x : ClientView). HearsTold past piece g.added (Ok tt) was x next) (sym h.1) (record {
         hears = record { more = k.0; rest = now.kept; history = all_heard before (with_heard k.0 now.kept g.added past) now k.1 h.0; answers = k.1.is_open };
@@ -319,7 +321,7 @@ goes_end old was now is new next start out end g h same = record {
 
 nothing_settings : (now new : ClientView) (f : FeedFault) (out end : List ℕ) → HearsNext now (Err f) new out end → (new.settings ≡ now.settings) × (end ≡ out)
 nothing_settings now new (feeding.Wire w) out end h = (h.1.settings, h.3)
-nothing_settings now new feeding.Memory out end h = (h.0.settings, h.2)
+nothing_settings now new feeding.Memory out end h = (h.4.settings, h.6)
 nothing_settings now new f out end h = (h.6.settings, h.8)
 
 pub goes_fault : (old : ClientView) (was : Telling) (now : ClientView) (is : Telling) (new : ClientView) (next : Telling) (f : FeedFault) (start out end : List ℕ) → GoesOn old was now is start out → HearsNext now (Err f) new out end
@@ -329,24 +331,24 @@ goes_fault old was now is new next f start out end g h told =
     record {
       added = g.added;
       put = same.1 ∙ g.put;
-      hears = λ before past piece some r.
+      hears = λ before past piece of_piece r.
           let k = g.history before past r in
-          let c = fault_closes before (with_heard k.0 now.kept g.added past) now k.1 piece some f new out end h in
+          let c = fault_closes before (with_heard k.0 now.kept g.added past) now k.1 piece of_piece f new out end h in
           record {
             hears = record { more = k.0; rest = now.kept; history = c.0; answers = c.1 };
             tells = λ given t. told given (happenings (with_heard k.0 now.kept g.added past)) (k.2 given t);
           };
     }
 
+pub some_bytes : (m : BackMessage) → 0 < length (spelling backend m)
+some_bytes m = omega arith
+
 pub shorter : (m : BackMessage) (kept left : List ℕ) → kept ≡ spelling backend m ++ left → length left < length kept
 shorter m kept left e = omega (arith, ap length e, length-append (spelling backend m) left, some_bytes m)
-  where
-    some_bytes : (m : BackMessage) → 0 < length (spelling backend m)
-    some_bytes m = omega arith
 
 -- ---- a piece
 
-prefix_of : (xs ys zs ws : List ℕ) → xs ++ ys ≡ zs ++ ws → length zs ≤ length xs → (us : List ℕ) × (xs ≡ zs ++ us)
+pub prefix_of : (xs ys zs ws : List ℕ) → xs ++ ys ≡ zs ++ ws → length zs ≤ length xs → (us : List ℕ) × (xs ≡ zs ++ us)
 prefix_of xs ys [] ws e le = (xs, refl)
 prefix_of [] ys (z ∷ zs) ws e le = absurd (omega (arith, le))
 prefix_of (x ∷ xs) ys (z ∷ zs) ws e le =
@@ -401,18 +403,18 @@ module _ (h : History) (old : ClientView) (none : old.closed ≡ None) (r : IsHi
     spelled = r.spelled;
   }
 
-  pub starved : (was : Telling) → 0 < length piece → HearsTold (with_fed piece h) piece [] (Err feeding.Memory) was (record old { closed = Some cause.Memory }) was
-  starved was some = record {
+  pub starved : (was : Telling) (kept : List ℕ) → 0 < length piece → HearsTold (with_fed piece h) piece [] (Err feeding.Memory) was (record old { kept = kept; closed = Some cause.Memory }) was
+  starved was kept some = record {
     hears = record {
       more = [];
       rest = h.rest ++ piece;
-      history = subst (λ (x : History). IsHistoryOf x (record old { closed = Some cause.Memory })) (nothing_heard (with_fed piece h) (h.rest ++ piece)) fed;
+      history = subst (λ (x : History). IsHistoryOf x (record old { kept = kept; closed = Some cause.Memory })) (nothing_heard (with_fed piece h) (h.rest ++ piece)) fed;
       answers = (some, refl);
     };
     tells = λ given t. subst (λ (x : History). was given (happenings x)) (nothing_heard (with_fed piece h) (h.rest ++ piece)) t;
   }
     where
-      fed : IsHistoryOf (with_fed piece h) (record old { closed = Some cause.Memory })
+      fed : IsHistoryOf (with_fed piece h) (record old { kept = kept; closed = Some cause.Memory })
       fed = record {
         stream = stream_more;
         places = places_more h.calls (length h.fed) (length (h.fed ++ piece)) (omega (arith, length-append h.fed piece)) r.places;

@@ -1,13 +1,19 @@
 -- What a machine does with messages, to the clients that may have its collector.
-use Rattle.std.proofs.Common.{◌≡◌, ℕ, ℤ, ◌<◌, List, [], ◌++◌, length, Bool, true, false, cond, is_some, Option, Some, None, Result, Ok, Err, refl, sym, ap, subst, ◌∙◌, bytes_eq}
+use Rattle.std.proofs.Common.{◌≡◌, ℕ, ℤ, ◌<◌, List, [], ◌++◌, length, Bool, true, false, cond, is_some, Option, Some, None, Result, Ok, Err, refl, sym, ap, subst, ◌∙◌, bytes_eq, append_assoc, arith, length-append}
 use Rattle.std.specs.Prelude.{IfOk}
 use Rattle.std.proofs.lemmas.List.{append-nil}
 use Rattle.pg_wire.specs.declared.fault.WireFault.{WireFault}
 use Rattle.pg_wire.specs.declared.session.Aside.{Aside}
+use Rattle.pg_wire.specs.declared.session.Aside.TheVariants as aside
+use Rattle.pg_wire.specs.lent.Lent.{Lent}
+use Rattle.pg_wire.specs.lent.Lent.TheVariants as lents
+use Rattle.pg_wire.specs.Lent.{message_of}
 use Rattle.pg_wire.specs.message.BackMessage.{BackMessage}
 use Rattle.pg_wire.specs.message.BackMessage.TheVariants as back
 use Rattle.pg_wire.specs.value.Status.{Status}
 use Rattle.pg_wire.specs.Backend.{backend}
+use Rattle.pg_wire.specs.BackDecoder.{BackState, TakesLent, as_next}
+use Rattle.pg_wire.specs.declared.back.Cut.TheVariants as cut
 use Rattle.pg_wire.specs.Decoder.{DecoderState, Takes}
 use Rattle.pg_wire.specs.Direction.{spelling}
 use Rattle.pg_wire.specs.Segment.{aside_of, Fields}
@@ -26,10 +32,10 @@ use Rattle.pg_client.specs.Client.{ClientView, option_or, value_of}
 use Rattle.pg_client.specs.Closed.{cause_of}
 use Rattle.pg_client.specs.History.{with_fed}
 use Rattle.pg_client.specs.Stand.{Effect}
-use Rattle.pg_client.specs.Private.Hearing.{HearsAs, HearsAuth, IsSentFor}
+use Rattle.pg_client.specs.Private.Hearing.{HearsAs, HearsAuth, IsSentFor, question}
 use Rattle.pg_client.specs.Private.Collector.{Collects, EndsBy, EndsIn, HearsIn, SetsParameter, TakesKey, TellsBy, TellsSame, with_settled}
-use Rattle.pg_client.specs.Private.Feeding.{HearsOne, IsHeard, MovesBy, Refuses, SendsFor, leaving, of_wire}
-use Rattle.pg_client.specs.Private.Machine.{MachineView, client_at, FeedsMachine, Handles, HandlesAll, HandlesNext, HandlesWhole, TellsWhole}
+use Rattle.pg_client.specs.Private.Feeding.{HearsOne, IsHeard, IsHearing, MovesBy, Refuses, SendsFor, leaving, of_wire}
+use Rattle.pg_client.specs.Private.Machine.{MachineView, client_at, FeedsMachine, Handles, HandlesAll, HandlesHeld, HandlesNext, HandlesWhole, TellsWhole}
 use Rattle.pg_client.proofs.Feeding.{GoesOn, goes_from, goes_next, goes_end, goes_fault, hearing, starved, unfed}
 use Rattle.pg_client.proofs.Messages.{asks_nothing, aside_heard, error_heard, auth_heard, result_heard, ready_heard, ready_refused, rejected_with, heard_and_sent, next_faulty, next_refused}
 
@@ -59,6 +65,12 @@ module _ {K : Type 0} (way : Collects K) (v : MachineView K) (k : K) where
       let x = h stand settled f in
       let client : ClientView = client_at v stand settled in
       (x.0, settled, x.1, result_heard m client client x.0 r refl is x.2, x.3)
+
+  -- a message that is lent
+  pub lent_in : (lent : Lent) (r : Result ToSend FeedFault) → HearsIn way HearsAs v.collector (message_of lent) r k → Handles way (message_of lent) v r (record v { collector = k })
+  lent_in (lents.Row values) r h = result_in (back.DataRow values) r (record { no_aside = refl; no_end = refl; no_error = refl; no_welcome = refl }) h
+  lent_in (lents.Error fields) r h = error_in fields r h
+  lent_in (lents.Notice fields) r h = aside_in (back.NoticeResponse fields) (aside.Notice fields) r (refl, refl) h
 
   pub ready_in : (status : Status) → EndsIn way v.collector status (Ok tt) k → Handles way (back.Ready status) v (Ok sends.Nothing) (record v { collector = k; status = Some status })
   ready_in status h stand settled f =
@@ -156,6 +168,15 @@ module _ {K : Type 0} (way : Collects K) (v : MachineView K) where
 
   -- ---- a message, with what is sent for it
 
+  -- a message that is lent makes the client send nothing
+  no_question : (lent : Lent) (salt : Option (List ℕ)) → message_of lent ≡ question salt → ⊥
+  no_question (lents.Row values) None e = cc
+  no_question (lents.Row values) (Some bytes) e = cc
+  no_question (lents.Error fields) None e = cc
+  no_question (lents.Error fields) (Some bytes) e = cc
+  no_question (lents.Notice fields) None e = cc
+  no_question (lents.Notice fields) (Some bytes) e = cc
+
   told_whole : (stand : Stand) (m : BackMessage) (t : ToSend) (r : Result Unit FeedFault) (k : K) → (before after : List ℕ) → SendsFor v.settings t before r after → TellsBy way stand m (Ok t) v.collector k → TellsWhole way stand m r v.collector k
   told_whole stand m sends.Nothing (Ok x) k before after put told = told
   told_whole stand m sends.Nothing (Err f) k before after put told = absurd put
@@ -173,7 +194,25 @@ module _ {K : Type 0} (way : Collects K) (v : MachineView K) where
       let x = h stand settled f in
       (x.0, x.1, x.2, x.3, refl, x.4)
 
+  pub held_in : (lent : Lent) (new : MachineView K) (t : ToSend) (out : List ℕ) → Handles way (message_of lent) v (Ok t) new → new.settings ≡ v.settings → HandlesWhole way (message_of lent) v (Ok tt) new out out
+  held_in lent new sends.Nothing out h same = whole_in (message_of lent) new sends.Nothing (Ok tt) out out h same refl
+  held_in lent new (sends.Password salt) out h same = λ stand settled f. absurd (no_question lent salt (h stand settled f).3.0)
+
+  -- what is done with the message that is lent, whichever it is
+  pub held_as : (lent : Lent) (r : Result ToSend FeedFault) (new : MachineView K) → v.held ≡ Some lent → Handles way (message_of lent) v r new → HandlesHeld way v r new
+  held_as lent r new is h other e =
+      let same : lent ≡ other = (let k : Some lent ≡ Some other = sym is ∙ e in cc) in
+      subst (λ (x : Lent). Handles way (message_of x) v r new) same h
+
+  -- where memory is refused for it
+  pub starved_in : (m : BackMessage) → Handles way m v (Err feeding.Memory) v
+  starved_in m stand settled f = (stand, settled, f, (record { settings = refl; settled = refl; alike = record { request = refl; error = refl }; knows = record { status = refl; parameters = refl; key = refl } }, refl), λ given hs t. t)
+
   -- ---- the next message
+
+  -- which message is held, once one is
+  pub held_is : (d e : BackState) → TakesLent d (Ok cut.Held) e → (lent : Lent) × (e.held ≡ Some lent) × Takes backend d.stream (Ok (Some (message_of lent))) e.stream
+  held_is d e t = (t.holds.0, t.holds.1, subst (λ (o : Option Lent). Takes backend d.stream (as_next (Ok cut.Held) o) e.stream) t.holds.1 t.takes)
 
   -- a message that was cut off, and handled
   pub next_in : (kept : List ℕ) (m : BackMessage) (new : MachineView K) (before after : List ℕ) → IsWithin backend v.settings.limit m → v.kept ≡ spelling backend m ++ kept → new.kept ≡ kept
@@ -252,24 +291,26 @@ module _ {K : Type 0} (way : Collects K) (v : MachineView K) where
           added = [];
           put = sym (append-nil out);
           hears = λ h r. unfed h (client_at v stand settled) none r piece (way.tells v.collector) empty;
+          unread = λ h first left some e r. absurd (omega (arith, some, ap length empty));
         },
       ))
 
-  pub feeds_starved : (piece out : List ℕ) → v.closed ≡ None → 0 < length piece → FeedsMachine way v.closed v piece (Err feeding.Memory) (record v { closed = Some cause.Memory }) out out
-  feeds_starved piece out none some =
-      feeds_open piece (Err feeding.Memory) (record v { closed = Some cause.Memory }) out out none (λ stand settled f. (
+  pub feeds_starved : (piece out : List ℕ) (held : Option Lent) → v.closed ≡ None → 0 < length piece → FeedsMachine way v.closed v piece (Err feeding.Memory) (record v { held = held; closed = Some cause.Memory }) out out
+  feeds_starved piece out held none some =
+      feeds_open piece (Err feeding.Memory) (record v { held = held; closed = Some cause.Memory }) out out none (λ stand settled f. (
         stand,
         settled,
         f,
         record {
           added = [];
           put = sym (append-nil out);
-          hears = λ h r. starved h (client_at v stand settled) none r piece (way.tells v.collector) some;
+          hears = λ h r. starved h (client_at v stand settled) none r piece (way.tells v.collector) v.kept some;
+          unread = λ h first left some e r. starved h (record (client_at v stand settled) { kept = first }) none r (left ++ piece) (way.tells v.collector) v.kept (omega (arith, some, length-append left piece));
         },
       ))
 
-  pub feeds_all : (piece : List ℕ) (r : Result Unit FeedFault) (new : MachineView K) (out end : List ℕ) → v.closed ≡ None → 0 < length piece → HandlesAll way (record v { kept = v.kept ++ piece }) r new out end → FeedsMachine way v.closed v piece r new out end
-  feeds_all piece r new out end none some h =
+  pub feeds_all : (piece : List ℕ) (r : Result Unit FeedFault) (new : MachineView K) (out end : List ℕ) → v.closed ≡ None → HandlesAll way (record v { kept = v.kept ++ piece }) r new out end → FeedsMachine way v.closed v piece r new out end
+  feeds_all piece r new out end none h =
       feeds_open piece r new out end none (λ stand settled f.
       let x = h stand settled f in (
         x.0,
@@ -278,6 +319,9 @@ module _ {K : Type 0} (way : Collects K) (v : MachineView K) where
         record {
           added = x.3.added;
           put = x.3.put;
-          hears = λ past q. x.3.hears (length past.fed) (with_fed piece past) piece some (hearing past (client_at v stand settled) none q piece);
+          hears = λ past q. x.3.hears (length past.fed) (with_fed piece past) piece (length-append past.fed piece) (hearing past (client_at v stand settled) none q piece);
+          unread = λ past first left some e q. x.3.hears (length past.fed) (with_fed (left ++ piece) past) (left ++ piece) (length-append past.fed (left ++ piece))
+              (subst (λ (bs : List ℕ). IsHearing (length past.fed) (with_fed (left ++ piece) past) (record (client_at v stand settled) { kept = bs })) (sym (append_assoc first left piece) ∙ ap (λ (bs : List ℕ). bs ++ piece) (sym e))
+              (hearing past (record (client_at v stand settled) { kept = first }) none q (left ++ piece)));
         },
       ))

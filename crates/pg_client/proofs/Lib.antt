@@ -11,6 +11,7 @@ pub mod Messages
 pub mod Reading
 pub mod Faults
 pub mod Feeding
+pub mod HeardPast
 pub mod Facts
 pub mod TurnLaws
 pub mod Passwords
@@ -32,4 +33,6 @@ pub mod Asides
 pub mod EarlyItems
 pub mod EarlyStands
 pub mod Queued
+pub mod Lending
+pub mod EarlyLending
 pub mod EarlyRows

@@ -246,7 +246,7 @@ next_faulty v d new f g closed out kept limit none takes is cause =
     nothing = record { settings = refl; settled = refl; alike = record { request = refl; error = refl }; knows = record { status = refl; parameters = refl; key = refl } }
 
     by : (w : WireFault) → Takes backend d (Err w) new → closed ≡ cause_of (of_wire w) → HearsNext v (Err (of_wire w)) (record v { kept = new.kept; closed = closed }) out out
-    by wire.Memory h e = (nothing, e, refl)
+    by wire.Memory h e = (h.2.0, h.2.1, subst (λ (n : ℕ). IsWithin backend n h.2.0) limit h.2.2, kept ∙ h.2.4, nothing, e, refl)
     by w (inl h) e = absurd (let k : None ≡ Some w = sym none ∙ h.0 in cc)
     by w (inr h) e = (subst (λ (n : ℕ). IsFaulty backend n v.kept w) limit (subst (λ (bs : List ℕ). IsFaulty backend d.limit bs w) (sym kept) h.2), nothing, e, refl)
 
@@ -281,6 +281,6 @@ fault_named (Busy segment) m = tt
 
 pub next_refused : (old : ClientView) (kept : List ℕ) (m : BackMessage) (f : FeedFault) (mid : ClientView) (closed : Option Cause) (out end : List ℕ) → IsWithin backend old.settings.limit m → old.kept ≡ spelling backend m ++ kept
     → HearsMessage m (leaving old kept) (Err f) mid → closed ≡ cause_of f → end ≡ out → HearsNext old (Err f) (record mid { closed = closed }) out end
-next_refused old kept m feeding.Memory mid closed out end within begins h e put = (record { settings = h.0.settings; settled = h.0.settled; alike = h.0.alike; knows = record { status = h.0.knows.status; parameters = h.0.knows.parameters; key = h.0.knows.key } }, e, put)
+next_refused old kept m feeding.Memory mid closed out end within begins h e put = (m, kept, within, begins, record { settings = h.0.settings; settled = h.0.settled; alike = h.0.alike; knows = record { status = h.0.knows.status; parameters = h.0.knows.parameters; key = h.0.knows.key } }, e, put)
 next_refused old kept m (feeding.Wire w) mid closed out end within begins h e put = absurd (subst IsNamed (sym h.1) (fault_named old.stand m))
 next_refused old kept m f mid closed out end within begins h e put = (m, kept, within, begins, h.0, h.1, record { settings = h.2.settings; settled = h.2.settled; alike = h.2.alike; knows = record { status = h.2.knows.status; parameters = h.2.knows.parameters; key = h.2.knows.key } }, e, put)

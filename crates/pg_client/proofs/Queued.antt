@@ -21,7 +21,7 @@ use Rattle.pg_client.specs.Lost.{HandsBack, Loses}
 use Rattle.pg_client.specs.Facts.{IsPhase}
 use Rattle.pg_client.specs.Early.{EarlyAccepts, EarlyFacts, EarlyFeeds, EarlyFeedsByCause, EarlyView, IsEarlyHistoryOf, StandsFor, early_of, items_in}
 use Rattle.pg_client.specs.Private.Collector.{TellsSame}
-use Rattle.pg_client.specs.Private.Machine.{MachineView, client_at, FeedsMachine, Goes, IsAtFirst, Seen}
+use Rattle.pg_client.specs.Private.Machine.{MachineView, client_at, FeedsMachine, Goes, IsAtFirst, keeping, Seen}
 use Rattle.pg_client.specs.Private.Queue.{early_view, queued}
 use Rattle.pg_client.proofs.Accepting.{call_line}
 use Rattle.pg_client.specs.Private.Early.{early_phase}
@@ -59,8 +59,9 @@ module _ (m : MachineView Queue) where
 module _ (m n : MachineView Queue) where
   pub goes_for : (Does : ClientView → ClientView → Type 0) → Goes queued m n Does → (client : ClientView) → StandsFor (early_view m) client → (now : ClientView) × StandsFor (early_view n) now × Does client now
   goes_for Does g client s =
-      let x = g client.stand client.settled (fits_there m client s) in
-      (client_at n x.0 client.settled, stood_for n x.0 client.settled x.1, subst (λ (c : ClientView). Does c (client_at n x.0 client.settled)) (client_is m client s) x.2)
+      let x = g.1 m.kept client.stand client.settled (fits_there m client s) in
+      let does : Does (client_at m client.stand client.settled) (client_at n x.0 client.settled) = subst (λ (bs : List ℕ). Does (client_at m client.stand client.settled) (client_at (keeping n bs) x.0 client.settled)) (sym g.0) x.2 in
+      (client_at n x.0 client.settled, stood_for n x.0 client.settled x.1, subst (λ (c : ClientView). Does c (client_at n x.0 client.settled)) (client_is m client s) does)
 
 -- ---- a call
 
@@ -136,6 +137,15 @@ first_history m first = record { client = client_at m New []; stands_for = stood
 
 -- ---- an item is taken
 
+-- the oldest item is given
+pub given_one : (h : History) (given : List Item) (e : EarlyView) (t : Item) (ts : List Item) → e.items ≡ t ∷ ts → IsEarlyHistoryOf h given e → IsEarlyHistoryOf h (given ++ t ∷ []) (record e { items = ts })
+given_one h given e t ts is r = record {
+  client = r.client;
+  stands_for = ap (λ (x : EarlyView). record x { items = ts }) r.stands_for;
+  history = r.history;
+  items = append_assoc given (t ∷ []) ts ∙ ap (λ (xs : List Item). given ++ xs) (sym is) ∙ r.items;
+}
+
 module _ (old : EarlyView) (m n : MachineView Queue) (same : early_view m ≡ old) (others : n ≡ record m { collector = record m.collector { items = n.collector.items } }) where
   taken_from : early_view n ≡ record (early_view m) { items = n.collector.items.items }
   taken_from = ap early_view others
@@ -148,12 +158,7 @@ module _ (old : EarlyView) (m n : MachineView Queue) (same : early_view m ≡ ol
   takes_history None e = tt
   takes_history (Some t) e = λ h given r0.
       let r : IsEarlyHistoryOf h given (early_view m) = subst (IsEarlyHistoryOf h given) (sym same) r0 in
-      record {
-        client = r.client;
-        stands_for = taken_from ∙ ap (λ (x : EarlyView). record x { items = n.collector.items.items }) r.stands_for;
-        history = r.history;
-        items = append_assoc given (t ∷ []) n.collector.items.items ∙ ap (λ (is : List Item). given ++ is) (sym e) ∙ r.items;
-      }
+      subst (IsEarlyHistoryOf h (given ++ t ∷ [])) (sym taken_from) (given_one h given (early_view m) t n.collector.items.items e r)
 
   pub takes_none : (o : Option Item) → IfNone o ((m.collector.items.items ≡ []) × (n.collector.items.items ≡ [])) → IfNone o ((old.items ≡ []) × (early_view n ≡ old))
   takes_none None h = (ap (λ (e : EarlyView). e.items) (sym same) ∙ h.0, taken_from ∙ ap (λ (is : List Item). record (early_view m) { items = is }) (h.1 ∙ sym h.0) ∙ same)
@@ -171,7 +176,7 @@ phases_alike c d e a b s = ap (λ (o : Option Cause). phase_with o a) e ∙ by d
 -- the phase of each client that it stands for is the same
 same_phase : (early : EarlyView) (a b : ClientView) → StandsFor early a → StandsFor early b → phase_of a ≡ phase_of b
 same_phase early a b s t =
-    let alike : early_of a early.items ≡ early_of b early.items = sym s ∙ t in
+    let alike : early_of a early.items early.held ≡ early_of b early.items early.held = sym s ∙ t in
     let stand : stand_phase a.stand ≡ stand_phase b.stand = sym (phase_as a.stand) ∙ ap (λ (e : EarlyView). early_phase e.stand) alike ∙ phase_as b.stand in
     phases_alike a.closed b.closed (ap (λ (e : EarlyView). e.closed) alike) a.stand b.stand stand
 

@@ -53,6 +53,10 @@ items_in hs = items_after_startup (requests_in hs) (whole_in hs) (rest_in hs)
 
 -- ---- an early client
 
+-- The values of a row ("Message Formats", DataRow). None is null.
+abbrev pub Row : Type 0
+Row = List (Option (List ℕ))
+
 -- What a clause sees of an early client: its state, whatever it stores that in.
 pub record EarlyView : Type 0 where
   -- what it was made with
@@ -69,6 +73,8 @@ pub record EarlyView : Type 0 where
   pub key : Option (ℤ × ℤ)
   -- why it is closed; None while it is open
   pub closed : Option Cause
+  -- the row that it lends, if it lends one
+  pub held : Option Row
 
 -- Where a client stands, without what it has collected there.
 abbrev pub early_stand : Stand → EarlyStand
@@ -77,9 +83,10 @@ early_stand (stands.Starting w) = early.Starting w
 early_stand (stands.Idle asides) = early.Idle
 early_stand (stands.Busy segment) = early.Busy segment.request (place_in segment)
 
--- The early client with these items that stands where the client stands.
-abbrev pub early_of : ClientView → List Item → EarlyView
-early_of client items =
+-- The early client with these items that stands where the client stands, and lends this row or
+-- none.
+abbrev pub early_of : ClientView → List Item → Option Row → EarlyView
+early_of client items held =
     record {
       settings = client.settings;
       kept = client.kept;
@@ -89,12 +96,13 @@ early_of client items =
       parameters = client.parameters;
       key = client.key;
       closed = client.closed;
+      held = held;
     }
 
 -- The early client stands where this client stands, and knows what it knows: it is the client
 -- without what that has collected.
 abbrev pub StandsFor : EarlyView → ClientView → Type 0
-StandsFor view client = view ≡ early_of client view.items
+StandsFor view client = view ≡ early_of client view.items view.held
 
 -- The early client, as it is now, may have gone through this history, with these items given: a
 -- client that it stands for may have gone through it, and the items, given and waiting, are all

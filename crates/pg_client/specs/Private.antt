@@ -9,3 +9,4 @@ pub mod Inside
 pub mod Collecting
 pub mod Early
 pub mod Queue
+pub mod Lending

@@ -11,7 +11,7 @@ use crate::settled::{Loss, Settled};
 use crate::stand::Stand;
 use crate::startup::{ToSend, Welcome};
 use pg_segment::{Auth, CopyAnswer};
-use pg_wire::{Aside, BackMessage, Fields, Request, Seq, Status};
+use pg_wire::{Aside, BackMessage, Fields, Request, RowView, Seq, Status};
 use std::alloc::Global;
 use std::collections::VecDeque;
 use std::mem;
@@ -110,6 +110,10 @@ impl Collector for Collecting {
 
     fn hear_result(&mut self, alloc: Global, message: BackMessage) -> Result<ToSend, FeedFault> {
         self.stand.hear_result(alloc, message)
+    }
+
+    fn hear_row(&mut self, alloc: Global, row: &RowView<'_>) -> Result<ToSend, FeedFault> {
+        self.stand.hear_row(alloc, row)
     }
 
     // Room for the group that it settles is made before, so no other message needs it.

@@ -3,7 +3,7 @@
 ghost use Rattle.std.specs.Prelude.{◌≡◌, [], List, IfOk, OnErr, OnOk};
 ghost use Rattle.pg_wire.specs.Segment.{aside_of};
 ghost use Rattle.pg_wire.specs.message.BackMessage.{BackMessage};
-ghost use Rattle.pg_wire.specs.message.BackMessage.TheVariants.{ErrorResponse, ParameterStatus};
+ghost use Rattle.pg_wire.specs.message.BackMessage.TheVariants.{DataRow, ErrorResponse, ParameterStatus};
 ghost use Rattle.pg_segment.specs.Kind.{auth_message, IsResult};
 ghost use Rattle.pg_client.specs.declared.settled.Settled.{Settled};
 ghost use Rattle.pg_client.specs.declared.stand.Stand.{Stand};
@@ -20,7 +20,7 @@ use crate::phase::Phase;
 use crate::settled::Loss;
 use crate::startup::ToSend;
 use pg_segment::{Auth, CopyAnswer};
-use pg_wire::{Aside, BackMessage, Fields, Request, Seq, Status};
+use pg_wire::{Aside, BackMessage, Fields, Request, RowView, Seq, Status};
 use std::alloc::Global;
 
 /// Where a client stands, and what it does with the messages of its segments.
@@ -95,6 +95,10 @@ pub trait Collector: Drop {
     fn hear_result(&mut self, alloc: Global, message: BackMessage) -> Result<ToSend, FeedFault>
         requires { IsResult message }
         ensures { HearsIn way HearsAs self.old message result self.new };
+
+    /// Takes a row in, which is copied once, to where it is kept.
+    fn hear_row(&mut self, alloc: Global, row: &RowView<'_>) -> Result<ToSend, FeedFault>
+        ensures { HearsIn way HearsAs self.old (DataRow row.now) result self.new };
 
     /// Takes a ReadyForQuery in, which ends the startup or settles a group.
     fn hear_ready(&mut self, alloc: Global, status: Status) -> Result<(), FeedFault>

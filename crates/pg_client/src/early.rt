@@ -1,11 +1,12 @@
 //! Giving what comes as it comes.
 
 ghost use Rattle.std.specs.Prelude.{◌≡◌, ◌≢◌, ◌∷◌, ◌↔◌, [], IfNone, IfOk, IfSome, IsTrue};
-ghost use Rattle.pg_wire.specs.message.BackMessage.TheVariants.{ErrorResponse, ParameterStatus};
+ghost use Rattle.pg_wire.specs.message.BackMessage.TheVariants.{DataRow, ErrorResponse, ParameterStatus};
 ghost use Rattle.pg_segment.specs.Kind.{auth_message, IsResult};
 ghost use Rattle.pg_client.specs.Private.Collector.{SetsParameter};
 ghost use Rattle.pg_client.specs.Private.Early.{early_answered, early_asked, early_ends, early_loss, early_phase, early_takes_key, aside_message, TakesAuth, TakesEnd, TakesIn};
 ghost use Rattle.pg_client.specs.Private.Hearing.{IsSentFor};
+ghost use Rattle.pg_client.specs.Private.Lending.{PassesRow};
 
 use crate::collector::Collector;
 use crate::fault::FeedFault;
@@ -17,7 +18,7 @@ use crate::settled::Loss;
 use crate::stand::aside_tag;
 use crate::startup::{ToSend, Welcome};
 use pg_segment::{Auth, CopyAnswer, Place};
-use pg_wire::{Aside, BackMessage, Fields, Request, Seq, Status};
+use pg_wire::{Aside, BackMessage, Fields, Request, RowView, Seq, Status, Values};
 use std::alloc::Global;
 use std::collections::VecDeque;
 use std::mem;
@@ -209,6 +210,37 @@ impl Queue {
         }
     }
 
+    // Takes a row in. No message is so long that a row couldn't hold its values.
+    fn take_row(&mut self, alloc: Global, row: &RowView<'_>) -> Result<ToSend, FeedFault>
+        ensures { TakesIn self.old.stand self.old.items.items (DataRow row.now) result
+            self.new.stand self.new.items.items }
+    {
+        match Values::of_row(alloc, row) {
+            Ok(values) => self.take_result(BackMessage::DataRow(values)),
+            Err(_) => Err(FeedFault::Memory),
+        }
+    }
+
+    /// Takes in a row that is lent, so that no item of it waits. Which values it has decides nothing.
+    pub fn pass_row(&mut self, alloc: Global) -> Result<(), FeedFault>
+        ensures passes { PassesRow self.old.stand [] result self.new.stand }
+        ensures items { self.new.items.items ≡ self.old.items.items }
+    {
+        match &mut self.stand {
+            EarlyStand::Busy { request, place } => {
+                let row = BackMessage::DataRow(Values::new(alloc));
+                match place.read(request, &row) {
+                    Some(passed) => {
+                        *place = passed;
+                        Ok(())
+                    }
+                    None => Err(FeedFault::Unexpected(b'D')),
+                }
+            }
+            _ => Err(FeedFault::Unexpected(b'D')),
+        }
+    }
+
     // Takes a ReadyForQuery in.
     fn take_ready(&mut self, status: Status) -> Result<(), FeedFault>
         ensures { TakesEnd self.old.stand self.old.items.items status result self.new.stand
@@ -312,6 +344,10 @@ impl Collector for Queue {
 
     fn hear_result(&mut self, _alloc: Global, message: BackMessage) -> Result<ToSend, FeedFault> {
         self.take_result(message)
+    }
+
+    fn hear_row(&mut self, alloc: Global, row: &RowView<'_>) -> Result<ToSend, FeedFault> {
+        self.take_row(alloc, row)
     }
 
     fn hear_ready(&mut self, _alloc: Global, status: Status) -> Result<(), FeedFault> {

@@ -1,23 +1,26 @@
 //! The early client: its calls.
 
-ghost use Rattle.std.specs.Prelude.{◌≡◌, ◌≢◌, ◌∷◌, ◌↔◌, ◌++◌, [], IfErr, IfNone, IfSome, IsTrue, List, OnErr, OnOk, option_copied, Some};
+ghost use Rattle.std.specs.Prelude.{◌≡◌, ◌≢◌, ◌<◌, ◌∷◌, ◌↔◌, ◌++◌, [], ℕ, IfErr, IfNone, IfSome, IsTrue, length, List, OnErr, OnOk, None, option_copied, Some};
 ghost use Rattle.pg_wire.specs.Direction.{IsLimit};
 ghost use Rattle.pg_client.specs.declared.call.Call.TheVariants as call;
 ghost use Rattle.pg_client.specs.declared.item.Item.{Item};
+ghost use Rattle.pg_client.specs.declared.phase.Cause.{Cause};
 ghost use Rattle.pg_client.specs.Client.{ClientView, IsOpenPhase, phase_of, value_of};
 ghost use Rattle.pg_client.specs.History.{blank, happenings, History, with_handed_back};
 ghost use Rattle.pg_client.specs.Calls.{Cancels, RefusesCopy, RefusesEnd, RefusesUnless};
 ghost use Rattle.pg_client.specs.Lost.{first_cause, Loses};
 ghost use Rattle.pg_client.specs.Early.{EarlyAccepts, EarlyFeeds, IsEarlyHistoryOf, StandsFor};
+ghost use Rattle.pg_client.specs.EarlyLent.{ComesBefore, FeedsAll, GivesBefore, IsEarlyHistoryBefore, LosesBefore, Pushes, RefusesPiece, TakesLent};
 
 use crate::early::Queue;
 use crate::fault::{CallFault, FeedFault};
 use crate::item::Item;
 use crate::machine::Machine;
+use crate::next::Next;
 use crate::phase::{Cause, Phase};
 use crate::settings::Settings;
 use crate::settled::Loss;
-use pg_wire::{Request, Status};
+use pg_wire::{Request, RowView, Status};
 use std::alloc::Global;
 use std::marker::Model;
 
@@ -75,6 +78,7 @@ impl EarlyClient {
     pub fn start(&mut self, out: &mut Vec<u8>) -> Result<(), CallFault>
         ensures accepted { OnOk result (EarlyAccepts (λ p. p ≡ Phase.New) Phase.Starting call.Start
             self.old self.new out.old.items out.new.items) }
+        ensures unread { OnOk result (ComesBefore call.Start self.old self.new) }
         ensures refused { IfErr result (λ f. (client : ClientView) → StandsFor self.old client
             → RefusesUnless Phase.New client call.Start f) }
         ensures err { OnErr result ((self.new ≡ self.old) × (out.new.items ≡ out.old.items)) }
@@ -90,6 +94,7 @@ impl EarlyClient {
     ) -> Result<(), (Request, CallFault)>
         ensures accepted { OnOk result (EarlyAccepts (λ p. p ≡ Phase.Ready) Phase.Busy
             (call.Request request) self.old self.new out.old.items out.new.items) }
+        ensures unread { OnOk result (ComesBefore (call.Request request) self.old self.new) }
         ensures request { IfErr result (λ f. f.0 ≡ request) }
         ensures refused { IfErr result (λ f. (client : ClientView) → StandsFor self.old client
             → RefusesUnless Phase.Ready client (call.Request request) f.1) }
@@ -102,6 +107,7 @@ impl EarlyClient {
     pub fn copy_chunk(&mut self, bytes: &[u8], out: &mut Vec<u8>) -> Result<(), CallFault>
         ensures accepted { OnOk result (EarlyAccepts (λ p. p ≡ Phase.CopyingIn) Phase.CopyingIn
             (call.Chunk bytes.now) self.old self.new out.old.items out.new.items) }
+        ensures unread { OnOk result (ComesBefore (call.Chunk bytes.now) self.old self.new) }
         ensures refused { IfErr result (λ f. (client : ClientView) → StandsFor self.old client
             → RefusesCopy client (call.Chunk bytes.now) f) }
         ensures err { OnErr result ((self.new ≡ self.old) × (out.new.items ≡ out.old.items)) }
@@ -113,6 +119,7 @@ impl EarlyClient {
     pub fn copy_done(&mut self, out: &mut Vec<u8>) -> Result<(), CallFault>
         ensures accepted { OnOk result (EarlyAccepts (λ p. p ≡ Phase.CopyingIn) Phase.Busy
             call.Done self.old self.new out.old.items out.new.items) }
+        ensures unread { OnOk result (ComesBefore call.Done self.old self.new) }
         ensures refused { IfErr result (λ f. (client : ClientView) → StandsFor self.old client
             → RefusesCopy client call.Done f) }
         ensures err { OnErr result ((self.new ≡ self.old) × (out.new.items ≡ out.old.items)) }
@@ -124,6 +131,7 @@ impl EarlyClient {
     pub fn copy_fail(&mut self, reason: &[u8], out: &mut Vec<u8>) -> Result<(), CallFault>
         ensures accepted { OnOk result (EarlyAccepts (λ p. p ≡ Phase.CopyingIn) Phase.Busy
             (call.Fail reason.now) self.old self.new out.old.items out.new.items) }
+        ensures unread { OnOk result (ComesBefore (call.Fail reason.now) self.old self.new) }
         ensures refused { IfErr result (λ f. (client : ClientView) → StandsFor self.old client
             → RefusesCopy client (call.Fail reason.now) f) }
         ensures err { OnErr result ((self.new ≡ self.old) × (out.new.items ≡ out.old.items)) }
@@ -135,6 +143,7 @@ impl EarlyClient {
     pub fn terminate(&mut self, out: &mut Vec<u8>) -> Result<(), CallFault>
         ensures accepted { OnOk result (EarlyAccepts IsOpenPhase (Phase.Closed Cause.Terminated)
             call.Terminate self.old self.new out.old.items out.new.items) }
+        ensures unread { OnOk result (ComesBefore call.Terminate self.old self.new) }
         ensures refused { IfErr result (λ f. (client : ClientView) → StandsFor self.old client
             → RefusesEnd client f) }
         ensures err { OnErr result ((self.new ≡ self.old) × (out.new.items ≡ out.old.items)) }
@@ -155,8 +164,45 @@ impl EarlyClient {
     pub fn feed(&mut self, piece: &[u8], out: &mut Vec<u8>) -> Result<(), FeedFault>
         ensures settings { self.new.settings ≡ self.old.settings }
         ensures feeds { EarlyFeeds self.old piece.now result self.new out.old.items out.new.items }
+        ensures unread { FeedsAll self.old piece.now result self.new out.old.items
+            out.new.items }
+        ensures lends_none { OnOk result (0 < length piece.now → self.new.held ≡ None) }
     {
         self.machine.feed(piece, out)
+    }
+
+    /// Keeps the bytes that came from the server, all of them, and handles none of their messages: [`next_lent`](EarlyClient::next_lent)
+    /// does, and so does a [`feed`](EarlyClient::feed) that has bytes. No row is lent any more. A closed client answers F8 Closed.
+    pub fn push(&mut self, piece: &[u8]) -> Result<(), FeedFault>
+        ensures pushes { Pushes self.old piece.now result self.new }
+        ensures history { OnOk result ((unread : List ℕ) (h : History) (given : List Item)
+            → IsEarlyHistoryBefore unread h given self.old
+            → IsEarlyHistoryBefore (unread ++ piece.now) h given self.new) }
+        ensures refused { IfErr result (λ f. RefusesPiece self.old piece.now f self.new) }
+    {
+        self.machine.push(piece)
+    }
+
+    /// The next item, of the bytes that were pushed: the one that [`take_item`](EarlyClient::take_item) would give after a
+    /// [`feed`](EarlyClient::feed) of them. Where it is a row, the answer is Held: its item counts as given, no memory is taken for it, and
+    /// [`held`](EarlyClient::held) lends it. Nothing says that no message is whole any more, and no item waits. The answers to the
+    /// server are put out, and the faults are those of [`feed`](EarlyClient::feed).
+    ///
+    /// What is called before Nothing was answered comes before the bytes that are still to be heard.
+    pub fn next_lent(&mut self, out: &mut Vec<u8>) -> Result<Next, FeedFault>
+        ensures settings { self.new.settings ≡ self.old.settings }
+        ensures takes { TakesLent self.old result self.new out.old.items out.new.items }
+    {
+        self.machine.next_lent(out)
+    }
+
+    /// The row that [`next_lent`](EarlyClient::next_lent) answered Held for, until the next call of it, of
+    /// [`push`](EarlyClient::push) or of [`feed`](EarlyClient::feed), and else None. A closed client lends none. It takes no memory.
+    pub fn held(&self) -> Option<RowView<'_>>
+        ensures row { result ≡ self.now.held }
+        ensures closed { (cause : Cause) → self.now.closed ≡ Some cause → result ≡ None }
+    {
+        self.machine.held()
     }
 
     /// Takes the oldest item that wasn't taken: a message of a request's segment, or that the request is settled. None where all
@@ -166,6 +212,7 @@ impl EarlyClient {
             × (self.new ≡ record self.old { items = self.new.items })) }
         ensures history { IfSome result (λ t. (h : History) (given : List Item)
             → IsEarlyHistoryOf h given self.old → IsEarlyHistoryOf h (given ++ t ∷ []) self.new) }
+        ensures unread { IfSome result (λ t. GivesBefore t self.old self.new) }
         ensures none { IfNone result ((self.old.items ≡ []) × (self.new ≡ self.old)) }
     {
         self.machine.take_item()
@@ -186,6 +233,7 @@ impl EarlyClient {
             → Loses h.handed_back (happenings h) result }
         ensures history { (h : History) (given : List Item) → IsEarlyHistoryOf h given self.old
             → IsEarlyHistoryOf (with_handed_back h) given self.new }
+        ensures unread { LosesBefore self.old result self.new }
     {
         self.machine.lost()
     }

@@ -1,6 +1,7 @@
 //! A client's machine: its calls, whatever it does with the messages of its segments.
 
 mod feed;
+mod lend;
 
 ghost use Rattle.std.specs.Prelude.{◌≡◌, [], IfErr, None, OnErr, OnOk, option_copied};
 ghost use Rattle.pg_wire.specs.Direction.{IsLimit};

@@ -3,7 +3,7 @@
 ghost use Rattle.std.specs.Prelude.{◌≡◌, ◌++◌, ◌∷◌, [], ℤ, false, IfOk, IsTrue, OnErr, OnOk, Some};
 ghost use Rattle.pg_wire.specs.Segment.{aside_of};
 ghost use Rattle.pg_wire.specs.message.BackMessage.{BackMessage};
-ghost use Rattle.pg_wire.specs.message.BackMessage.TheVariants.{ErrorResponse, KeyData, ParameterStatus};
+ghost use Rattle.pg_wire.specs.message.BackMessage.TheVariants.{DataRow, ErrorResponse, KeyData, ParameterStatus};
 ghost use Rattle.pg_wire.specs.declared.session.Aside.TheVariants as aside;
 ghost use Rattle.pg_client.specs.Client.{has_failed, stand_phase, unsettled_of};
 ghost use Rattle.pg_client.specs.Stand.{hear, Rejected, Leads};
@@ -17,7 +17,7 @@ use crate::phase::Phase;
 use crate::settled::{Loss, Settled};
 use crate::startup::{ToSend, Welcome};
 use pg_segment::{Auth, CopyAnswer, Segment};
-use pg_wire::{Aside, BackMessage, Fields, Request, Seq, Status};
+use pg_wire::{Aside, BackMessage, Fields, Request, RowView, Seq, Status, Values};
 use std::alloc::{AllocError, Global};
 use std::mem;
 
@@ -157,6 +157,16 @@ impl Stand {
                 Ok(ToSend::Nothing)
             }
             _ => Err(FeedFault::Unexpected(message.tag())),
+        }
+    }
+
+    /// Takes a row in, which is copied once. No message is so long that a row couldn't hold its values.
+    pub fn hear_row(&mut self, alloc: Global, row: &RowView<'_>) -> Result<ToSend, FeedFault>
+        ensures { HearsAs self.old (DataRow row.now) result self.new }
+    {
+        match Values::of_row(alloc, row) {
+            Ok(values) => self.hear_result(alloc, BackMessage::DataRow(values)),
+            Err(_) => Err(FeedFault::Memory),
         }
     }
 

@@ -6,4 +6,6 @@
 #[cfg(test)]
 mod items;
 #[cfg(test)]
+mod lent;
+#[cfg(test)]
 mod session;

@@ -1,6 +1,6 @@
 //! The sessions that are tested, and the items that come of them.
 
-use pg_client::{Cause, EarlyClient, Item, Loss, Phase, Settings};
+use pg_client::{Cause, EarlyClient, Item, Loss, Next, Phase, Settings};
 use pg_wire::{Request, Seq};
 use std::alloc::{AllocError, Global};
 use std::test::Fail;
@@ -66,6 +66,46 @@ impl Session {
     /// Takes these bytes.
     pub(crate) fn feeds(&mut self, bytes: &[u8]) -> bool {
         self.client.feed(bytes, &mut self.out).is_ok()
+    }
+
+    /// Keeps these bytes.
+    pub(crate) fn pushes(&mut self, bytes: &[u8]) -> bool {
+        self.client.push(bytes).is_ok()
+    }
+
+    /// The tag of the item that comes next, `*` of a row that is lent, `.` where no message is whole, and `!` of a fault.
+    pub(crate) fn comes_next(&mut self) -> u8 {
+        match self.client.next_lent(&mut self.out) {
+            Ok(Next::Nothing) => b'.',
+            Ok(Next::Held) => b'*',
+            Ok(Next::Item(item)) => tag_of(Some(item)),
+            Err(_) => b'!',
+        }
+    }
+
+    /// What comes next has just these tags.
+    pub(crate) fn comes(&mut self, tags: &[u8]) -> bool {
+        let mut same = true;
+        for tag in tags {
+            same = self.comes_next() == *tag && same;
+        }
+        same
+    }
+
+    /// How many values the row that is lent has; None where none is lent.
+    pub(crate) fn width_lent(&self) -> Option<usize> {
+        match self.client.held() {
+            Some(row) => Some(row.values().count()),
+            None => None,
+        }
+    }
+
+    /// The row that is lent has just this text.
+    pub(crate) fn lends(&self, text: &[u8]) -> bool {
+        let Some(row) = self.client.held() else {
+            return false;
+        };
+        matches!(row.values().next(), Some(Some(value)) if value == text)
     }
 
     /// Takes these bytes, so many at a time.

@@ -118,8 +118,9 @@ leaving client kept = record client { kept = kept }
 
 -- What the client does with the bytes that it keeps. Ok false: no message is whole there. Ok true:
 -- it cuts the first message off and handles it. Wire: the bytes are no message and can't become
--- one. Memory: memory was refused. Another fault: the first message may not come there. After each
--- fault it is closed with its cause. The last two arguments are the output before and after.
+-- one. Memory: memory was refused for the first message. Another fault: that may not come there.
+-- After each fault it is closed with its cause. The last two arguments are the output before and
+-- after.
 abbrev pub HearsNext : ClientView → Result Bool FeedFault → ClientView → List ℕ → List ℕ → Type 0
 HearsNext old (Ok false) new before after = IsOpen backend old.settings.limit old.kept × (new ≡ old)
     × (after ≡ before)
@@ -129,8 +130,9 @@ HearsNext old (Ok true) new before after = (m : BackMessage) × IsWithin backend
 HearsNext old (Err (feeding.Wire f)) new before after =
     IsFaulty backend old.settings.limit old.kept f × HearsNothing old new
     × (new.closed ≡ Some cause.Wire) × (after ≡ before)
-HearsNext old (Err feeding.Memory) new before after = HearsNothing old new
-    × (new.closed ≡ Some cause.Memory) × (after ≡ before)
+HearsNext old (Err feeding.Memory) new before after = (m : BackMessage) × (more : List ℕ)
+    × IsWithin backend old.settings.limit m × (old.kept ≡ spelling backend m ++ more)
+    × HearsNothing old new × (new.closed ≡ Some cause.Memory) × (after ≡ before)
 HearsNext old (Err f) new before after = (m : BackMessage) × (more : List ℕ)
     × IsWithin backend old.settings.limit m × (old.kept ≡ spelling backend m ++ more)
     × (hear_with old.settings.password old.stand m ≡ Rejected) × (f ≡ fault_at old.stand m)
@@ -176,5 +178,19 @@ pub record HearsAll (old : ClientView) (was : Telling) (result : Result Unit Fee
     (new : ClientView) (is : Telling) (before after : List ℕ) : Type 0 where
   pub added : List ℕ
   pub put : after ≡ before ++ added
-  pub hears : (place : ℕ) (h : History) (piece : List ℕ) → 0 < length piece → IsHearing place h old
-      → HearsTold h piece added result was new is
+  pub hears : (place : ℕ) (h : History) (piece : List ℕ) → length h.fed ≡ place + length piece
+      → IsHearing place h old → HearsTold h piece added result was new is
+
+-- The client has gone on from message to message, up to one that ended in this piece, and what was
+-- added to the output is what has to be sent for them. What was told of the events before is told
+-- of those after.
+pub record GoesPast (old : ClientView) (was : Telling) (now : ClientView) (is : Telling)
+    (start out : List ℕ) : Type 0 where
+  pub settings : now.settings ≡ old.settings
+  pub added : List ℕ
+  pub put : out ≡ start ++ added
+  pub history : (before : ℕ) (past : History) → IsHearing before past old
+      → (more : List BackMessage) × IsHearing before (with_heard more now.kept added past) now
+      × (before < length (flat_map (spelling backend) (past.heard ++ more)))
+      × ((given : List Item) → was given (happenings past)
+      → is given (happenings (with_heard more now.kept added past)))

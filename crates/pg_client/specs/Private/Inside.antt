@@ -8,6 +8,7 @@ machine_view m =
     record {
       settings = m.settings;
       kept = m.decoder.stream.kept;
+      held = m.decoder.held;
       collector = m.collector;
       status = m.status;
       parameters = m.parameters;

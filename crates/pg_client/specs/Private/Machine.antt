@@ -1,7 +1,9 @@
 -- What a client's machine does, whatever it does with the messages of its segments: what it does to
 -- each client that may have its collector.
-use Rattle.std.specs.Prelude.{◌≡◌, ℕ, ℤ, Bool, true, List, [], ◌++◌, Option, Some, None, Result, Ok, Err}
+use Rattle.std.specs.Prelude.{◌≡◌, ℕ, ℤ, ◌<◌, Bool, true, List, [], ◌++◌, length, Option, Some, None, Result, Ok, Err}
 use Rattle.pg_wire.specs.message.BackMessage.{BackMessage}
+use Rattle.pg_wire.specs.lent.Lent.{Lent}
+use Rattle.pg_wire.specs.Lent.{message_of}
 use Rattle.pg_wire.specs.value.Status.{Status}
 use Rattle.pg_client.specs.declared.call.Call.{Call}
 use Rattle.pg_client.specs.declared.fault.FeedFault.{FeedFault}
@@ -25,6 +27,8 @@ use Rattle.pg_client.specs.Private.Feeding.{HearsAll, HearsMessage, HearsNext, H
 pub record MachineView (K : Type 0) : Type 0 where
   pub settings : Settings
   pub kept : List ℕ
+  -- the message that is lent, which isn't among the bytes kept any more
+  pub held : Option Lent
   pub collector : K
   pub status : Option Status
   pub parameters : List (List ℕ × List ℕ)
@@ -52,13 +56,18 @@ Seen way m Is = (stand : Stand) (settled : List Settled) → way.fits m.collecto
 
 -- ---- calls
 
--- The call does this to each client that may have the collector, and settles nothing.
+-- The machine that keeps these bytes, and is the same but for them.
+abbrev pub keeping : {K : Type 0} → MachineView K → List ℕ → MachineView K
+keeping m kept = record m { kept = kept }
+
+-- The call does this to each client that may have the collector, whichever bytes it keeps, and
+-- settles nothing. The bytes stay.
 abbrev pub Goes : {K : Type 0} → Collects K → MachineView K → MachineView K
     → (ClientView → ClientView → Type 0) → Type 0
-Goes way old new Does = (stand : Stand) (settled : List Settled)
-    → way.fits old.collector stand settled
+Goes way old new Does = (new.kept ≡ old.kept) × ((kept : List ℕ) (stand : Stand)
+    (settled : List Settled) → way.fits old.collector stand settled
     → (now : Stand) × way.fits new.collector now settled
-    × Does (client_at old stand settled) (client_at new now settled)
+    × Does (client_at (keeping old kept) stand settled) (client_at (keeping new kept) now settled))
 
 -- The call is accepted, and leads from the one phase to the other. The lists are the output before
 -- and after.
@@ -76,10 +85,11 @@ pub record IsAtFirst {K : Type 0} (way : Collects K) (m : MachineView K) : Type 
 
 -- ---- a message
 
--- The machine has the same settings, bytes kept and cause of a close as before.
+-- The machine has the same settings, bytes kept, message lent and cause of a close as before.
 pub record IsOfSame {K : Type 0} (old new : MachineView K) : Type 0 where
   pub settings : new.settings ≡ old.settings
   pub kept : new.kept ≡ old.kept
+  pub held : new.held ≡ old.held
   pub closed : new.closed ≡ old.closed
 
 -- Wherever a client may stand that has the old collector, the client there handles or refuses the
@@ -91,6 +101,12 @@ Handles way m old result new = (stand : Stand) (settled : List Settled)
     → (now : Stand) × (left : List Settled) × way.fits new.collector now left
     × IsHeard m (client_at old stand settled) result (client_at new now left)
     × TellsBy way stand m result old.collector new.collector
+
+-- The same of the message that is lent.
+abbrev pub HandlesHeld : {K : Type 0} → Collects K → MachineView K → Result ToSend FeedFault
+    → MachineView K → Type 0
+HandlesHeld way old result new = (lent : Lent) → old.held ≡ Some lent
+    → Handles way (message_of lent) old result new
 
 -- It has told of the message where that was handled.
 abbrev pub TellsWhole : {K : Type 0} → Collects K → Stand → BackMessage → Result Unit FeedFault → K
@@ -146,6 +162,10 @@ pub record FeedsTold (old : ClientView) (was : Telling) (piece : List ℕ)
   pub put : after ≡ before ++ added
   pub hears : (h : History) → IsHistoryOf h old → HearsTold (with_fed piece h) piece added result
       was new is
+  -- the same where the last bytes that it keeps are still to be heard
+  pub unread : (h : History) (first left : List ℕ) → 0 < length piece → old.kept ≡ first ++ left
+      → IsHistoryOf h (record old { kept = first })
+      → HearsTold (with_fed (left ++ piece) h) (left ++ piece) added result was new is
 
 -- What feed does to a machine that is closed for this reason, or open (None). A closed one answers
 -- Closed, and nothing changes.

@@ -1,9 +1,10 @@
 //! The bytes that come from the server.
 
-ghost use Rattle.std.specs.Prelude.{◌≡◌, ◌<◌, IfOk, length, None, OnOk, Some, true};
+ghost use Rattle.std.specs.Prelude.{◌≡◌, ◌<◌, false, IfOk, length, None, OnOk, Some, true};
 ghost use Rattle.pg_wire.specs.message.BackMessage.TheVariants.{KeyData, ParameterStatus, Ready};
+ghost use Rattle.pg_client.specs.Closed.{cause_of};
 ghost use Rattle.pg_client.specs.Private.Feeding.{SendsFor};
-ghost use Rattle.pg_client.specs.Private.Machine.{FeedsMachine, Handles, HandlesAll, HandlesNext, HandlesWhole, IsOfSame};
+ghost use Rattle.pg_client.specs.Private.Machine.{FeedsMachine, Handles, HandlesAll, HandlesHeld, HandlesNext, HandlesWhole, IsOfSame};
 
 use crate::collector::Collector;
 use crate::fault::FeedFault;
@@ -12,7 +13,7 @@ use crate::phase::Cause;
 use crate::sending::put_password;
 use crate::startup::ToSend;
 use pg_segment::Kind;
-use pg_wire::{BackMessage, Seq, Status};
+use pg_wire::{Aside, BackMessage, Cut, Fields, Lent, Seq, Status};
 
 impl<K: Collector> Machine<K> {
     /// Takes the bytes that came from the server.
@@ -20,6 +21,7 @@ impl<K: Collector> Machine<K> {
         ensures settings { self.new.settings ≡ self.old.settings }
         ensures feeds { FeedsMachine K.way self.old.closed self.old piece.now result self.new
             out.old.items out.new.items }
+        ensures lends_none { OnOk result (0 < length piece.now → self.new.held ≡ None) }
     {
         if self.closed.is_some() {
             return Err(FeedFault::Closed);
@@ -39,6 +41,7 @@ impl<K: Collector> Machine<K> {
         requires { self.old.closed ≡ None }
         ensures settings { self.new.settings ≡ self.old.settings }
         ensures all { HandlesAll K.way self.old result self.new out.old.items out.new.items }
+        ensures lends_none { OnOk result (self.new.held ≡ None) }
     {
         while self.hear_next(out)? {}
         Ok(())
@@ -52,15 +55,17 @@ impl<K: Collector> Machine<K> {
         ensures shorter { IfOk result (λ more. more ≡ true
             → length self.new.kept < length self.old.kept) }
         ensures next { HandlesNext K.way self.old result self.new out.old.items out.new.items }
+        ensures lends_none { IfOk result (λ more. more ≡ false → self.new.held ≡ None) }
     {
-        match self.decoder.next() {
-            Ok(None) => Ok(false),
-            Ok(Some(message)) => match self.hear_and_send(message, out) {
+        match self.decoder.next_lent() {
+            Ok(Cut::Nothing) => Ok(false),
+            Ok(Cut::Held) => match self.hear_held() {
+                Ok(_) => Ok(true),
+                Err(fault) => Err(self.close(fault)),
+            },
+            Ok(Cut::Other(message)) => match self.hear_and_send(message, out) {
                 Ok(()) => Ok(true),
-                Err(fault) => {
-                    self.closed = fault.cause();
-                    Err(fault)
-                }
+                Err(fault) => Err(self.close(fault)),
             },
             Err(fault) => {
                 let fault = FeedFault::of_wire(fault);
@@ -70,8 +75,41 @@ impl<K: Collector> Machine<K> {
         }
     }
 
+    // Is closed by a fault.
+    pub(crate) fn close(&mut self, fault: FeedFault) -> FeedFault
+        requires { self.old.closed ≡ None }
+        ensures fault { result ≡ fault }
+        ensures closed { self.new ≡ record self.old { closed = cause_of fault } }
+    {
+        self.closed = fault.cause();
+        fault
+    }
+
+    // Takes in the message that the decoder lends. A row goes from there to where it is kept.
+    pub(crate) fn hear_held(&mut self) -> Result<ToSend, FeedFault>
+        ensures same { IsOfSame self.old self.new }
+        ensures heard { HandlesHeld K.way self.old result self.new }
+    {
+        match self.decoder.held() {
+            Some(Lent::Row(row)) => self.collector.hear_row(self.alloc, &row),
+            Some(Lent::Error(fields)) => match Fields::of_view(self.alloc, &fields) {
+                Ok(fields) => self.collector.hear_error(fields),
+                Err(_) => Err(FeedFault::Memory),
+            },
+            Some(Lent::Notice(fields)) => match Fields::of_view(self.alloc, &fields) {
+                Ok(fields) => self.collector.hear_aside(Aside::Notice(fields)),
+                Err(_) => Err(FeedFault::Memory),
+            },
+            None => Ok(ToSend::Nothing),
+        }
+    }
+
     // Takes a message in, and puts out what it makes the client send.
-    fn hear_and_send(&mut self, message: BackMessage, out: &mut Vec<u8>) -> Result<(), FeedFault>
+    pub(crate) fn hear_and_send(
+        &mut self,
+        message: BackMessage,
+        out: &mut Vec<u8>,
+    ) -> Result<(), FeedFault>
         ensures same { IsOfSame self.old self.new }
         ensures message { HandlesWhole K.way message self.old result self.new out.old.items
             out.new.items }

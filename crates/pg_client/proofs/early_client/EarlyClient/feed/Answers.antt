@@ -1,5 +1,9 @@
+use Rattle.pg_client.proofs.EarlyLending.{feeds_all}
 use Rattle.pg_client.proofs.Queued.{feeds}
 use Rattle.pg_client.proofs.early_client.EarlyClient.feed.Goals as goal
 
 pub returns-clause-feeds : goal.returns-clause-feeds
 returns-clause-feeds c = feeds c.args.self.now c.self.inside.machine c.feed.new.self c.self.view_is c.args.piece.now c.feed.result c.args.out.now.items c.feed.new.out.items c.feed.ensures.feeds
+
+pub returns-clause-unread : goal.returns-clause-unread
+returns-clause-unread c = feeds_all c.args.self.now c.self.inside.machine c.feed.new.self c.self.view_is c.args.piece.now c.feed.result c.args.out.now.items c.feed.new.out.items c.feed.ensures.feeds

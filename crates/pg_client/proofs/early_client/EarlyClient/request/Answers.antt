@@ -6,12 +6,17 @@ use Rattle.pg_client.specs.declared.fault.CallFault.{CallFault}
 use Rattle.pg_client.specs.declared.phase.Phase.{Phase}
 use Rattle.pg_client.specs.declared.phase.Phase.TheVariants as phase
 use Rattle.pg_wire.specs.declared.session.Request.{Request}
+use Rattle.pg_client.proofs.EarlyLending.{calls_before}
 use Rattle.pg_client.proofs.Queued.{accepts, refuses, stays}
 use Rattle.pg_client.proofs.early_client.EarlyClient.request.Goals as goal
 
 pub returns-clause-accepted : goal.returns-clause-accepted
 returns-clause-accepted c =
     accepts c.args.self.now c.self.inside.machine c.request.new.self c.self.view_is c.request.result (λ (p : Phase). p ≡ phase.Ready) phase.Busy (call.Request c.args.request) c.args.out.now.items c.request.new.out.items c.request.ensures.ok c.request.ensures.tells
+
+pub returns-clause-unread : goal.returns-clause-unread
+returns-clause-unread c =
+    calls_before c.args.self.now c.self.inside.machine c.request.new.self c.self.view_is c.request.result (λ (p : Phase). p ≡ phase.Ready) phase.Busy (call.Request c.args.request) c.args.out.now.items c.request.new.out.items c.request.ensures.ok c.request.ensures.tells
 
 pub returns-clause-refused : goal.returns-clause-refused
 returns-clause-refused c = refuses c.args.self.now c.self.inside.machine c.request.new.self c.self.view_is c.request.result (λ (f : Request × CallFault) (x : ClientView). RefusesUnless phase.Ready x (call.Request c.args.request) f.1) c.request.ensures.refused
