@@ -1,0 +1,103 @@
+//! Rows that a client is fed, group by group.
+
+use crate::digest::Digest;
+use crate::orders::{Order, columns};
+use anyhow::bail;
+use pg_client::{Client, Settings, Settled};
+use pg_wire::backend::{command_complete, data_row, encode, row_description};
+use pg_wire::{BackMessage, EncodeFault, Part, Request, Seq, Status};
+use rand_xoshiro::Xoshiro256PlusPlus;
+use rand_xoshiro::rand_core::Rng;
+use std::alloc::Global;
+
+/// The most bytes that come at once.
+const PIECE: usize = 8_192;
+
+/// What a server sends at the beginning, where it asks for no password.
+pub fn welcome(buf: &mut Vec<u8>) -> Result<(), EncodeFault> {
+    encode(&BackMessage::AuthOk, buf)?;
+    encode(&BackMessage::Ready(Status::Idle), buf)
+}
+
+/// What is asked for.
+pub fn query(alloc: Global) -> anyhow::Result<Request> {
+    Ok(Request::Query(Seq::from_slice(
+        alloc,
+        b"SELECT * FROM orders WHERE placed_at > '2026-11-20' ORDER BY order_id",
+    )?))
+}
+
+/// What a server answers with some rows: few of most queries, and a thousand of some.
+pub fn answer(
+    alloc: Global,
+    order: &mut Order,
+    random: &mut Xoshiro256PlusPlus,
+    buf: &mut Vec<u8>,
+) -> anyhow::Result<()> {
+    row_description(columns(alloc)?.as_slice(), buf)?;
+    let bits = random.next_u64();
+    let count = if bits & 3 == 0 {
+        bits >> 32 & 0xFFF
+    } else {
+        bits >> 32 & 0xFF
+    };
+    for _ in 0..count {
+        let values = order.next(random);
+        data_row(values.as_slice(), buf)?;
+    }
+    command_complete(b"SELECT 1", buf)?;
+    encode(&BackMessage::Ready(Status::Idle), buf)?;
+    Ok(())
+}
+
+/// A client that is ready.
+fn ready(alloc: Global, out: &mut Vec<u8>) -> anyhow::Result<Client> {
+    let mut client = Client::new(
+        alloc,
+        Settings::new(alloc, Seq::from_slice(alloc, b"clerk")?),
+    );
+    let mut buf = Vec::new(alloc);
+    welcome(&mut buf)?;
+    client.start(out)?;
+    client.feed(buf.as_slice(), out)?;
+    Ok(client)
+}
+
+/// Puts the rows of a group.
+fn put_settled(settled: &Settled, digest: &mut Digest) {
+    for part in settled.outcome.parts.iter() {
+        if let Part::Rows { rows, .. } = part {
+            for row in rows.iter() {
+                for value in row.iter() {
+                    digest.put_value(value);
+                }
+            }
+            digest.put(rows.len() as u64);
+        }
+    }
+}
+
+/// A client asks so many queries, is fed the answers, and its groups are taken.
+pub fn fetch(alloc: Global, mut random: Xoshiro256PlusPlus, queries: u32) -> anyhow::Result<u64> {
+    let mut digest = Digest::new();
+    let mut order = Order::new();
+    let mut out = Vec::new(alloc);
+    let mut client = ready(alloc, &mut out)?;
+    let mut stream = Vec::new(alloc);
+    for _ in 0..queries {
+        out.clear();
+        if client.request(query(alloc)?, &mut out).is_err() {
+            bail!("the request is refused");
+        }
+        stream.clear();
+        answer(alloc, &mut order, &mut random, &mut stream)?;
+        for piece in stream.chunks(PIECE) {
+            client.feed(piece, &mut out)?;
+        }
+        let Some(settled) = client.take_settled() else {
+            bail!("no group is settled");
+        };
+        put_settled(&settled, &mut digest);
+    }
+    Ok(digest.finish())
+}

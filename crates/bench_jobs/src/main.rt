@@ -1,0 +1,61 @@
+//! Does a job that a user of this library waits for, on input made up from a seed, and prints a digest of all that came of it
+//! (`bench/run` times it). The words are the job, the seed and how much of it there is, each a number below 2^32:
+//! - `fetch`: a client is fed the rows of so many queries, and gives their settled groups;
+//! - `stream`: an early client lends the rows of so many queries;
+//! - `load`: a client copies rows to a backend so many times, and what was loaded is read;
+//! - `convert`: so many COPY files go from text to binary and back;
+//! - `show`: so many recorded streams are shown;
+//! - `trickle`: so many sessions of small extended queries with a scripted backend are played, of which a few bytes arrive at a time;
+//! - `all`: each of them.
+#![tactic(auto)]
+
+mod convert;
+mod digest;
+mod fetch;
+mod load;
+mod orders;
+mod session;
+mod show;
+mod stream;
+mod trickle;
+
+use anyhow::{Context, bail};
+use rand_xoshiro::Xoshiro256PlusPlus;
+use rand_xoshiro::rand_core::SeedableRng;
+use std::alloc::Global;
+use std::env;
+
+/// The jobs.
+const JOBS: [&str; 6] = ["fetch", "stream", "load", "convert", "show", "trickle"];
+
+/// Does the job of a name: what came of it.
+fn do_job(alloc: Global, name: &str, seed: u32, size: u32) -> anyhow::Result<u64> {
+    let random = Xoshiro256PlusPlus::seed_from_u64(u64::from(seed));
+    match name {
+        "fetch" => fetch::fetch(alloc, random, size),
+        "stream" => stream::stream(alloc, random, size),
+        "load" => load::load(alloc, random, size),
+        "convert" => convert::convert_files(alloc, random, size),
+        "show" => show::show_streams(alloc, random, size),
+        "trickle" => trickle::trickle(alloc, random, size),
+        other => bail!("no job: {other}"),
+    }
+}
+
+fn main(rt: HostRuntime) -> anyhow::Result<()> {
+    let alloc = rt.alloc();
+    let words: Vec<String> = env::args(&rt)?.collect(alloc)?;
+    let [_, job, seed, size] = words.as_slice() else {
+        bail!("the words are a job, a seed and a size");
+    };
+    let seed: u32 = seed.parse().context("no seed")?;
+    let size: u32 = size.parse().context("no size")?;
+    if job.as_str() == "all" {
+        for name in JOBS {
+            println!(rt; "{name} {:016x}", do_job(alloc, name, seed, size)?)?;
+        }
+        return Ok(());
+    }
+    println!(rt; "{:016x}", do_job(alloc, job.as_str(), seed, size)?)?;
+    Ok(())
+}

@@ -1,0 +1,201 @@
+//! Sessions of small extended queries between a client and a scripted backend, of which a few bytes arrive at a time.
+
+ghost use Rattle.std.specs.Prelude.{IfOk};
+ghost use Rattle.pg_backend.specs.Check.{IsChecked};
+
+use crate::digest::Digest;
+use crate::orders::{Order, columns};
+use crate::session::Session;
+use pg_backend::{Answer, Auth, Script, ScriptPart};
+use pg_client::Settled;
+use pg_wire::{Aside, ExecEnd, Fields, Part, Request, Seq, Status, Step, Target, Values};
+use rand_xoshiro::Xoshiro256PlusPlus;
+use rand_xoshiro::rand_core::Rng;
+use std::alloc::Global;
+
+/// How many groups a session has.
+const GROUPS: u32 = 64;
+
+/// The values of a row, owned.
+fn values(
+    alloc: Global,
+    order: &mut Order,
+    random: &mut Xoshiro256PlusPlus,
+) -> anyhow::Result<Values> {
+    Ok(Values::from_slice(alloc, order.next(random).as_slice())?)
+}
+
+/// The steps of a group: a statement is parsed, bound, described and run.
+fn group(
+    alloc: Global,
+    order: &mut Order,
+    random: &mut Xoshiro256PlusPlus,
+) -> anyhow::Result<Request> {
+    let text = b"INSERT INTO orders VALUES ($1, $2, $3, $4, $5, $6, $7) RETURNING *";
+    let steps = vec![in alloc;
+        Step::Parse {
+            name: Seq::new(Vec::new(alloc)),
+            text: Seq::from_slice(alloc, text)?,
+            types: Seq::new(Vec::new(alloc))
+        },
+        Step::Bind {
+            portal: Seq::new(Vec::new(alloc)),
+            statement: Seq::new(Vec::new(alloc)),
+            formats: Seq::new(Vec::new(alloc)),
+            values: values(alloc, order, random)?,
+            result_formats: Seq::new(Vec::new(alloc))
+        },
+        Step::Describe {
+            target: Target::Portal,
+            name: Seq::new(Vec::new(alloc))
+        },
+        Step::Execute {
+            portal: Seq::new(Vec::new(alloc)),
+            max_rows: 0
+        },
+    ]?;
+    Ok(Request::Group(Seq::new(steps)))
+}
+
+/// The notice that comes before some answers.
+fn notices(alloc: Global, comes: bool) -> anyhow::Result<Seq<Aside>> {
+    let mut notices = Vec::new(alloc);
+    if comes {
+        let text = b"the note was cut to a hundred characters";
+        let fields = Fields::from_slice(alloc, &[(b'S', b"NOTICE"), (b'M', text)])?;
+        notices.push(Aside::Notice(fields))?;
+    }
+    Ok(Seq::new(notices))
+}
+
+/// The error that ends some.
+fn error(alloc: Global) -> anyhow::Result<Fields> {
+    let text = b"duplicate key value violates unique constraint";
+    Ok(Fields::from_slice(alloc, &[(b'S', b"ERROR"), (b'C', b"23505"), (b'M', text)])?)
+}
+
+/// What a run gives: so many rows.
+fn executed(
+    alloc: Global,
+    order: &mut Order,
+    random: &mut Xoshiro256PlusPlus,
+    count: u64,
+) -> anyhow::Result<ScriptPart> {
+    let mut rows = Vec::new(alloc);
+    for _ in 0..count {
+        rows.push(values(alloc, order, random)?)?;
+    }
+    let end = ExecEnd::Complete(Seq::from_slice(alloc, b"INSERT 0 1")?);
+    Ok(ScriptPart::Executed {
+        rows: Seq::new(rows),
+        end,
+    })
+}
+
+/// What a group is answered: mostly a few rows, sometimes an error, and before some a notice.
+fn answer(
+    alloc: Global,
+    order: &mut Order,
+    random: &mut Xoshiro256PlusPlus,
+) -> anyhow::Result<Answer> {
+    let bits = random.next_u64();
+    let before = notices(alloc, bits & 7 == 0)?;
+    let mut parts = vec![in alloc; ScriptPart::Parsed, ScriptPart::Bound]?;
+    let mut refused = None;
+    if bits >> 3 & 15 == 0 {
+        refused = Some(error(alloc)?);
+    } else {
+        parts.push(ScriptPart::Described {
+            parameters: None,
+            columns: Some(columns(alloc)?),
+        })?;
+        parts.push(executed(alloc, order, random, bits >> 8 & 7)?)?;
+    }
+    Ok(Answer {
+        before,
+        parts: Seq::new(parts),
+        error: refused,
+        status: Status::Idle,
+    })
+}
+
+/// What the backend answers.
+fn script(
+    alloc: Global,
+    order: &mut Order,
+    random: &mut Xoshiro256PlusPlus,
+) -> anyhow::Result<Script>
+    ensures { IfOk result (λ script. IsChecked script) }
+{
+    let mut answers = Vec::new(alloc);
+    for _ in 0..GROUPS {
+        answers.push(answer(alloc, order, random)?)?;
+    }
+    let script = Script {
+        auth: Auth::Trust,
+        pairs: Seq::new(Vec::new(alloc)),
+        key: None,
+        answers: Seq::new(answers),
+    };
+    script.check(alloc)?;
+    Ok(script)
+}
+
+/// Puts a group that was settled.
+fn put_settled(settled: &Settled, digest: &mut Digest) {
+    for part in settled.outcome.parts.iter() {
+        if let Part::Executed { rows, .. } = part {
+            for row in rows.iter() {
+                for value in row.iter() {
+                    digest.put_value(value);
+                }
+            }
+        }
+    }
+    if let Some(fields) = &settled.outcome.error {
+        digest.put_value(fields.message());
+    }
+    digest.put(settled.outcome.asides.len() as u64);
+}
+
+/// The client asks for group after group.
+fn ask_all(
+    alloc: Global,
+    session: &mut Session,
+    order: &mut Order,
+    random: &mut Xoshiro256PlusPlus,
+    digest: &mut Digest,
+) -> anyhow::Result<()> {
+    for _ in 0..GROUPS {
+        session.ask(group(alloc, order, random)?)?;
+        session.trickle(random)?;
+        put_settled(&session.settled()?, digest);
+    }
+    Ok(())
+}
+
+/// Plays a session.
+fn play(
+    alloc: Global,
+    order: &mut Order,
+    random: &mut Xoshiro256PlusPlus,
+    digest: &mut Digest,
+) -> anyhow::Result<()> {
+    let mut session = Session::new(alloc, script(alloc, order, random)?)?;
+    session.start()?;
+    ask_all(alloc, &mut session, order, random, digest)
+}
+
+/// So many sessions are played.
+pub fn trickle(
+    alloc: Global,
+    mut random: Xoshiro256PlusPlus,
+    sessions: u32,
+) -> anyhow::Result<u64> {
+    let mut digest = Digest::new();
+    let mut order = Order::new();
+    for _ in 0..sessions {
+        play(alloc, &mut order, &mut random, &mut digest)?;
+    }
+    Ok(digest.finish())
+}
