@@ -1,4 +1,5 @@
 pub mod OptionFacts
+pub mod BlockBits
 pub mod TextParts
 pub mod TextValues
 pub mod TextLines

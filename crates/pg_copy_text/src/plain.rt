@@ -1,10 +1,16 @@
 //! Runs of bytes that stand for themselves, in a line and in a value that is written.
 
-ghost use Rattle.std.specs.Prelude.{◌≡◌, ◌≤◌, ◌<◌, ◌+◌, ℕ, length, slice_index, true};
+ghost use Rattle.std.specs.Prelude.{◌≡◌, ◌≢◌, ◌<◌, ◌≤◌, ◌+◌, ℕ, true, length, slice_index};
+ghost use Rattle.std.specs.Int.{bit_at};
 ghost use Rattle.pg_copy_text.specs.Private.Units.{IsPlain};
 
+use std::simd::prelude::*;
+
 /// How many bytes are looked at side by side.
-const BLOCK: usize = 8;
+const BLOCK: usize = 16;
+
+/// How many are, where there are fewer.
+const HALF: usize = 8;
 
 /// Whether a byte surely stands for itself: most bytes of most texts do.
 pub fn is_plain(byte: u8, delimiter: u8) -> bool
@@ -13,14 +19,57 @@ pub fn is_plain(byte: u8, delimiter: u8) -> bool
     byte > b'\r' && byte != b'\\' && byte != delimiter
 }
 
-/// Whether the bytes of a block are plain. All are looked at, which a processor does at once.
-fn is_plain_block(bytes: &[u8], from: usize, delimiter: u8) -> bool
+/// The bytes of a block that are at most so great: a bit for each, the lowest for the first.
+#[inline(always)]
+fn bits_up_to(block: u8x16, most: u8) -> u64
+    ensures { (k : ℕ) → k < 16 → bit_at result k ≡ 0 → most < slice_index block k }
+{
+    block.simd_le(u8x16::splat(most)).to_bitmask()
+}
+
+/// Those that are this byte.
+#[inline(always)]
+fn bits_of(block: u8x16, byte: u8) -> u64
+    ensures { (k : ℕ) → k < 16 → bit_at result k ≡ 0 → slice_index block k ≢ byte }
+{
+    block.simd_eq(u8x16::splat(byte)).to_bitmask()
+}
+
+/// Those that may not be plain.
+#[inline(always)]
+fn special_bits(block: u8x16, delimiter: u8) -> u64
+    ensures { (k : ℕ) → k < 16 → bit_at result k ≡ 0 → IsPlain delimiter (slice_index block k) }
+{
+    bits_up_to(block, b'\r') | bits_of(block, b'\\') | bits_of(block, delimiter)
+}
+
+/// The place of the lowest bit, or 16 where none of the lowest 16 is set.
+#[inline(always)]
+fn lowest(bits: u64) -> usize
+    ensures within { result ≤ 16 }
+    ensures below { (k : ℕ) → k < result → bit_at bits k ≡ 0 }
+{
+    (bits | 65_536).trailing_zeros() as usize
+}
+
+/// How many bytes of a block are plain, up to the first that may not be.
+fn plain_in_block(bytes: &[u8], from: usize, delimiter: u8) -> usize
+    requires { from + 16 ≤ length bytes.now }
+    ensures within { result ≤ 16 }
+    ensures plain { (i : ℕ) → from ≤ i → i < from + result
+        → IsPlain delimiter (slice_index bytes.now i) }
+{
+    lowest(special_bits(u8x16::from_slice(&bytes[from..]), delimiter))
+}
+
+/// Whether the bytes of half a block are plain.
+fn is_plain_half(bytes: &[u8], from: usize, delimiter: u8) -> bool
     requires { from + 8 ≤ length bytes.now }
     ensures { result ≡ true → (i : ℕ) → from ≤ i → i < from + 8
         → IsPlain delimiter (slice_index bytes.now i) }
 {
     let mut plain = true;
-    for i in from..from + BLOCK {
+    for i in from..from + HALF {
         if !is_plain(bytes[i], delimiter) {
             plain = false;
         }
@@ -36,8 +85,15 @@ pub fn plain_end(bytes: &[u8], from: usize, delimiter: u8) -> usize
     ensures plain { (i : ℕ) → from ≤ i → i < result → IsPlain delimiter (slice_index bytes.now i) }
 {
     let mut at = from;
-    while bytes.len() - at >= BLOCK && is_plain_block(bytes, at, delimiter) {
-        at += BLOCK;
+    while bytes.len() - at >= BLOCK {
+        let plain = plain_in_block(bytes, at, delimiter);
+        at += plain;
+        if plain < BLOCK {
+            return at;
+        }
+    }
+    if bytes.len() - at >= HALF && is_plain_half(bytes, at, delimiter) {
+        at += HALF;
     }
     while at < bytes.len() && is_plain(bytes[at], delimiter) {
         at += 1;

@@ -1,0 +1,12 @@
+use Rattle.std.proofs.Common.{◌≡◌, ◌+◌, ◌-◌, ◌<◌, arith, ◌∙◌, get_or, subst, ap}
+use Rattle.std.proofs.lemmas.Simd.{get_or-chunk}
+use Rattle.pg_copy_text.specs.Private.Units.{IsPlain}
+use Rattle.pg_copy_text.proofs.plain.plain_in_block.Goals as goal
+
+pub returns-clause-plain : goal.returns-clause-plain
+returns-clause-plain c i from to =
+    let k = i - c.args.from in
+    let place : c.args.from + k ≡ i = omega (arith, from) in
+    let below : k < c.lowest.result = omega (arith, from, to) in
+    let low : k < 16 = omega (arith, below, c.lowest.ensures.within) in
+    subst (λ b. IsPlain c.args.delimiter b) (get_or-chunk c.args.from 16 c.args.bytes.now k 0 low ∙ ap (λ j. get_or c.args.bytes.now j 0) place) (c.special_bits.ensures k low (c.lowest.ensures.below k below))
