@@ -3,7 +3,7 @@ use Rattle.std.proofs.Common.{◌≡◌, ◌≢◌, ℕ, ◌%◌, ◌^◌, ◌<�
 use Rattle.std.proofs.lemmas.Nat.Bits.{bit_at_or, bit_at-zero, bit_at-trailing_zeros}
 use Rattle.std.proofs.lemmas.Bool.{ne_eqb, cond-false}
 use Rattle.std.proofs.lemmas.Nat.{or_lt}
-use Rattle.pg_copy_text.specs.Private.Units.{IsPlain}
+use Rattle.pg_copy_text.specs.Private.Units.{IsPlain, NoBackslash}
 use Rattle.std.specs.Int.{bit_at, trailing_zeros}
 use Rattle.std.specs.Simd.Lanes.{zip2, mask_l, top}
 use Rattle.std.proofs.lemmas.Simd.{bit_mask_l, bitmask_splat}
@@ -58,3 +58,8 @@ marked n small =
     let some : 0 < m = nonzero m 16 (omega (arith, set)) in
     let tz = bit_at-trailing_zeros w64 m some (or_lt 64 n 65536 small (omega arith)) in
     (not_later _ 16 (λ l. omega (arith, set, tz.2 16 l)), tz.2)
+
+-- no byte is a backslash where none is by its place
+pub none_by_place : (bs : List ℕ) → ((i : ℕ) → i < length bs → get_or bs i 0 ≢ 92) → NoBackslash bs
+none_by_place [] never = tt
+none_by_place (b ∷ bs) never = (ne_eqb b 92 (never 0 (omega arith)), none_by_place bs (λ i l. never (suc i) (omega (arith, l))))

@@ -1,11 +1,11 @@
 -- A row of a text file read in place.
-use Rattle.std.proofs.Common.{◌≡◌, ℕ, ◌+◌, Bool, true, false, cond, List, [], ◌∷◌, ◌++◌, length, take, drop, map, Result, Ok, Err, refl, sym, ap, ◌∙◌, arith}
+use Rattle.std.proofs.Common.{◌≡◌, ℕ, ◌+◌, Bool, eqb, true, false, cond, List, [], ◌∷◌, ◌++◌, length, take, drop, map, Result, Ok, Err, refl, sym, ap, ◌∙◌, arith}
 use Rattle.std.specs.Prelude.{OnOk}
 use Rattle.std.proofs.Math.Bool.{not}
 use Rattle.std.specs.Str.{bytes_eq}
 use Rattle.std.proofs.lemmas.Bool.{cond-true, cond-false}
-use Rattle.pg_copy_text.specs.Text.{Options, text_after, field_value}
-use Rattle.std.specs.List.{flat_map}
+use Rattle.pg_copy_text.specs.Text.{Options, text_after, field_value, parts_from}
+use Rattle.std.specs.List.{flat_map, onto_first}
 use Rattle.std.proofs.lemmas.List.{take_all, append_cancel_left}
 use Rattle.pg_copy_text.specs.declared.text_line.FieldEnd.{FieldEnd}
 use Rattle.pg_copy_text.specs.Private.TextRow.{field_text, line_texts, line_values}
@@ -73,3 +73,30 @@ text-first o rest e h = go e.last refl
 -- those after it are of the fields after it
 pub texts-after : (o : Options) (rest texts after : List ℕ) (n : ℕ) → IsUnitAt o.delimiter rest n → texts ≡ line_texts o rest → texts ≡ field_text o (take n rest) ++ after → after ≡ line_texts o (drop (n + 1) rest)
 texts-after o rest texts after n at e f = append_cancel_left (field_text o (take n rest)) after (line_texts o (drop (n + 1) rest)) (sym f ∙ e ∙ texts-more o rest n at)
+
+-- ---- a line without a backslash
+
+-- each of the parts is without one
+abbrev ArePlain : List (List ℕ) → Type 0
+ArePlain [] = Unit {0}
+ArePlain (part ∷ rest) = NoBackslash part × ArePlain rest
+
+onto-plain : (b : ℕ) → eqb b 92 ≡ false → (all : List (List ℕ)) → ArePlain all → ArePlain (onto_first b all)
+onto-plain b e [] h = ((e, tt), tt)
+onto-plain b e (part ∷ rest) h = ((e, h.0), h.1)
+
+parts-plain : (mark : ℕ) (line : List ℕ) → NoBackslash line → ArePlain (parts_from false mark line)
+parts-plain mark [] h = (tt, tt)
+parts-plain mark (b ∷ bs) h = go (parts-plain mark bs h.1) (eqb b mark)
+  where
+    go : ArePlain (parts_from false mark bs) → (t : Bool) → ArePlain (cond t ([] ∷ parts_from false mark bs) (onto_first b (parts_from (eqb b 92) mark bs)))
+    go left true = (tt, left)
+    go left false = rw h.0 (onto-plain b h.0 (parts_from false mark bs) left)
+
+texts-of-plain : (o : Options) (all : List (List ℕ)) → ArePlain all → flat_map (field_text o) all ≡ []
+texts-of-plain o [] h = refl
+texts-of-plain o (part ∷ rest) h = rw (plain-text-none o part h.0) (texts-of-plain o rest h.1)
+
+-- no text is copied of it
+pub line-texts-none : (o : Options) (line : List ℕ) → NoBackslash line → line_texts o line ≡ []
+line-texts-none o line h = texts-of-plain o (parts_from false o.delimiter line) (parts-plain o.delimiter line h)

@@ -1,8 +1,8 @@
 //! Runs of bytes that stand for themselves, in a line and in a value that is written.
 
-ghost use Rattle.std.specs.Prelude.{◌≡◌, ◌≢◌, ◌<◌, ◌≤◌, ◌+◌, ℕ, true, length, slice_index};
+ghost use Rattle.std.specs.Prelude.{◌≡◌, ◌≢◌, ◌<◌, ◌≤◌, ◌+◌, ℕ, true, false, length, slice_index};
 ghost use Rattle.std.specs.Int.{bit_at};
-ghost use Rattle.pg_copy_text.specs.Private.Units.{IsPlain};
+ghost use Rattle.pg_copy_text.specs.Private.Units.{IsPlain, NoBackslash};
 
 use std::simd::prelude::*;
 
@@ -75,6 +75,32 @@ fn is_plain_half(bytes: &[u8], from: usize, delimiter: u8) -> bool
         }
     }
     plain
+}
+
+/// Whether a byte of a block may be a backslash.
+fn is_backslash_in_block(bytes: &[u8], from: usize) -> bool
+    requires { from + 16 ≤ length bytes.now }
+    ensures { result ≡ false → (i : ℕ) → from ≤ i → i < from + 16 → slice_index bytes.now i ≢ 92 }
+{
+    bits_of(u8x16::from_slice(&bytes[from..]), b'\\') != 0
+}
+
+/// Whether a byte may be a backslash. Bytes that are few are not looked at.
+pub fn may_have_backslash(bytes: &[u8]) -> bool
+    ensures { result ≡ false → NoBackslash bytes.now }
+{
+    if bytes.len() < BLOCK {
+        return true;
+    }
+    let last = bytes.len() - BLOCK;
+    let mut at = 0;
+    while at < last {
+        if is_backslash_in_block(bytes, at) {
+            return true;
+        }
+        at += BLOCK;
+    }
+    is_backslash_in_block(bytes, last)
 }
 
 /// Where the plain bytes end that stand from a place on.

@@ -6,6 +6,7 @@ ghost use Rattle.pg_copy_text.specs.Text.{field_value};
 ghost use Rattle.pg_copy_text.specs.Private.Units.{NoBackslash, has_backslash};
 ghost use Rattle.pg_copy_text.specs.Private.TextRow.{field_text, line_texts, line_values, values_left};
 
+use crate::plain::may_have_backslash;
 use crate::text_field::{put_text_of, text_len};
 use crate::text_line::field_end;
 use crate::text_options::TextOptions;
@@ -35,6 +36,10 @@ pub fn put_texts(line: &[u8], options: &TextOptions, texts: &mut Vec<u8>) -> Res
     ensures { OnOk result (texts.new.items
         ≡ texts.old.items ++ line_texts options.now line.now) }
 {
+    // most lines have no escape
+    if !may_have_backslash(line) {
+        return Ok(());
+    }
     let delimiter = options.delimiter();
     let mut rest = line;
     let mut end = field_end(rest, delimiter);

@@ -1,7 +1,7 @@
-use Rattle.std.proofs.Common.{◌∙◌}
+use Rattle.std.proofs.Common.{◌∙◌, ◌++◌, ℕ, List, ap, sym, append-nil}
 use Rattle.pg_copy_text.specs.Private.TextRow.{field_text}
 use Rattle.pg_copy_text.proofs.TextLines.{texts_more, texts_last}
-use Rattle.pg_copy_text.proofs.TextLent.{unless, when, on-ok}
+use Rattle.pg_copy_text.proofs.TextLent.{unless, when, on-ok, line-texts-none}
 use Rattle.pg_copy_text.proofs.text_row.put_texts.Goals as goal
 
 pub loop-end-preserved : goal.loop-end-preserved
@@ -18,3 +18,8 @@ returns c =
     let o = c.args.options.now in
     let all = l.invariant.2.whole (when l.end.last c.loop-end-test.false) in
     on-ok c.put_field_text-2.result _ _ (λ e. e ∙ texts_last o.delimiter (field_text o) l.texts.items l.rest.now _ all.1 l.invariant.0) c.put_field_text-2.ensures
+
+pub returns-then-not-may_have_backslash : goal.returns-then-not-may_have_backslash
+returns-then-not-may_have_backslash c =
+    let none = line-texts-none c.args.options.now c.args.line.now (c.may_have_backslash.ensures c.if-not-may_have_backslash.true) in
+    sym (ap (λ (more : List ℕ). c.args.texts.now.items ++ more) none ∙ append-nil c.args.texts.now.items)
