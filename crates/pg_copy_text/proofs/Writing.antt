@@ -1,8 +1,10 @@
 -- Texts and rows that are written piece by piece.
-use Rattle.std.proofs.Common.{◌≡◌, ℕ, ◌+◌, ◌-◌, ◌<◌, ◌≤◌, List, [], ◌∷◌, ◌++◌, length, take, drop, map, get_or, Option, Some, None, zero, suc, refl, sym, ap, subst, ◌∙◌, append_assoc, arith}
+use Rattle.std.proofs.Common.{◌≡◌, ℕ, ◌+◌, ◌-◌, ◌<◌, ◌≤◌, List, [], ◌∷◌, ◌++◌, length, take, drop, map, get_or, false, eqb, Option, Some, None, zero, suc, refl, sym, ap, subst, ◌∙◌, append_assoc, arith}
 use Rattle.std.specs.List.{flat_map, join_with_byte}
-use Rattle.std.proofs.lemmas.List.{take_more, take-take, drop-append-le, drop_all, take_all, length-take, length-take-le, append-nil, flat_map_more, map_push, length-map, drop-take, take-append-le}
-use Rattle.pg_copy_rows.proofs.Writing.{GoesOn, GoesOn-append, GoesOn-trans}
+use Rattle.std.proofs.lemmas.List.{take_more, drop-append-le, drop_all, take_all, length-take, length-take-le, append-nil, flat_map_more, map_push, length-map, length-append, drop-take}
+use Rattle.std.specs.Str.{bytes_eq}
+use Rattle.std.specs.Cmp.Lexicographic.{unequal}
+use Rattle.pg_copy_rows.proofs.Writing.{GoesOn, GoesOn-append}
 use Rattle.pg_copy_text.specs.Private.Units.{IsPlain}
 use Rattle.pg_copy_text.specs.Text.{Options, letter_for, with_letter, written_byte, written_field, written_fields}
 
@@ -83,3 +85,19 @@ IsBegun-more o old fields new field lt h =
       written = rw (e, h.written) (simp append_assoc);
       goes_on = GoesOn-append old (new ++ o.delimiter ∷ []) (written_field o field) (GoesOn-append old new (o.delimiter ∷ []) h.goes_on);
     }
+
+-- ---- no text is written with fewer bytes than it has
+
+letter_first : (l : Option ℕ) (b : ℕ) → 1 ≤ length (with_letter l b)
+letter_first None b = omega arith
+letter_first (Some letter) b = omega arith
+
+written_longer : (delimiter : ℕ) (text : List ℕ) → length text ≤ length (flat_map (written_byte delimiter) text)
+written_longer delimiter [] = omega arith
+written_longer delimiter (b ∷ text) =
+    let first = letter_first (letter_for delimiter b) b in
+    let rest = written_longer delimiter text in
+    omega (arith, first, rest, length-append (written_byte delimiter b) (flat_map (written_byte delimiter) text))
+
+pub longer-unlike : (delimiter : ℕ) (text mark : List ℕ) → length mark < length text → bytes_eq (flat_map (written_byte delimiter) text) mark ≡ false
+longer-unlike delimiter text mark longer = unequal eqb (flat_map (written_byte delimiter) text) mark (λ e. omega (arith, e, longer, written_longer delimiter text))

@@ -140,6 +140,8 @@ pub fn is_like_null(field: Option<&[u8]>, options: &TextOptions) -> bool
 {
     match field {
         None => false,
+        // no text is written with fewer bytes than it has
+        Some(text) if text.len() > options.null_mark().len() => false,
         Some(text) => is_written_as(text, options.delimiter(), options.null_mark()),
     }
 }
