@@ -1,5 +1,5 @@
 -- How the rows of a file are put, one by one.
-use Rattle.std.proofs.Common.{◌≡◌, ℕ, ◌<◌, Bool, true, false, List, [], ◌∷◌, ◌++◌, None, Result, Ok, Err, refl, sym, ap, subst, ◌∙◌, append-nil, append_assoc, length, length-append, arith}
+use Rattle.std.proofs.Common.{◌≡◌, ℕ, ◌<◌, Bool, true, false, List, [], ◌∷◌, ◌++◌, Result, Ok, Err, inl, inr, refl, sym, ap, subst, ◌∙◌, append-nil, append_assoc, length, length-append, arith}
 use Rattle.std.specs.List.{flat_map, AllByRecursion}
 use Rattle.std.proofs.lemmas.Grind.{flat_map-append}
 use Rattle.pg_copy.specs.Reading.{RowsRead, Bad, after_rows}
@@ -12,10 +12,10 @@ use Rattle.pgpipe_base.specs.declared.stop.Stop.TheVariants as stop
 use Rattle.pgpipe_convert.specs.declared.copy_rows.RowReader.{RowReader}
 use Rattle.pgpipe_convert.specs.declared.copy_rows.RowReader.TheVariants as reader
 use Rattle.pgpipe_convert.specs.Convert.{FileReading, FileWriting, answered, none_left, IsWritable}
-use Rattle.pgpipe_convert.specs.Private.Converting.{file_by, ended_of, rows_left, HasReadBy, ComeNext, ReadsOn, GivesRow, PutsRow, RowsArePut, PutsRows}
+use Rattle.pgpipe_convert.specs.Private.Converting.{file_by, ended_of, rows_left, HasReadBy, ComeNext, ReadsOn, GivesRow, WritesRow, PutsNext, SendsMuch, RowsArePut, PutsRows}
 use Rattle.pgpipe_base.specs.Outbox.{StaysWithin}
 use Rattle.pgpipe_base.specs.Outbox.{Puts}
-use Rattle.pgpipe_base.proofs.Pieces.{puts_none, puts_then, puts_as}
+use Rattle.pgpipe_base.proofs.Pieces.{puts_none, puts_then, puts_as, puts_collected}
 use Rattle.pgpipe_convert.proofs.Readers.{reading_of}
 
 -- All rows of a list, and one more.
@@ -85,14 +85,18 @@ module _ {K : Type 0} (takes : K → List ℕ → K → Type 0) (failures : K �
       → Puts {A = A} takes failures out sink (flat_map to.row (rows ++ row ∷ [])) result out'' sink''
   put_more {A} rows row out' sink' result out'' sink'' p q = subst (λ (t : List ℕ). Puts {A = A} takes failures out sink t result out'' sink'') (spelled_one rows row) (puts_then takes failures out sink (flat_map to.row rows) out' sink' (to.row row) result out'' sink'' p q)
 
-  pub grows_more : (r' : RowReader) (out' : List ℕ) (sink' : K) (row : Row) (r'' : RowReader) (out'' : List ℕ) (sink'' : K) → Grows takes failures at_end to r out sink r' out' sink' → ReadsOn at_end r' (row ∷ []) r'' → PutsRow takes failures to row out' sink' (Ok tt) out'' sink''
+  -- a row that was put, and then sent so far as the result says
+  row_put : {A : Type 0} (row : Row) (out' : List ℕ) (sink' : K) (mid : List ℕ) (result : Result A LinkFault) (out'' : List ℕ) (sink'' : K) → mid ≡ out' ++ to.row row → Puts {A = A} takes failures mid sink' [] result out'' sink'' → Puts {A = A} takes failures out' sink' (to.row row) result out'' sink''
+  row_put {A} row out' sink' mid result out'' sink'' e q = puts_as takes failures out' sink' (to.row row ++ []) (to.row row) result out'' sink'' (append-nil (to.row row)) (puts_then takes failures out' sink' (to.row row) mid sink' [] result out'' sink'' (puts_collected takes failures out' sink' (to.row row) mid e) q)
+
+  pub grows_more : (r' : RowReader) (out' : List ℕ) (sink' : K) (r'' : RowReader) (mid : List ℕ) (out'' : List ℕ) (sink'' : K) → Grows takes failures at_end to r out sink r' out' sink' → PutsNext at_end to r' out' (Ok true) r'' mid → SendsMuch takes failures mid sink' (Ok tt) out'' sink''
       → Grows takes failures at_end to r out sink r'' out'' sink''
-  grows_more r' out' sink' row r'' out'' sink'' g on p = record {
-    rows = g.rows ++ row ∷ [];
-    each_writable = one_more_writable to g.rows row g.each_writable p.0;
-    goes_on = goes_on_then at_end r g.rows r' (row ∷ []) r'' g.goes_on on;
-    put = put_more g.rows row out' sink' (Ok tt) out'' sink'' g.put p.1;
-    within = λ w. p.2;
+  grows_more r' out' sink' r'' mid out'' sink'' g n p = record {
+    rows = g.rows ++ n.0 ∷ [];
+    each_writable = one_more_writable to g.rows n.0 g.each_writable n.2.0;
+    goes_on = goes_on_then at_end r g.rows r' (n.0 ∷ []) r'' g.goes_on n.1;
+    put = put_more g.rows n.0 out' sink' (Ok tt) out'' sink'' g.put (row_put n.0 out' sink' mid (Ok tt) out'' sink'' n.2.1 p.0);
+    within = λ w. p.1;
   }
 
   -- what was put before the work stops
@@ -106,14 +110,15 @@ module _ {K : Type 0} (takes : K → List ℕ → K → Type 0) (failures : K �
   }
 
   -- no row is left
-  pub rows_end : (r' : RowReader) (out' : List ℕ) (sink' : K) (r'' : RowReader) → Grows takes failures at_end to r out sink r' out' sink' → GivesRow at_end r' (Ok None) r'' → PutsRows takes failures at_end to r out sink (Ok tt) r'' out' sink'
+  pub rows_end : (r' : RowReader) (out' : List ℕ) (sink' : K) (r'' : RowReader) (mid : List ℕ) → Grows takes failures at_end to r out sink r' out' sink' → PutsNext at_end to r' out' (Ok false) r'' mid → PutsRows takes failures at_end to r out sink (Ok tt) r'' mid sink'
   unfolding were_put
-  rows_end r' out' sink' r'' g n =
+  rows_end r' out' sink' r'' mid g m =
+      let n = m.0 in
       let put = were_put r' out' sink' (none_left n.1) g n.3 in
-      (n.1, n.2, put, subst (λ (l : List Row). ReadsOn at_end r l r'') (append-nil g.rows) (goes_on_then at_end r g.rows r' [] r'' g.goes_on n.0))
+      rw m.1 (n.1, n.2, put, subst (λ (l : List Row). ReadsOn at_end r l r'') (append-nil g.rows) (goes_on_then at_end r g.rows r' [] r'' g.goes_on n.0))
 
   -- the reader answers no row
-  pub rows_stop : (r' : RowReader) (out' : List ℕ) (sink' : K) (s : Stop Converted) (r'' : RowReader) → (at_end ≡ false → ended_of r ≡ false) → Grows takes failures at_end to r out sink r' out' sink' → GivesRow at_end r' (Err s) r'' → PutsRows takes failures at_end to r out sink (Err s) r'' out' sink'
+  rows_stop : (r' : RowReader) (out' : List ℕ) (sink' : K) (s : Stop Converted) (r'' : RowReader) → (at_end ≡ false → ended_of r ≡ false) → Grows takes failures at_end to r out sink r' out' sink' → GivesRow at_end r' (Err s) r'' → PutsRows takes failures at_end to r out sink (Err s) r'' out' sink'
   rows_stop r' out' sink' (stop.Answer converted.Whole) r'' begun g n = n
   rows_stop r' out' sink' (stop.Answer (converted.Text f)) r'' begun g n = (none_left (Bad (converted.Text f)), refl, were_put r' out' sink' (none_left (Bad (converted.Text f))) g n)
   rows_stop r' out' sink' (stop.Answer (converted.Binary f)) r'' begun g n = (none_left (Bad (converted.Binary f)), refl, were_put r' out' sink' (none_left (Bad (converted.Binary f))) g n)
@@ -124,21 +129,45 @@ module _ {K : Type 0} (takes : K → List ℕ → K → Type 0) (failures : K �
   rows_stop r' out' sink' stop.Endless r'' begun g n = n
 
   -- a row is not put
-  pub row_stops : (r' : RowReader) (out' : List ℕ) (sink' : K) (row : Row) (r'' : RowReader) (s : Stop Converted) (out'' : List ℕ) (sink'' : K) → (at_end ≡ false → ended_of r ≡ false) → Grows takes failures at_end to r out sink r' out' sink' → ReadsOn at_end r' (row ∷ []) r''
-      → PutsRow takes failures to row out' sink' (Err s) out'' sink'' → PutsRows takes failures at_end to r out sink (Err s) r'' out'' sink''
-  row_stops r' out' sink' row r'' (stop.Answer converted.Whole) out'' sink'' begun g on p = p
-  row_stops r' out' sink' row r'' (stop.Answer (converted.Text f)) out'' sink'' begun g on p = absurd p
-  row_stops r' out' sink' row r'' (stop.Answer (converted.Binary f)) out'' sink'' begun g on p = absurd p
-  row_stops r' out' sink' row r'' (stop.Answer (converted.Row f)) out'' sink'' begun g on p =
+  row_stops : (r' : RowReader) (out' : List ℕ) (sink' : K) (row : Row) (r'' : RowReader) (s : Stop Converted) (mid : List ℕ) → (at_end ≡ false → ended_of r ≡ false) → Grows takes failures at_end to r out sink r' out' sink' → ReadsOn at_end r' (row ∷ []) r''
+      → WritesRow to row out' (Err s) mid → PutsRows takes failures at_end to r out sink (Err s) r'' mid sink'
+  row_stops r' out' sink' row r'' (stop.Answer converted.Whole) mid begun g on p = p
+  row_stops r' out' sink' row r'' (stop.Answer (converted.Text f)) mid begun g on p = absurd p
+  row_stops r' out' sink' row r'' (stop.Answer (converted.Binary f)) mid begun g on p = absurd p
+  row_stops r' out' sink' row r'' (stop.Answer (converted.Row f)) mid begun g on p =
       let left = after_rows (row ∷ []) (rows_left at_end r'') in
       let next : ComeNext at_end r' [] left = λ bytes given h. left_next at_end r' (row ∷ []) r'' g.goes_on.may_go_on on bytes given h ∙ ap (λ (l : List Row). reading_of l (rows_left at_end r'').ending) (append_assoc given (row ∷ []) (rows_left at_end r'').rows ∙ ap (λ (l : List Row). l ++ (row ∷ (rows_left at_end r'').rows)) (sym (append-nil given))) in
-      (left, (row, rows_left at_end r'', refl, p.0), rw (p.1, p.2) (were_put r' out' sink' left g next))
-  row_stops r' out' sink' row r'' stop.Memory out'' sink'' begun g on p = (rows_left at_end r', rw (p.1, p.2) (record { rows = g.rows; each_writable = g.each_writable; come_next = left_next at_end r g.rows r' begun g.goes_on; put = g.put; within = g.within }))
-  row_stops r' out' sink' row r'' stop.SourceFailed out'' sink'' begun g on p = p
-  row_stops r' out' sink' row r'' stop.SinkFailed out'' sink'' begun g on p =
-      let more = goes_on_then at_end r g.rows r' (row ∷ []) r'' g.goes_on on in
-      (rows_left at_end r'', p.1, record { rows = g.rows ++ row ∷ []; each_writable = one_more_writable to g.rows row g.each_writable p.0; come_next = left_next at_end r (g.rows ++ row ∷ []) r'' begun more; put = put_more g.rows row out' sink' (Err p.1) out'' sink'' g.put p.2; within = tt })
-  row_stops r' out' sink' row r'' stop.Endless out'' sink'' begun g on p = p
+      (left, (row, rows_left at_end r'', refl, p.0), rw p.1 (were_put r' out' sink' left g next))
+  row_stops r' out' sink' row r'' stop.Memory mid begun g on p = (rows_left at_end r', rw p (record { rows = g.rows; each_writable = g.each_writable; come_next = left_next at_end r g.rows r' begun g.goes_on; put = g.put; within = g.within }))
+  row_stops r' out' sink' row r'' stop.SourceFailed mid begun g on p = p
+  row_stops r' out' sink' row r'' stop.SinkFailed mid begun g on p = absurd p
+  row_stops r' out' sink' row r'' stop.Endless mid begun g on p = p
+
+  -- no next row is put
+  pub next_stops : (r' : RowReader) (out' : List ℕ) (sink' : K) (r'' : RowReader) (s : Stop Converted) (mid : List ℕ) → (at_end ≡ false → ended_of r ≡ false) → Grows takes failures at_end to r out sink r' out' sink' → PutsNext at_end to r' out' (Err s) r'' mid → PutsRows takes failures at_end to r out sink (Err s) r'' mid sink'
+  next_stops r' out' sink' r'' s mid begun g (inl n) = rw n.1 (rows_stop r' out' sink' s r'' begun g n.0)
+  next_stops r' out' sink' r'' s mid begun g (inr n) = row_stops r' out' sink' n.0 r'' s mid begun g n.1 n.2
+
+  -- a row was put, and the sink failed
+  pub send_stops : (r' : RowReader) (out' : List ℕ) (sink' : K) (r'' : RowReader) (mid : List ℕ) (s : Stop Converted) (out'' : List ℕ) (sink'' : K) → (at_end ≡ false → ended_of r ≡ false) → Grows takes failures at_end to r out sink r' out' sink' → PutsNext at_end to r' out' (Ok true) r'' mid → SendsMuch takes failures mid sink' (Err s) out'' sink''
+      → PutsRows takes failures at_end to r out sink (Err s) r'' out'' sink''
+  send_stops r' out' sink' r'' mid (stop.Answer c) out'' sink'' begun g n p = absurd p
+  send_stops r' out' sink' r'' mid stop.Memory out'' sink'' begun g n p = absurd p
+  send_stops r' out' sink' r'' mid stop.SourceFailed out'' sink'' begun g n p = p
+  send_stops r' out' sink' r'' mid stop.SinkFailed out'' sink'' begun g n p =
+      let row = n.0 in
+      let more = goes_on_then at_end r g.rows r' (row ∷ []) r'' g.goes_on n.1 in (
+        rows_left at_end r'',
+        p.0,
+        record {
+          rows = g.rows ++ row ∷ [];
+          each_writable = one_more_writable to g.rows row g.each_writable n.2.0;
+          come_next = left_next at_end r (g.rows ++ row ∷ []) r'' begun more;
+          put = put_more g.rows row out' sink' (Err p.0) out'' sink'' g.put (row_put row out' sink' mid (Err p.0) out'' sink'' n.2.1 p.1);
+          within = tt;
+        },
+      )
+  send_stops r' out' sink' r'' mid stop.Endless out'' sink'' begun g n p = p
 
 -- ---- what was put is sent
 

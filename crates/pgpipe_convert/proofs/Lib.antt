@@ -2,4 +2,6 @@ pub mod Readers
 pub mod Growing
 pub mod Converting
 pub mod Sent
+pub mod Lent
+pub mod Puts
 pub mod Rows

@@ -22,7 +22,12 @@ use Rattle.pgpipe_convert.specs.declared.convert.Converted.TheVariants as conver
 use Rattle.pgpipe_convert.specs.declared.copy_rows.RowReader.{RowReader}
 use Rattle.pgpipe_convert.specs.declared.copy_rows.RowReader.TheVariants as reader
 use Rattle.pgpipe_convert.specs.Convert.{FileReading, text_file, binary_file, answered, answered_ending, none_left, IsEnd}
-use Rattle.pgpipe_convert.specs.Private.Converting.{text_stop, binary_stop, stopped, file_by, ended_of, HasReadBy, ComeNext, EndsAs, TakesPiece, GivesRow}
+use Rattle.pgpipe_convert.specs.Private.Converting.{text_stop, binary_stop, file_by, ended_of, HasReadBy, ComeNext, EndsAs, TakesPiece, GivesRow}
+
+-- a reader's answer, with the stop for its fault
+abbrev pub stopped : {F : Type 0} → (F → Stop Converted) → Result (Option Row) F → Result (Option Row) (Stop Converted)
+stopped stop_of (Ok row) = Ok row
+stopped stop_of (Err f) = Err (stop_of f)
 
 abbrev pub reading_of : List Row → RowsEnding Converted → RowsRead Converted
 reading_of rows ending = record { rows = rows; ending = ending }
@@ -60,12 +65,12 @@ text_end stages.Lines g = tt
 text_end stages.Marked g = tt
 text_end (stages.Failed f) g = absurd g
 
-text_stops : (at_end : Bool) (old new : RowReader) (f : TextFault) → ((f ≡ text_fault.Memory → ⊥) → ComeNext at_end old [] (none_left (Bad (converted.Text f)))) → (f ≡ text_fault.Memory → new ≡ old) → GivesRow at_end old (Err (text_stop f)) new
-text_stops at_end old new text_fault.RawReturn come memory = come (λ e. absurd cc)
-text_stops at_end old new text_fault.RawNewline come memory = come (λ e. absurd cc)
-text_stops at_end old new text_fault.LoneBackslash come memory = come (λ e. absurd cc)
-text_stops at_end old new (text_fault.Columns n) come memory = come (λ e. absurd cc)
-text_stops at_end old new text_fault.Memory come memory = memory refl
+text_stops : (at_end : Bool) (old new : RowReader) (f : TextFault) → ((f ≡ text_fault.Memory → ⊥) → ComeNext at_end old [] (none_left (Bad (converted.Text f)))) → GivesRow at_end old (Err (text_stop f)) new
+text_stops at_end old new text_fault.RawReturn come = come (λ e. absurd cc)
+text_stops at_end old new text_fault.RawNewline come = come (λ e. absurd cc)
+text_stops at_end old new text_fault.LoneBackslash come = come (λ e. absurd cc)
+text_stops at_end old new (text_fault.Columns n) come = come (λ e. absurd cc)
+text_stops at_end old new text_fault.Memory come = tt
 
 same_text : (old new : TextState) → new.options ≡ old.options → new.columns ≡ old.columns → file_by (reader.Text new) ≡ file_by (reader.Text old)
 same_text old new options columns = ap (λ (o : Options). text_file o new.columns) options ∙ ap (text_file old.options) columns
@@ -73,41 +78,39 @@ same_text old new options columns = ap (λ (o : Options). text_file o new.column
 pub next_text : (old new : TextState) (r : Result (Option Row) TextFault) (bytes : List ℕ) (given : List Row) → HasReadText old bytes given → new.options ≡ old.options → new.columns ≡ old.columns → new.ended ≡ false
     → ((p : List ℕ) (g : List Row) → HasReadText old p g → HasReadText new p (g ++ given_by r))
     → ((p : List ℕ) (g : List Row) → HasReadText old p g → AnswersNext text_fault.Memory (text_reading new.options new.columns p) g (text_ending new.stage new.kept) r)
-    → (r ≡ Err text_fault.Memory → new ≡ old) → GivesRow false (reader.Text old) (stopped text_stop r) (reader.Text new)
-next_text old new (Ok row) bytes given h options same on read gives memory =
+    → GivesRow false (reader.Text old) (stopped text_stop r) (reader.Text new)
+next_text old new (Ok row) bytes given h options same on read gives =
     gives_row text_fault.Memory converted.Text false (reader.Text old) (reader.Text new) (λ p. text_reading new.options new.columns p) (text_ending new.stage new.kept) (λ p. ap (λ (f : FileReading). f false p) (same_text old new options same))
     row bytes given h (same_text old new options same) (λ e. on) read gives (λ e. good_answer converted.Text (text_ending new.stage new.kept))
-next_text old new (Err f) bytes given h options same on read gives memory =
+next_text old new (Err f) bytes given h options same on read gives =
     text_stops false (reader.Text old) (reader.Text new) f
     (gives_fault text_fault.Memory converted.Text false (reader.Text old) (reader.Text new) (λ p. text_reading new.options new.columns p) (text_ending new.stage new.kept) (λ p. ap (λ (f : FileReading). f false p) (same_text old new options same)) f gives)
-    (λ e. ap reader.Text (memory (ap Err e)))
 
 pub finish_text : (old new : TextState) (r : Result (Option Row) TextFault) (bytes : List ℕ) (given : List Row) → HasReadText old bytes given → new.options ≡ old.options → new.columns ≡ old.columns
     → ((p : List ℕ) (g : List Row) → HasReadText old p g → HasReadText new p (g ++ given_by r))
     → ((p : List ℕ) (g : List Row) → HasReadText old p g → AnswersNext text_fault.Memory (text_file_reading new.options new.columns p) g (last_text_ending new.stage) r)
-    → (r ≡ Err text_fault.Memory → new ≡ old) → GivesRow true (reader.Text old) (stopped text_stop r) (reader.Text new)
-finish_text old new (Ok row) bytes given h options same read gives memory =
+    → GivesRow true (reader.Text old) (stopped text_stop r) (reader.Text new)
+finish_text old new (Ok row) bytes given h options same read gives =
     gives_row text_fault.Memory converted.Text true (reader.Text old) (reader.Text new) (λ p. text_file_reading new.options new.columns p) (last_text_ending new.stage) (λ p. ap (λ (f : FileReading). f true p) (same_text old new options same))
     row bytes given h (same_text old new options same) (λ e. absurd cc) read gives (λ e. text_end new.stage)
-finish_text old new (Err f) bytes given h options same read gives memory =
+finish_text old new (Err f) bytes given h options same read gives =
     text_stops true (reader.Text old) (reader.Text new) f
     (gives_fault text_fault.Memory converted.Text true (reader.Text old) (reader.Text new) (λ p. text_file_reading new.options new.columns p) (last_text_ending new.stage) (λ p. ap (λ (f : FileReading). f true p) (same_text old new options same)) f gives)
-    (λ e. ap reader.Text (memory (ap Err e)))
 
 -- ---- binary
 
 binary_end : (stage : BinaryStage) (kept : List ℕ) → stage ≡ binary_stages.Closed → IsEnd (answered_ending converted.Binary (binary_ending stage kept))
 binary_end stage kept e = subst (λ (s : BinaryStage). IsEnd (answered_ending converted.Binary (binary_ending s kept))) (sym e) tt
 
-binary_stops : (at_end : Bool) (old new : RowReader) (f : BinaryFault) → ((f ≡ binary_fault.Memory → ⊥) → ComeNext at_end old [] (none_left (Bad (converted.Binary f)))) → (f ≡ binary_fault.Memory → new ≡ old) → GivesRow at_end old (Err (binary_stop f)) new
-binary_stops at_end old new binary_fault.Signature come memory = come (λ e. absurd cc)
-binary_stops at_end old new (binary_fault.Flags n) come memory = come (λ e. absurd cc)
-binary_stops at_end old new (binary_fault.Extension n) come memory = come (λ e. absurd cc)
-binary_stops at_end old new (binary_fault.FieldCount n) come memory = come (λ e. absurd cc)
-binary_stops at_end old new (binary_fault.FieldLength n) come memory = come (λ e. absurd cc)
-binary_stops at_end old new binary_fault.Truncated come memory = come (λ e. absurd cc)
-binary_stops at_end old new binary_fault.AfterTrailer come memory = come (λ e. absurd cc)
-binary_stops at_end old new binary_fault.Memory come memory = memory refl
+binary_stops : (at_end : Bool) (old new : RowReader) (f : BinaryFault) → ((f ≡ binary_fault.Memory → ⊥) → ComeNext at_end old [] (none_left (Bad (converted.Binary f)))) → GivesRow at_end old (Err (binary_stop f)) new
+binary_stops at_end old new binary_fault.Signature come = come (λ e. absurd cc)
+binary_stops at_end old new (binary_fault.Flags n) come = come (λ e. absurd cc)
+binary_stops at_end old new (binary_fault.Extension n) come = come (λ e. absurd cc)
+binary_stops at_end old new (binary_fault.FieldCount n) come = come (λ e. absurd cc)
+binary_stops at_end old new (binary_fault.FieldLength n) come = come (λ e. absurd cc)
+binary_stops at_end old new binary_fault.Truncated come = come (λ e. absurd cc)
+binary_stops at_end old new binary_fault.AfterTrailer come = come (λ e. absurd cc)
+binary_stops at_end old new binary_fault.Memory come = tt
 
 same_file : (old new : BinaryState) → (new.columns ≡ old.columns) × (new.limit ≡ old.limit) → file_by (reader.Binary new) ≡ file_by (reader.Binary old)
 same_file old new same = ap (λ (c : ℕ). binary_file c new.limit) same.0 ∙ ap (λ (l : ℕ). binary_file old.columns l) same.1
@@ -115,26 +118,24 @@ same_file old new same = ap (λ (c : ℕ). binary_file c new.limit) same.0 ∙ a
 pub next_binary : (old new : BinaryState) (r : Result (Option Row) BinaryFault) (bytes : List ℕ) (given : List Row) → HasReadBinary old bytes given → (new.columns ≡ old.columns) × (new.limit ≡ old.limit) → new.ended ≡ false
     → ((p : List ℕ) (g : List Row) → HasReadBinary old p g → HasReadBinary new p (g ++ given_by r))
     → ((p : List ℕ) (g : List Row) → HasReadBinary old p g → AnswersNext binary_fault.Memory (binary_reading new.columns new.limit p) g (binary_ending new.stage new.kept) r)
-    → (r ≡ Err binary_fault.Memory → new ≡ old) → GivesRow false (reader.Binary old) (stopped binary_stop r) (reader.Binary new)
-next_binary old new (Ok row) bytes given h same on read gives memory =
+    → GivesRow false (reader.Binary old) (stopped binary_stop r) (reader.Binary new)
+next_binary old new (Ok row) bytes given h same on read gives =
     gives_row binary_fault.Memory converted.Binary false (reader.Binary old) (reader.Binary new) (λ p. binary_reading new.columns new.limit p) (binary_ending new.stage new.kept) (λ p. ap (λ (f : FileReading). f false p) (same_file old new same))
     row bytes given h (same_file old new same) (λ e. on) read gives (λ e. good_answer converted.Binary (binary_ending new.stage new.kept))
-next_binary old new (Err f) bytes given h same on read gives memory =
+next_binary old new (Err f) bytes given h same on read gives =
     binary_stops false (reader.Binary old) (reader.Binary new) f
     (gives_fault binary_fault.Memory converted.Binary false (reader.Binary old) (reader.Binary new) (λ p. binary_reading new.columns new.limit p) (binary_ending new.stage new.kept) (λ p. ap (λ (f : FileReading). f false p) (same_file old new same)) f gives)
-    (λ e. ap reader.Binary (memory (ap Err e)))
 
 pub finish_binary : (old new : BinaryState) (r : Result (Option Row) BinaryFault) (bytes : List ℕ) (given : List Row) → HasReadBinary old bytes given → (new.columns ≡ old.columns) × (new.limit ≡ old.limit) → (r ≡ Ok None → new.stage ≡ binary_stages.Closed)
     → ((p : List ℕ) (g : List Row) → HasReadBinary old p g → HasReadBinary new p (g ++ given_by r))
     → ((p : List ℕ) (g : List Row) → HasReadBinary old p g → AnswersNext binary_fault.Memory (binary_file_reading new.columns new.limit p) g (binary_ending new.stage new.kept) r)
-    → (r ≡ Err binary_fault.Memory → new ≡ old) → GivesRow true (reader.Binary old) (stopped binary_stop r) (reader.Binary new)
-finish_binary old new (Ok row) bytes given h same closed read gives memory =
+    → GivesRow true (reader.Binary old) (stopped binary_stop r) (reader.Binary new)
+finish_binary old new (Ok row) bytes given h same closed read gives =
     gives_row binary_fault.Memory converted.Binary true (reader.Binary old) (reader.Binary new) (λ p. binary_file_reading new.columns new.limit p) (binary_ending new.stage new.kept) (λ p. ap (λ (f : FileReading). f true p) (same_file old new same))
     row bytes given h (same_file old new same) (λ e. absurd cc) read gives (λ e g. binary_end new.stage new.kept (closed (ap Ok e)))
-finish_binary old new (Err f) bytes given h same closed read gives memory =
+finish_binary old new (Err f) bytes given h same closed read gives =
     binary_stops true (reader.Binary old) (reader.Binary new) f
     (gives_fault binary_fault.Memory converted.Binary true (reader.Binary old) (reader.Binary new) (λ p. binary_file_reading new.columns new.limit p) (binary_ending new.stage new.kept) (λ p. ap (λ (f : FileReading). f true p) (same_file old new same)) f gives)
-    (λ e. ap reader.Binary (memory (ap Err e)))
 
 -- a piece that a reader of a binary file is given
 stops_at : (old new : BinaryState) (piece : List ℕ) (f : BinaryFault) → ((f ≡ binary_fault.Memory → ⊥) → (p : List ℕ) (g : List Row) → HasReadBinary old p g → file_by (reader.Binary old) false (p ++ piece) ≡ after_rows g (none_left (Bad (converted.Binary f)))) → new ≡ old

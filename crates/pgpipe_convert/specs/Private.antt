@@ -1,2 +1,3 @@
 -- Words of private functions. No public contract cites them.
 pub mod Converting
+pub mod Values

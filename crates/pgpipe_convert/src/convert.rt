@@ -6,7 +6,8 @@ ghost use Rattle.pg_wire.specs.Link.{HasRisen};
 ghost use Rattle.pgpipe_base.specs.Receiving.{longest_piece, HasStopped, CountsNoFailure, IsSentAtOnce};
 ghost use Rattle.pg_copy.specs.Text.{default_options};
 ghost use Rattle.pgpipe_convert.specs.Convert.{FileReading, file_of, file_with, writing_with, AreAllConverted, ConvertAnswers, ConversionAnswers, EndsFile};
-ghost use Rattle.pgpipe_convert.specs.Private.Converting.{file_by, writing_by, ended_of, HasReadBy, HasConverted, IsAtStep, StepConverts, StepsSource, EndConverts, HasRun};
+ghost use Rattle.pgpipe_convert.specs.Private.Values.{writing_by};
+ghost use Rattle.pgpipe_convert.specs.Private.Converting.{file_by, ended_of, HasReadBy, HasConverted, IsAtStep, StepConverts, StepsSource, EndConverts, HasRun};
 
 use crate::copy_rows::{RowReader, put_rows, send_rows};
 use crate::format::{Format, RowWriter};
@@ -68,7 +69,7 @@ impl Converting<'_> {
             Err(_) => return Err(Stop::SourceFailed),
         };
         self.reader.push(&self.into[..count])?;
-        send_rows(&mut self.reader, &self.to, &mut self.out, sink)
+        send_rows(&mut self.reader, &mut self.to, &mut self.out, sink)
     }
 
     // Puts what is left at the end of the input.
@@ -78,7 +79,7 @@ impl Converting<'_> {
         ensures ends { EndConverts K.takes K.failures (writing_by self.old.to) self.old.reader
             self.old.out.items sink.old result self.new.out.items sink.new }
     {
-        match put_rows(&mut self.reader, true, &self.to, &mut self.out, sink) {
+        match put_rows(&mut self.reader, true, &mut self.to, &mut self.out, sink) {
             Ok(()) => match self.to.write_trailer(&mut self.out) {
                 Ok(()) => Stop::Answer(Converted::Whole),
                 Err(_) => Stop::Memory,
@@ -120,7 +121,10 @@ fn begin<'a>(
         × HasReadBy work.reader [] [] × (ended_of work.reader ≡ false)) }
     ensures refused { (fault : ToolFault) → result ≡ Err fault → fault ≡ ToolFault.Memory }
 {
-    let to = RowWriter::new(to, options);
+    let to = match RowWriter::new(alloc, to, columns, options) {
+        Ok(to) => to,
+        Err(fault) => return Err(fault),
+    };
     let reader = match RowReader::new(alloc, from, columns, options) {
         Ok(reader) => reader,
         Err(fault) => return Err(fault),

@@ -1,16 +1,20 @@
 //! The rows of a file of either format, read from pieces and written after what is to be sent.
 
-ghost use Rattle.std.specs.Prelude.{◌≡◌, ◌<◌, ◌≤◌, [], ℕ, List, false, true, IfOk, OnOk};
+ghost use Rattle.std.specs.Prelude.{◌≡◌, ◌<◌, ◌≤◌, [], ℕ, List, Some, false, true, IfOk, OnOk};
 ghost use Rattle.pg_copy.specs.Row.{Row};
 ghost use Rattle.pg_copy.specs.BinaryReader.{HasReadBinary};
 ghost use Rattle.pg_copy.specs.TextReader.{HasReadText};
 ghost use Rattle.pgpipe_convert.specs.Convert.{file_with};
 ghost use Rattle.pgpipe_convert.specs.declared.copy_rows.RowReader.TheVariants.{Text, Binary};
-ghost use Rattle.pgpipe_convert.specs.Private.Converting.{file_by, writing_by, ended_of, HasReadBy, text_stop, binary_stop, stopped, TakesPiece, GivesRow, PutsRow, PutsRows};
+ghost use Rattle.pgpipe_convert.specs.Private.Values.{writing_by};
+ghost use Rattle.pgpipe_convert.specs.Private.Converting.{file_by, ended_of, HasReadBy, text_stop, binary_stop, row_stop, TakesPiece, WritesRow, PutsNext, SendsMuch, PutsRows};
 
 use crate::convert::Converted;
-use crate::format::{Format, RowWriter};
-use pg_copy::{BinaryFault, BinaryReader, Row, RowFault, TextFault, TextOptions, TextReader};
+use crate::format::{Format, RowWriter, copy_of};
+use pg_copy::{
+    BinaryFault, BinaryReader, BinaryRow, Row, RowFault, TextFault, TextOptions, TextReader,
+    TextRow,
+};
 use pg_wire::Sink;
 use pgpipe_base::outbox::{ROOM, send};
 use pgpipe_base::{Stop, ToolFault};
@@ -46,15 +50,13 @@ fn binary_stop(fault: BinaryFault) -> Stop<Converted>
     }
 }
 
-// The same options again.
-fn copy_of(alloc: Global, options: &TextOptions) -> Result<TextOptions, ToolFault>
-    ensures copied { IfOk result (λ copy. copy ≡ options.now) }
-    ensures refused { (fault : ToolFault) → result ≡ Err fault → fault ≡ ToolFault.Memory }
+// Why the work stops where a row can't be written.
+fn row_stop(fault: RowFault) -> Stop<Converted>
+    ensures { result ≡ row_stop fault }
 {
-    match TextOptions::new(alloc, options.delimiter(), options.null_mark()) {
-        Ok(copy) => Ok(copy),
-        // options have no other fault
-        Err(_) => Err(ToolFault::Memory),
+    match fault {
+        RowFault::Memory => Stop::Memory,
+        _ => Stop::Answer(Converted::Row(fault)),
     }
 }
 
@@ -94,77 +96,213 @@ impl RowReader {
             RowReader::Binary(reader) => reader.push(piece).map_err(binary_stop),
         }
     }
+}
 
-    /// The next row that waits, or, at the end of the input, the next that is left.
-    fn next(&mut self, at_end: bool) -> Result<Option<Row>, Stop<Converted>>
-        requires begun { at_end ≡ false → ended_of self.old ≡ false }
-        requires read { (bytes : List ℕ) × (given : List Row) × HasReadBy self.old bytes given }
-        ensures { GivesRow at_end self.old result self.new }
-    {
-        match self {
-            RowReader::Text(reader) => next_of_text(reader, at_end),
-            RowReader::Binary(reader) => next_of_binary(reader, at_end),
-        }
+// Puts a row.
+fn put_row(row: &Row, to: &RowWriter<'_>, out: &mut Vec<u8>) -> Result<bool, Stop<Converted>>
+    ensures { WritesRow (writing_by to.now) row.now out.old.items result out.new.items }
+{
+    match to.write_row(row, out) {
+        Ok(()) => Ok(true),
+        Err(fault) => Err(row_stop(fault)),
     }
 }
 
-// The next row of a text file.
-fn next_of_text(reader: &mut TextReader, at_end: bool) -> Result<Option<Row>, Stop<Converted>>
-    requires begun { at_end ≡ false → reader.old.ended ≡ false }
+// Puts a copy of a row of a text file that is lent, and so says why the row can't be written.
+fn copy_text_row(
+    row: &TextRow<'_>,
+    to: &RowWriter<'_>,
+    out: &mut Vec<u8>,
+) -> Result<bool, Stop<Converted>>
+    ensures { WritesRow (writing_by to.now) row.now out.old.items result out.new.items }
+{
+    match to.write_copy(row.values(), out) {
+        Ok(()) => Ok(true),
+        Err(fault) => Err(row_stop(fault)),
+    }
+}
+
+// The same of a binary file.
+fn copy_binary_row(
+    row: &BinaryRow<'_>,
+    to: &RowWriter<'_>,
+    out: &mut Vec<u8>,
+) -> Result<bool, Stop<Converted>>
+    ensures { WritesRow (writing_by to.now) row.now out.old.items result out.new.items }
+{
+    match to.write_copy(row.values(), out) {
+        Ok(()) => Ok(true),
+        Err(fault) => Err(row_stop(fault)),
+    }
+}
+
+// Puts a row of a text file that is lent, value by value.
+fn put_text_row(
+    row: &TextRow<'_>,
+    to: &mut RowWriter<'_>,
+    out: &mut Vec<u8>,
+) -> Result<bool, Stop<Converted>>
+    ensures writes { WritesRow (writing_by to.old) row.now out.old.items result out.new.items }
+    ensures same { to.new ≡ to.old }
+{
+    match to.write_values(row.values(), out) {
+        Ok(()) => Ok(true),
+        Err(_) => copy_text_row(row, to, out),
+    }
+}
+
+// The same of a binary file.
+fn put_binary_row(
+    row: &BinaryRow<'_>,
+    to: &mut RowWriter<'_>,
+    out: &mut Vec<u8>,
+) -> Result<bool, Stop<Converted>>
+    ensures writes { WritesRow (writing_by to.old) row.now out.old.items result out.new.items }
+    ensures same { to.new ≡ to.old }
+{
+    match to.write_values(row.values(), out) {
+        Ok(()) => Ok(true),
+        Err(_) => copy_binary_row(row, to, out),
+    }
+}
+
+// Puts the row that a reader of a text file lends.
+fn put_held_text(
+    reader: &TextReader,
+    to: &mut RowWriter<'_>,
+    out: &mut Vec<u8>,
+) -> Result<bool, Stop<Converted>>
+    ensures writes { (row : Row) → reader.now.held ≡ Some row
+        → WritesRow (writing_by to.old) row out.old.items result out.new.items }
+    ensures same { to.new ≡ to.old }
+{
+    match reader.held() {
+        Some(row) => put_text_row(&row, to, out),
+        None => Ok(false),
+    }
+}
+
+// The same of a binary file.
+fn put_held_binary(
+    reader: &BinaryReader,
+    to: &mut RowWriter<'_>,
+    out: &mut Vec<u8>,
+) -> Result<bool, Stop<Converted>>
+    ensures writes { (row : Row) → reader.now.held ≡ Some row
+        → WritesRow (writing_by to.old) row out.old.items result out.new.items }
+    ensures same { to.new ≡ to.old }
+{
+    match reader.held() {
+        Some(row) => put_binary_row(&row, to, out),
+        None => Ok(false),
+    }
+}
+
+// Puts the next row of a text file that waits, and says whether one did.
+fn put_waiting_text(
+    reader: &mut TextReader,
+    to: &mut RowWriter<'_>,
+    out: &mut Vec<u8>,
+) -> Result<bool, Stop<Converted>>
+    requires begun { reader.old.ended ≡ false }
     requires read { (bytes : List ℕ) × (given : List Row) × HasReadText reader.old bytes given }
-    ensures { GivesRow at_end (Text reader.old) result (Text reader.new) }
+    ensures puts { PutsNext false (writing_by to.old) (Text reader.old) out.old.items result
+        (Text reader.new) out.new.items }
+    ensures same { to.new ≡ to.old }
 {
-    if at_end {
-        return text_row(reader.finish());
-    }
-    text_row(reader.next())
-}
-
-// The next row of a binary file.
-fn next_of_binary(reader: &mut BinaryReader, at_end: bool) -> Result<Option<Row>, Stop<Converted>>
-    requires begun { at_end ≡ false → reader.old.ended ≡ false }
-    requires read { (bytes : List ℕ) × (given : List Row) × HasReadBinary reader.old bytes given }
-    ensures { GivesRow at_end (Binary reader.old) result (Binary reader.new) }
-{
-    if at_end {
-        return binary_row(reader.finish());
-    }
-    binary_row(reader.next())
-}
-
-fn text_row(answer: Result<Option<Row>, TextFault>) -> Result<Option<Row>, Stop<Converted>>
-    ensures { result ≡ stopped text_stop answer }
-{
-    match answer {
-        Ok(row) => Ok(row),
+    match reader.next_lent() {
+        Ok(true) => put_held_text(reader, to, out),
+        Ok(false) => Ok(false),
         Err(fault) => Err(text_stop(fault)),
     }
 }
 
-fn binary_row(answer: Result<Option<Row>, BinaryFault>) -> Result<Option<Row>, Stop<Converted>>
-    ensures { result ≡ stopped binary_stop answer }
+// The same of a binary file.
+fn put_waiting_binary(
+    reader: &mut BinaryReader,
+    to: &mut RowWriter<'_>,
+    out: &mut Vec<u8>,
+) -> Result<bool, Stop<Converted>>
+    requires begun { reader.old.ended ≡ false }
+    requires read { (bytes : List ℕ) × (given : List Row) × HasReadBinary reader.old bytes given }
+    ensures puts { PutsNext false (writing_by to.old) (Binary reader.old) out.old.items result
+        (Binary reader.new) out.new.items }
+    ensures same { to.new ≡ to.old }
 {
-    match answer {
-        Ok(row) => Ok(row),
+    match reader.next_lent() {
+        Ok(true) => put_held_binary(reader, to, out),
+        Ok(false) => Ok(false),
         Err(fault) => Err(binary_stop(fault)),
     }
 }
 
-// Puts a row, and sends what was put where it is much.
-fn put_row<K: Sink>(
+// Puts the next row that is left of a text file at its end, and says whether one was.
+fn put_left_text(
+    reader: &mut TextReader,
     to: &RowWriter<'_>,
-    row: &Row,
     out: &mut Vec<u8>,
-    sink: &mut K,
-) -> Result<(), Stop<Converted>>
-    ensures { PutsRow K.takes K.failures (writing_by to.now) row.now out.old.items sink.old result
-        out.new.items sink.new }
+) -> Result<bool, Stop<Converted>>
+    requires { (bytes : List ℕ) × (given : List Row) × HasReadText reader.old bytes given }
+    ensures { PutsNext true (writing_by to.now) (Text reader.old) out.old.items result
+        (Text reader.new) out.new.items }
 {
-    match to.write_row(row, out) {
-        Ok(()) => {}
-        Err(RowFault::Memory) => return Err(Stop::Memory),
-        Err(fault) => return Err(Stop::Answer(Converted::Row(fault))),
+    match reader.finish() {
+        Ok(Some(row)) => put_row(&row, to, out),
+        Ok(None) => Ok(false),
+        Err(fault) => Err(text_stop(fault)),
     }
+}
+
+// The same of a binary file.
+fn put_left_binary(
+    reader: &mut BinaryReader,
+    to: &RowWriter<'_>,
+    out: &mut Vec<u8>,
+) -> Result<bool, Stop<Converted>>
+    requires { (bytes : List ℕ) × (given : List Row) × HasReadBinary reader.old bytes given }
+    ensures { PutsNext true (writing_by to.now) (Binary reader.old) out.old.items result
+        (Binary reader.new) out.new.items }
+{
+    match reader.finish() {
+        Ok(Some(row)) => put_row(&row, to, out),
+        Ok(None) => Ok(false),
+        Err(fault) => Err(binary_stop(fault)),
+    }
+}
+
+// Puts the next row that waits, or, at the end of the input, the next that is left, and says whether there was one.
+fn put_next(
+    reader: &mut RowReader,
+    at_end: bool,
+    to: &mut RowWriter<'_>,
+    out: &mut Vec<u8>,
+) -> Result<bool, Stop<Converted>>
+    requires begun { at_end ≡ false → ended_of reader.old ≡ false }
+    requires read { (bytes : List ℕ) × (given : List Row) × HasReadBy reader.old bytes given }
+    ensures puts { PutsNext at_end (writing_by to.old) reader.old out.old.items result reader.new
+        out.new.items }
+    ensures same { to.new ≡ to.old }
+{
+    match reader {
+        RowReader::Text(reader) => {
+            if at_end {
+                return put_left_text(reader, to, out);
+            }
+            put_waiting_text(reader, to, out)
+        }
+        RowReader::Binary(reader) => {
+            if at_end {
+                return put_left_binary(reader, to, out);
+            }
+            put_waiting_binary(reader, to, out)
+        }
+    }
+}
+
+// Sends what was put where it is much.
+fn send_much<K: Sink>(out: &mut Vec<u8>, sink: &mut K) -> Result<(), Stop<Converted>>
+    ensures { SendsMuch K.takes K.failures out.old.items sink.old result out.new.items sink.new }
+{
     if out.len() < ROOM {
         return Ok(());
     }
@@ -178,34 +316,34 @@ fn put_row<K: Sink>(
 pub fn put_rows<K: Sink>(
     reader: &mut RowReader,
     at_end: bool,
-    to: &RowWriter<'_>,
+    to: &mut RowWriter<'_>,
     out: &mut Vec<u8>,
     sink: &mut K,
 ) -> Result<(), Stop<Converted>>
     requires begun { at_end ≡ false → ended_of reader.old ≡ false }
     requires read { (bytes : List ℕ) × (given : List Row) × HasReadBy reader.old bytes given }
-    ensures { PutsRows K.takes K.failures at_end (writing_by to.now) reader.old out.old.items
+    ensures puts { PutsRows K.takes K.failures at_end (writing_by to.old) reader.old out.old.items
         sink.old result reader.new out.new.items sink.new }
+    ensures same { to.new ≡ to.old }
 {
-    loop {
-        match reader.next(at_end)? {
-            None => return Ok(()),
-            Some(row) => put_row(to, &row, out, sink)?,
-        }
+    while put_next(reader, at_end, to, out)? {
+        send_much(out, sink)?;
     }
+    Ok(())
 }
 
 /// Puts the rows that wait, and sends them.
 pub fn send_rows<K: Sink>(
     reader: &mut RowReader,
-    to: &RowWriter<'_>,
+    to: &mut RowWriter<'_>,
     out: &mut Vec<u8>,
     sink: &mut K,
 ) -> Result<(), Stop<Converted>>
     requires begun { ended_of reader.old ≡ false }
     requires read { (bytes : List ℕ) × (given : List Row) × HasReadBy reader.old bytes given }
-    ensures puts { PutsRows K.takes K.failures false (writing_by to.now) reader.old out.old.items
+    ensures puts { PutsRows K.takes K.failures false (writing_by to.old) reader.old out.old.items
         sink.old result reader.new out.new.items sink.new }
+    ensures same { to.new ≡ to.old }
     ensures nothing_left { OnOk result (out.new.items ≡ []) }
 {
     put_rows(reader, false, to, out, sink)?;

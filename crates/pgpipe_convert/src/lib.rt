@@ -4,6 +4,7 @@
 pub mod convert;
 mod copy_rows;
 mod format;
+mod values;
 
 pub use convert::convert_with;
 pub use format::Format;

@@ -1,8 +1,10 @@
 -- How far a conversion has come.
-use Rattle.std.specs.Prelude.{ℕ, ◌≡◌, ◌≤◌, ◌+◌, Bool, true, false, List, [], ◌∷◌, ◌++◌, length, Option, Some, None, Result, Ok, Err, OnOk}
+use Rattle.std.specs.Prelude.{ℕ, ◌≡◌, ◌≤◌, ◌+◌, Bool, true, false, List, [], ◌∷◌, ◌++◌, ◌⊎◌, length, Option, Some, None, Result, Ok, Err, OnOk}
 use Rattle.std.specs.List.{FoldsTo, concat, flat_map, AllByRecursion}
 use Rattle.pg_copy.specs.fault.BinaryFault.{BinaryFault}
 use Rattle.pg_copy.specs.fault.BinaryFault.TheVariants as binary_fault
+use Rattle.pg_copy.specs.fault.RowFault.{RowFault}
+use Rattle.pg_copy.specs.fault.RowFault.TheVariants as row_fault
 use Rattle.pg_copy.specs.fault.TextFault.{TextFault}
 use Rattle.pg_copy.specs.fault.TextFault.TheVariants as text_fault
 use Rattle.pg_copy.specs.BinaryReader.{HasReadBinary, binary_last, binary_left}
@@ -13,12 +15,11 @@ use Rattle.pg_wire.specs.link.LinkFault.{LinkFault}
 use Rattle.pg_wire.specs.Link.{HasRisen}
 use Rattle.pgpipe_convert.specs.declared.convert.Converted.{Converted}
 use Rattle.pgpipe_convert.specs.declared.convert.Converted.TheVariants as converted
-use Rattle.pgpipe_convert.specs.declared.format.RowWriter.{RowWriter}
 use Rattle.pgpipe_convert.specs.declared.copy_rows.RowReader.{RowReader}
 use Rattle.pgpipe_convert.specs.declared.copy_rows.RowReader.TheVariants as reader
 use Rattle.pgpipe_base.specs.declared.stop.Stop.{Stop}
 use Rattle.pgpipe_base.specs.declared.stop.Stop.TheVariants as stop
-use Rattle.pgpipe_convert.specs.Convert.{FileReading, text_file, binary_file, answered, none_left, IsEnd, FileWriting, writing_with, IsWritable, trailer_for, AreConverted, IsAnswerFor, AreAllConverted, AreConvertedBefore}
+use Rattle.pgpipe_convert.specs.Convert.{FileReading, text_file, binary_file, answered, none_left, IsEnd, FileWriting, IsWritable, trailer_for, AreConverted, IsAnswerFor, AreAllConverted, AreConvertedBefore}
 use Rattle.pgpipe_base.specs.Outbox.{most_collected, Puts, StaysWithin}
 use mathlib.Core.List.{IsPrefix}
 use Rattle.pgpipe_base.specs.Receiving.{most_receives, IsSentAtOnce}
@@ -33,11 +34,10 @@ abbrev pub binary_stop : BinaryFault → Stop Converted
 binary_stop binary_fault.Memory = stop.Memory
 binary_stop f = stop.Answer (converted.Binary f)
 
--- a reader's answer, with the stop for its fault
-abbrev pub stopped : {F : Type 0} → (F → Stop Converted) → Result (Option Row) F
-    → Result (Option Row) (Stop Converted)
-stopped stop_of (Ok row) = Ok row
-stopped stop_of (Err f) = Err (stop_of f)
+-- why the work stops where a row can't be written
+abbrev pub row_stop : RowFault → Stop Converted
+row_stop row_fault.Memory = stop.Memory
+row_stop f = stop.Answer (converted.Row f)
 
 -- ---- a reader of either format
 
@@ -94,7 +94,7 @@ TakesPiece r piece (Err (stop.Answer c)) r' = (bytes : List ℕ) (given : List R
 TakesPiece r piece (Err stop.Memory) r' = r' ≡ r
 TakesPiece r piece (Err _) r' = ⊥
 
--- The next row is given, or what stands in its place.
+-- The next row is given, or what stands in its place, or memory for it was refused.
 abbrev pub GivesRow : Bool → RowReader → Result (Option Row) (Stop Converted) → RowReader → Type 0
 GivesRow at_end r (Ok (Some row)) r' = ReadsOn at_end r (row ∷ []) r'
 GivesRow at_end r (Ok None) r' = ReadsOn at_end r [] r' × (ending : RowsEnding Converted)
@@ -102,30 +102,40 @@ GivesRow at_end r (Ok None) r' = ReadsOn at_end r [] r' × (ending : RowsEnding 
 GivesRow at_end r (Err (stop.Answer converted.Whole)) r' = ⊥
 GivesRow at_end r (Err (stop.Answer (converted.Row f))) r' = ⊥
 GivesRow at_end r (Err (stop.Answer c)) r' = ComeNext at_end r [] (none_left (Bad c))
-GivesRow at_end r (Err stop.Memory) r' = r' ≡ r
+GivesRow at_end r (Err stop.Memory) r' = Unit {0}
 GivesRow at_end r (Err _) r' = ⊥
 
 -- ---- rows that are put
 
--- how a writer of either format writes
-abbrev pub writing_by : RowWriter → FileWriting
-writing_by w = writing_with w.options.now w.format
+-- A row is put (true); or it can't be written, or memory for it was refused, and then nothing is put.
+abbrev pub WritesRow : FileWriting → Row → List ℕ → Result Bool (Stop Converted) → List ℕ → Type 0
+WritesRow to row out (Ok true) out' = IsWritable to row × (out' ≡ out ++ to.row row)
+WritesRow to row out (Ok false) out' = ⊥
+WritesRow to row out (Err (stop.Answer (converted.Row f))) out' = (to.row_fault row ≡ Some f)
+    × (out' ≡ out)
+WritesRow to row out (Err stop.Memory) out' = out' ≡ out
+WritesRow to row out (Err _) out' = ⊥
 
--- A row is put, and no more is collected than there is room for; or it can't be written, or memory
--- for it was refused, and then nothing was put; or the sink failed.
-abbrev pub PutsRow : {K : Type 0} → (K → List ℕ → K → Type 0) → (K → ℕ) → FileWriting → Row
-    → List ℕ → K → Result Unit (Stop Converted) → List ℕ → K → Type 0
-PutsRow takes failures to row out sink (Ok x) out' sink' = IsWritable to row
-    × Puts {A = Unit {0}} takes failures out sink (to.row row) (Ok tt) out' sink'
+-- The next row is put (true), or no row is left (false); or the reader gives no row, or the row that
+-- it gives isn't put.
+abbrev pub PutsNext : Bool → FileWriting → RowReader → List ℕ → Result Bool (Stop Converted)
+    → RowReader → List ℕ → Type 0
+PutsNext at_end to r out (Ok true) r' out' = (row : Row) × ReadsOn at_end r (row ∷ []) r'
+    × WritesRow to row out (Ok true) out'
+PutsNext at_end to r out (Ok false) r' out' = GivesRow at_end r (Ok None) r' × (out' ≡ out)
+PutsNext at_end to r out (Err s) r' out' = (GivesRow at_end r (Err s) r' × (out' ≡ out))
+    ⊎ ((row : Row) × ReadsOn at_end r (row ∷ []) r' × WritesRow to row out (Err s) out')
+
+-- What is collected is sent where it is much, so that no more is collected than there is room for;
+-- or the sink failed.
+abbrev pub SendsMuch : {K : Type 0} → (K → List ℕ → K → Type 0) → (K → ℕ) → List ℕ → K
+    → Result Unit (Stop Converted) → List ℕ → K → Type 0
+SendsMuch takes failures out sink (Ok x) out' sink' =
+    Puts {A = Unit {0}} takes failures out sink [] (Ok tt) out' sink'
     × (length out' ≤ most_collected)
-PutsRow takes failures to row out sink (Err (stop.Answer (converted.Row f))) out' sink' =
-    (to.row_fault row ≡ Some f) × (out' ≡ out) × (sink' ≡ sink)
-PutsRow takes failures to row out sink (Err stop.Memory) out' sink' = IsWritable to row
-    × (out' ≡ out) × (sink' ≡ sink)
-PutsRow takes failures to row out sink (Err stop.SinkFailed) out' sink' = IsWritable to row
-    × (fault : LinkFault)
-    × Puts {A = Unit {0}} takes failures out sink (to.row row) (Err fault) out' sink'
-PutsRow takes failures to row out sink (Err _) out' sink' = ⊥
+SendsMuch takes failures out sink (Err stop.SinkFailed) out' sink' = (fault : LinkFault)
+    × Puts {A = Unit {0}} takes failures out sink [] (Err fault) out' sink'
+SendsMuch takes failures out sink (Err _) out' sink' = ⊥
 
 -- The rows that come next were put, so far as the result says, and this is left of the file.
 pub record RowsArePut {K A : Type 0} (takes : K → List ℕ → K → Type 0) (failures : K → ℕ)

@@ -4,7 +4,8 @@ use Rattle.std.proofs.lemmas.Result.{err_from_is_err_and}
 use Rattle.pg_wire.specs.Link.{HasRisen}
 use Rattle.pgpipe_base.proofs.Pieces.{sent_at_first, sent_on}
 use Rattle.pgpipe_convert.specs.Convert.{FileWriting, AreAllConverted}
-use Rattle.pgpipe_convert.specs.Private.Converting.{file_by, writing_by}
+use Rattle.pgpipe_convert.specs.Private.Converting.{file_by}
+use Rattle.pgpipe_convert.specs.Private.Values.{writing_by}
 use Rattle.pgpipe_convert.proofs.Converting.{head_within, stands_first}
 use Rattle.pgpipe_convert.proofs.Sent.{settled, unsettled}
 use Rattle.pgpipe_convert.proofs.convert.convert_with.Goals as goal
@@ -18,7 +19,7 @@ pub run-stop-requires : goal.run-stop-requires
 run-stop-requires g c =
     let begun = c.in_ok-work.ensures.begun in
     let to = c.in_ok-work.work.to in
-    stands_first g.K.Sink.takes g.K.Sink.failures (writing_by to) c.args.sink.now c.in_ok-work.work.reader c.in_ok-work.work.out.items (head_within to.options.now to.format) (begun.1 ∙ ap (λ (w : FileWriting). w.head) (sym begun.0)) begun.3 begun.4
+    stands_first g.K.Sink.takes g.K.Sink.failures (writing_by to) c.args.sink.now c.in_ok-work.work.reader c.in_ok-work.work.out.items (head_within to.options to.format) (begun.1 ∙ ap (λ (w : FileWriting). w.head) (sym begun.0)) begun.3 begun.4
 
 pub returns-in-Ok-clause-converted : goal.returns-in-Ok-clause-converted
 returns-in-Ok-clause-converted g c =

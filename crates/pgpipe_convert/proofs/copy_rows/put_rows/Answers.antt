@@ -1,30 +1,42 @@
-use Rattle.std.proofs.Common.{◌++◌}
+use Rattle.std.proofs.Common.{Bool, Ok, Err, refl, subst, ◌++◌, ◌∙◌}
 use Rattle.std.proofs.lemmas.Result.{err_from_is_err_and}
-use Rattle.pgpipe_convert.specs.Private.Converting.{writing_by}
-use Rattle.pgpipe_convert.proofs.Growing.{fewer_left, grows_none, grows_more, rows_end, rows_stop, row_stops}
+use Rattle.pgpipe_convert.specs.Private.Converting.{PutsNext}
+use Rattle.pgpipe_convert.specs.Private.Values.{RowWriting, writing_by}
+use Rattle.pgpipe_convert.proofs.Growing.{fewer_left, grows_none, grows_more, rows_end, next_stops, send_stops}
 use Rattle.pgpipe_convert.proofs.copy_rows.put_rows.Goals as goal
 
-pub loop-row-init : goal.loop-row-init
-loop-row-init g c = grows_none g.K.Sink.takes g.K.Sink.failures c.args.at_end (writing_by c.args.to.now) c.args.reader.now c.args.out.now.items c.args.sink.now c.requires.begun
+pub loop-out-init : goal.loop-out-init
+loop-out-init g c = (refl, grows_none g.K.Sink.takes g.K.Sink.failures c.args.at_end (writing_by c.args.to.now) c.args.reader.now c.args.out.now.items c.args.sink.now c.requires.begun)
 
-pub returns-in_err-next : goal.returns-in_err-next
-returns-in_err-next g c =
+pub returns-in_err-put_next-clause-puts : goal.returns-in_err-put_next-clause-puts
+returns-in_err-put_next-clause-puts g c =
     let p = err_from_is_err_and c.from_residual.result c.from_residual.ensures.1 in
-    rw (p.1, p.2) (rows_stop g.K.Sink.takes g.K.Sink.failures c.args.at_end (writing_by c.args.to.now) c.args.reader.now c.args.out.now.items c.args.sink.now c.loop-row.reader c.loop-row.out.items c.loop-row.sink c.in_err-next.field-0.0 c.next.new.self c.requires.begun c.loop-row.invariant c.in_err-next.ensures)
+    let l = c.loop-out in
+    rw (p.1, p.2) (next_stops g.K.Sink.takes g.K.Sink.failures c.args.at_end (writing_by c.args.to.now) c.args.reader.now c.args.out.now.items c.args.sink.now l.reader l.out.items l.sink c.put_next.new.reader c.in_err-put_next.field-0.0 c.put_next.new.out.items c.requires.begun l.invariant.1 (subst (λ (w : RowWriting). PutsNext c.args.at_end (writing_by w) l.reader l.out.items (Err c.in_err-put_next.field-0.0) c.put_next.new.reader c.put_next.new.out.items) l.invariant.0 c.in_err-put_next.ensures.puts))
 
-pub returns-in-None : goal.returns-in-None
-returns-in-None g c = rows_end g.K.Sink.takes g.K.Sink.failures c.args.at_end (writing_by c.args.to.now) c.args.reader.now c.args.out.now.items c.args.sink.now c.loop-row.reader c.loop-row.out.items c.loop-row.sink c.next.new.self c.loop-row.invariant (rw c.in-None.is at c.in_ok-next.ensures)
+pub returns-in_err-send_much-clause-puts : goal.returns-in_err-send_much-clause-puts
+returns-in_err-send_much-clause-puts g c =
+    let p = err_from_is_err_and c.from_residual-in_err-send_much.result c.from_residual-in_err-send_much.ensures.1 in
+    let l = c.loop-out in
+    let n = subst (λ (b : Bool). PutsNext c.args.at_end (writing_by c.args.to.now) l.reader l.out.items (Ok b) c.put_next.new.reader c.put_next.new.out.items) c.if-branch.true (subst (λ (w : RowWriting). PutsNext c.args.at_end (writing_by w) l.reader l.out.items (Ok c.in_ok-put_next.field-0) c.put_next.new.reader c.put_next.new.out.items) l.invariant.0 c.in_ok-put_next.ensures.puts) in
+    rw (p.1, p.2) (send_stops g.K.Sink.takes g.K.Sink.failures c.args.at_end (writing_by c.args.to.now) c.args.reader.now c.args.out.now.items c.args.sink.now l.reader l.out.items l.sink c.put_next.new.reader c.put_next.new.out.items c.in_err-send_much.field-0.0 c.send_much.new.out.items c.send_much.new.sink c.requires.begun l.invariant.1 n c.in_err-send_much.ensures)
 
-pub returns-in_err-put_row-in-Some : goal.returns-in_err-put_row-in-Some
-returns-in_err-put_row-in-Some g c =
-    let p = err_from_is_err_and c.from_residual-in_err-put_row-in-Some.result c.from_residual-in_err-put_row-in-Some.ensures.1 in
-    rw (p.1, p.2) (row_stops g.K.Sink.takes g.K.Sink.failures c.args.at_end (writing_by c.args.to.now) c.args.reader.now c.args.out.now.items c.args.sink.now c.loop-row.reader c.loop-row.out.items c.loop-row.sink c.in-Some.row c.next.new.self c.in_err-put_row-in-Some.field-0.0 c.put_row.new.out.items c.put_row.new.sink c.requires.begun c.loop-row.invariant (rw c.in-Some.is at c.in_ok-next.ensures) c.in_err-put_row-in-Some.ensures)
+pub returns-clause-puts : goal.returns-clause-puts
+returns-clause-puts g c =
+    let l = c.loop-out in
+    let n = subst (λ (b : Bool). PutsNext c.args.at_end (writing_by c.args.to.now) l.reader l.out.items (Ok b) c.put_next.new.reader c.put_next.new.out.items) c.if-branch.false (subst (λ (w : RowWriting). PutsNext c.args.at_end (writing_by w) l.reader l.out.items (Ok c.in_ok-put_next.field-0) c.put_next.new.reader c.put_next.new.out.items) l.invariant.0 c.in_ok-put_next.ensures.puts) in
+    rows_end g.K.Sink.takes g.K.Sink.failures c.args.at_end (writing_by c.args.to.now) c.args.reader.now c.args.out.now.items c.args.sink.now l.reader l.out.items l.sink c.put_next.new.reader c.put_next.new.out.items l.invariant.1 n
 
-pub loop-row-smaller : goal.loop-row-smaller
-loop-row-smaller g c =
-    let i = c.loop-row.invariant.goes_on in
+pub loop-out-smaller : goal.loop-out-smaller
+loop-out-smaller g c =
+    let l = c.loop-out in
+    let i = l.invariant.1.goes_on in
     let read = c.requires.read in
-    fewer_left c.args.at_end c.loop-row.reader c.in-Some.row c.next.new.self read.0 (read.1 ++ c.loop-row.invariant.rows) i.may_go_on (i.read read.0 read.1 read.2) (rw c.in-Some.is at c.in_ok-next.ensures)
+    let n = subst (λ (b : Bool). PutsNext c.args.at_end (writing_by c.args.to.now) l.reader l.out.items (Ok b) c.put_next.new.reader c.put_next.new.out.items) c.if-branch.true (subst (λ (w : RowWriting). PutsNext c.args.at_end (writing_by w) l.reader l.out.items (Ok c.in_ok-put_next.field-0) c.put_next.new.reader c.put_next.new.out.items) l.invariant.0 c.in_ok-put_next.ensures.puts) in
+    fewer_left c.args.at_end l.reader n.0 c.put_next.new.reader read.0 (read.1 ++ l.invariant.1.rows) i.may_go_on (i.read read.0 read.1 read.2) n.1
 
-pub loop-row-preserved : goal.loop-row-preserved
-loop-row-preserved g c = grows_more g.K.Sink.takes g.K.Sink.failures c.args.at_end (writing_by c.args.to.now) c.args.reader.now c.args.out.now.items c.args.sink.now c.loop-row.reader c.loop-row.out.items c.loop-row.sink c.in-Some.row c.next.new.self c.put_row.new.out.items c.put_row.new.sink c.loop-row.invariant (rw c.in-Some.is at c.in_ok-next.ensures) c.in_ok-put_row-in-Some.ensures
+pub loop-out-preserved : goal.loop-out-preserved
+loop-out-preserved g c =
+    let l = c.loop-out in
+    let n = subst (λ (b : Bool). PutsNext c.args.at_end (writing_by c.args.to.now) l.reader l.out.items (Ok b) c.put_next.new.reader c.put_next.new.out.items) c.if-branch.true (subst (λ (w : RowWriting). PutsNext c.args.at_end (writing_by w) l.reader l.out.items (Ok c.in_ok-put_next.field-0) c.put_next.new.reader c.put_next.new.out.items) l.invariant.0 c.in_ok-put_next.ensures.puts) in
+    (c.in_ok-put_next.ensures.same ∙ l.invariant.0, grows_more g.K.Sink.takes g.K.Sink.failures c.args.at_end (writing_by c.args.to.now) c.args.reader.now c.args.out.now.items c.args.sink.now l.reader l.out.items l.sink c.put_next.new.reader c.put_next.new.out.items c.send_much.new.out.items c.send_much.new.sink l.invariant.1 n c.in_ok-send_much.ensures)

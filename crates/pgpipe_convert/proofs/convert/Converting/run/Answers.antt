@@ -1,6 +1,7 @@
 use Rattle.std.proofs.Common.{arith, ◌∙◌, ap, Ok, Err}
 use Rattle.std.specs.List.{concat}
-use Rattle.pgpipe_convert.specs.Private.Converting.{file_by, writing_by}
+use Rattle.pgpipe_convert.specs.Private.Converting.{file_by}
+use Rattle.pgpipe_convert.specs.Private.Values.{writing_by}
 use Rattle.pgpipe_convert.proofs.Converting.{steps_for, runs_more, run_stops, run_endless}
 use Rattle.pgpipe_convert.proofs.convert.Converting.run.Goals as goal
 

@@ -1,5 +1,6 @@
 use Rattle.std.proofs.Common.{◌≡◌}
-use Rattle.pgpipe_convert.specs.Private.Converting.{file_by, writing_by}
+use Rattle.pgpipe_convert.specs.Private.Converting.{file_by}
+use Rattle.pgpipe_convert.specs.Private.Values.{writing_by}
 use Rattle.pgpipe_convert.proofs.Converting.{Runs}
 use Rattle.pgpipe_convert.proofs.convert.Converting.run.Given as goal
 

@@ -1,6 +1,7 @@
 use Rattle.std.proofs.Common.{[], ◌≡◌, take, arith, Ok, Err, subst, List, ℕ, rules}
 use Rattle.std.proofs.lemmas.Result.{err_from_is_err_and}
-use Rattle.pgpipe_convert.specs.Private.Converting.{TakesPiece, writing_by}
+use Rattle.pgpipe_convert.specs.Private.Converting.{TakesPiece}
+use Rattle.pgpipe_convert.specs.Private.Values.{writing_by}
 use Rattle.pgpipe_base.proofs.Pieces.{read_back, piece_within}
 use Rattle.pgpipe_convert.proofs.Converting.{source_failed, refused_steps, piece_steps, end_steps}
 use Rattle.pgpipe_convert.proofs.convert.Converting.step.Goals as goal
