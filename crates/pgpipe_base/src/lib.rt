@@ -3,6 +3,7 @@
 #![tactic(auto)]
 
 mod fault;
+mod hexadecimal;
 pub mod outbox;
 pub mod receiving;
 mod stop;

@@ -5,6 +5,7 @@ ghost use Rattle.std.specs.Fmt.{decimal};
 ghost use Rattle.hex.specs.Hex.{encode_lower};
 ghost use Rattle.pgpipe_base.specs.Outbox.{body_text, line_of, most_collected, Puts};
 
+use crate::hexadecimal::write_hexadecimal;
 use pg_wire::{LinkFault, Sink};
 use std::alloc::{AllocError, Global};
 use std::marker::Model;
@@ -111,8 +112,7 @@ impl Outbox {
         ensures { self.new ≡ self.old ++ encode_lower bytes.now }
     {
         let end = self.filled + 2 * bytes.len();
-        // The room is twice as long as the bytes, so this isn't refused.
-        let _ = hex::encode_to_slice(bytes, &mut self.buf[self.filled..end]);
+        write_hexadecimal(bytes, &mut self.buf[self.filled..end]);
         self.filled = end;
     }
 
