@@ -55,6 +55,39 @@ fn a_row_that_is_read_is_the_row_that_was_written(rt: HostRuntime) -> Result<(),
     Ok(())
 }
 
+/// Whether each of these values stands at its index, and none stands after them.
+fn are_found(values: &Values, list: &[Option<&[u8]>]) -> bool {
+    let found = list
+        .iter()
+        .enumerate()
+        .all(|(index, value)| values.get(index) == Some(*value));
+    found && values.get(list.len()).is_none()
+}
+
+#[test]
+fn each_value_of_a_long_row_is_found(rt: HostRuntime) -> Result<(), Fail> {
+    let letters = b"abcdefghijklmnopqrstuvwxyz0123456789AB\xFFC".as_slice();
+    // each third value is null
+    let mut list = Vec::new(rt.alloc());
+    for (index, letter) in letters.chunks(1).enumerate() {
+        list.push(if index % 3 == 0 { None } else { Some(letter) })?;
+    }
+    for count in 0..=list.len() {
+        let some = &list.as_slice()[..count];
+        let pushed = Values::from_slice(rt.alloc(), some)?;
+        assert!(rt; pushed.len() == count && are_found(&pushed, some));
+        let mut bytes = Vec::new(rt.alloc());
+        backend::data_row(&pushed, &mut bytes)?;
+        let mut decoder = BackDecoder::new(rt.alloc(), 1024);
+        decoder.push(bytes.as_slice())?;
+        let read = decoder.next();
+        assert!(rt;
+            matches!(&read, Ok(Some(BackMessage::DataRow(row))) if *row == pushed && are_found(row, some))
+        );
+    }
+    Ok(())
+}
+
 #[test]
 fn owned_and_lent_values_are_written_alike(rt: HostRuntime) -> Result<(), Fail> {
     let alloc = rt.alloc();
