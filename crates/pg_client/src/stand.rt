@@ -17,7 +17,7 @@ use crate::phase::Phase;
 use crate::settled::{Loss, Settled};
 use crate::startup::{ToSend, Welcome};
 use pg_segment::{Auth, CopyAnswer, Segment};
-use pg_wire::{Aside, BackMessage, Fields, Request, RowView, Seq, Status, Values};
+use pg_wire::{Aside, BackMessage, Fields, Request, RowView, Seq, Status};
 use std::alloc::{AllocError, Global};
 use std::mem;
 
@@ -160,13 +160,16 @@ impl Stand {
         }
     }
 
-    /// Takes a row in, which is copied once. No message is so long that a row couldn't hold its values.
+    /// Takes a row in, which is copied once, to where it is kept.
     pub fn hear_row(&mut self, alloc: Global, row: &RowView<'_>) -> Result<ToSend, FeedFault>
         ensures { HearsAs self.old (DataRow row.now) result self.new }
     {
-        match Values::of_row(alloc, row) {
-            Ok(values) => self.hear_result(alloc, BackMessage::DataRow(values)),
-            Err(_) => Err(FeedFault::Memory),
+        match self {
+            Stand::Busy(segment) => {
+                segment.read_row(alloc, row)?;
+                Ok(ToSend::Nothing)
+            }
+            _ => Err(FeedFault::Unexpected(b'D')),
         }
     }
 

@@ -7,13 +7,14 @@ mod pending;
 mod place;
 
 ghost use Rattle.std.specs.Prelude.{◌≡◌, OnErr, OnOk};
+ghost use Rattle.pg_wire.specs.message.BackMessage.TheVariants.{DataRow};
 ghost use Rattle.pg_segment.specs.Kind.{IsResult};
 ghost use Rattle.pg_segment.specs.Segment.{stage_failed, with_aside};
 ghost use Rattle.pg_segment.specs.SegmentCalls.{answering, awaits_data, may_end_segment, ReadsAs, segment_of, settled_by, with_error};
 
 use crate::fault::ReadFault;
 use collected::Collected;
-use pg_wire::{Aside, BackMessage, Fields, Outcome, Request, Seq, Status};
+use pg_wire::{Aside, BackMessage, Fields, Outcome, Request, RowView, Seq, Status, Values};
 pub use place::Place;
 use std::alloc::{AllocError, Global};
 use std::marker::Model;
@@ -108,6 +109,20 @@ impl Segment {
         self.collected.take(alloc, &self.request, message)?;
         self.place = place;
         Ok(())
+    }
+
+    /// Takes in a row that is lent, as `read` takes its message in. While rows come, it is copied once, to where it is kept.
+    pub fn read_row(&mut self, alloc: Global, row: &RowView<'_>) -> Result<(), ReadFault>
+        ensures { ReadsAs self.old (DataRow row.now) result self.new }
+    {
+        if self.place.goes_on_by_rows() {
+            self.collected.take_row(alloc, row)?;
+            return Ok(());
+        }
+        match Values::of_row(alloc, row) {
+            Ok(values) => self.read(alloc, BackMessage::DataRow(values)),
+            Err(_) => Err(ReadFault::Memory),
+        }
     }
 
     /// Whether ReadyForQuery may come: all that was asked is answered, or an error came.

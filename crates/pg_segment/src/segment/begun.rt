@@ -4,7 +4,7 @@ ghost use Rattle.std.specs.Prelude.{◌≡◌, ◌++◌, ◌∷◌, [], IfOk, On
 ghost use Rattle.pg_wire.specs.Segment.{asked};
 ghost use Rattle.pg_segment.specs.Private.Collecting.{command_part, completed_part, copied_out, described_part, empty_part, executed_part, first_row, is_next_result, whole_part, with_chunk, with_row};
 
-use pg_wire::{BackMessage, Column, CopyHead, ExecEnd, Part, Request, Seq, Values};
+use pg_wire::{BackMessage, Column, CopyHead, ExecEnd, Part, Request, RowView, Seq, Values};
 use std::alloc::{AllocError, Global};
 use std::mem;
 
@@ -45,6 +45,17 @@ impl Open {
                 Ok(())
             }
             _ => Ok(()),
+        }
+    }
+
+    /// Adds a row that is lent, which is copied once.
+    pub fn add_lent_row(&mut self, alloc: Global, row: &RowView<'_>) -> Result<(), AllocError>
+        ensures ok { OnOk result (self.new ≡ with_row self.old row.now) }
+        ensures err { OnErr result (self.new ≡ self.old) }
+    {
+        match Values::of_row(alloc, row) {
+            Ok(values) => self.add_row(alloc, values),
+            Err(_) => Err(AllocError),
         }
     }
 

@@ -2,10 +2,10 @@
 
 ghost use Rattle.std.specs.Prelude.{◌≡◌, OnErr, OnOk};
 ghost use Rattle.pg_wire.specs.Segment.{asked};
-ghost use Rattle.pg_segment.specs.Private.Collecting.{closed_by, collect, collected_with, noted_error, nothing_collected, outcome_of, with_columns};
+ghost use Rattle.pg_segment.specs.Private.Collecting.{closed_by, collect, collected_with, noted_error, nothing_collected, outcome_of, with_columns, with_row};
 
 use crate::segment::begun::Open;
-use pg_wire::{Aside, BackMessage, Column, Fields, Outcome, Part, Request, Seq, Status};
+use pg_wire::{Aside, BackMessage, Column, Fields, Outcome, Part, Request, RowView, Seq, Status};
 use std::alloc::{AllocError, Global};
 use std::marker::Model;
 use std::mem;
@@ -94,6 +94,16 @@ impl Collected {
             BackMessage::RowDescription(columns) => self.take_columns(alloc, request, columns),
             last => self.close(alloc, request, last),
         }
+    }
+
+    /// Takes in a row that is lent. Where memory is refused, nothing changes.
+    pub fn take_row(&mut self, alloc: Global, row: &RowView<'_>) -> Result<(), AllocError>
+        ensures ok { OnOk result (self.new ≡ record self.old {
+          begun = with_row self.old.begun row.now;
+        }) }
+        ensures err { OnErr result (self.new ≡ self.old) }
+    {
+        self.begun.add_lent_row(alloc, row)
     }
 
     // The columns of a result's rows, or those that a Describe asked for.

@@ -1,7 +1,8 @@
 //! Where one is in a segment: all that decides what may come.
 
-ghost use Rattle.std.specs.Prelude.{◌≡◌, false};
-ghost use Rattle.pg_wire.specs.Segment.{asked};
+ghost use Rattle.std.specs.Prelude.{◌≡◌, ℕ, List, Option, Some, false, true};
+ghost use Rattle.pg_wire.specs.message.BackMessage.TheVariants.{DataRow};
+ghost use Rattle.pg_wire.specs.Segment.{Asked, asked};
 ghost use Rattle.pg_segment.specs.Place.{all_answered, awaits_data_at, failed_at, follows_at, goes, led_to, may_end_at_place, one_more, opens, start, still_asked, told};
 
 use crate::segment::CopyAnswer;
@@ -88,6 +89,17 @@ impl Place {
         match self.go_on(request, message) {
             Some(pending) => Some(self.moved_to(request, pending)),
             None => None,
+        }
+    }
+
+    /// Whether rows are under way, so that one more may come and leaves the place as it is.
+    pub fn goes_on_by_rows(&self) -> bool
+        ensures { result ≡ true
+            → (a : Asked) (row : List (Option (List ℕ))) → goes a self.now (DataRow row) ≡ Some self.now }
+    {
+        match self.pending {
+            Pending::Rows | Pending::Executed => !self.failed,
+            _ => false,
         }
     }
 
