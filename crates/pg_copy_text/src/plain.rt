@@ -12,6 +12,9 @@ const BLOCK: usize = 16;
 /// How many are, where there are fewer.
 const HALF: usize = 8;
 
+/// How many are, where there are fewer still.
+const QUARTER: usize = 4;
+
 /// Whether a byte surely stands for itself: most bytes of most texts do.
 pub fn is_plain(byte: u8, delimiter: u8) -> bool
     ensures { result ≡ true → IsPlain delimiter byte }
@@ -43,13 +46,14 @@ fn special_bits(block: u8x16, delimiter: u8) -> u64
     bits_up_to(block, b'\r') | bits_of(block, b'\\') | bits_of(block, delimiter)
 }
 
-/// The place of the lowest bit, or 16 where none of the lowest 16 is set.
+/// The place of the lowest bit, or the place after those of the block, which this mark has.
 #[inline(always)]
-fn lowest(bits: u64) -> usize
-    ensures within { result ≤ 16 }
+fn lowest(bits: u64, mark: u64, end: usize) -> usize
+    requires { bit_at mark end ≡ 1 }
+    ensures within { result ≤ end }
     ensures below { (k : ℕ) → k < result → bit_at bits k ≡ 0 }
 {
-    (bits | 65_536).trailing_zeros() as usize
+    (bits | mark).trailing_zeros() as usize
 }
 
 /// How many bytes of a block are plain, up to the first that may not be.
@@ -59,22 +63,64 @@ fn plain_in_block(bytes: &[u8], from: usize, delimiter: u8) -> usize
     ensures plain { (i : ℕ) → from ≤ i → i < from + result
         → IsPlain delimiter (slice_index bytes.now i) }
 {
-    lowest(special_bits(u8x16::from_slice(&bytes[from..]), delimiter))
+    let block = u8x16::from_slice(&bytes[from..]);
+    lowest(special_bits(block, delimiter), 65_536, BLOCK)
 }
 
-/// Whether the bytes of half a block are plain.
-fn is_plain_half(bytes: &[u8], from: usize, delimiter: u8) -> bool
+/// The same of half a block.
+fn plain_in_half(bytes: &[u8], from: usize, delimiter: u8) -> usize
     requires { from + 8 ≤ length bytes.now }
-    ensures { result ≡ true → (i : ℕ) → from ≤ i → i < from + 8
+    ensures within { result ≤ 8 }
+    ensures plain { (i : ℕ) → from ≤ i → i < from + result
         → IsPlain delimiter (slice_index bytes.now i) }
 {
-    let mut plain = true;
-    for i in from..from + HALF {
-        if !is_plain(bytes[i], delimiter) {
-            plain = false;
-        }
+    let half = u8x8::from_slice(&bytes[from..]);
+    let twice: u8x16 = half.shuffle(half, [0, 1, 2, 3, 4, 5, 6, 7, 0, 1, 2, 3, 4, 5, 6, 7]);
+    lowest(special_bits(twice, delimiter), 256, HALF)
+}
+
+/// The same of a quarter of one.
+fn plain_in_quarter(bytes: &[u8], from: usize, delimiter: u8) -> usize
+    requires { from + 4 ≤ length bytes.now }
+    ensures within { result ≤ 4 }
+    ensures plain { (i : ℕ) → from ≤ i → i < from + result
+        → IsPlain delimiter (slice_index bytes.now i) }
+{
+    let quarter = u8x4::from_slice(&bytes[from..]);
+    let often: u8x16 = quarter.shuffle(quarter, [0, 1, 2, 3, 0, 1, 2, 3, 0, 1, 2, 3, 0, 1, 2, 3]);
+    lowest(special_bits(often, delimiter), 16, QUARTER)
+}
+
+/// Where the plain bytes end, of fewer than sixteen that are left, and more than seven: the last eight may be some of the first.
+fn end_in_halves(bytes: &[u8], from: usize, delimiter: u8) -> usize
+    requires few { length bytes.now < from + 16 }
+    requires some { from + 8 ≤ length bytes.now }
+    ensures in_order { from ≤ result }
+    ensures in_range { result ≤ length bytes.now }
+    ensures plain { (i : ℕ) → from ≤ i → i < result → IsPlain delimiter (slice_index bytes.now i) }
+{
+    let first = plain_in_half(bytes, from, delimiter);
+    if first < HALF {
+        return from + first;
     }
-    plain
+    let last = bytes.len() - HALF;
+    last + plain_in_half(bytes, last, delimiter)
+}
+
+/// The same of fewer than eight, and more than three.
+fn end_in_quarters(bytes: &[u8], from: usize, delimiter: u8) -> usize
+    requires few { length bytes.now < from + 8 }
+    requires some { from + 4 ≤ length bytes.now }
+    ensures in_order { from ≤ result }
+    ensures in_range { result ≤ length bytes.now }
+    ensures plain { (i : ℕ) → from ≤ i → i < result → IsPlain delimiter (slice_index bytes.now i) }
+{
+    let first = plain_in_quarter(bytes, from, delimiter);
+    if first < QUARTER {
+        return from + first;
+    }
+    let last = bytes.len() - QUARTER;
+    last + plain_in_quarter(bytes, last, delimiter)
 }
 
 /// Whether a byte of a block may be a backslash.
@@ -118,8 +164,11 @@ pub fn plain_end(bytes: &[u8], from: usize, delimiter: u8) -> usize
             return at;
         }
     }
-    if bytes.len() - at >= HALF && is_plain_half(bytes, at, delimiter) {
-        at += HALF;
+    if bytes.len() - at >= HALF {
+        return end_in_halves(bytes, at, delimiter);
+    }
+    if bytes.len() - at >= QUARTER {
+        return end_in_quarters(bytes, at, delimiter);
     }
     while at < bytes.len() && is_plain(bytes[at], delimiter) {
         at += 1;
