@@ -1,20 +1,18 @@
--- A block of values holds what was put into it, and a value is found from the far place before it.
-use Rattle.std.proofs.Common.{◌≡◌, ◌≢◌, ◌⊎◌, ℕ, ◌+◌, ◌*◌, ◌-◌, ◌/◌, ◌^◌, ◌<◌, ◌≤◌, Bool, true, false, cond, ltb, List, [], ◌∷◌, ◌++◌, length, get_or, take, drop, Option, Some, None, inl, inr, refl, sym, ap, subst, ◌∙◌, arith, length-append, lit<, lit≤}
+-- A block of values holds what was put into it, each value where it begins.
+use Rattle.std.proofs.Common.{◌≡◌, ℕ, zero, suc, ◌+◌, ◌-◌, ◌^◌, ◌<◌, ◌≤◌, false, ltb, List, [], ◌∷◌, ◌++◌, length, get_or, take, drop, Option, Some, None, refl, sym, ap, subst, ◌∙◌, append_assoc, arith, length-append, lit<, lit≤}
 use Rattle.std.specs.Prelude.{IsSome}
 use Rattle.std.specs.List.{slice_get}
 use Rattle.std.proofs.lemmas.Grind.{flat_map-append}
 use Rattle.std.specs.Int.{w16, w32, to_be_bytes, from_be_bytes}
-use Rattle.std.proofs.lemmas.Bool.{cases_lt, ltb-true, ltb-false}
-use Rattle.std.proofs.lemmas.List.{append-nil, get_or-drop, get_or_append_left, get_or-append_right, drop_at, take_at, take_all, take-append-drop, take-append-le, length-drop}
+use Rattle.std.proofs.lemmas.Bool.{ltb-false}
+use Rattle.std.proofs.lemmas.List.{append-nil, get_or-drop, drop_at, drop_more, take_at, take-append-drop, length-drop}
 use Rattle.std.proofs.lemmas.Option.{slice_get-get_or, slice_get_past}
 use Rattle.pg_layout.specs.Field.{value, value_bytes, listed}
-use Rattle.pg_layout.specs.declared.fault.BodyFault.TheVariants as faults
-use Rattle.pg_layout.specs.Private.Reader.{times_at, value_at, number_at, value_of_length}
-use Rattle.pg_layout.proofs.Layouts.{BeginsWith, IsBytes, Spelled, times_again, times_sound, bind_some, guard_some, wide32}
-use Rattle.pg_layout.proofs.Loops.{with_first, no_first, goes_on, ends, is_done}
+use Rattle.pg_layout.specs.Private.Reader.{◌>>=◌, times_at, value_at, number_at, value_of_length}
+use Rattle.pg_layout.proofs.Layouts.{IsBytes, Spelled, times_again, times_sound, bind_some, some_is, guard_some, wide32}
 use Rattle.pg_layout.proofs.Fields.{value_reads, taken}
 use Rattle.pg_values.specs.Private.View.{values_left, row_of}
-use Rattle.pg_values.specs.Private.Block.{IsBlock, IsRow, AreFarPlaces, with_far, spelled, longest_block}
+use Rattle.pg_values.specs.Private.Block.{IsBlock, IsRow, spelled, starts, starts_at, longest_block}
 use Rattle.pg_values.proofs.Views.{values_are, whole_is}
 
 Value : Type 0
@@ -43,176 +41,114 @@ read_back vs short =
 
 -- ---- where values begin
 
+pub length-starts : (at : ℕ) (vs : List (Option (List ℕ))) → length (starts at vs) ≡ length vs
+unfolding starts
+length-starts at [] = refl
+length-starts at (v ∷ vs) = ap suc (length-starts (at + length (value_bytes v)) vs)
+
+pub starts-append : (at : ℕ) (vs : List (Option (List ℕ))) (v : Option (List ℕ)) → starts at (vs ++ v ∷ []) ≡ starts at vs ++ (at + length (spelled vs)) ∷ []
+unfolding starts
+starts-append at [] v = ap (λ (n : ℕ). n ∷ []) (omega arith)
+starts-append at (w ∷ vs) v =
+    let len = length-append (value_bytes w) (spelled vs) in
+    let same : at + length (value_bytes w) + length (spelled vs) ≡ at + length (spelled (w ∷ vs)) = omega (arith, len) in
+    ap (λ (ps : List ℕ). at ∷ ps) (starts-append (at + length (value_bytes w)) vs v ∙ ap (λ (n : ℕ). starts (at + length (value_bytes w)) vs ++ n ∷ []) same)
+
+pub start_is : (at : ℕ) (vs : List (Option (List ℕ))) (i d : ℕ) → i < length vs → get_or (starts at vs) i d ≡ at + length (spelled (take i vs))
+unfolding starts
+start_is at [] i d lt = absurd (omega arith)
+start_is at (v ∷ vs) zero d lt = omega arith
+start_is at (v ∷ vs) (suc i) d lt =
+    let len = length-append (value_bytes v) (spelled (take i vs)) in
+    start_is (at + length (value_bytes v)) vs i d (omega arith) ∙ omega (arith, len)
+
 -- what stands from there on
 pub from_start : (vs : List (Option (List ℕ))) (i : ℕ) → drop (length (spelled (take i vs))) (spelled vs) ≡ spelled (drop i vs)
 from_start vs i =
     let parts : spelled vs ≡ spelled (take i vs) ++ spelled (drop i vs) = ap spelled (sym (take-append-drop i vs)) ∙ flat_map-append value_bytes (take i vs) (drop i vs) in
     ap (drop (length (spelled (take i vs)))) parts ∙ drop_at (spelled (take i vs)) (spelled (drop i vs)) (length (spelled (take i vs))) refl
 
--- each value has four bytes at least
-pub four_each : (vs : List (Option (List ℕ))) → 4 * length vs ≤ length (spelled vs)
-four_each [] = omega arith
-four_each (v ∷ vs) = omega (arith, four_each vs, four v, length-append (value_bytes v) (spelled vs))
-  where
-    four : (w : Option (List ℕ)) → 4 ≤ length (value_bytes w)
-    four None = omega arith
-    four (Some bytes) = omega (arith, length-append (to_be_bytes w32 (length bytes)) bytes, wide32.len (length bytes))
-
-pub joined_size : (first rest : List ℕ) → 4 + (length first + length rest) ≡ length (value_bytes (Some (first ++ rest)))
-joined_size first rest = omega (arith, length-append first rest, length-append (to_be_bytes w32 (length (first ++ rest))) (first ++ rest), wide32.len (length (first ++ rest)))
-
--- ---- far places
-
--- Fewer than eight values stand after the last of the places.
-abbrev pub IsNear : List ℕ → List (Option (List ℕ)) → Type 0
-IsNear places vs = length vs < 8 * (length places + 1)
-
--- when the next value is to come, its place is kept where it is one of them
-pub far_now : (places : List ℕ) (vs : List (Option (List ℕ))) (count place : ℕ) → AreFarPlaces places vs → count ≡ length vs → place ≡ length (spelled vs) → AreFarPlaces (with_far count place places) vs × IsNear (with_far count place places) vs
-far_now places vs count place far is at = by (ltb (length places) (count / 8)) refl
-  where
-    by : (t : Bool) → ltb (length places) (count / 8) ≡ t → AreFarPlaces (cond t (places ++ place ∷ []) places) vs × IsNear (cond t (places ++ place ∷ []) places) vs
-    by false e =
-        let before : count / 8 ≤ length places = ltb-false _ _ e in
-        (far, omega (arith, before, is))
-    by true e =
-        let due : length places < count / 8 = ltb-true _ _ e in
-        let len = length-append places (place ∷ []) in
-        let all : length vs ≡ 8 * (length places + 1) = omega (arith, due, is, far.enough) in (
-          record {
-            begin = λ k d lt. begins k d (omega (arith, len, lt)) all;
-            within = omega (arith, len, all);
-            enough = omega (arith, len, all);
-          },
-          omega (arith, len, all),
-        )
-      where
-        begins : (k d : ℕ) → k < length places + 1 → length vs ≡ 8 * (length places + 1) → get_or (places ++ place ∷ []) k d ≡ length (spelled (take (8 * (k + 1)) vs))
-        begins k d lt all =
-            elim (cases_lt k (length places)) [
-              | inl within ↦ get_or_append_left places (place ∷ []) d k within ∙ far.begin k d within
-              | inr past ↦ (
-                  let last : k - length places ≡ 0 = omega (arith, lt, past) in
-                  let whole : take (8 * (k + 1)) vs ≡ vs = take_all (8 * (k + 1)) vs (omega (arith, all, past)) in
-                  get_or-append_right places (place ∷ []) (length places) k d refl past ∙ ap (λ (n : ℕ). get_or (place ∷ []) n d) last ∙ at ∙ ap (λ (ws : List (Option (List ℕ))). length (spelled ws)) (sym whole)
-                  )
-            ]
-
-pub far_more : (places : List ℕ) (vs : List (Option (List ℕ))) (v : Option (List ℕ)) → AreFarPlaces places vs → IsNear places vs → AreFarPlaces places (vs ++ v ∷ [])
-far_more places vs v far near = record {
-  begin = λ k d lt. far.begin k d lt ∙ ap (λ (ws : List (Option (List ℕ))). length (spelled ws)) (sym (take-append-le (8 * (k + 1)) vs (v ∷ []) (omega (arith, far.within, lt))));
-  within = omega (arith, far.within, length-append vs (v ∷ []));
-  enough = omega (arith, near, length-append vs (v ∷ []));
-}
-
 -- ---- a block
 
--- what is made of a list by its index and by the index in what is left
-pub get_after : (vs : List (Option (List ℕ))) (i n index : ℕ) → index ≡ i + n → slice_get (drop i vs) n ≡ slice_get vs index
-get_after vs i n index is = by (cases_lt index (length vs))
-  where
-    by : (index < length vs) ⊎ (length vs ≤ index) → slice_get (drop i vs) n ≡ slice_get vs index
-    by (inl lt) =
-        let within : n < length (drop i vs) = omega (arith, length-drop i vs, is, lt) in
-        slice_get-get_or (drop i vs) n None within ∙ ap (λ (v : Option (List ℕ)). Some v) (get_or-drop i vs n None ∙ ap (λ (k : ℕ). get_or vs k None) (sym is)) ∙ sym (slice_get-get_or vs index None lt)
-    by (inr le) = slice_get_past (drop i vs) n (omega (arith, length-drop i vs, is, le)) ∙ sym (slice_get_past vs index le)
+zero_first : (n : ℕ) → 0 + n ≡ n
+zero_first n = omega arith
 
--- Where the value of this index begins.
-abbrev pub IsStart : List (Option (List ℕ)) → ℕ → ℕ → Type 0
-IsStart vs i place = (place ≡ length (spelled (take i vs))) × (i ≤ length vs)
+-- A value begins at this place of the block, and is the one of this index.
+abbrev pub ValueThere : List ℕ → List ℕ → ℕ → ℕ → Type 0
+ValueThere places block i place = (v : Option (List ℕ)) × (rest : List ℕ) × (place ≤ length block) × (value_at (drop place block) ≡ Some (v, rest)) × (slice_get (values_left (length places) block) i ≡ Some v)
 
-pub first_start : (vs : List (Option (List ℕ))) (far : ℕ) → far ≡ 0 → IsStart vs (8 * far) 0
-first_start vs far e = rw e (refl, omega arith)
-
-module _ (count : ℕ) (places block : List ℕ) (b : IsBlock count places block) where
+module _ (places block : List ℕ) (b : IsBlock places block) where
   abbrev pub Values : List (Option (List ℕ))
-  Values = values_left count block
+  Values = values_left (length places) block
 
-  -- a far place, where the places were lent as this list
-  pub far_is : (lent : List ℕ) → lent ≡ places → (far place : ℕ) → far ≢ 0 → far - 1 < length lent → ((d : ℕ) → place ≡ get_or lent (far - 1) d) → IsStart Values (8 * far) place
-  far_is lent e far place some lt is =
-      let k : far - 1 + 1 ≡ far = omega (arith, some) in
-      let within : far - 1 < length places = omega (arith, ap length e, lt) in
-      let at : place ≡ length (spelled (take (8 * (far - 1 + 1)) Values)) = is 0 ∙ ap (λ (ps : List ℕ). get_or ps (far - 1) 0) e ∙ b.far.begin (far - 1) 0 within in
-      (at ∙ ap (λ (n : ℕ). length (spelled (take (8 * n) Values))) k, omega (arith, k, within, b.far.within))
+  pub count_is : length Values ≡ length places
+  count_is = sym (length-starts 0 Values) ∙ ap length (sym b.starts_are)
 
-  pub none_so_far : (far : ℕ) → far ≢ 0 → length places ≤ far - 1 → length Values ≤ 8 * far
-  none_so_far far some le = omega (arith, some, le, b.far.enough)
+  -- the value that begins at a place
+  pub value_there : (i place : ℕ) → i < length places → ((d : ℕ) → place ≡ get_or places i d) → ValueThere places block i place
+  value_there i place lt is =
+      let within : i < length Values = omega (arith, count_is, lt) in
+      let v = get_or Values i None in
+      let at : place ≡ length (spelled (take i Values)) = is 0 ∙ ap (λ (ps : List ℕ). get_or ps i 0) b.starts_are ∙ start_is 0 Values i 0 within ∙ zero_first (length (spelled (take i Values))) in
+      let from : drop place block ≡ value_bytes v ++ spelled (drop (i + 1) Values) = ap (λ (n : ℕ). drop n block) at ∙ ap (drop (length (spelled (take i Values)))) (sym b.whole) ∙ from_start Values i ∙ ap spelled (drop_more Values i None within) in
+      let parts : spelled Values ≡ spelled (take i Values) ++ spelled (drop i Values) = ap spelled (sym (take-append-drop i Values)) ∙ flat_map-append value_bytes (take i Values) (drop i Values) in
+      let all : length block ≡ length (spelled (take i Values)) + length (spelled (drop i Values)) = ap length (sym b.whole ∙ parts) ∙ length-append (spelled (take i Values)) (spelled (drop i Values)) in
+      let front : length (spelled (drop i Values)) ≡ length (value_bytes v) + length (spelled (drop (i + 1) Values)) = ap (λ (vs : List (Option (List ℕ))). length (spelled vs)) (drop_more Values i None within) ∙ length-append (value_bytes v) (spelled (drop (i + 1) Values)) in
+      let limit : longest_block < 2 ^ 31 = lit< tt in
+      let read = value_reads.again v (spelled (drop (i + 1) Values)) (record { no_zero = refl; countable = refl; of_type = tt }) (omega (arith, limit, b.short, all, front)) in
+      (v, spelled (drop (i + 1) Values), omega (arith, at, all), ap value_at from ∙ read, slice_get-get_or Values i None within)
 
-  -- what stands in the block up to a value and from there on
-  cut_size : (i : ℕ) → length block ≡ length (spelled (take i Values)) + length (spelled (drop i Values))
-  cut_size i =
-      let cut : spelled Values ≡ spelled (take i Values) ++ spelled (drop i Values) = ap spelled (sym (take-append-drop i Values)) ∙ flat_map-append value_bytes (take i Values) (drop i Values) in
-      ap length (sym b.whole ∙ cut) ∙ length-append (spelled (take i Values)) (spelled (drop i Values))
+  -- the same, where the places and the block were lent as these lists
+  pub found_there : (lent : List ℕ) → lent ≡ places → (i place : ℕ) → i < length lent → ((d : ℕ) → place ≡ get_or lent i d) → ValueThere places block i place
+  found_there lent e i place lt is = value_there i place (omega (arith, ap length e, lt)) (λ d. is d ∙ ap (λ (ps : List ℕ). get_or ps i d) e)
 
-  pub start_within : (i place : ℕ) → IsStart Values i place → place ≤ length block
-  start_within i place start = omega (arith, start.0, cut_size i)
+  pub read_there : (i place : ℕ) (t : ValueThere places block i place) (lent rest : List ℕ) → lent ≡ block → rest ≡ drop place lent → value_at rest ≡ Some (t.0, t.1)
+  read_there i place t lent rest e back = ap value_at (back ∙ ap (drop place) e) ∙ t.3
 
-  -- the values from one on, where the block was lent as these bytes
-  pub values_from : (i place : ℕ) → IsStart Values i place → (lent rest : List ℕ) → lent ≡ block → rest ≡ drop place lent → values_left (count - i) rest ≡ drop i Values
-  values_from i place start lent rest e back =
-      let from : rest ≡ spelled (drop i Values) = back ∙ ap (drop place) (e ∙ sym b.whole) ∙ ap (λ (n : ℕ). drop n (spelled Values)) start.0 ∙ from_start Values i in
-      let len : count - i ≡ length (drop i Values) = omega (arith, length-drop i Values, b.count_is) in
-      let short : length (spelled (drop i Values)) ≤ longest_block = omega (arith, b.short, cut_size i) in
-      ap (λ (n : ℕ). values_left n rest) len ∙ ap (values_left (length (drop i Values))) from ∙ read_back (drop i Values) short
-
-  pub count_short : 4 * count ≤ longest_block
-  count_short = omega (arith, four_each Values, b.count_is, ap length b.whole, b.short)
-
-  -- the places when the next value is to come
-  pub next_places : AreFarPlaces (with_far count (length block) places) Values × IsNear (with_far count (length block) places) Values
-  next_places = far_now places Values count (length block) b.far (sym b.count_is) (ap length (sym b.whole))
-
-  pub still_block : IsBlock count (with_far count (length block) places) block
-  still_block = record {
-    whole = b.whole;
-    count_is = b.count_is;
-    far = next_places.0;
-    short = b.short;
-  }
+  pub nothing_there : (i : ℕ) → length places ≤ i → slice_get Values i ≡ None
+  nothing_there i le = slice_get_past Values i (omega (arith, count_is, le))
 
   -- one value more
-  pub one_more : (v : Option (List ℕ)) → length block + length (value_bytes v) ≤ longest_block → (values_left (count + 1) (block ++ value_bytes v) ≡ Values ++ v ∷ []) × IsBlock (count + 1) (with_far count (length block) places) (block ++ value_bytes v)
+  pub one_more : (v : Option (List ℕ)) → length block + length (value_bytes v) ≤ longest_block → (values_left (length (places ++ length block ∷ [])) (block ++ value_bytes v) ≡ Values ++ v ∷ []) × IsBlock (places ++ length block ∷ []) (block ++ value_bytes v)
   one_more v short =
       let more : List (Option (List ℕ)) = Values ++ v ∷ [] in
       let bytes : spelled more ≡ block ++ value_bytes v = flat_map-append value_bytes Values (v ∷ []) ∙ rw (append-nil (value_bytes v), b.whole) refl in
-      let len : length more ≡ count + 1 = length-append Values (v ∷ []) ∙ ap (λ (n : ℕ). n + 1) b.count_is in
+      let len : length more ≡ length places + 1 = length-append Values (v ∷ []) ∙ ap (λ (n : ℕ). n + 1) count_is in
       let size : length (block ++ value_bytes v) ≤ longest_block = omega (arith, length-append block (value_bytes v), short) in
       let back : values_left (length more) (spelled more) ≡ more = read_back more (omega (arith, ap length bytes, size)) in
-      let now : values_left (count + 1) (block ++ value_bytes v) ≡ more = sym (ap (λ (n : ℕ). values_left n (spelled more)) len ∙ ap (values_left (count + 1)) bytes) ∙ back in
-      let far : AreFarPlaces (with_far count (length block) places) more = far_more (with_far count (length block) places) Values v next_places.0 next_places.1 in (
+      let same : values_left (length places + 1) (block ++ value_bytes v) ≡ more = sym (ap (λ (n : ℕ). values_left n (spelled more)) len ∙ ap (values_left (length places + 1)) bytes) ∙ back in
+      let count : length (places ++ length block ∷ []) ≡ length places + 1 = length-append places (length block ∷ []) in
+      let now : values_left (length (places ++ length block ∷ [])) (block ++ value_bytes v) ≡ more = ap (λ (n : ℕ). values_left n (block ++ value_bytes v)) count ∙ same in
+      let starts_now : starts 0 more ≡ places ++ length block ∷ [] = starts-append 0 Values v ∙ rw (zero_first (length (spelled Values)), b.whole, ← b.starts_are) refl in (
         now,
         record {
           whole = ap spelled now ∙ bytes;
-          count_is = ap length now ∙ len;
-          far = subst (AreFarPlaces (with_far count (length block) places)) (sym now) far;
+          starts_are = sym starts_now ∙ ap (starts 0) (sym now);
           short = size;
         },
       )
 
 -- ---- no value
 
-pub no_places : AreFarPlaces [] []
-no_places = record {
-  begin = λ k d lt. absurd (omega (arith, lt));
-  within = omega arith;
-  enough = omega arith;
-}
-
-pub empty_block : (places block : List ℕ) → places ≡ [] → block ≡ [] → IsBlock 0 places block
+pub empty_values : (places block : List ℕ) → places ≡ [] → values_left (length places) block ≡ []
 unfolding values_left
-empty_block places block e f = record {
-  whole = sym f;
-  count_is = refl;
-  far = rw e no_places;
-  short = rw f (lit≤ tt);
-}
+empty_values places block e = rw e refl
+
+pub empty_block : (places block : List ℕ) → places ≡ [] → block ≡ [] → IsBlock places block
+unfolding starts
+empty_block places block e f =
+    let none = empty_values places block e in
+    record {
+      whole = ap spelled none ∙ sym f;
+      starts_are = e ∙ ap (starts 0) (sym none);
+      short = rw f (lit≤ tt);
+    }
 
 pub none_of_none : (vs : List (Option (List ℕ))) → length vs ≡ 0 → vs ≡ []
 none_of_none [] e = refl
 none_of_none (v ∷ vs) e = absurd (omega arith)
 
--- ---- a walk over the values that stand in some bytes
+-- ---- the places of values that stand one after the other
 
 -- what a value takes of the bytes that it begins
 pub value_size : (bytes : List ℕ) (v : Option (List ℕ)) (rest : List ℕ) → value_at bytes ≡ Some (v, rest) → length bytes ≡ length (value_bytes v) + length rest
@@ -226,79 +162,94 @@ value_size bytes v rest e =
     let t = taken x.0.0 x.0.1 v rest x.2 in
     omega (arith, long, length-drop 4 bytes, ap length tail, length-append (to_be_bytes w32 x.0.0) x.0.1, length-append (value_bytes v) rest, wide32.len x.0.0, ap length t)
 
--- The values that were passed and those that are still to come are all, and these are the places of the passed ones.
-pub record Passed (count i : ℕ) (bytes places rest : List ℕ) : Type 0 where
-  pub values : List (Option (List ℕ))
-  pub read : with_first values (times_at value_at (count - i) rest) ≡ times_at value_at count bytes
-  pub size : length bytes ≡ length (spelled values) + length rest
-  pub count_is : length values ≡ i
-  pub far : AreFarPlaces places values
+-- where values begin of which these places are known, and the bytes after the last of them
+abbrev placed : List ℕ → ℕ → Option (List (Option (List ℕ)) × List ℕ) → Option (List ℕ × List ℕ)
+placed places at read = read >>= λ x. Some (places ++ starts at x.0, x.1)
 
-pub none_passed : (count : ℕ) (bytes places : List ℕ) → places ≡ [] → Passed count 0 bytes places bytes
-none_passed count bytes places e =
+-- The places so far, and those of the values that are still to come, are all.
+abbrev pub PlacesSoFar : ℕ → ℕ → List ℕ → List ℕ → List ℕ → Type 0
+PlacesSoFar count i bytes places rest =
+    (placed places (length bytes - length rest) (times_at value_at (count - i) rest) ≡ starts_at count bytes) × (length rest ≤ length bytes)
+
+pub no_place_yet : (count : ℕ) (bytes : List ℕ) → PlacesSoFar count 0 bytes [] bytes
+no_place_yet count bytes =
+    let none : length bytes - length bytes ≡ 0 = omega arith in
     let all : count - 0 ≡ count = omega arith in
-    record {
-      values = [];
-      read = ap (λ (n : ℕ). with_first [] (times_at value_at n bytes)) all ∙ no_first (times_at value_at count bytes);
-      size = omega arith;
-      count_is = refl;
-      far = rw e no_places;
-    }
+    (rw (none, all) refl, omega arith)
 
-module _ (count i : ℕ) (bytes places rest : List ℕ) (p : Passed count i bytes places rest) where
-  pub rest_short : length rest ≤ length bytes
-  rest_short = omega (arith, p.size)
+regroup : (places : List ℕ) (at next : ℕ) (v : Option (List ℕ)) (o : Option (List (Option (List ℕ)) × List ℕ)) → at + length (value_bytes v) ≡ next → placed places at (o >>= λ x. Some (v ∷ x.0, x.1)) ≡ placed (places ++ at ∷ []) next o
+unfolding starts
+regroup places at next v (Some x) e =
+    ap (λ (n : ℕ). Some (places ++ at ∷ starts n x.0, x.1)) e ∙ ap (λ (ps : List ℕ). Some (ps, x.1)) (sym (append_assoc places (at ∷ []) (starts next x.0)))
+regroup places at next v None e = refl
 
-  pub no_value : i < count → value_at rest ≡ None → times_at value_at count bytes ≡ None
-  no_value lt none = ends value_at faults.Bad p.values count i rest (times_at value_at count bytes) lt none p.read
+module _ (count i : ℕ) (bytes places rest : List ℕ) (so_far : PlacesSoFar count i bytes places rest) where
+  pub no_value : i < count → value_at rest ≡ None → starts_at count bytes ≡ None
+  unfolding times_at
+  no_value lt none =
+      let step : count - i ≡ suc (count - (i + 1)) = omega arith in
+      let now : placed places (length bytes - length rest) (times_at value_at (count - i) rest) ≡ None = rw (step, none) refl in
+      sym so_far.0 ∙ now
 
-  pub one_passed : i < count → (k : ℕ) → k ≡ i → (v : Option (List ℕ)) (after : List ℕ) → value_at rest ≡ Some (v, after) → Passed count (i + 1) bytes (with_far k (length bytes - length rest) places) after
-  one_passed lt k is v after e =
-      let at : length bytes - length rest ≡ length (spelled p.values) = omega (arith, p.size) in
-      let now = far_now places p.values k (length bytes - length rest) p.far (is ∙ sym p.count_is) at in
-      let took = value_size rest v after e in
-      let bytes_now : spelled (p.values ++ v ∷ []) ≡ spelled p.values ++ value_bytes v = flat_map-append value_bytes p.values (v ∷ []) ∙ rw (append-nil (value_bytes v)) refl in
-      record {
-        values = p.values ++ v ∷ [];
-        read = goes_on value_at p.values count i rest v after (times_at value_at count bytes) lt e p.read;
-        size = omega (arith, p.size, took, ap length bytes_now, length-append (spelled p.values) (value_bytes v));
-        count_is = length-append p.values (v ∷ []) ∙ ap (λ (n : ℕ). n + 1) p.count_is;
-        far = far_more (with_far k (length bytes - length rest) places) p.values v now.0 now.1;
-      }
+  pub one_place : i < count → (v : Option (List ℕ)) (after : List ℕ) → value_at rest ≡ Some (v, after) → PlacesSoFar count (i + 1) bytes (places ++ (length bytes - length rest) ∷ []) after
+  unfolding times_at
+  one_place lt v after e =
+      let n = count - (i + 1) in
+      let step : count - i ≡ suc n = omega arith in
+      let size = value_size rest v after e in
+      let at = length bytes - length rest in
+      let next : at + length (value_bytes v) ≡ length bytes - length after = omega (arith, size, so_far.1) in
+      let now : placed places at (times_at value_at (count - i) rest) ≡ placed (places ++ at ∷ []) (length bytes - length after) (times_at value_at n after) = rw (step, e) (regroup places at (length bytes - length after) v (times_at value_at n after) next) in
+      (sym now ∙ so_far.0, omega (arith, size, so_far.1))
 
-  pub all_passed : count ≤ i → (times_at value_at count bytes ≡ Some (values_left count bytes, rest)) × AreFarPlaces places (values_left count bytes)
-  all_passed le =
-      let done : times_at value_at count bytes ≡ Some (p.values, rest) = is_done value_at p.values count i rest (times_at value_at count bytes) le p.read in
-      let same : p.values ≡ values_left count bytes = sym (values_are count bytes p.values rest done) in
-      (done ∙ ap (λ (vs : List (Option (List ℕ))). Some (vs, rest)) same, subst (AreFarPlaces places) same p.far)
+  pub all_places : count ≤ i → starts_at count bytes ≡ Some (places, rest)
+  unfolding times_at starts
+  all_places le =
+      let done : count - i ≡ 0 = omega arith in
+      let now : placed places (length bytes - length rest) (times_at value_at (count - i) rest) ≡ Some (places, rest) = rw done (ap (λ (ps : List ℕ). Some (ps, rest)) (append-nil places)) in
+      sym so_far.0 ∙ now
 
 -- ---- the block of values that were read
 
-module _ (count : ℕ) (bytes rest : List ℕ) (fits : IsBytes bytes) (read : times_at value_at count bytes ≡ Some (values_left count bytes, rest)) where
-  abbrev vs : List (Option (List ℕ))
-  vs = values_left count bytes
+-- What these places and this rest of the bytes were read of: so many values, that stand in the bytes before the rest.
+pub record IsRead (count : ℕ) (bytes places rest : List ℕ) : Type 0 where
+  pub values : List (Option (List ℕ))
+  pub read : times_at value_at count bytes ≡ Some (values, rest)
+  pub parts : bytes ≡ spelled values ++ rest
+  pub count_is : length values ≡ count
+  pub starts_are : places ≡ starts 0 values
 
-  is_sound : BeginsWith (listed value) bytes vs rest × (length vs ≡ count)
-  is_sound = times_sound value value_at value_reads count bytes vs rest fits read
+pub is_read : (count : ℕ) (bytes places rest : List ℕ) → IsBytes bytes → starts_at count bytes ≡ Some (places, rest) → IsRead count bytes places rest
+is_read count bytes places rest fits e =
+    let x = bind_some (times_at value_at count bytes) (λ (a : List (Option (List ℕ)) × List ℕ). Some (starts 0 a.0, a.1)) (places, rest) e in
+    let made : List ℕ × List ℕ = (starts 0 x.0.0, x.0.1) in
+    let same : made ≡ (places, rest) = some_is made (places, rest) x.2 in
+    let after : x.0.1 ≡ rest = ap (λ (p : List ℕ × List ℕ). p.1) same in
+    let t = times_sound value value_at value_reads count bytes x.0.0 x.0.1 fits x.1 in
+    record {
+      values = x.0.0;
+      read = x.1 ∙ ap (λ (r : List ℕ). Some (x.0.0, r)) after;
+      parts = t.0.parts ∙ ap (λ (r : List ℕ). spelled x.0.0 ++ r) after;
+      count_is = t.1;
+      starts_are = sym (ap (λ (p : List ℕ × List ℕ). p.0) same);
+    }
 
-  read_size : length bytes ≡ length (spelled vs) + length rest
-  read_size = ap length is_sound.0.parts ∙ length-append (spelled vs) rest
-
+module _ (count : ℕ) (bytes places rest : List ℕ) (r : IsRead count bytes places rest) where
   pub rest_within : length rest ≤ length bytes
-  rest_within = omega (arith, read_size)
+  rest_within = omega (arith, ap length r.parts, length-append (spelled r.values) rest)
 
-  pub block_made : (n : ℕ) → n ≡ count → (places block : List ℕ) → AreFarPlaces places vs → length bytes ≤ longest_block → block ≡ take (length bytes - length rest) bytes → (times_at value_at count bytes ≡ Some (values_left n block, rest)) × IsBlock n places block
-  block_made n same places block far short cut =
-      let front : length bytes - length rest ≡ length (spelled vs) = omega (arith, read_size) in
-      let is : block ≡ spelled vs = cut ∙ ap (λ (n : ℕ). take n bytes) front ∙ ap (take (length (spelled vs))) is_sound.0.parts ∙ take_at (spelled vs) rest (length (spelled vs)) refl in
-      let fit : length (spelled vs) ≤ longest_block = omega (arith, short, read_size) in
-      let values : values_left n block ≡ vs = ap (λ (k : ℕ). values_left k block) (same ∙ sym is_sound.1) ∙ ap (values_left (length vs)) is ∙ read_back vs fit in (
-        read ∙ ap (λ (ws : List (Option (List ℕ))). Some (ws, rest)) (sym values),
+  pub values_made : (block : List ℕ) → length bytes ≤ longest_block → block ≡ take (length bytes - length rest) bytes → (times_at value_at count bytes ≡ Some (values_left (length places) block, rest)) × IsBlock places block
+  values_made block short cut =
+      let size = length-append (spelled r.values) rest in
+      let front : length bytes - length rest ≡ length (spelled r.values) = omega (arith, ap length r.parts, size) in
+      let is : block ≡ spelled r.values = cut ∙ ap (λ (n : ℕ). take n bytes) front ∙ ap (take (length (spelled r.values))) r.parts ∙ take_at (spelled r.values) rest (length (spelled r.values)) refl in
+      let len : length places ≡ length r.values = ap length r.starts_are ∙ length-starts 0 r.values in
+      let values : values_left (length places) block ≡ r.values = ap (λ (n : ℕ). values_left n block) len ∙ ap (values_left (length r.values)) is ∙ read_back r.values (omega (arith, short, ap length r.parts, size)) in (
+        r.read ∙ ap (λ (vs : List (Option (List ℕ))). Some (vs, rest)) (sym values),
         record {
           whole = ap spelled values ∙ sym is;
-          count_is = ap length values ∙ is_sound.1 ∙ sym same;
-          far = subst (AreFarPlaces places) (sym values) far;
-          short = omega (arith, fit, ap length is);
+          starts_are = r.starts_are ∙ ap (starts 0) (sym values);
+          short = omega (arith, short, ap length is, ap length r.parts, size);
         },
       )
 

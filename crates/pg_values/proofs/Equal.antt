@@ -1,10 +1,11 @@
--- Blocks with as many values and the same bytes hold the same values, and no others do.
+-- Blocks with the same places and the same bytes hold the same values, and no others do.
 use Rattle.std.proofs.Common.{◌≡◌, ℕ, Bool, true, false, ◌&&◌, List, [], ◌∷◌, length, Option, Some, None, refl, sym, ap, ◌∙◌}
 use Rattle.std.specs.Prelude.{nat_eq}
 use Rattle.std.specs.Option.{option_eq}
 use Rattle.std.specs.Cmp.Lexicographic.{pointwise, same_text, lists_equiv, options_equiv, nat_list_eq_equiv}
 use Rattle.pg_values.specs.Private.View.{values_left}
 use Rattle.pg_values.specs.Private.Block.{IsBlock, spelled}
+use Rattle.pg_values.proofs.Blocks.{count_is}
 
 abbrev pub equal_values : List (Option (List ℕ)) → List (Option (List ℕ)) → Bool
 equal_values = pointwise (option_eq (pointwise nat_eq))
@@ -42,20 +43,20 @@ and_true : (p q : Bool) → p ≡ true → q ≡ true → (p && q) ≡ true
 and_true true q e f = f
 and_true false q e f = e
 
-module _ (count : ℕ) (places block : List ℕ) (count' : ℕ) (places' block' : List ℕ) (b : IsBlock count places block) (b' : IsBlock count' places' block') where
+module _ (places block places' block' : List ℕ) (b : IsBlock places block) (b' : IsBlock places' block') where
   abbrev vs : List (Option (List ℕ))
-  vs = values_left count block
+  vs = values_left (length places) block
 
   abbrev ws : List (Option (List ℕ))
-  ws = values_left count' block'
+  ws = values_left (length places') block'
 
   -- two blocks with as many values are compared as their bytes are
-  pub compared : count ≡ count' → pointwise nat_eq block block' ≡ equal_values vs ws
+  pub compared : length places ≡ length places' → pointwise nat_eq block block' ≡ equal_values vs ws
   compared len = one_truth (pointwise nat_eq block block') (equal_values vs ws) to from
     where
       to : pointwise nat_eq block block' ≡ true → equal_values vs ws ≡ true
       to e =
-          let same : vs ≡ ws = ap (λ (n : ℕ). values_left n block) len ∙ ap (values_left count') (same_text block block' (sym e)) in
+          let same : vs ≡ ws = ap (λ (n : ℕ). values_left n block) len ∙ ap (values_left (length places')) (same_text block block' (sym e)) in
           ap (equal_values vs) (sym same) ∙ refl_values vs
 
       from : equal_values vs ws ≡ true → pointwise nat_eq block block' ≡ true
@@ -64,8 +65,8 @@ module _ (count : ℕ) (places block : List ℕ) (count' : ℕ) (places' block' 
           ap (pointwise nat_eq block) (sym same) ∙ refl_bytes block
 
   -- those with more or fewer aren't equal
-  pub apart : (count ≡ count' → ⊥) → false ≡ equal_values vs ws
-  apart other = one_truth false (equal_values vs ws) (λ e. absurd (differ e)) (λ e. absurd (other (sym b.count_is ∙ ap length (same_values vs ws e) ∙ b'.count_is)))
+  pub apart : (length places ≡ length places' → ⊥) → false ≡ equal_values vs ws
+  apart other = one_truth false (equal_values vs ws) (λ e. absurd (differ e)) (λ e. absurd (other (sym (count_is places block b) ∙ ap length (same_values vs ws e) ∙ count_is places' block' b')))
     where
       differ : false ≡ true → ⊥
       differ e = cc

@@ -1,6 +1,6 @@
 //! The values of a row or a Bind, in one block of memory.
 
-ghost use Rattle.std.specs.Prelude.{◌≡◌, ◌↔◌, ◌<◌, ◌+◌, ◌≤◌, [], ◌∷◌, ◌*◌, ◌++◌, length, map, take, option_copied, option_map, slice_get, vec_len, MatchOption, OnOk, OnErr, IfOk, IfErr, IfSome, IsTrue, Err};
+ghost use Rattle.std.specs.Prelude.{◌≡◌, ◌↔◌, ◌<◌, ◌+◌, ◌≤◌, [], ◌∷◌, ◌++◌, length, map, option_copied, option_map, slice_get, vec_len, OnOk, OnErr, IfOk, IfErr, IfSome, IsTrue, Err};
 ghost use Rattle.std.specs.Prelude.{nat_eq};
 ghost use Rattle.std.specs.Option.{option_eq};
 ghost use Rattle.std.specs.Cmp.Lexicographic.{pointwise, lists_per, lists_equiv, options_equiv, nat_list_eq_equiv};
@@ -11,9 +11,9 @@ ghost use Rattle.pg_layout.specs.Private.Reader.{Gives, counted_at, times_at, va
 ghost use Rattle.pg_values.specs.Private.Block.{IsBlock, IsRow, joined, spelled, longest_block};
 ghost use Rattle.pg_values.specs.Private.View.{values_left};
 
-use crate::places::{STRIDE, far_places_at, keep_far};
+use crate::places::places_at;
 use crate::view::{LentValues, RowView};
-use pg_layout::{BodyFault, EncodeFault, LONGEST, u16_at};
+use pg_layout::{BodyFault, EncodeFault, LONGEST, lent_value_at, u16_at};
 use pg_seq::{AsText, ByElement, DebugElement, DebugForm};
 use std::alloc::{AllocError, Global};
 use std::fmt;
@@ -23,34 +23,22 @@ use std::marker::Model;
 /// block of memory. A clause sees the list of the values.
 #[derive(Drop)]
 pub struct Values {
-    // how many values there are
-    count: u32,
-    // where the values of index 8, 16, 24, .. begin in the block
-    far_places: Vec<u32>,
+    // where each value begins in the block
+    places: Vec<u32>,
     // the values one after the other, each as it stands in a message: its length and its bytes, or -1 for null
     block: Vec<u8>,
 }
 
 impl Model for Values {
-    ghost use Rattle.std.specs.Prelude.{List, Option, ℕ};
+    ghost use Rattle.std.specs.Prelude.{List, Option, ℕ, length};
     ghost use Rattle.pg_values.specs.Private.View.{values_left};
     ghost use Rattle.pg_values.specs.Private.Block.{IsBlock};
 
     ghost Value = { List (Option (List ℕ)) };
 
-    ghost view = { λ v. values_left v.count v.block.items };
+    ghost view = { λ v. values_left (length v.places.items) v.block.items };
 
-    ghost invariant = { λ v. IsBlock v.count v.far_places.items v.block.items };
-}
-
-/// How many bytes a value has that stands in two parts; null has none.
-fn joined_len(value: Option<(&[u8], &[u8])>) -> usize
-    ensures { 4 + result ≡ length (value_bytes (joined value.entry)) }
-{
-    match value {
-        None => 0,
-        Some((first, rest)) => first.len() + rest.len(),
-    }
+    ghost invariant = { λ v. IsBlock v.places.items v.block.items };
 }
 
 /// Puts a value, which stands in two parts, at the end of a block, or leaves the block as it was where memory is refused.
@@ -75,32 +63,10 @@ fn block_at(alloc: Global, count: u16, bytes: &[u8]) -> Result<(Values, &[u8]), 
     requires short { length bytes.now ≤ longest_block }
     ensures { Gives (λ x. (x.0, x.1.now)) result (times_at value_at count bytes.now) }
 {
-    let (far_places, rest) = far_places_at(alloc, count, bytes)?;
+    let (places, rest) = places_at(alloc, count, bytes)?;
     let (block, _) = bytes.split_at(bytes.len() - rest.len());
     let block = Vec::from_slice(alloc, block)?;
-    let count = u32::from(count);
-    Ok((
-        Values {
-            count,
-            far_places,
-            block,
-        },
-        rest,
-    ))
-}
-
-/// The values that these bytes spell. They are few, so none has a far place, and nothing of them is walked over.
-fn few_values(alloc: Global, count: u16, bytes: &[u8]) -> Result<Values, AllocError>
-    requires few { count ≤ 8 }
-    requires row { IsRow count bytes.now }
-    requires short { length bytes.now ≤ longest_block }
-    ensures { IfOk result (λ values. values ≡ values_left count bytes.now) }
-{
-    Ok(Values {
-        count: u32::from(count),
-        far_places: Vec::new(alloc),
-        block: Vec::from_slice(alloc, bytes)?,
-    })
+    Ok((Values { places, block }, rest))
 }
 
 /// The values at the beginning of the bytes, after their count, and the bytes after them: they are read once, and copied at once.
@@ -122,8 +88,7 @@ impl Values {
         ensures { result ≡ [] }
     {
         Values {
-            count: 0,
-            far_places: Vec::new(alloc),
+            places: Vec::new(alloc),
             block: Vec::new(alloc),
         }
     }
@@ -150,9 +115,6 @@ impl Values {
         if bytes.len() > LONGEST as usize {
             return Err(EncodeFault::TooLong);
         }
-        if usize::from(count) <= STRIDE {
-            return Ok(few_values(alloc, count, bytes)?);
-        }
         match block_at(alloc, count, bytes) {
             Ok((values, _)) => Ok(values),
             Err(_) => Err(EncodeFault::Memory),
@@ -163,14 +125,14 @@ impl Values {
     pub fn len(&self) -> usize
         ensures { result ≡ length self.now }
     {
-        self.count as usize
+        self.places.len()
     }
 
     /// Whether there is no value.
     pub fn is_empty(&self) -> bool
         ensures { IsTrue result ↔ (self.now ≡ []) }
     {
-        self.count == 0
+        self.places.is_empty()
     }
 
     /// The values as a message spells them, one after the other.
@@ -181,33 +143,21 @@ impl Values {
         self.block.as_slice()
     }
 
-    /// Where the value of index 8·`far` begins in the block, or `None` where there are fewer values.
-    fn far_place(&self, far: usize) -> Option<usize>
-        ensures { MatchOption result (length self.now ≤ 8 * far) (λ place.
-            (place ≡ length (spelled (take (8 * far) self.now))) × (8 * far ≤ length self.now)) }
-    {
-        if far == 0 {
-            return Some(0);
-        }
-        let place = *self.far_places.get(far - 1)?;
-        Some(place as usize)
-    }
-
     /// The value at `index`, or `None` past the end. A value that is None is null.
     pub fn get(&self, index: usize) -> Option<Option<&[u8]>>
         ensures { option_map option_copied result ≡ slice_get self.now index }
     {
-        let far = index / STRIDE;
-        let place = self.far_place(far)?;
+        let place = *self.places.get(index)? as usize;
         let (_, rest) = self.block.as_slice().split_at(place);
-        LentValues::new(self.len() - STRIDE * far, rest).nth(index % STRIDE)
+        let (value, _) = lent_value_at(rest)?;
+        Some(value)
     }
 
     /// Goes over the values in their order.
     pub fn iter(&self) -> LentValues<'_>
         ensures { result ≡ self.now }
     {
-        LentValues::new(self.len(), self.block.as_slice())
+        LentValues::new(self.places.len(), self.block.as_slice())
     }
 
     /// Adds a value at the end. TooLong says that no message could hold the values any more, and Memory that memory was refused; the list
@@ -231,16 +181,18 @@ impl Values {
         ensures too_long { (result ≡ Err TooLong) ↔ (longest_block
             < length (spelled self.old) + length (value_bytes (joined value.entry))) }
     {
-        let size = joined_len(value);
+        let size = match value {
+            None => 0,
+            Some((first, rest)) => first.len() + rest.len(),
+        };
         let room = LONGEST as usize - self.block.len();
         if room < 4 || room - 4 < size {
             return Err(EncodeFault::TooLong);
         }
-        let count = self.len();
-        // where memory for the value is refused, the next one begins there
-        keep_far(&mut self.far_places, count, self.block.len())?;
+        let place = self.block.len() as u32;
+        self.places.reserve(1)?;
         put(&mut self.block, value)?;
-        self.count += 1;
+        self.places.push(place)?;
         Ok(())
     }
 }
@@ -252,8 +204,7 @@ impl Clone for Values {
     fn clone(&self) -> Result<Self, AllocError> {
         let alloc = *self.block.allocator();
         Ok(Values {
-            count: self.count,
-            far_places: Vec::from_slice(alloc, self.far_places.as_slice())?,
+            places: Vec::from_slice(alloc, self.places.as_slice())?,
             block: Vec::from_slice(alloc, self.block.as_slice())?,
         })
     }

@@ -1,16 +1,18 @@
-use Rattle.std.proofs.Common.{rules, arith, ◌≡◌, ◌∙◌}
-use Rattle.pg_values.proofs.Blocks.{rest_within, block_made}
+use Rattle.std.proofs.Common.{arith, ◌∙◌}
+use Rattle.pg_values.proofs.Blocks.{is_read, rest_within, values_made}
 use Rattle.pg_values.proofs.values.block_at.Goals as goal
 
 pub overflow_sub-bytes : goal.overflow_sub-bytes
-overflow_sub-bytes c = rest_within c.args.count c.args.bytes.now c.in_ok-far_places.rest.now (λ i. omega (arith, c.type_inv.bytes i)) c.in_ok-far_places.ensures.read
+overflow_sub-bytes c =
+    let r = is_read c.args.count c.args.bytes.now c.in_ok-places.places.items c.in_ok-places.rest.now (λ i. omega (arith, c.type_inv.bytes i)) c.in_ok-places.ensures in
+    rest_within c.args.count c.args.bytes.now c.in_ok-places.places.items c.in_ok-places.rest.now r
 
 pub invariant_of-result : goal.invariant_of-result
 invariant_of-result c =
-    let same : c.from-count.result ≡ c.args.count = search rules in
-    (block_made c.args.count c.args.bytes.now c.in_ok-far_places.rest.now (λ i. omega (arith, c.type_inv.bytes i)) c.in_ok-far_places.ensures.read c.from-count.result same c.in_ok-far_places.far_places.items c.in_ok-block.block.items c.in_ok-far_places.ensures.places c.requires.short (c.in_ok-block.ensures.items ∙ c.split_at.ensures.front)).1
+    let r = is_read c.args.count c.args.bytes.now c.in_ok-places.places.items c.in_ok-places.rest.now (λ i. omega (arith, c.type_inv.bytes i)) c.in_ok-places.ensures in
+    (values_made c.args.count c.args.bytes.now c.in_ok-places.places.items c.in_ok-places.rest.now r c.in_ok-block.block.items c.requires.short (c.in_ok-block.ensures.items ∙ c.split_at.ensures.front)).1
 
 pub returns : goal.returns
 returns c =
-    let same : c.from-count.result ≡ c.args.count = search rules in
-    (block_made c.args.count c.args.bytes.now c.in_ok-far_places.rest.now (λ i. omega (arith, c.type_inv.bytes i)) c.in_ok-far_places.ensures.read c.from-count.result same c.in_ok-far_places.far_places.items c.in_ok-block.block.items c.in_ok-far_places.ensures.places c.requires.short (c.in_ok-block.ensures.items ∙ c.split_at.ensures.front)).0
+    let r = is_read c.args.count c.args.bytes.now c.in_ok-places.places.items c.in_ok-places.rest.now (λ i. omega (arith, c.type_inv.bytes i)) c.in_ok-places.ensures in
+    (values_made c.args.count c.args.bytes.now c.in_ok-places.places.items c.in_ok-places.rest.now r c.in_ok-block.block.items c.requires.short (c.in_ok-block.ensures.items ∙ c.split_at.ensures.front)).0
