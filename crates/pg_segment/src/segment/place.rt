@@ -93,7 +93,7 @@ impl Place {
     }
 
     /// Whether rows are under way, so that one more may come and leaves the place as it is.
-    pub fn goes_on_by_rows(&self) -> bool
+    pub(crate) fn goes_on_by_rows(&self) -> bool
         ensures { result ≡ true → (a : Asked) (row : List (Option (List ℕ)))
             → goes a self.now (DataRow row) ≡ Some self.now }
     {
