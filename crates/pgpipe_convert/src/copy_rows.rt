@@ -147,6 +147,7 @@ fn put_text_row(
 {
     match to.write_values(row.values(), out) {
         Ok(()) => Ok(true),
+        Err(RowFault::Memory) => Err(Stop::Memory),
         Err(_) => copy_text_row(row, to, out),
     }
 }
@@ -162,6 +163,7 @@ fn put_binary_row(
 {
     match to.write_values(row.values(), out) {
         Ok(()) => Ok(true),
+        Err(RowFault::Memory) => Err(Stop::Memory),
         Err(_) => copy_binary_row(row, to, out),
     }
 }

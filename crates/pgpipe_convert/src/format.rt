@@ -121,8 +121,8 @@ impl<'a> RowWriter<'a> {
         }
     }
 
-    /// Appends a row of these values, which are lent, one by one. A refusal leaves `buf` as it was, and doesn't say why the row can't
-    /// be written: `write_copy` says it.
+    /// Appends a row of these values, which are lent, one by one. A refusal leaves `buf` as it was. But for Memory it doesn't say why
+    /// the row can't be written: `write_copy` says it.
     pub fn write_values<'v, I: Iterator<Item = Option<&'v [u8]>> + Drop>(
         &mut self,
         values: I,
