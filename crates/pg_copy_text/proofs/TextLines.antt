@@ -1,9 +1,9 @@
 -- Lines of text files.
-use Rattle.std.proofs.Common.{◌≡◌, ℕ, ◌+◌, ◌<◌, ◌≤◌, Bool, true, false, eqb, List, [], ◌∷◌, ◌++◌, length, take, drop, map, get_or, Option, Result, Ok, Err, zero, suc, refl, sym, ap, subst, ◌∙◌, append_assoc, arith, inl, inr}
+use Rattle.std.proofs.Common.{◌≡◌, ◌≢◌, ℕ, ◌+◌, ◌-◌, ◌<◌, ◌≤◌, Bool, true, false, eqb, List, [], ◌∷◌, ◌++◌, length, take, drop, map, get_or, Option, Result, Ok, Err, zero, suc, refl, sym, ap, subst, ◌∙◌, append_assoc, arith, inl, inr}
 use Rattle.std.specs.Prelude.{◌⊎◌, ◌||◌}
 use Rattle.std.specs.List.{flat_map}
 use Rattle.std.specs.Str.{bytes_eq}
-use Rattle.std.proofs.lemmas.Bool.{cond-true, cond-false}
+use Rattle.std.proofs.lemmas.Bool.{cases_lt, cond-true, cond-false, ne_eqb}
 use Rattle.std.proofs.lemmas.List.{take_all, take_more, append-nil}
 use Rattle.pg_copy_rows.specs.declared.fault.TextFault.{TextFault}
 use Rattle.pg_copy_rows.specs.declared.fault.TextFault.TheVariants.{RawReturn, RawNewline, LoneBackslash, Columns}
@@ -68,50 +68,115 @@ walked-more delimiter bytes i b escaped plain escaped' plain' lt is h e n p q =
     before (inl t) = inl (h.escapes t)
     before (inr t) = inr t
 
--- plain bytes at the front
-pub walked-run : (delimiter : ℕ) (bytes : List ℕ) (n : ℕ) → n ≤ length bytes → ((i : ℕ) → 0 ≤ i → i < n → IsPlain delimiter (get_or bytes i 0)) → IsFieldWalked delimiter bytes n false true
-walked-run delimiter bytes zero le plain = record { escaped = refl; none = refl; plain = λ e. tt; escapes = λ e. absurd (not-plain e) }
-  where
-    not-plain : true ≡ false → ⊥
-    not-plain e = cc
-walked-run delimiter bytes (suc n) le plain =
-    let p = plain n (omega arith) (omega arith) in
-    let one : n + 1 ≡ suc n = omega arith in
-    subst (λ (i : ℕ). IsFieldWalked delimiter bytes i false true) one
-    (walked-more delimiter bytes n _ false true false true (omega arith) refl (walked-run delimiter bytes n (omega arith) (λ i a b. plain i a (omega (arith, b)))) (rw p.no_backslash refl) (rw p.no_delimiter refl) (λ t. (t, p.no_backslash)) (λ t. inl t))
+walked-plain : (delimiter : ℕ) (bytes : List ℕ) (i : ℕ) (plain : Bool) → i < length bytes → IsPlain delimiter (get_or bytes i 0) → IsFieldWalked delimiter bytes i false plain → IsFieldWalked delimiter bytes (i + 1) false plain
+walked-plain delimiter bytes i plain lt p h =
+    walked-more delimiter bytes i _ false plain false plain lt refl h (rw p.no_backslash refl) (rw p.no_delimiter refl) (λ t. (t, p.no_backslash)) (λ t. inl t)
+
+-- plain bytes more
+walked-run : (delimiter : ℕ) (bytes : List ℕ) (at n : ℕ) (plain : Bool) → at + n ≤ length bytes → ((i : ℕ) → at ≤ i → i < at + n → IsPlain delimiter (get_or bytes i 0)) → IsFieldWalked delimiter bytes at false plain → IsFieldWalked delimiter bytes (at + n) false plain
+walked-run delimiter bytes at zero plain le each h = let same : at ≡ at + 0 = omega arith in subst (λ (i : ℕ). IsFieldWalked delimiter bytes i false plain) same h
+walked-run delimiter bytes at (suc n) plain le each h =
+    let same : at + n + 1 ≡ at + suc n = omega arith in
+    subst (λ (i : ℕ). IsFieldWalked delimiter bytes i false plain) same
+    (walked-plain delimiter bytes (at + n) plain (omega arith) (each (at + n) (omega arith) (omega arith)) (walked-run delimiter bytes at n plain (omega arith) (λ i a b. each i a (omega (arith, b))) h))
 
 -- where an escape was begun, the bytes aren't plain
 plain_closed : (a : List ℕ) → NoBackslash a → ends_escaped false a ≡ false
 plain_closed [] h = refl
 plain_closed (b ∷ a) h = rw h.0 (plain_closed a h.1)
 
-pub walked-escaped : (delimiter : ℕ) (bytes : List ℕ) (i b : ℕ) (plain : Bool) → i < length bytes → get_or bytes i 0 ≡ b → IsFieldWalked delimiter bytes i true plain → IsFieldWalked delimiter bytes (i + 1) false plain
+walked-escaped : (delimiter : ℕ) (bytes : List ℕ) (i b : ℕ) (plain : Bool) → i < length bytes → get_or bytes i 0 ≡ b → IsFieldWalked delimiter bytes i true plain → IsFieldWalked delimiter bytes (i + 1) false plain
 walked-escaped delimiter bytes i b plain lt is h =
     walked-more delimiter bytes i b true plain false plain lt is h refl refl (λ t. absurd (clash (sym (plain_closed (take i bytes) (h.plain t)) ∙ h.escaped))) (λ t. inl t)
   where
     clash : false ≡ true → ⊥
     clash e = cc
 
-pub walked-at : (delimiter : ℕ) (bytes : List ℕ) (i : ℕ) (plain : Bool) → i < length bytes → get_or bytes i 0 ≡ delimiter → IsFieldWalked delimiter bytes i false plain → IsFieldEnd delimiter bytes (record { len = i; plain = plain; last = false })
-walked-at delimiter bytes i plain lt is h = record {
-  plain = h.plain;
-  escapes = h.escapes;
-  more = λ e. record { in_range = lt; none = h.none; closed = h.escaped; is = is };
-  whole = λ e. absurd (clash e);
-}
+-- Whole units were walked over up to i, or all the bytes.
+pub record IsWalkedTo (delimiter : ℕ) (bytes : List ℕ) (i : ℕ) (plain : Bool) : Type 0 where
+  pub escaped : Bool
+  pub walked : IsFieldWalked delimiter bytes i escaped plain
+  pub closed : i < length bytes → escaped ≡ false
+
+whole-units : (delimiter : ℕ) (bytes : List ℕ) (i : ℕ) (plain : Bool) → IsFieldWalked delimiter bytes i false plain → IsWalkedTo delimiter bytes i plain
+whole-units delimiter bytes i plain h = record { escaped = false; walked = h; closed = λ lt. refl }
+
+at-units : (delimiter : ℕ) (bytes : List ℕ) (i : ℕ) (plain : Bool) → i < length bytes → IsWalkedTo delimiter bytes i plain → IsFieldWalked delimiter bytes i false plain
+at-units delimiter bytes i plain lt h = subst (λ (e : Bool). IsFieldWalked delimiter bytes i e plain) (h.closed lt) h.walked
+
+-- plain bytes at the front
+pub walked-first : (delimiter : ℕ) (bytes : List ℕ) (n : ℕ) → n ≤ length bytes → ((i : ℕ) → 0 ≤ i → i < n → IsPlain delimiter (get_or bytes i 0)) → IsWalkedTo delimiter bytes n true
+walked-first delimiter bytes n le each =
+    let all : 0 + n ≡ n = omega arith in
+    whole-units delimiter bytes n true (subst (λ (i : ℕ). IsFieldWalked delimiter bytes i false true) all (walked-run delimiter bytes 0 n true (omega (arith, le)) (λ i a b. each i a (omega (arith, b))) begin))
+  where
+    not-plain : true ≡ false → ⊥
+    not-plain e = cc
+
+    begin : IsFieldWalked delimiter bytes 0 false true
+    begin = record { escaped = refl; none = refl; plain = λ e. tt; escapes = λ e. absurd (not-plain e) }
+
+-- a plain byte, and those after it
+pub walked-to : (delimiter : ℕ) (bytes : List ℕ) (at end : ℕ) (plain : Bool) → at < length bytes → IsPlain delimiter (get_or bytes at 0) → at + 1 ≤ end → end ≤ length bytes → ((i : ℕ) → at + 1 ≤ i → i < end → IsPlain delimiter (get_or bytes i 0)) → IsWalkedTo delimiter bytes at plain → IsWalkedTo delimiter bytes end plain
+walked-to delimiter bytes at end plain lt p in_order in_range each h =
+    let all : (at + 1) + (end - (at + 1)) ≡ end = omega (arith, in_order) in
+    let first = walked-plain delimiter bytes at plain lt p (at-units delimiter bytes at plain lt h) in
+    whole-units delimiter bytes end plain (subst (λ (i : ℕ). IsFieldWalked delimiter bytes i false plain) all (walked-run delimiter bytes (at + 1) (end - (at + 1)) plain (omega (arith, all, in_range)) (λ i a b. each i a (omega (arith, all, b))) first))
+
+-- a byte that is neither delimiter nor backslash
+pub walked-other : (delimiter : ℕ) (bytes : List ℕ) (at : ℕ) (plain : Bool) → at < length bytes → get_or bytes at 0 ≢ delimiter → get_or bytes at 0 ≢ 92 → IsWalkedTo delimiter bytes at plain → IsWalkedTo delimiter bytes (at + 1) plain
+walked-other delimiter bytes at plain lt part slash h =
+    let n92 = ne_eqb _ 92 slash in
+    let n9 = ne_eqb _ delimiter part in
+    whole-units delimiter bytes (at + 1) plain (walked-more delimiter bytes at _ false plain false plain lt refl (at-units delimiter bytes at plain lt h) n92 (rw n9 refl) (λ t. (t, n92)) (λ t. inl t))
+
+-- all bytes, where a backslash stands last
+walked-beyond : (delimiter : ℕ) (bytes : List ℕ) (i j : ℕ) (e plain : Bool) → length bytes ≤ i → length bytes ≤ j → IsFieldWalked delimiter bytes i e plain → IsFieldWalked delimiter bytes j e plain
+walked-beyond delimiter bytes i j e plain le le' h =
+    let same : take i bytes ≡ take j bytes = take_all i bytes le ∙ sym (take_all j bytes le') in
+    record { escaped = rw same at h.escaped; none = rw same at h.none; plain = rw same at h.plain; escapes = rw same at h.escapes }
+
+-- a backslash, and the byte after it
+pub walked-escape : (delimiter : ℕ) (bytes : List ℕ) (at : ℕ) (plain : Bool) → at < length bytes → get_or bytes at 0 ≢ delimiter → get_or bytes at 0 ≡ 92 → IsWalkedTo delimiter bytes at plain → IsWalkedTo delimiter bytes (at + 2) false
+walked-escape delimiter bytes at plain lt part slash h = go (cases_lt (at + 1) (length bytes))
+  where
+    no-mark : eqb 92 delimiter ≡ false
+    no-mark = ne_eqb 92 delimiter (λ e. part (slash ∙ e))
+
+    clash : false ≡ true → ⊥
+    clash e = cc
+
+    begun : IsFieldWalked delimiter bytes (at + 1) true false
+    begun = walked-more delimiter bytes at 92 false plain true false lt slash (at-units delimiter bytes at plain lt h) refl (rw no-mark refl) (λ t. absurd (clash t)) (λ t. inr refl)
+
+    go : (at + 1 < length bytes) ⊎ (length bytes ≤ at + 1) → IsWalkedTo delimiter bytes (at + 2) false
+    go (inl more) =
+        let same : at + 1 + 1 ≡ at + 2 = omega arith in
+        whole-units delimiter bytes (at + 2) false (subst (λ (i : ℕ). IsFieldWalked delimiter bytes i false false) same (walked-escaped delimiter bytes (at + 1) _ false more refl begun))
+    go (inr last) = record { escaped = true; walked = walked-beyond delimiter bytes (at + 1) (at + 2) true false last (omega (arith, last)) begun; closed = λ l. absurd (omega (arith, l, last)) }
+
+pub walked-at : (delimiter : ℕ) (bytes : List ℕ) (i : ℕ) (plain : Bool) → i < length bytes → get_or bytes i 0 ≡ delimiter → IsWalkedTo delimiter bytes i plain → IsFieldEnd delimiter bytes (record { len = i; plain = plain; last = false })
+walked-at delimiter bytes i plain lt is h =
+    let w = at-units delimiter bytes i plain lt h in
+    record {
+      plain = w.plain;
+      escapes = w.escapes;
+      more = λ e. record { in_range = lt; none = w.none; closed = w.escaped; is = is };
+      whole = λ e. absurd (clash e);
+    }
   where
     clash : false ≡ true → ⊥
     clash e = cc
 
-pub walked-end : (delimiter : ℕ) (bytes : List ℕ) (i : ℕ) (e plain : Bool) → length bytes ≤ i → IsFieldWalked delimiter bytes i e plain → IsFieldEnd delimiter bytes (record { len = length bytes; plain = plain; last = true })
-walked-end delimiter bytes i e plain le h =
+pub walked-end : (delimiter : ℕ) (bytes : List ℕ) (i : ℕ) (plain : Bool) → length bytes ≤ i → IsWalkedTo delimiter bytes i plain → IsFieldEnd delimiter bytes (record { len = length bytes; plain = plain; last = true })
+walked-end delimiter bytes i plain le h =
     let all : take i bytes ≡ bytes = take_all i bytes le in
     let whole : take (length bytes) bytes ≡ bytes = take_all (length bytes) bytes (omega arith) in
     record {
-      plain = λ p. rw whole (rw all at h.plain p);
-      escapes = λ p. rw whole (rw all at h.escapes p);
+      plain = λ p. rw whole (rw all at h.walked.plain p);
+      escapes = λ p. rw whole (rw all at h.walked.escapes p);
       more = λ f. absurd (clash f);
-      whole = λ f. (refl, rw all at h.none);
+      whole = λ f. (refl, rw all at h.walked.none);
     }
   where
     clash : true ≡ false → ⊥

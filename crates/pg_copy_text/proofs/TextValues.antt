@@ -1,5 +1,5 @@
 -- Values of text fields.
-use Rattle.std.proofs.Common.{◌≡◌, ℕ, zero, suc, ◌+◌, ◌-◌, ◌*◌, ◌%◌, ◌<◌, ◌≤◌, Bool, false, eqb, ltb, List, [], ◌∷◌, ◌++◌, length, take, drop, get_or, Option, Some, None, refl, sym, ap, ◌∙◌, append_assoc, arith}
+use Rattle.std.proofs.Common.{◌≡◌, ◌≢◌, ℕ, zero, suc, ◌+◌, ◌-◌, ◌*◌, ◌%◌, ◌<◌, ◌≤◌, Bool, true, false, eqb, ltb, List, [], ◌∷◌, ◌++◌, length, take, drop, get_or, Option, Some, None, refl, sym, ap, subst, ◌∙◌, append_assoc, arith}
 use Rattle.std.specs.List.{prefix_len}
 use Rattle.std.specs.Char.{digit_value}
 use Rattle.std.specs.Prelude.{MatchOption}
@@ -8,7 +8,7 @@ use Rattle.std.proofs.lemmas.Bool.{lt-ltb, le-ltb, cond-true, cond-false, ne_eqb
 use Rattle.std.proofs.lemmas.List.{take_more, drop_more, drop_all, drop-drop, length-drop, length-take, get_or-drop, append-nil}
 use Rattle.std.proofs.lemmas.List.Sums.{take_while-cons}
 use Rattle.std.specs.Str.{bytes_eq}
-use Rattle.pg_copy_text.specs.Private.Units.{LeadsWith, NoBackslash}
+use Rattle.pg_copy_text.specs.Private.Units.{LeadsWith, NoBackslash, IsPlain}
 use Rattle.pg_copy_text.specs.Text.{Options, field_value, digits_at, text_after, escape_at, digits_value, octal_escape, hex_escape}
 
 -- the value is read up to at, but for a run from start on that is copied as it is
@@ -122,6 +122,12 @@ text-escape bytes at byte len lt is value =
     ap (λ (x : ℕ × ℕ). text_after x.1 bs) (sym value) ∙ text_after-drop len bs ∙ ap (text_after 0) (drop-drop len (at + 1) bytes ∙ ap (λ (n : ℕ). drop n bytes) place) in
     ap (text_after 0) (drop_more bytes at 0 lt) ∙ cond-true (eqb (get_or bytes at 0) 92) _ _ (eq-eqb (get_or bytes at 0) 92 is) ∙ ap (λ (x : ℕ). x ∷ text_after (escape_at bs).1 bs) (ap (λ (x : ℕ × ℕ). x.0) (sym value)) ∙ ap (λ (x : List ℕ). byte ∷ x) after
 
+not-backslash : (b : ℕ) → IsPlain 92 b → b ≢ 92
+not-backslash b p e = clash (sym (eq-eqb b 92 e) ∙ p.no_backslash)
+  where
+    clash : true ≡ false → ⊥
+    clash e = cc
+
 pub IsReadTo-begin : (old bytes : List ℕ) → IsReadTo old bytes 0 0 old
 IsReadTo-begin old bytes = record { in_order = omega arith; in_range = omega arith; rest = ap (λ (x : List ℕ). x ++ text_after 0 bytes) (append-nil old) }
 
@@ -135,6 +141,21 @@ IsReadTo-plain old bytes start at text lt plain h =
       in_range = omega arith;
       rest = rw run (ap (λ (x : List ℕ). x ++ text_after 0 (drop (at + 1) bytes)) (sym (append_assoc text (take (at - start) (drop start bytes)) (b ∷ []))) ∙ append_assoc (text ++ take (at - start) (drop start bytes)) (b ∷ []) (text_after 0 (drop (at + 1) bytes)) ∙ ap (λ (x : List ℕ). (text ++ take (at - start) (drop start bytes)) ++ x) (sym next) ∙ h.rest);
     }
+
+-- plain bytes more
+run-read : (old bytes : List ℕ) (start at n : ℕ) (text : List ℕ) → at + n ≤ length bytes → ((i : ℕ) → at ≤ i → i < at + n → IsPlain 92 (get_or bytes i 0)) → IsReadTo old bytes start at text → IsReadTo old bytes start (at + n) text
+run-read old bytes start at zero text le each h = let same : at ≡ at + 0 = omega arith in subst (λ (i : ℕ). IsReadTo old bytes start i text) same h
+run-read old bytes start at (suc n) text le each h =
+    let same : at + n + 1 ≡ at + suc n = omega arith in
+    subst (λ (i : ℕ). IsReadTo old bytes start i text) same
+    (IsReadTo-plain old bytes start (at + n) text (omega arith) (not-backslash _ (each (at + n) (omega arith) (omega arith))) (run-read old bytes start at n text (omega arith) (λ i a b. each i a (omega (arith, b))) h))
+
+-- a plain byte, and those after it
+pub IsReadTo-run : (old bytes : List ℕ) (start at end : ℕ) (text : List ℕ) → at < length bytes → IsPlain 92 (get_or bytes at 0) → at + 1 ≤ end → end ≤ length bytes → ((i : ℕ) → at + 1 ≤ i → i < end → IsPlain 92 (get_or bytes i 0)) → IsReadTo old bytes start at text → IsReadTo old bytes start end text
+IsReadTo-run old bytes start at end text lt p in_order in_range each h =
+    let all : (at + 1) + (end - (at + 1)) ≡ end = omega (arith, in_order) in
+    let first = IsReadTo-plain old bytes start at text lt (not-backslash _ p) h in
+    subst (λ (i : ℕ). IsReadTo old bytes start i text) all (run-read old bytes start (at + 1) (end - (at + 1)) text (omega (arith, all, in_range)) (λ i a b. each i a (omega (arith, all, b))) first)
 
 pub IsReadTo-escape : (old bytes : List ℕ) (start at : ℕ) (text : List ℕ) (byte len : ℕ) → at < length bytes → get_or bytes at 0 ≡ 92 → (byte, len) ≡ escape_at (drop (at + 1) bytes) → len ≤ length (drop (at + 1) bytes)
     → IsReadTo old bytes start at text → IsReadTo old bytes (at + (1 + len)) (at + (1 + len)) ((text ++ take (at - start) (drop start bytes)) ++ byte ∷ [])
@@ -162,6 +183,24 @@ pub IsCountedTo-plain : (bytes : List ℕ) (at len : ℕ) → at < length bytes 
 IsCountedTo-plain bytes at len lt plain h =
     let next : length (text_after 0 (drop at bytes)) ≡ length (get_or bytes at 0 ∷ text_after 0 (drop (at + 1) bytes)) = ap length (text-plain bytes at lt plain) in
     record { in_range = omega arith; few = omega (arith, h.few); rest = omega (arith, h.rest, next) }
+
+-- plain bytes more
+run-counted : (bytes : List ℕ) (at n len : ℕ) → at + n ≤ length bytes → ((i : ℕ) → at ≤ i → i < at + n → IsPlain 92 (get_or bytes i 0)) → IsCountedTo bytes at len → IsCountedTo bytes (at + n) (len + n)
+run-counted bytes at zero len le each h = record { in_range = omega (arith, h.in_range); few = omega (arith, h.few); rest = let same : at + 0 ≡ at = omega arith in rw same (omega (arith, h.rest)) }
+run-counted bytes at (suc n) len le each h =
+    let place : at + n + 1 ≡ at + suc n = omega arith in
+    let count : len + n + 1 ≡ len + suc n = omega arith in
+    rw (sym place, sym count)
+    (IsCountedTo-plain bytes (at + n) (len + n) (omega arith) (not-backslash _ (each (at + n) (omega arith) (omega arith))) (run-counted bytes at n len (omega arith) (λ i a b. each i a (omega (arith, b))) h))
+
+-- a plain byte, and those after it
+pub IsCountedTo-run : (bytes : List ℕ) (at end len : ℕ) → at < length bytes → IsPlain 92 (get_or bytes at 0) → at + 1 ≤ end → end ≤ length bytes → ((i : ℕ) → at + 1 ≤ i → i < end → IsPlain 92 (get_or bytes i 0)) → IsCountedTo bytes at len → IsCountedTo bytes end (len + (end - at))
+IsCountedTo-run bytes at end len lt p in_order in_range each h =
+    let place : (at + 1) + (end - (at + 1)) ≡ end = omega (arith, in_order) in
+    let count : (len + 1) + (end - (at + 1)) ≡ len + (end - at) = omega (arith, in_order) in
+    let first = IsCountedTo-plain bytes at len lt (not-backslash _ p) h in
+    let run = run-counted bytes (at + 1) (end - (at + 1)) (len + 1) (omega (arith, place, in_range)) (λ i a b. each i a (omega (arith, place, b))) first in
+    subst (IsCountedTo bytes end) count (subst (λ (i : ℕ). IsCountedTo bytes i ((len + 1) + (end - (at + 1)))) place run)
 
 pub IsCountedTo-escape : (bytes : List ℕ) (at len byte escape : ℕ) → at < length bytes → get_or bytes at 0 ≡ 92 → (byte, escape) ≡ escape_at (drop (at + 1) bytes) → escape ≤ length (drop (at + 1) bytes) → IsCountedTo bytes at len → IsCountedTo bytes (at + (1 + escape)) (len + 1)
 IsCountedTo-escape bytes at len byte escape lt is value le h =

@@ -4,6 +4,7 @@ ghost use Rattle.std.specs.Prelude.{◌≡◌, ◌≤◌, ◌<◌, ◌++◌, ℕ
 ghost use Rattle.pg_copy_text.specs.Text.{letter_value, digits_at, octal_escape, hex_escape, escape_at, text_after, field_value};
 ghost use Rattle.pg_copy_text.specs.Private.Units.{LeadsWith, NoBackslash};
 
+use crate::plain::{is_plain, plain_end};
 use crate::text_options::TextOptions;
 use pg_seq::Seq;
 use std::alloc::{AllocError, Global};
@@ -89,7 +90,9 @@ pub fn put_text_of(bytes: &[u8], text: &mut Vec<u8>) -> Result<(), AllocError>
     let mut start = 0;
     let mut at = 0;
     while at < bytes.len() {
-        if bytes[at] == b'\\' {
+        if is_plain(bytes[at], b'\\') {
+            at = plain_end(bytes, at + 1, b'\\');
+        } else if bytes[at] == b'\\' {
             text.extend_from_slice(&bytes[start..at])?;
             let (byte, len) = escape_at(&bytes[at + 1..]);
             text.push(byte)?;
@@ -118,11 +121,16 @@ pub fn text_len(bytes: &[u8]) -> usize
     let mut len = 0;
     let mut at = 0;
     while at < bytes.len() {
-        len += 1;
-        if bytes[at] == b'\\' {
+        if is_plain(bytes[at], b'\\') {
+            let end = plain_end(bytes, at + 1, b'\\');
+            len += end - at;
+            at = end;
+        } else if bytes[at] == b'\\' {
             let (_, escape) = escape_at(&bytes[at + 1..]);
+            len += 1;
             at += 1 + escape;
         } else {
+            len += 1;
             at += 1;
         }
     }

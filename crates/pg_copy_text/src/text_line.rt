@@ -7,7 +7,7 @@ ghost use Rattle.pg_copy_text.specs.Private.Units.{IsCounted, IsFieldEnd};
 ghost use Rattle.pg_copy_text.specs.Private.TextLine.{IsJudged};
 
 use crate::format::END_MARK;
-use crate::plain::plain_end;
+use crate::plain::{is_plain, plain_end};
 use crate::scan::Scan;
 use crate::text_field::field_value;
 use crate::text_options::TextOptions;
@@ -73,24 +73,29 @@ pub struct FieldEnd {
 }
 
 /// Where the field at the front of a line's rest ends.
+#[inline(always)]
 pub fn field_end(rest: &[u8], delimiter: u8) -> FieldEnd
     ensures { IsFieldEnd delimiter rest.now result }
 {
-    let mut escaped = false;
     let mut plain = true;
-    for i in plain_end(rest, 0, delimiter)..rest.len() {
-        let byte = rest[i];
-        if escaped {
-            escaped = false;
-        } else if byte == delimiter {
+    let mut at = plain_end(rest, 0, delimiter);
+    while at < rest.len() {
+        let byte = rest[at];
+        if byte == delimiter {
             return FieldEnd {
-                len: i,
+                len: at,
                 plain,
                 last: false,
             };
-        } else if byte == b'\\' {
-            escaped = true;
+        }
+        if byte == b'\\' {
             plain = false;
+            // with the byte after it
+            at += 2;
+        } else if is_plain(byte, delimiter) {
+            at = plain_end(rest, at + 1, delimiter);
+        } else {
+            at += 1;
         }
     }
     FieldEnd {

@@ -19,7 +19,7 @@ use crate::line_end::LineEnd;
 use crate::scan::Scan;
 use crate::text_line::{JudgedLine, fields_of, judge};
 use crate::text_options::TextOptions;
-use crate::text_row::{TextRow, put_texts};
+use crate::text_row::{TextRow, empty_texts, replace_texts};
 use crate::text_stage::TextStage;
 use pg_copy_rows::counts::{later, one_more};
 use pg_copy_rows::row_buffer::RowBuffer;
@@ -223,8 +223,9 @@ impl TextReader {
 
     /// Whether a next row waits, which is then lent until the next change of the reader: [`TextReader::held`] gives it. It counts as
     /// given, and the reader has its bytes until then; the text of a field that has an escape is copied, into a block that the reader
-    /// uses again. A fault is answered as `next` answers it. Memory is answered only where a row waits and that block could not
-    /// grow, and leaves the reader unchanged, but that it lends none (PostgreSQL documentation, page COPY, "Text Format").
+    /// uses again, and which gives much room back once no row needs it. A fault is answered as `next` answers it. Memory is answered
+    /// only where a row waits and that block could not grow, and leaves the reader unchanged, but that it lends none (PostgreSQL
+    /// documentation, page COPY, "Text Format").
     pub fn next_lent(&mut self) -> Result<bool, TextFault>
         requires { self.old.ended ≡ false }
         ensures read { (pushed : List ℕ) (given : List Row) → HasReadText self.old pushed given
@@ -250,11 +251,13 @@ impl TextReader {
             TextStage::Failed(fault) => Err(fault),
             TextStage::Marked => Ok(false),
             TextStage::Lines => {
-                self.let_go();
                 let (scan, found) = self.walk();
                 match found {
                     Some(end) => self.lend_line(scan, scan.at + end.len(), Some(end)),
-                    None => Ok(false),
+                    None => {
+                        self.let_go();
+                        Ok(false)
+                    }
                 }
             }
         }
@@ -328,9 +331,8 @@ impl TextReader {
         ensures options { AreOptions self.old.options }
     {
         let delimiter = self.options.delimiter();
-        let found = self
-            .scan
-            .find_end(self.buffer.kept(), delimiter, self.line_end);
+        let kept = self.buffer.kept();
+        let found = self.scan.find_end(kept, delimiter, self.line_end);
         (self.scan, found)
     }
 
@@ -360,6 +362,7 @@ impl TextReader {
             JudgedLine::Row(count) => match fields_of(self.alloc, line, count, &self.options) {
                 Ok(fields) => {
                     self.buffer.take(taken);
+                    empty_texts(&mut self.texts, 0);
                     self.line_end = line_end;
                     self.scan = Scan::start();
                     self.offset = later(self.offset, taken);
@@ -383,8 +386,7 @@ impl TextReader {
         requires counted { IsCounted self.old.options.delimiter self.old.kept scan }
         requires in_order { scan.at ≤ taken }
         requires in_range { taken ≤ length self.old.kept }
-        requires free { self.old.held ≡ None }
-        ensures { LendsLine scan.at taken line_end self.old result self.new }
+        ensures { LendsLine scan.at taken line_end (let_go self.old) result self.new }
     {
         let line = &self.buffer.kept()[..scan.at];
         match judge(&self.options, self.columns, line, scan) {
@@ -413,12 +415,11 @@ impl TextReader {
         requires lines { self.old.stage ≡ Lines }
         requires in_order { len ≤ taken }
         requires in_range { taken ≤ length self.old.kept }
-        requires free { self.old.held ≡ None }
         ensures ok { OnOk result (self.new ≡ lending len taken line_end self.old) }
-        ensures err { OnErr result (self.new ≡ self.old) }
+        ensures err { OnErr result (self.new ≡ let_go self.old) }
     {
-        self.texts.clear();
-        put_texts(&self.buffer.kept()[..len], &self.options, &mut self.texts)?;
+        self.buffer.take(0);
+        replace_texts(&self.buffer.kept()[..len], &self.options, &mut self.texts)?;
         self.buffer.hold(0, taken);
         self.held_len = len;
         self.line_end = line_end;
@@ -428,11 +429,12 @@ impl TextReader {
         Ok(())
     }
 
-    /// Lends no row any more.
+    /// Lends no row any more, and keeps no large block for the texts of one.
     fn let_go(&mut self)
         ensures { self.new ≡ let_go self.old }
     {
         self.buffer.take(0);
+        empty_texts(&mut self.texts, 0);
     }
 
     /// Reads no more.
@@ -441,6 +443,7 @@ impl TextReader {
         ensures { self.new ≡ record self.old { kept = []; stage = stage; held = None } }
     {
         self.buffer.clear();
+        empty_texts(&mut self.texts, 0);
         self.scan = Scan::start();
         self.stage = stage;
     }

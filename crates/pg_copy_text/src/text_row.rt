@@ -1,6 +1,6 @@
 //! A row of a text file, read in place: the text of a field that has an escape is copied, into one block, and nothing else is.
 
-ghost use Rattle.std.specs.Prelude.{◌≡◌, ◌++◌, ℕ, List, true, false, option_copied, OnOk};
+ghost use Rattle.std.specs.Prelude.{◌≡◌, ◌++◌, ℕ, List, [], true, false, option_copied, OnOk};
 ghost use Rattle.std.specs.Iterator.{YieldsFirstBy, item_count};
 ghost use Rattle.pg_copy_text.specs.Text.{field_value};
 ghost use Rattle.pg_copy_text.specs.Private.Units.{NoBackslash, has_backslash};
@@ -12,6 +12,9 @@ use crate::text_line::field_end;
 use crate::text_options::TextOptions;
 use std::alloc::AllocError;
 use std::marker::Model;
+
+// A block of texts that is left empty keeps its room up to so many bytes.
+const KEPT_ROOM: usize = 64 * 1024;
 
 /// Appends the text of a field that has an escape, where it isn't null.
 fn put_field_text(
@@ -28,11 +31,13 @@ fn put_field_text(
     if plain || field == options.null_mark() {
         return Ok(());
     }
+    // its text is no longer than it is
+    texts.reserve(field.len())?;
     put_text_of(field, texts)
 }
 
 /// Appends the texts of a line's fields that have an escape, one after the other.
-pub fn put_texts(line: &[u8], options: &TextOptions, texts: &mut Vec<u8>) -> Result<(), AllocError>
+fn put_texts(line: &[u8], options: &TextOptions, texts: &mut Vec<u8>) -> Result<(), AllocError>
     ensures { OnOk result (texts.new.items
         ≡ texts.old.items ++ line_texts options.now line.now) }
 {
@@ -51,6 +56,38 @@ pub fn put_texts(line: &[u8], options: &TextOptions, texts: &mut Vec<u8>) -> Res
         end = field_end(rest, delimiter);
     }
     put_field_text(rest, end.plain, options, texts)
+}
+
+/// Empties a block of texts, where those of a line of so many bytes come next. A block with much more room than they need gives it
+/// back.
+pub fn empty_texts(texts: &mut Vec<u8>, line_len: usize)
+    ensures { texts.new.items ≡ [] }
+{
+    texts.clear();
+    let room = texts.capacity();
+    if room > KEPT_ROOM && room / 4 > line_len {
+        let alloc = *texts.allocator();
+        *texts = Vec::new(alloc);
+    }
+}
+
+/// Puts the texts of a line's fields that have an escape in place of those that stand in a block. Where memory is refused, it is left
+/// without much room.
+pub fn replace_texts(
+    line: &[u8],
+    options: &TextOptions,
+    texts: &mut Vec<u8>,
+) -> Result<(), AllocError>
+    ensures { OnOk result (texts.new.items ≡ line_texts options.now line.now) }
+{
+    empty_texts(texts, line.len());
+    match put_texts(line, options, texts) {
+        Ok(()) => Ok(()),
+        Err(fault) => {
+            empty_texts(texts, 0);
+            Err(fault)
+        }
+    }
 }
 
 /// The value of a field, whose text stands first among the texts, where it has one there; and the texts after it.

@@ -22,124 +22,112 @@ returns-in-Marked-clause-gives c = λ pushed given h.
 pub returns-in-Some-clause-read : goal.returns-in-Some-clause-read
 returns-in-Some-clause-read c =
     let old = c.args.self.now in
-    let same = c.walk-found.ensures.state ∙ c.let_go.ensures in
     let among : old.stage ≡ Lines = ap (λ (s : TextState). s.stage) (sym c.self.view_is) ∙ c.in-Lines.is in
     let s = c.walk-found.result.0 in
     let e = c.in-Some.end in
-    let at = rw c.let_go.ensures at (c.walk-found.ensures.found e c.in-Some.is) in
-    let t = rw (same, c.len.ensures) at c.lend_line.ensures in
+    let at = c.walk-found.ensures.found e c.in-Some.is in
+    let t = rw (c.walk-found.ensures.state, c.len.ensures) at c.lend_line.ensures in
     read-lent old c.lend_line.new.self e s.at (s.at + end_len e) c.lend_line.result among at refl t
 
 pub returns-in-Some-clause-gives : goal.returns-in-Some-clause-gives
 returns-in-Some-clause-gives c =
     let old = c.args.self.now in
-    let same = c.walk-found.ensures.state ∙ c.let_go.ensures in
     let among : old.stage ≡ Lines = ap (λ (s : TextState). s.stage) (sym c.self.view_is) ∙ c.in-Lines.is in
     let s = c.walk-found.result.0 in
     let e = c.in-Some.end in
-    let at = rw c.let_go.ensures at (c.walk-found.ensures.found e c.in-Some.is) in
-    let t = rw (same, c.len.ensures) at c.lend_line.ensures in
+    let at = c.walk-found.ensures.found e c.in-Some.is in
+    let t = rw (c.walk-found.ensures.state, c.len.ensures) at c.lend_line.ensures in
     gives-lent old c.lend_line.new.self e s.at (s.at + end_len e) c.lend_line.result among c.requires at t
 
 pub returns-in-Some-clause-options : goal.returns-in-Some-clause-options
 returns-in-Some-clause-options c =
     let old = c.args.self.now in
-    let same = c.walk-found.ensures.state ∙ c.let_go.ensures in
     let among : old.stage ≡ Lines = ap (λ (s : TextState). s.stage) (sym c.self.view_is) ∙ c.in-Lines.is in
     let s = c.walk-found.result.0 in
     let e = c.in-Some.end in
-    let at = rw c.let_go.ensures at (c.walk-found.ensures.found e c.in-Some.is) in
-    let t = rw (same, c.len.ensures) at c.lend_line.ensures in
+    let at = c.walk-found.ensures.found e c.in-Some.is in
+    let t = rw (c.walk-found.ensures.state, c.len.ensures) at c.lend_line.ensures in
     (keeps-lent old c.lend_line.new.self e s.at (s.at + end_len e) c.lend_line.result t).options
 
 pub returns-in-Some-clause-columns : goal.returns-in-Some-clause-columns
 returns-in-Some-clause-columns c =
     let old = c.args.self.now in
-    let same = c.walk-found.ensures.state ∙ c.let_go.ensures in
     let among : old.stage ≡ Lines = ap (λ (s : TextState). s.stage) (sym c.self.view_is) ∙ c.in-Lines.is in
     let s = c.walk-found.result.0 in
     let e = c.in-Some.end in
-    let at = rw c.let_go.ensures at (c.walk-found.ensures.found e c.in-Some.is) in
-    let t = rw (same, c.len.ensures) at c.lend_line.ensures in
+    let at = c.walk-found.ensures.found e c.in-Some.is in
+    let t = rw (c.walk-found.ensures.state, c.len.ensures) at c.lend_line.ensures in
     (keeps-lent old c.lend_line.new.self e s.at (s.at + end_len e) c.lend_line.result t).columns
 
 pub returns-in-Some-clause-ended : goal.returns-in-Some-clause-ended
 returns-in-Some-clause-ended c =
     let old = c.args.self.now in
-    let same = c.walk-found.ensures.state ∙ c.let_go.ensures in
     let among : old.stage ≡ Lines = ap (λ (s : TextState). s.stage) (sym c.self.view_is) ∙ c.in-Lines.is in
     let s = c.walk-found.result.0 in
     let e = c.in-Some.end in
-    let at = rw c.let_go.ensures at (c.walk-found.ensures.found e c.in-Some.is) in
-    let t = rw (same, c.len.ensures) at c.lend_line.ensures in
+    let at = c.walk-found.ensures.found e c.in-Some.is in
+    let t = rw (c.walk-found.ensures.state, c.len.ensures) at c.lend_line.ensures in
     (keeps-lent old c.lend_line.new.self e s.at (s.at + end_len e) c.lend_line.result t).ended ∙ c.requires
 
 pub returns-in-Some-clause-lends : goal.returns-in-Some-clause-lends
 returns-in-Some-clause-lends c =
     let old = c.args.self.now in
-    let same = c.walk-found.ensures.state ∙ c.let_go.ensures in
     let among : old.stage ≡ Lines = ap (λ (s : TextState). s.stage) (sym c.self.view_is) ∙ c.in-Lines.is in
     let s = c.walk-found.result.0 in
     let e = c.in-Some.end in
-    let at = rw c.let_go.ensures at (c.walk-found.ensures.found e c.in-Some.is) in
-    let t = rw (same, c.len.ensures) at c.lend_line.ensures in
+    let at = c.walk-found.ensures.found e c.in-Some.is in
+    let t = rw (c.walk-found.ensures.state, c.len.ensures) at c.lend_line.ensures in
     t.1
 
 pub returns-in-Some-clause-row : goal.returns-in-Some-clause-row
 returns-in-Some-clause-row c =
     let old = c.args.self.now in
-    let same = c.walk-found.ensures.state ∙ c.let_go.ensures in
     let among : old.stage ≡ Lines = ap (λ (s : TextState). s.stage) (sym c.self.view_is) ∙ c.in-Lines.is in
     let s = c.walk-found.result.0 in
     let e = c.in-Some.end in
-    let at = rw c.let_go.ensures at (c.walk-found.ensures.found e c.in-Some.is) in
-    let t = rw (same, c.len.ensures) at c.lend_line.ensures in
+    let at = c.walk-found.ensures.found e c.in-Some.is in
+    let t = rw (c.walk-found.ensures.state, c.len.ensures) at c.lend_line.ensures in
     row-lent old c.lend_line.new.self e s.at (s.at + end_len e) c.lend_line.result among t
 
 pub returns-in-Some-clause-given : goal.returns-in-Some-clause-given
 returns-in-Some-clause-given c =
     let old = c.args.self.now in
-    let same = c.walk-found.ensures.state ∙ c.let_go.ensures in
     let among : old.stage ≡ Lines = ap (λ (s : TextState). s.stage) (sym c.self.view_is) ∙ c.in-Lines.is in
     let s = c.walk-found.result.0 in
     let e = c.in-Some.end in
-    let at = rw c.let_go.ensures at (c.walk-found.ensures.found e c.in-Some.is) in
-    let t = rw (same, c.len.ensures) at c.lend_line.ensures in
+    let at = c.walk-found.ensures.found e c.in-Some.is in
+    let t = rw (c.walk-found.ensures.state, c.len.ensures) at c.lend_line.ensures in
     given-lent old c.lend_line.new.self e s.at (s.at + end_len e) c.lend_line.result t
 
 pub returns-in-Some-clause-fewer : goal.returns-in-Some-clause-fewer
 returns-in-Some-clause-fewer c =
     let old = c.args.self.now in
-    let same = c.walk-found.ensures.state ∙ c.let_go.ensures in
     let among : old.stage ≡ Lines = ap (λ (s : TextState). s.stage) (sym c.self.view_is) ∙ c.in-Lines.is in
     let s = c.walk-found.result.0 in
     let e = c.in-Some.end in
-    let at = rw c.let_go.ensures at (c.walk-found.ensures.found e c.in-Some.is) in
-    let t = rw (same, c.len.ensures) at c.lend_line.ensures in
+    let at = c.walk-found.ensures.found e c.in-Some.is in
+    let t = rw (c.walk-found.ensures.state, c.len.ensures) at c.lend_line.ensures in
     fewer-lent old c.lend_line.new.self e s.at (s.at + end_len e) c.lend_line.result t (omega (arith, end-some e)) at.in_range
 
 pub returns-in-Some-clause-memory : goal.returns-in-Some-clause-memory
 returns-in-Some-clause-memory c =
     let old = c.args.self.now in
-    let same = c.walk-found.ensures.state ∙ c.let_go.ensures in
     let among : old.stage ≡ Lines = ap (λ (s : TextState). s.stage) (sym c.self.view_is) ∙ c.in-Lines.is in
     let s = c.walk-found.result.0 in
     let e = c.in-Some.end in
-    let at = rw c.let_go.ensures at (c.walk-found.ensures.found e c.in-Some.is) in
-    let t = rw (same, c.len.ensures) at c.lend_line.ensures in
+    let at = c.walk-found.ensures.found e c.in-Some.is in
+    let t = rw (c.walk-found.ensures.state, c.len.ensures) at c.lend_line.ensures in
     waits-lent old c.lend_line.new.self e s.at (s.at + end_len e) c.lend_line.result among at t
 
 pub returns-in-None-clause-read : goal.returns-in-None-clause-read
-returns-in-None-clause-read c = λ pushed given h. rw (c.walk-found.ensures.state ∙ c.let_go.ensures) (HasReadText-same (let_go c.args.self.now) pushed given (HasReadText-free c.args.self.now pushed given h))
+returns-in-None-clause-read c = λ pushed given h. rw (c.let_go.ensures, c.walk-found.ensures.state) (HasReadText-same (let_go c.args.self.now) pushed given (HasReadText-free c.args.self.now pushed given h))
 
 pub returns-in-None-clause-gives : goal.returns-in-None-clause-gives
 returns-in-None-clause-gives c = λ pushed given h.
     let old = c.args.self.now in
     let lines : old.stage ≡ Lines = ap (λ (s : TextState). s.stage) (sym c.self.view_is) ∙ c.in-Lines.is in
     let w = c.walk-found.ensures in
-    let scanned = rw c.let_go.ensures at w.scanned in
-    let stands = rw c.let_go.ensures at (w.none c.in-None.is) in
-    rw (w.state ∙ c.let_go.ensures) (AnswersNext-none old c.walk-found.result.0 pushed given lines c.requires scanned stands h)
+    rw (c.let_go.ensures, w.state) (AnswersNext-none old c.walk-found.result.0 pushed given lines c.requires w.scanned (w.none c.in-None.is) h)
 
 pub returns-in-Failed-clause-lends : goal.returns-in-Failed-clause-lends
 returns-in-Failed-clause-lends c =
