@@ -13,9 +13,8 @@ ghost use Rattle.pg_backend.specs.declared.stage.ClosedBy.TheVariants.{Memory as
 ghost use Rattle.pg_backend.specs.Stage.{phase_of, lost_stage, IsSound};
 ghost use Rattle.pg_backend.specs.History.{IsHistoryOf, Carries, blank, unchanged, with_pushed};
 ghost use Rattle.pg_backend.specs.Backend.{Stores, Steps, CarriesStep};
-ghost use Rattle.pg_backend.specs.Private.Moves.{move};
-ghost use Rattle.pg_backend.specs.Private.Advancing.{BreaksOff, Advances, AdvancesUnlessClosed};
-ghost use Rattle.pg_backend.specs.Private.Advancing.{is_refused, TakesEffect, Hands, only_sends};
+ghost use Rattle.pg_backend.specs.Private.Advancing.{BreaksOff, AdvancesUnlessClosed};
+ghost use Rattle.pg_backend.specs.Private.Advancing.{is_refused, TakesEffect, only_sends};
 ghost use Rattle.pg_backend.specs.Private.Advancing.{named_effect, packet_effect};
 
 use crate::answering::or_memory;
@@ -26,7 +25,7 @@ use crate::stage::{Awaits, BackStage, ClosedBy, Next};
 use pg_script::own_error::{fatal_bad, no_user};
 use pg_script::{BackPhase, Logged, Script};
 use pg_wire::backend::error_response;
-use pg_wire::{First, FirstDecoder, FrontDecoder, FrontMessage, WireFault};
+use pg_wire::{First, FirstDecoder, WireFault};
 use std::alloc::Global;
 use std::marker::Model;
 use std::mem;
@@ -79,6 +78,25 @@ fn is_refused(answer: &Result<bool, BackendFault>) -> bool
     matches!(answer, Err(BackendFault::Memory))
 }
 
+/// Closes by its input, and refuses what is kept: it is faulty, or memory was refused for it.
+fn break_off(
+    alloc: Global,
+    stage: &mut BackStage,
+    fault: WireFault,
+    out: &mut Vec<u8>,
+) -> Result<bool, BackendFault>
+    ensures closed { stage.new ≡ BackStage.Closed ByInput }
+    ensures refuses { BreaksOff fault out.old.items result out.new.items }
+{
+    *stage = BackStage::Closed(ClosedBy::Input);
+    if fault == WireFault::Memory {
+        return Err(BackendFault::Memory);
+    }
+    let fields = fatal_bad(alloc)?;
+    or_memory(error_response(&fields, out))?;
+    Err(BackendFault::Wire(fault))
+}
+
 impl Backend {
     /// A backend that plays this script, and takes messages with a length field of at most `limit`, from 64 to
     /// 1,073,741,823. The script's `check` has answered Ok. It takes no memory.
@@ -125,18 +143,6 @@ impl Backend {
             BackStage::Closed(_) => {}
             _ => self.stage = BackStage::Closed(ClosedBy::Lost),
         }
-    }
-
-    /// Refuses what is kept: it is faulty, or memory was refused for it.
-    fn break_off(&mut self, fault: WireFault, out: &mut Vec<u8>) -> Result<bool, BackendFault>
-        ensures { BreaksOff fault self.old out.old.items result self.new out.new.items }
-    {
-        if fault == WireFault::Memory {
-            return Err(BackendFault::Memory);
-        }
-        let fields = fatal_bad(self.alloc)?;
-        or_memory(error_response(&fields, out))?;
-        Err(BackendFault::Wire(fault))
     }
 
     /// Answers a request for encryption: there is none ("SSL Session Encryption").
@@ -208,84 +214,44 @@ impl Backend {
         }
     }
 
-    /// Handles the next first packet.
-    fn advance_first(
-        &mut self,
-        mut decoder: FirstDecoder,
-        out: &mut Vec<u8>,
-    ) -> Result<bool, BackendFault>
-        requires sound { (decoder.fault ≡ None) × (decoder.ended ≡ false) }
-        requires closed { self.old.stage ≡ BackStage.Closed ByInput }
-        ensures { Advances (record self.old { stage = BackStage.First decoder })
-            out.old.items result self.new out.new.items }
-    {
-        match decoder.next() {
-            Ok(None) => {
-                self.stage = BackStage::First(decoder);
-                Ok(false)
-            }
-            Ok(Some(packet)) => {
-                self.greet(decoder, packet, out)?;
-                Ok(true)
-            }
-            Err(fault) => self.break_off(fault, out),
-        }
-    }
-
-    /// Hands a message to the session.
-    fn hand(
-        &mut self,
-        awaits: Awaits,
-        message: FrontMessage,
-        out: &mut Vec<u8>,
-    ) -> Result<Next, BackendFault>
-        ensures { Hands (move self.old.script self.old.left awaits message)
-            self.old out.old.items result self.new out.new.items }
-    {
-        self.playing.take(awaits, message, out)
-    }
-
-    /// Handles the next message.
-    fn advance_open(
-        &mut self,
-        mut decoder: FrontDecoder,
-        awaits: Awaits,
-        out: &mut Vec<u8>,
-    ) -> Result<bool, BackendFault>
-        requires sound { (decoder.fault ≡ None) × (decoder.limit ≡ self.old.limit) }
-        requires closed { self.old.stage ≡ BackStage.Closed ByInput }
-        ensures { Advances (record self.old { stage = BackStage.Open decoder awaits })
-            out.old.items result self.new out.new.items }
-    {
-        match decoder.next() {
-            Ok(None) => {
-                self.stage = BackStage::Open(decoder, awaits);
-                Ok(false)
-            }
-            Ok(Some(message)) => match self.hand(awaits, message, out)? {
-                Next::Goes(awaits) => {
-                    self.stage = BackStage::Open(decoder, awaits);
-                    Ok(true)
-                }
-                Next::Ends => Ok(true),
-                Next::Strays(tag) => Err(BackendFault::Unexpected(tag)),
-            },
-            Err(fault) => self.break_off(fault, out),
-        }
-    }
-
-    /// Handles the next packet or message. After Memory, bytes may stand after what `out` had.
+    /// Handles the next packet or message. Where none is whole, nothing is moved; for a message only what is awaited is taken out, and what is
+    /// awaited next is put in its place. After Memory, bytes may stand after what `out` had, and the stage may have lost what it held.
     fn advance(&mut self, out: &mut Vec<u8>) -> Result<bool, BackendFault>
         ensures call { AdvancesUnlessClosed self.old out.old.items result self.new out.new.items }
         ensures sound { IsSound self.old.limit self.old.stage }
     {
-        match mem::replace(&mut self.stage, BackStage::Closed(ClosedBy::Input)) {
-            BackStage::First(decoder) => self.advance_first(decoder, out),
-            BackStage::Open(decoder, awaits) => self.advance_open(decoder, awaits, out),
-            BackStage::Closed(by) => {
-                self.stage = BackStage::Closed(by);
-                Err(BackendFault::Closed)
-            }
+        match &mut self.stage {
+            BackStage::First(decoder) => match decoder.next() {
+                Ok(None) => Ok(false),
+                Ok(Some(packet)) => {
+                    let decoder = mem::replace(decoder, FirstDecoder::new(self.alloc));
+                    self.greet(decoder, packet, out)?;
+                    Ok(true)
+                }
+                Err(fault) => break_off(self.alloc, &mut self.stage, fault, out),
+            },
+            BackStage::Open(decoder, awaits) => match decoder.next() {
+                Ok(None) => Ok(false),
+                Ok(Some(message)) => {
+                    let awaited = mem::replace(awaits, Awaits::Request(self.playing.no_steps()));
+                    match self.playing.take(awaited, message, out)? {
+                        Next::Goes(next) => {
+                            *awaits = next;
+                            Ok(true)
+                        }
+                        Next::Ends => {
+                            self.stage = BackStage::Closed(ClosedBy::Input);
+                            Ok(true)
+                        }
+                        Next::Strays(tag) => {
+                            self.stage = BackStage::Closed(ClosedBy::Input);
+                            Err(BackendFault::Unexpected(tag))
+                        }
+                    }
+                }
+                Err(fault) => break_off(self.alloc, &mut self.stage, fault, out),
+            },
+            BackStage::Closed(_) => Err(BackendFault::Closed),
         }
     }
 

@@ -151,7 +151,7 @@ impl Playing {
     }
 
     /// The steps of a group before its first one.
-    fn no_steps(&self) -> Seq<Step>
+    pub fn no_steps(&self) -> Seq<Step>
         ensures { result ≡ [] }
     {
         Seq::new(Vec::new(self.alloc))

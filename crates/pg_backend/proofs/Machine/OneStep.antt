@@ -19,7 +19,8 @@ use Rattle.pg_backend.specs.declared.stage.BackStage.{BackStage}
 use Rattle.pg_backend.specs.declared.stage.BackStage.TheVariants as stage
 use Rattle.pg_backend.specs.Stage.{BackendState, IsWaiting, HasFaultyRest, WantsMemory}
 use Rattle.pg_backend.specs.Private.Moves.{Move, move}
-use Rattle.pg_backend.specs.Private.Advancing.{Effect, applied, stage_of, message_effect, stray_tag, packet_effect, Begun, Taken, HasNext, TakesEffect, Sends, Advances, AdvancesUnlessClosed, BreaksOff, Hands}
+use Rattle.pg_backend.specs.Private.Advancing.{Effect, applied, stage_of, message_effect, stray_tag, packet_effect, Begun, Taken, HasNext, TakesEffect, Sends, Advances, AdvancesUnlessClosed, BreaksOff}
+use Rattle.pg_backend.specs.Private.Playing.{PlayingState, Moves}
 use Rattle.pg_backend.proofs.Machine.Effects.{says}
 
 -- ---- a fault of the decoder
@@ -81,21 +82,36 @@ broken : (s : BackStage) (f g : WireFault) → f ≡ g → g ≢ wire.Memory →
 broken s f g e not_memory (inl h) = absurd (not_memory (sym e ∙ h.0))
 broken s f g e not_memory (inr h) = rw (← e) h.1
 
-breaks : (b : BackendState) (s : BackStage) (f : WireFault) (mid new : BackendState) (before after : List ℕ) (r : Result Bool BackendFault)
-    → Reason s f → mid ≡ record b { stage = stage.Closed closed_by.Input } → BreaksOff f mid before r new after → Advances (record b { stage = s }) before r new after
-breaks b s f mid new before after (Ok x) why is h = absurd h
-breaks b s f mid new before after (Err (faults.Wire g)) why is h = (broken s f g h.0 h.1 why, h.2 ∙ is, h.3)
-breaks b s f mid new before after (Err faults.Memory) why is h = (wanted s f why, ap (λ (x : BackendState). record x { stage = stage.Closed closed_by.Memory }) (h.0 ∙ is), h.1)
-breaks b s f mid new before after (Err faults.Closed) why is h = absurd h
-breaks b s f mid new before after (Err (faults.Unexpected t)) why is h = absurd h
+-- ---- a step of an open backend
 
-pub first_breaks : (b : BackendState) (d d' : FirstState) (f : WireFault) (mid new : BackendState) (before after : List ℕ) (r : Result Bool BackendFault)
-    → d.fault ≡ None → FirstTakes d (Err f) d' → mid ≡ record b { stage = stage.Closed closed_by.Input } → BreaksOff f mid before r new after → Advances (record b { stage = stage.First d }) before r new after
-first_breaks b d d' f mid new before after r none h is k = breaks b (stage.First d) f mid new before after r (first_reason d d' f none h) is k
+-- a backend that plays this and stands there
+abbrev pub backend_of : PlayingState → ℕ → BackStage → BackendState
+backend_of p limit s = record { script = p.script; limit = limit; left = p.left; stage = s; log = p.log }
 
-pub open_breaks : (b : BackendState) (d d' : DecoderState) (a : Awaits) (f : WireFault) (mid new : BackendState) (before after : List ℕ) (r : Result Bool BackendFault)
-    → d.fault ≡ None → decoder.Takes frontend d (Err f) d' → mid ≡ record b { stage = stage.Closed closed_by.Input } → BreaksOff f mid before r new after → Advances (record b { stage = stage.Open d a }) before r new after
-open_breaks b d d' a f mid new before after r none h is k = breaks b (stage.Open d a) f mid new before after r (open_reason d d' a f none h) is k
+unless_closed : (s old : BackendState) (before : List ℕ) (r : Result Bool BackendFault) (new : BackendState) (after : List ℕ) → s ≡ old → Advances s before r new after → AdvancesUnlessClosed old before r new after
+unless_closed s old before (Ok x) new after e h = subst (λ (b : BackendState). Advances b before (Ok x) new after) e h
+unless_closed s old before (Err (faults.Unexpected t)) new after e h = subst (λ (b : BackendState). Advances b before (Err (faults.Unexpected t)) new after) e h
+unless_closed s old before (Err (faults.Wire f)) new after e h = subst (λ (b : BackendState). Advances b before (Err (faults.Wire f)) new after) e h
+unless_closed s old before (Err faults.Memory) new after e h = subst (λ (b : BackendState). Advances b before (Err faults.Memory) new after) e h
+unless_closed s old before (Err faults.Closed) new after e h = absurd h
+
+breaks : (p : PlayingState) (limit : ℕ) (s there : BackStage) (f : WireFault) (before after : List ℕ) (r : Result Bool BackendFault)
+    → Reason s f → there ≡ stage.Closed closed_by.Input → BreaksOff f before r after → Advances (backend_of p limit s) before r (backend_of p limit there) after
+breaks p limit s there f before after (Ok x) why closed h = absurd h
+breaks p limit s there f before after (Err (faults.Wire g)) why closed h = (broken s f g h.0 h.1 why, ap (backend_of p limit) closed, h.2)
+breaks p limit s there f before after (Err faults.Memory) why closed h = (wanted s f why, refl, h)
+breaks p limit s there f before after (Err faults.Closed) why closed h = absurd h
+breaks p limit s there f before after (Err (faults.Unexpected t)) why closed h = absurd h
+
+pub first_breaks : (old : BackendState) (p : PlayingState) (limit : ℕ) (d d' : FirstState) (there : BackStage) (f : WireFault) (before after : List ℕ) (r : Result Bool BackendFault)
+    → backend_of p limit (stage.First d) ≡ old → d.fault ≡ None → FirstTakes d (Err f) d' → there ≡ stage.Closed closed_by.Input → BreaksOff f before r after
+    → AdvancesUnlessClosed old before r (backend_of p limit there) after
+first_breaks old p limit d d' there f before after r same none h closed k = unless_closed _ old before r _ after same (breaks p limit (stage.First d) there f before after r (first_reason d d' f none h) closed k)
+
+pub open_breaks : (old : BackendState) (p : PlayingState) (limit : ℕ) (d d' : DecoderState) (a : Awaits) (there : BackStage) (f : WireFault) (before after : List ℕ) (r : Result Bool BackendFault)
+    → backend_of p limit (stage.Open d a) ≡ old → d.fault ≡ None → decoder.Takes frontend d (Err f) d' → there ≡ stage.Closed closed_by.Input → BreaksOff f before r after
+    → AdvancesUnlessClosed old before r (backend_of p limit there) after
+open_breaks old p limit d d' a there f before after r same none h closed k = unless_closed _ old before r _ after same (breaks p limit (stage.Open d a) there f before after r (open_reason d d' a f none h) closed k)
 
 -- ---- a message
 
@@ -104,48 +120,34 @@ answer_of (next.Goes a) = Ok true
 answer_of next.Ends = Ok true
 answer_of (next.Strays t) = Err (faults.Unexpected t)
 
-abbrev Took : BackendState → DecoderState → Awaits → Next → List ℕ → BackendState → List ℕ → Type 0
-Took b d a n before new after = (e : Effect) × HasNext (record b { stage = stage.Open d a }) (stage.Open d a) (stray_tag n) e × (new ≡ applied (record b { stage = stage.Open d a }) e) × Sends e.sent before after
+abbrev Took : BackendState → BackStage → Next → List ℕ → BackendState → List ℕ → Type 0
+Took b s n before new after = (e : Effect) × HasNext b s (stray_tag n) e × (new ≡ applied b e) × Sends e.sent before after
 
-answered : (b : BackendState) (d : DecoderState) (a : Awaits) (n : Next) (before : List ℕ) (new : BackendState) (after : List ℕ) → Took b d a n before new after → Advances (record b { stage = stage.Open d a }) before (answer_of n) new after
-answered b d a (next.Goes x) before new after h = h
-answered b d a next.Ends before new after h = h
-answered b d a (next.Strays t) before new after h = h
+answered : (p : PlayingState) (limit : ℕ) (s : BackStage) (n : Next) (before : List ℕ) (new : BackendState) (after : List ℕ) → Took (backend_of p limit s) s n before new after → Advances (backend_of p limit s) before (answer_of n) new after
+answered p limit s (next.Goes x) before new after h = h
+answered p limit s next.Ends before new after h = h
+answered p limit s (next.Strays t) before new after h = h
 
-changed : (b w : BackendState) (d d' : DecoderState) (a : Awaits) (n : Next) (s : Move) → n ≡ s.next → w ≡ record b { left = s.left; log = b.log ++ s.logged }
-    → record w { stage = stage_of d' n } ≡ applied (record b { stage = stage.Open d a }) (message_effect d' s)
-changed b w d d' a n s is grown = rw (is, grown) refl
+changed : (p p' : PlayingState) (limit : ℕ) (s : BackStage) (d' : DecoderState) (n : Next) (v : Move) → n ≡ v.next → p' ≡ record p { left = v.left; log = p.log ++ v.logged }
+    → backend_of p' limit (stage_of d' n) ≡ applied (backend_of p limit s) (message_effect d' v)
+changed p p' limit s d' n v is grown = rw (is, grown) refl
 
-pub took_message : (b : BackendState) (d d' : DecoderState) (a : Awaits) (m : FrontMessage) (w : BackendState) (n : Next) (r : Result Next BackendFault) (before after : List ℕ)
-    → decoder.Takes frontend d (Ok (Some m)) d' → Taken d d' m → r ≡ Ok n → Hands (move b.script b.left a m) b before r w after
-    → Advances (record b { stage = stage.Open d a }) before (answer_of n) (record w { stage = stage_of d' n }) after
-took_message b d d' a m w n r before after takes taken ok hands =
-    let h = rw ok at hands in
-    let s = move b.script b.left a m in
-    answered b d a n before _ after (message_effect d' s, (m, d', takes, taken, ap stray_tag h.0, refl), changed b w d d' a n s h.0 h.1, says s.sent before after h.2)
-
--- a message that closes the session, where the backend stands closed
-pub closing_message : (b : BackendState) (d d' : DecoderState) (a : Awaits) (m : FrontMessage) (w : BackendState) (n : Next) (r : Result Next BackendFault) (before after : List ℕ)
-    → b.stage ≡ stage.Closed closed_by.Input → stage_of d' n ≡ stage.Closed closed_by.Input
-    → decoder.Takes frontend d (Ok (Some m)) d' → Taken d d' m → r ≡ Ok n → Hands (move b.script b.left a m) b before r w after
-    → Advances (record b { stage = stage.Open d a }) before (answer_of n) w after
-closing_message b d d' a m w n r before after closed ends takes taken ok hands =
-    let h = rw ok at hands in
-    let same : record w { stage = stage_of d' n } ≡ w = rw (ends, h.1, closed) refl in
-    rw (← same) (took_message b d d' a m w n r before after takes taken ok hands)
+pub took_message : (old : BackendState) (p p' : PlayingState) (limit : ℕ) (d d' : DecoderState) (a : Awaits) (m : FrontMessage) (n : Next) (r : Result Next BackendFault) (before after : List ℕ)
+    → backend_of p limit (stage.Open d a) ≡ old → decoder.Takes frontend d (Ok (Some m)) d' → Taken d d' m → r ≡ Ok n → Moves (move p.script p.left a m) p before r p' after
+    → AdvancesUnlessClosed old before (answer_of n) (backend_of p' limit (stage_of d' n)) after
+took_message old p p' limit d d' a m n r before after same takes taken ok moves =
+    let h = rw ok at moves in
+    let v = move p.script p.left a m in
+    unless_closed _ old before (answer_of n) _ after same
+    (answered p limit (stage.Open d a) n before _ after (message_effect d' v, (m, d', takes, taken, ap stray_tag h.0, refl), changed p p' limit (stage.Open d a) d' n v h.0 h.1, says v.sent before after h.2))
 
 -- ---- a packet
 
-pub took_packet : (b : BackendState) (d d' : FirstState) (p : First) (w : BackendState) (r : Result Unit BackendFault) (x : Unit {0}) (before after : List ℕ)
-    → FirstTakes d (Ok (Some p)) d' → Begun d d' p → r ≡ Ok x → TakesEffect (packet_effect b d' p) b before r w after
-    → Advances (record b { stage = stage.First d }) before (Ok true) w after
-took_packet b d d' p w r x before after takes begun ok done = let h = rw ok at done in (packet_effect b d' p, (p, d', takes, begun, refl, refl), h.0, h.1)
-
--- ---- a step of an open backend
-
-pub unless_closed : (s old : BackendState) (before : List ℕ) (r : Result Bool BackendFault) (new : BackendState) (after : List ℕ) → s ≡ old → Advances s before r new after → AdvancesUnlessClosed old before r new after
-unless_closed s old before (Ok x) new after e h = subst (λ (b : BackendState). Advances b before (Ok x) new after) e h
-unless_closed s old before (Err (faults.Unexpected t)) new after e h = subst (λ (b : BackendState). Advances b before (Err (faults.Unexpected t)) new after) e h
-unless_closed s old before (Err (faults.Wire f)) new after e h = subst (λ (b : BackendState). Advances b before (Err (faults.Wire f)) new after) e h
-unless_closed s old before (Err faults.Memory) new after e h = subst (λ (b : BackendState). Advances b before (Err faults.Memory) new after) e h
-unless_closed s old before (Err faults.Closed) new after e h = absurd h
+pub took_packet : (old : BackendState) (p : PlayingState) (limit : ℕ) (d d' : FirstState) (m : First) (there : BackStage) (w : BackendState) (r : Result Unit BackendFault) (x : Unit {0}) (before after : List ℕ)
+    → backend_of p limit (stage.First d) ≡ old → FirstTakes d (Ok (Some m)) d' → Begun d d' m → r ≡ Ok x
+    → TakesEffect (packet_effect (backend_of p limit there) d' m) (backend_of p limit there) before r w after
+    → AdvancesUnlessClosed old before (Ok true) w after
+took_packet old p limit d d' m there w r x before after same takes begun ok done =
+    let h = rw ok at done in
+    let b = backend_of p limit (stage.First d) in
+    unless_closed b old before (Ok true) w after same (packet_effect b d' m, (m, d', takes, begun, refl, refl), h.0, h.1)

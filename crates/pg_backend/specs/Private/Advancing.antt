@@ -28,7 +28,6 @@ use Rattle.pg_script.specs.Input.{sent_bytes, IsSpelled, last_word}
 use Rattle.pg_backend.specs.Stage.{BackendState, phase_of, IsWaiting, HasFaultyRest, WantsMemory}
 use Rattle.pg_backend.specs.Private.Opening.{awaits_first, greeting}
 use Rattle.pg_backend.specs.Private.Moves.{Move, move}
-use Rattle.pg_backend.specs.Private.Telling.{AreSent}
 
 -- what is changed, and what is sent and logged
 pub record Effect : Type 0 where
@@ -138,12 +137,11 @@ Advances old before (Err faults.Memory) new after = WantsMemory old.stage
 Advances old before (Err faults.Closed) new after = ⊥
 
 -- A faulty rest is refused with a last word, and want of memory as it is.
-abbrev pub BreaksOff : WireFault → BackendState → List ℕ
-    → Result Bool BackendFault → BackendState → List ℕ → Type 0
-BreaksOff f old before (Err (faults.Wire g)) new after = (f ≡ g) × (g ≢ wire.Memory)
-    × (new ≡ old) × Sends (last_word true) before after
-BreaksOff f old before (Err faults.Memory) new after = (new ≡ old) × IsPrefix before after
-BreaksOff f old before r new after = ⊥
+abbrev pub BreaksOff : WireFault → List ℕ → Result Bool BackendFault → List ℕ → Type 0
+BreaksOff f before (Err (faults.Wire g)) after = (f ≡ g) × (g ≢ wire.Memory)
+    × Sends (last_word true) before after
+BreaksOff f before (Err faults.Memory) after = IsPrefix before after
+BreaksOff f before r after = ⊥
 
 -- The effect is there; or memory was refused, and but for the stage and some bytes after what was there nothing has changed.
 abbrev pub TakesEffect : Effect → BackendState → List ℕ
@@ -160,14 +158,6 @@ abbrev pub AdvancesUnlessClosed : BackendState → List ℕ
 AdvancesUnlessClosed old before (Err faults.Closed) new after =
     (phase_of old.stage ≡ phase.Closed) × (new ≡ old) × (after ≡ before)
 AdvancesUnlessClosed old before r new after = Advances old before r new after
-
--- What a message does to the session is done; or memory was refused, and but for some bytes after what was there nothing has
--- changed.
-abbrev pub Hands : Move → BackendState → List ℕ
-    → Result Next BackendFault → BackendState → List ℕ → Type 0
-Hands v old before (Ok next) new after = (next ≡ v.next)
-    × (new ≡ record old { left = v.left; log = old.log ++ v.logged }) × AreSent v.sent before after
-Hands v old before (Err f) new after = (f ≡ faults.Memory) × (new ≡ old) × IsPrefix before after
 
 -- the answer is want of memory
 abbrev pub is_refused : Result Bool BackendFault → Bool
