@@ -8,7 +8,7 @@ use Rattle.pg_copy_text.specs.Text.{Options, text_after, field_value, parts_from
 use Rattle.std.specs.List.{flat_map, onto_first}
 use Rattle.std.proofs.lemmas.List.{take_all, append_cancel_left}
 use Rattle.pg_copy_text.specs.declared.text_line.FieldEnd.{FieldEnd}
-use Rattle.pg_copy_text.specs.Private.TextRow.{field_text, line_texts, line_values}
+use Rattle.pg_copy_text.specs.Private.TextRow.{counted, field_text, line_texts, line_values}
 use Rattle.pg_copy_text.specs.Private.Units.{NoBackslash, has_backslash, units, IsUnitAt, IsFieldEnd}
 use Rattle.pg_copy_text.proofs.TextParts.{parts-first, parts-none}
 
@@ -36,11 +36,11 @@ null-text o field e = cond-true _ _ _ e
 pub plain-text-none : (o : Options) (field : List ℕ) → NoBackslash field → field_text o field ≡ []
 plain-text-none o field h = go (bytes_eq field o.null_mark)
   where
-    go : (t : Bool) → cond t [] (cond (has_backslash field) (text_after 0 field) []) ≡ []
+    go : (t : Bool) → cond t [] (cond (has_backslash field) (counted (text_after 0 field)) []) ≡ []
     go true = refl
     go false = cond-false _ _ _ (none-has field h)
 
-pub escaped-text : (o : Options) (field : List ℕ) → bytes_eq field o.null_mark ≡ false → has_backslash field ≡ true → field_text o field ≡ text_after 0 field
+pub escaped-text : (o : Options) (field : List ℕ) → bytes_eq field o.null_mark ≡ false → has_backslash field ≡ true → field_text o field ≡ counted (text_after 0 field)
 escaped-text o field e h = cond-false _ _ _ e ∙ cond-true _ _ _ h
 
 -- ---- the fields, one by one

@@ -5,7 +5,7 @@ use Rattle.std.specs.Char.{digit_value}
 use Rattle.std.specs.Prelude.{MatchOption}
 use Rattle.std.specs.Option.{SomeIff}
 use Rattle.std.proofs.lemmas.Bool.{lt-ltb, le-ltb, cond-true, cond-false, ne_eqb, eq-eqb}
-use Rattle.std.proofs.lemmas.List.{take_more, drop_more, drop_all, drop-drop, length-drop, length-take, get_or-drop, append-nil}
+use Rattle.std.proofs.lemmas.List.{take_more, drop_more, drop-drop, length-drop, length-take, get_or-drop, append-nil}
 use Rattle.std.proofs.lemmas.List.Sums.{take_while-cons}
 use Rattle.std.specs.Str.{bytes_eq}
 use Rattle.pg_copy_text.specs.Private.Units.{LeadsWith, NoBackslash, IsPlain}
@@ -167,51 +167,6 @@ IsReadTo-escape old bytes start at text byte len lt is value le h =
       in_range = omega (arith, length-drop (at + 1) bytes);
       rest = rw none (ap (λ (x : List ℕ). x ++ text_after 0 (drop (at + (1 + len)) bytes)) (append-nil ((text ++ take (at - start) (drop start bytes)) ++ byte ∷ [])) ∙ append_assoc (text ++ take (at - start) (drop start bytes)) (byte ∷ []) (text_after 0 (drop (at + (1 + len)) bytes)) ∙ ap (λ (x : List ℕ). (text ++ take (at - start) (drop start bytes)) ++ x) (sym next) ∙ h.rest);
     }
-
--- ---- how many bytes a text has
-
--- so many bytes of the text were counted up to at
-pub record IsCountedTo (bytes : List ℕ) (at len : ℕ) : Type 0 where
-  pub in_range : at ≤ length bytes
-  pub few : len ≤ at
-  pub rest : len + length (text_after 0 (drop at bytes)) ≡ length (text_after 0 bytes)
-
-pub IsCountedTo-begin : (bytes : List ℕ) → IsCountedTo bytes 0 0
-IsCountedTo-begin bytes = record { in_range = omega arith; few = omega arith; rest = omega arith }
-
-pub IsCountedTo-plain : (bytes : List ℕ) (at len : ℕ) → at < length bytes → (get_or bytes at 0 ≡ 92 → ⊥) → IsCountedTo bytes at len → IsCountedTo bytes (at + 1) (len + 1)
-IsCountedTo-plain bytes at len lt plain h =
-    let next : length (text_after 0 (drop at bytes)) ≡ length (get_or bytes at 0 ∷ text_after 0 (drop (at + 1) bytes)) = ap length (text-plain bytes at lt plain) in
-    record { in_range = omega arith; few = omega (arith, h.few); rest = omega (arith, h.rest, next) }
-
--- plain bytes more
-run-counted : (bytes : List ℕ) (at n len : ℕ) → at + n ≤ length bytes → ((i : ℕ) → at ≤ i → i < at + n → IsPlain 92 (get_or bytes i 0)) → IsCountedTo bytes at len → IsCountedTo bytes (at + n) (len + n)
-run-counted bytes at zero len le each h = record { in_range = omega (arith, h.in_range); few = omega (arith, h.few); rest = let same : at + 0 ≡ at = omega arith in rw same (omega (arith, h.rest)) }
-run-counted bytes at (suc n) len le each h =
-    let place : at + n + 1 ≡ at + suc n = omega arith in
-    let count : len + n + 1 ≡ len + suc n = omega arith in
-    rw (sym place, sym count)
-    (IsCountedTo-plain bytes (at + n) (len + n) (omega arith) (not-backslash _ (each (at + n) (omega arith) (omega arith))) (run-counted bytes at n len (omega arith) (λ i a b. each i a (omega (arith, b))) h))
-
--- a plain byte, and those after it
-pub IsCountedTo-run : (bytes : List ℕ) (at end len : ℕ) → at < length bytes → IsPlain 92 (get_or bytes at 0) → at + 1 ≤ end → end ≤ length bytes → ((i : ℕ) → at + 1 ≤ i → i < end → IsPlain 92 (get_or bytes i 0)) → IsCountedTo bytes at len → IsCountedTo bytes end (len + (end - at))
-IsCountedTo-run bytes at end len lt p in_order in_range each h =
-    let place : (at + 1) + (end - (at + 1)) ≡ end = omega (arith, in_order) in
-    let count : (len + 1) + (end - (at + 1)) ≡ len + (end - at) = omega (arith, in_order) in
-    let first = IsCountedTo-plain bytes at len lt (not-backslash _ p) h in
-    let run = run-counted bytes (at + 1) (end - (at + 1)) (len + 1) (omega (arith, place, in_range)) (λ i a b. each i a (omega (arith, place, b))) first in
-    subst (IsCountedTo bytes end) count (subst (λ (i : ℕ). IsCountedTo bytes i ((len + 1) + (end - (at + 1)))) place run)
-
-pub IsCountedTo-escape : (bytes : List ℕ) (at len byte escape : ℕ) → at < length bytes → get_or bytes at 0 ≡ 92 → (byte, escape) ≡ escape_at (drop (at + 1) bytes) → escape ≤ length (drop (at + 1) bytes) → IsCountedTo bytes at len → IsCountedTo bytes (at + (1 + escape)) (len + 1)
-IsCountedTo-escape bytes at len byte escape lt is value le h =
-    let next : length (text_after 0 (drop at bytes)) ≡ length (byte ∷ text_after 0 (drop (at + (1 + escape)) bytes)) = ap length (text-escape bytes at byte escape lt is value) in
-    record { in_range = omega (arith, length-drop (at + 1) bytes, le); few = omega (arith, h.few); rest = omega (arith, h.rest, next) }
-
-pub IsCountedTo-end : (bytes : List ℕ) (at len : ℕ) → length bytes ≤ at → IsCountedTo bytes at len → len ≡ length (text_after 0 bytes)
-IsCountedTo-end bytes at len le h =
-    let none : drop at bytes ≡ [] = drop_all at bytes le in
-    let nothing : length (text_after 0 (drop at bytes)) ≡ 0 = ap (λ (x : List ℕ). length (text_after 0 x)) none in
-    omega (arith, h.rest, nothing)
 
 -- ---- a field without a backslash
 

@@ -82,6 +82,21 @@ fn escape_at(bytes: &[u8]) -> (u8, usize)
     }
 }
 
+/// Appends bytes as they are. Between two escapes there is often none or one.
+#[inline(always)]
+fn put_run(bytes: &[u8], text: &mut Vec<u8>) -> Result<(), AllocError>
+    ensures { OnOk result (text.new.items ≡ text.old.items ++ bytes.now) }
+{
+    match bytes {
+        [] => Ok(()),
+        [byte] => {
+            text.push(*byte)?;
+            Ok(())
+        }
+        _ => text.extend_from_slice(bytes),
+    }
+}
+
 /// Appends the text that the bytes spell.
 pub fn put_text_of(bytes: &[u8], text: &mut Vec<u8>) -> Result<(), AllocError>
     ensures { OnOk result (text.new.items ≡ text.old.items ++ text_after 0 bytes.now) }
@@ -93,7 +108,7 @@ pub fn put_text_of(bytes: &[u8], text: &mut Vec<u8>) -> Result<(), AllocError>
         if is_plain(bytes[at], b'\\') {
             at = plain_end(bytes, at + 1, b'\\');
         } else if bytes[at] == b'\\' {
-            text.extend_from_slice(&bytes[start..at])?;
+            put_run(&bytes[start..at], text)?;
             let (byte, len) = escape_at(&bytes[at + 1..]);
             text.push(byte)?;
             at += 1 + len;
@@ -112,29 +127,6 @@ fn text_of(alloc: Global, bytes: &[u8]) -> Result<Vec<u8>, AllocError>
     let mut text = Vec::with_capacity(alloc, bytes.len())?;
     put_text_of(bytes, &mut text)?;
     Ok(text)
-}
-
-/// How many bytes the text has that the bytes spell.
-pub fn text_len(bytes: &[u8]) -> usize
-    ensures { result ≡ length (text_after 0 bytes.now) }
-{
-    let mut len = 0;
-    let mut at = 0;
-    while at < bytes.len() {
-        if is_plain(bytes[at], b'\\') {
-            let end = plain_end(bytes, at + 1, b'\\');
-            len += end - at;
-            at = end;
-        } else if bytes[at] == b'\\' {
-            let (_, escape) = escape_at(&bytes[at + 1..]);
-            len += 1;
-            at += 1 + escape;
-        } else {
-            len += 1;
-            at += 1;
-        }
-    }
-    len
 }
 
 /// The value of a field, which is plain where it has no backslash. Null is looked at before any escape.

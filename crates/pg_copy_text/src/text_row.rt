@@ -1,13 +1,14 @@
 //! A row of a text file, read in place: the text of a field that has an escape is copied, into one block, and nothing else is.
 
-ghost use Rattle.std.specs.Prelude.{◌≡◌, ◌++◌, ℕ, List, [], true, false, option_copied, OnOk};
+ghost use Rattle.std.specs.Prelude.{◌≡◌, ◌≤◌, ◌+◌, ◌++◌, ℕ, List, [], length, take, drop, true, false, option_copied, OnOk};
+ghost use Rattle.std.specs.Int.{w64, to_le_bytes};
 ghost use Rattle.std.specs.Iterator.{YieldsFirstBy, item_count};
-ghost use Rattle.pg_copy_text.specs.Text.{field_value};
+ghost use Rattle.pg_copy_text.specs.Text.{field_value, text_after};
 ghost use Rattle.pg_copy_text.specs.Private.Units.{NoBackslash, has_backslash};
-ghost use Rattle.pg_copy_text.specs.Private.TextRow.{field_text, line_texts, line_values, values_left};
+ghost use Rattle.pg_copy_text.specs.Private.TextRow.{counted, field_text, line_texts, line_values, values_left};
 
 use crate::plain::may_have_backslash;
-use crate::text_field::{put_text_of, text_len};
+use crate::text_field::put_text_of;
 use crate::text_line::field_end;
 use crate::text_options::TextOptions;
 use std::alloc::AllocError;
@@ -16,7 +17,48 @@ use std::marker::Model;
 // A block of texts that is left empty keeps its room up to so many bytes.
 const KEPT_ROOM: usize = 64 * 1024;
 
-/// Appends the text of a field that has an escape, where it isn't null.
+// The length in front of a text takes so many bytes. So whoever reads the text needn't count it again.
+const LENGTH: usize = 8;
+
+/// Writes the length of a text where it stands in a block.
+fn set_length(texts: &mut [u8], at: usize, len: u64)
+    requires { at + 8 ≤ length texts.old }
+    ensures { texts.new
+        ≡ take at texts.old ++ (to_le_bytes w64 len ++ drop (at + 8) texts.old) }
+{
+    texts[at..at + LENGTH].copy_from_slice(&len.to_le_bytes());
+}
+
+/// Appends the text that a field spells, after its length.
+fn put_counted_text(field: &[u8], texts: &mut Vec<u8>) -> Result<(), AllocError>
+    ensures { OnOk result (texts.new.items
+        ≡ texts.old.items ++ counted (text_after 0 field.now)) }
+{
+    // its text is no longer than it is
+    texts.reserve(field.len().saturating_add(LENGTH))?;
+    let at = texts.len();
+    texts.extend_from_slice(&[0; LENGTH])?;
+    let start = texts.len();
+    put_text_of(field, texts)?;
+    let len = texts.len() - start;
+    set_length(texts.as_mut_slice(), at, len as u64);
+    Ok(())
+}
+
+/// The text that stands first in a block, and what stands after it.
+fn first_text(texts: &[u8]) -> (&[u8], &[u8])
+    requires { (text : List ℕ) × (more : List ℕ) × (texts.now ≡ counted text ++ more) }
+    ensures { (text more : List ℕ) → texts.now ≡ counted text ++ more
+        → (result.0.now ≡ text) × (result.1.now ≡ more) }
+{
+    let (len, rest) = texts.split_at(LENGTH);
+    let len = u64::from_le_bytes([
+        len[0], len[1], len[2], len[3], len[4], len[5], len[6], len[7],
+    ]);
+    rest.split_at(len as usize)
+}
+
+/// Appends the text of a field that has an escape, where it isn't null, after its length.
 fn put_field_text(
     field: &[u8],
     plain: bool,
@@ -31,12 +73,10 @@ fn put_field_text(
     if plain || field == options.null_mark() {
         return Ok(());
     }
-    // its text is no longer than it is
-    texts.reserve(field.len())?;
-    put_text_of(field, texts)
+    put_counted_text(field, texts)
 }
 
-/// Appends the texts of a line's fields that have an escape, one after the other.
+/// Appends the texts of a line's fields that have an escape, each after its length.
 fn put_texts(line: &[u8], options: &TextOptions, texts: &mut Vec<u8>) -> Result<(), AllocError>
     ensures { OnOk result (texts.new.items
         ≡ texts.old.items ++ line_texts options.now line.now) }
@@ -109,7 +149,7 @@ fn value_of<'a>(
     if plain {
         return (Some(field), texts);
     }
-    let (text, rest) = texts.split_at(text_len(field));
+    let (text, rest) = first_text(texts);
     (Some(text), rest)
 }
 
@@ -119,7 +159,7 @@ fn value_of<'a>(
 pub struct TextRow<'a> {
     options: &'a TextOptions,
     line: &'a [u8],
-    // the texts of its fields that have an escape, one after the other
+    // the texts of its fields that have an escape, each after its length
     texts: &'a [u8],
 }
 

@@ -1,16 +1,21 @@
 -- A row of a text file read in place.
-use Rattle.std.specs.Prelude.{◌≡◌, ◌≤◌, ℕ, Bool, true, false, if◌then◌else◌, List, [], length, take, map, Option, Some, None}
+use Rattle.std.specs.Prelude.{◌≡◌, ◌≤◌, ℕ, Bool, true, false, if◌then◌else◌, List, [], ◌++◌, length, take, map, Option, Some, None}
+use Rattle.std.specs.Int.{w64, to_le_bytes}
 use Rattle.std.specs.List.{flat_map}
 use Rattle.std.specs.Str.{bytes_eq}
 use Rattle.pg_copy_rows.specs.Row.{Row}
 use Rattle.pg_copy_text.specs.Text.{Options, parts, text_after, field_value}
 use Rattle.pg_copy_text.specs.Private.Units.{has_backslash}
 
--- the text of a field that is copied: it has an escape, and isn't null
+-- a text after its length, which takes eight bytes
+abbrev pub counted : List ℕ → List ℕ
+counted text = to_le_bytes w64 (length text) ++ text
+
+-- what is copied of a field that has an escape, and isn't null: its text, after its length
 abbrev pub field_text : Options → List ℕ → List ℕ
 field_text o field =
     if bytes_eq field o.null_mark then []
-    else if has_backslash field then text_after 0 field
+    else if has_backslash field then counted (text_after 0 field)
     else []
 
 -- those of a line's fields, one after the other

@@ -5,7 +5,7 @@ use Rattle.pg_copy_text.proofs.text_field.put_text_of.Goals as goal
 pub loop-at-preserved-then-bytes-at-eq92 : goal.loop-at-preserved-then-bytes-at-eq92
 loop-at-preserved-then-bytes-at-eq92 c =
     let l = c.loop-at in
-    rw (c.in_ok-push.ensures.items, c.in_ok-extend_from_slice.ensures.items)
+    rw (c.in_ok-push.ensures.items, c.in_ok-put_run.ensures)
     (IsReadTo-escape c.args.text.now.items c.args.bytes.now l.start l.at l.text.items _ _ c.loop-at-test.true c.if-bytes-at-eq92.true (rw take_rest at c.escape_at-byte.ensures.value) (rw take_rest at c.escape_at-byte.ensures.len) l.invariant)
 
 pub loop-at-preserved-then-is_plain : goal.loop-at-preserved-then-is_plain
