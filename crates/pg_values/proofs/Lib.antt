@@ -1,4 +1,5 @@
 pub mod Views
+pub mod Heads
 pub mod Blocks
 pub mod Equal
 pub mod Lists
