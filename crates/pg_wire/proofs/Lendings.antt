@@ -1,28 +1,46 @@
 -- What is lent at the beginning of a buffer.
 use Rattle.std.proofs.Common.{◌≡◌, ℕ, zero, suc, ◌+◌, ◌-◌, ◌<◌, ◌≤◌, false, true, List, [], ◌∷◌, length, take, drop, Option, Some, None, Result, Ok, Err, refl, sym, ap, subst, ◌∙◌, arith, inl, inr}
-use Rattle.std.specs.Prelude.{slice_index}
+use Rattle.std.specs.Prelude.{Bool, ◌||◌, ◌==◌, ◌⊎◌, ◌++◌, slice_index}
+use Rattle.std.proofs.lemmas.Bool.{eqb-true}
 use Rattle.std.specs.Option.{IsSome}
-use Rattle.std.proofs.lemmas.List.{drop-take, length-take}
+use Rattle.std.proofs.lemmas.List.{drop-take}
 use Rattle.pg_wire.specs.declared.fault.WireFault.{WireFault}
 use Rattle.pg_wire.specs.declared.fault.WireFault.TheVariants as wire
-use Rattle.pg_wire.specs.declared.back.Cut.TheVariants as cut
-use Rattle.pg_wire.specs.declared.find.Found.TheVariants as found
 use Rattle.pg_layout.proofs.Layouts.{IsBytes, IsBytes-take}
 use Rattle.pg_message.specs.declared.lent.Lent.{Lent}
-use Rattle.pg_message.specs.declared.message.BackMessage.{BackMessage}
-use Rattle.pg_message.specs.Direction.{longest}
+use Rattle.pg_message.specs.declared.message.BackMessage.TheVariants.{DataRow, ErrorResponse, NoticeResponse}
+use Rattle.pg_message.specs.Direction.{Direction, spelling, longest}
 use Rattle.pg_message.specs.Lent.{message_of}
 use Rattle.pg_message.specs.Private.LentReader.{has_lent, lent_body, lent_bytes, LendsBody}
 use Rattle.pg_message.specs.Backend.{backend}
-use Rattle.pg_message.specs.Message.{IsMessage}
-use Rattle.pg_message.proofs.Lendings.{lends, other_tag}
+use Rattle.pg_message.specs.Message.{IsTag, IsMessage}
+use Rattle.pg_message.proofs.Lendings.{lends}
 use Rattle.pg_wire.specs.Stream.{IsWhole, IsFaulty}
 use Rattle.pg_wire.specs.Decoder.{DecoderState, Takes}
-use Rattle.pg_wire.specs.BackDecoder.{LetsGo, TakesLent, as_next}
-use Rattle.pg_wire.specs.Private.Found.{FindsLent}
+use Rattle.pg_wire.specs.BackDecoder.{LetsGo}
+use Rattle.pg_wire.specs.Private.Found.{IsFirst, FindsLent}
 use Rattle.pg_wire.specs.Spellings.{LetsBytes}
-use Rattle.pg_wire.specs.Private.Held.{StreamState, IsHeldFront, back_state}
-use Rattle.pg_wire.proofs.Rests.{IsBytes-drop, message_found, bad_fault}
+use Rattle.pg_wire.specs.Private.Held.{IsHeldFront}
+use Rattle.pg_wire.proofs.Rests.{IsBytes-drop, faulty_begins_none, message_found, bad_fault}
+
+-- ---- tags
+
+one_of_them : (a b c : Bool) → (a || b || c) ≡ true → (a ≡ true) ⊎ (b ≡ true) ⊎ (c ≡ true)
+one_of_them true b c e = inl refl
+one_of_them false true c e = inr (inl refl)
+one_of_them false false true e = inr (inr refl)
+one_of_them false false false e = absurd cc
+
+-- some message has the tag of one that is lent
+pub lent_tag : (t : ℕ) → has_lent t ≡ true → IsTag backend t
+lent_tag t e =
+    elim (one_of_them (t == 68) (t == 69) (t == 78) e) [
+      | inl p ↦ (DataRow [], sym (eqb-true _ _ p))
+      | inr p ↦ elim p [
+        | inl q ↦ (ErrorResponse [], sym (eqb-true _ _ q))
+        | inr q ↦ (NoticeResponse [], sym (eqb-true _ _ q))
+      ]
+    ]
 
 -- ---- a message that was judged
 
@@ -42,19 +60,21 @@ module _ (limit : ℕ) (rest : List ℕ) (t len n : ℕ) where
   body_lends : IsBytes rest → has_lent t ≡ true → LendsBody t (take n (drop 5 rest)) (lent_body t (take n (drop 5 rest)))
   body_lends fits known = lends t (take n (drop 5 rest)) known (IsBytes-take n (drop 5 rest) (IsBytes-drop 5 rest fits))
 
-  pub lent_found : (lent : Lent) → limit ≤ longest → IsBytes rest → IsWhole backend limit rest t len → n ≡ len - 4 → has_lent t ≡ true → lent_body t (take n (drop 5 rest)) ≡ Some lent → FindsLent limit rest (Ok (found.Lent (len + 1)))
+  pub lent_found : (lent : Lent) → limit ≤ longest → IsBytes rest → IsWhole backend limit rest t len → n ≡ len - 4 → has_lent t ≡ true → lent_body t (take n (drop 5 rest)) ≡ Some lent → FindsLent limit rest (Some (len + 1))
   lent_found lent small fits whole size known is =
       let message : IsMessage backend t (take n (drop 5 rest)) (message_of lent) = subst (LendsBody t (take n (drop 5 rest))) is (body_lends fits known) in
       let first = message_found backend limit rest t len n (message_of lent) small fits whole size message in
       (lent, omega (arith, whole.not_short), lent_whole limit rest t len n lent whole size is, (whole.there, first.0, first.1))
 
-  pub none_lent : IsBytes rest → IsWhole backend limit rest t len → n ≡ len - 4 → has_lent t ≡ true → lent_body t (take n (drop 5 rest)) ≡ None → IsFaulty backend limit rest (wire.BadBody t)
-  none_lent fits whole size known is = bad_fault backend limit rest t len n whole size (subst (LendsBody t (take n (drop 5 rest))) is (body_lends fits known))
+  pub none_lent : IsBytes rest → IsWhole backend limit rest t len → n ≡ len - 4 → has_lent t ≡ true → lent_body t (take n (drop 5 rest)) ≡ None → FindsLent limit rest None
+  none_lent fits whole size known is = λ m more w e.
+      let none = bad_fault backend limit rest t len n whole size (subst (LendsBody t (take n (drop 5 rest))) is (body_lends fits known)) in
+      absurd (faulty_begins_none backend limit rest (wire.BadBody t) none m more w e)
 
-  pub other_found : (m : BackMessage) → limit ≤ longest → IsBytes rest → IsWhole backend limit rest t len → n ≡ len - 4 → has_lent t ≡ false → IsMessage backend t (take n (drop 5 rest)) m → FindsLent limit rest (Ok (found.Other m (len + 1)))
-  other_found m small fits whole size other is =
-      let first = message_found backend limit rest t len n m small fits whole size is in
-      (other_tag m (subst (λ (k : ℕ). has_lent k ≡ false) (sym is.tag_is) other), (whole.there, first.0, first.1))
+-- ---- no message that is lent
+
+pub faulty_lends_none : (limit : ℕ) (rest : List ℕ) (f : WireFault) → IsFaulty backend limit rest f → FindsLent limit rest None
+faulty_lends_none limit rest f p = λ m more w e. absurd (faulty_begins_none backend limit rest f p m more w e)
 
 -- ---- the beginning of the buffer
 
@@ -91,47 +111,12 @@ still_lent old (Err (wire.BadFirst x)) new e h = inl e
 
 -- ---- a message that is held
 
--- where nothing is held, the rest is the whole buffer
-nothing_before : (held : ℕ) (items : List ℕ) → held ≤ length items → take held items ≡ [] → drop held items ≡ items
-nothing_before zero items fits e = refl
-nothing_before (suc n) [] fits e = absurd (omega arith)
-nothing_before (suc n) (x ∷ items) fits e = absurd cc
-
+-- a decoder that keeps these bytes
 abbrev pub decoded : List ℕ → ℕ → Option WireFault → DecoderState
 decoded kept limit fault = record { kept = kept; limit = limit; fault = fault }
 
--- a buffer that holds so many bytes of its beginning
-abbrev pub buffered : ℕ → List ℕ → ℕ → Option WireFault → StreamState
-buffered held items limit fault = record { front = take held items; rest = decoded (drop held items) limit fault }
-
-holds_next : (items : List ℕ) (limit size : ℕ) (fault : Option WireFault) (held : Option Lent) → fault ≡ None → FindsLent limit items (Ok (found.Lent size))
-    → TakesLent (record { stream = decoded items limit fault; held = held }) (Ok cut.Held) (back_state (buffered size items limit fault))
-holds_next items limit size fault held unfailed f =
-    let new : DecoderState = decoded (drop size items) limit fault in
-    let taken : Takes backend (decoded items limit fault) (Ok (Some (message_of f.0))) new = (unfailed, f.3.1, f.3.2, refl) in
-    record {
-      takes = subst (λ (o : Option Lent). Takes backend (decoded items limit fault) (as_next (Ok cut.Held) o) new) (sym f.2) taken;
-      holds = (f.0, f.2);
-    }
-
-module _ (old : StreamState) (rest : List ℕ) (gone : StreamState) (held : ℕ) (items : List ℕ) (limit : ℕ) (fault : Option WireFault) (size : ℕ) where
-  pub whole_buffer : buffered held items limit fault ≡ gone → held ≤ length items → gone.front ≡ [] → gone.rest ≡ old.rest → decoded items limit fault ≡ old.rest
-  whole_buffer view fits none same =
-      let empty : take held items ≡ [] = ap (λ (s : StreamState). s.front) view ∙ none in
-      ap (λ (u : List ℕ). decoded u limit fault) (sym (nothing_before held items fits empty)) ∙ ap (λ (s : StreamState). s.rest) view ∙ same
-
-  pub lends_next : (limit' : ℕ) → limit' ≡ old.rest.limit → old.rest.fault ≡ None → rest ≡ old.rest.kept → buffered held items limit fault ≡ gone → held ≤ length items → gone.front ≡ [] → gone.rest ≡ old.rest
-      → FindsLent limit' rest (Ok (found.Lent size)) → TakesLent (back_state old) (Ok cut.Held) (back_state (buffered size items limit fault))
-  lends_next limit' limits unfailed at view fits none same f =
-      let is : decoded items limit fault ≡ old.rest = whole_buffer view fits none same in
-      let limited : FindsLent old.rest.limit rest (Ok (found.Lent size)) = subst (λ (l : ℕ). FindsLent l rest (Ok (found.Lent size))) limits f in
-      let here : FindsLent old.rest.limit old.rest.kept (Ok (found.Lent size)) = subst (λ (u : List ℕ). FindsLent old.rest.limit u (Ok (found.Lent size))) at limited in
-      let there : FindsLent limit items (Ok (found.Lent size)) = subst (λ (s : DecoderState). FindsLent s.limit s.kept (Ok (found.Lent size))) (sym is) here in
-      let unfailed' : fault ≡ None = ap (λ (s : DecoderState). s.fault) is ∙ unfailed in
-      subst (λ (s : DecoderState). TakesLent (record { stream = s; held = lent_bytes old.front }) (Ok cut.Held) (back_state (buffered size items limit fault))) is
-      (holds_next items limit size fault (lent_bytes old.front) unfailed' there)
-
-  pub still_held : (limit' : ℕ) → rest ≡ old.rest.kept → buffered held items limit fault ≡ gone → held ≤ length items → gone.front ≡ [] → gone.rest ≡ old.rest → FindsLent limit' rest (Ok (found.Lent size)) → IsHeldFront (take size items)
-  still_held limit' at view fits none same f =
-      let is : items ≡ rest = ap (λ (s : DecoderState). s.kept) (whole_buffer view fits none same) ∙ sym at in
-      subst (λ (u : List ℕ). IsHeldFront (take size u)) (sym is) (inr (omega (arith, f.1, f.3.0, length-take size rest), subst IsSome (sym f.2) refl))
+-- the first message is taken off
+pub takes_first : {M : Type 0} (d : Direction M) (old new : DecoderState) (m : M) (size : ℕ) → old.fault ≡ None → new ≡ decoded (drop size old.kept) old.limit old.fault → IsFirst d old.limit old.kept m size → Takes d old (Ok (Some m)) new
+takes_first d old new m size unfailed is f =
+    let left : new.kept ≡ drop size old.kept = ap (λ (s : DecoderState). s.kept) is in
+    (unfailed, f.1, f.2 ∙ ap (λ (u : List ℕ). spelling d m ++ u) (sym left), is ∙ ap (λ (u : List ℕ). decoded u old.limit old.fault) (sym left))

@@ -1,5 +1,5 @@
 -- A reader of spellings as its callers see it, and what its calls do.
-use Rattle.std.specs.Prelude.{◌≡◌, [], ℕ, List, Bool, true, false, Option, Some, None, Result, Ok, Err}
+use Rattle.std.specs.Prelude.{◌≡◌, [], ℕ, List, Bool, true, false, Some, None, Result, Ok, Err}
 use Rattle.pg_wire.specs.declared.fault.WireFault.{WireFault}
 use Rattle.pg_wire.specs.declared.fault.WireFault.TheVariants as wire
 use Rattle.pg_message.specs.Direction.{Direction, spelling}

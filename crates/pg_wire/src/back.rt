@@ -109,6 +109,7 @@ impl BackDecoder {
 
     /// The next message, as `next` gives it, but a row, an error or a notice is Held: it counts as given, and `held` lends it
     /// until the next call of `push`, `next` or `next_lent` that doesn't answer Memory. For such a message no memory is taken.
+    #[inline(always)]
     pub fn next_lent(&mut self) -> Result<Cut, WireFault>
         ensures call { TakesLent self.old result self.new }
         ensures taken { (pushed : List ℕ) (given : List BackMessage)

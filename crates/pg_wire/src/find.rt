@@ -2,7 +2,7 @@
 
 ghost use Rattle.std.specs.Prelude.{◌≡◌, ◌<◌, length, MatchOption};
 ghost use Rattle.pg_message.specs.Direction.{IsLimit};
-ghost use Rattle.pg_wire.specs.Stream.{Head};
+ghost use Rattle.pg_wire.specs.Stream.{Head, IsTag};
 ghost use Rattle.pg_wire.specs.Private.Found.{Judges, Finds, FindsLent, FindsWhole};
 
 use crate::fault::WireFault;
@@ -38,6 +38,16 @@ fn judge<M: Message>(limit: u32, rest: &[u8]) -> Judged
     if !M::is_tag(tag) {
         return Judged::Faulty(WireFault::UnknownTag(tag));
     }
+    judge_length::<M>(limit, rest, tag, len)
+}
+
+/// What the length field of a head says, whose tag is that of some message.
+fn judge_length<M: Message>(limit: u32, rest: &[u8], tag: u8, len: i32) -> Judged
+    requires limit { IsLimit limit }
+    requires head { Head rest.now tag len }
+    requires known { IsTag M.direction tag }
+    ensures { Judges M.direction limit rest.now result }
+{
     if len < 4 {
         return Judged::Faulty(WireFault::ShortLength(len));
     }
@@ -90,36 +100,23 @@ pub fn find_whole<M: Message>(limit: u32, rest: &[u8]) -> Judged
     }
 }
 
-/// What stands at the beginning of a rest, where some messages are lent.
-pub enum Found {
-    Nothing,
-    /// A message that is lent takes so many bytes.
-    Lent(usize),
-    /// Another message takes so many bytes.
-    Other(BackMessage, usize),
-}
-
-/// A backend's message at the beginning of a rest, which is judged in place if it is one that is lent.
-pub fn find_lent(alloc: Global, limit: u32, rest: &[u8]) -> Result<Found, WireFault>
+/// How many bytes the message at the beginning of a backend's rest takes, if it is all there and one that is lent.
+pub fn lent_size(limit: u32, rest: &[u8]) -> Option<usize>
     requires { IsLimit limit }
     ensures { FindsLent limit rest.now result }
 {
-    match judge::<BackMessage>(limit, rest) {
-        Judged::Open => Ok(Found::Nothing),
-        Judged::Faulty(fault) => Err(fault),
-        Judged::Whole(tag, len) => {
-            let body = &rest[5..len + 1];
-            if Lent::has_tag(tag) {
-                return match Lent::of_body(tag, body) {
-                    Some(_) => Ok(Found::Lent(len + 1)),
-                    None => Err(WireFault::BadBody(tag)),
-                };
-            }
-            match BackMessage::of_body(alloc, tag, body) {
-                Ok(message) => Ok(Found::Other(message, len + 1)),
-                Err(BodyFault::Bad) => Err(WireFault::BadBody(tag)),
-                Err(BodyFault::Memory) => Err(WireFault::Memory),
-            }
-        }
+    let Some((tag, len)) = head(rest) else {
+        return None;
+    };
+    if !Lent::has_tag(tag) {
+        return None;
+    }
+    match judge_length::<BackMessage>(limit, rest, tag, len) {
+        Judged::Open => None,
+        Judged::Faulty(_) => None,
+        Judged::Whole(tag, len) => match Lent::of_body(tag, &rest[5..len + 1]) {
+            Some(_) => Some(len + 1),
+            None => None,
+        },
     }
 }

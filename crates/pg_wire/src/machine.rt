@@ -1,17 +1,17 @@
 //! What the decoders of tagged messages have in common.
 
-ghost use Rattle.std.specs.Prelude.{◌≡◌, ◌≤◌, [], true, drop, length};
+ghost use Rattle.std.specs.Prelude.{◌≡◌, ◌≤◌, [], true, take, drop, length};
 ghost use Rattle.pg_message.specs.Direction.{IsLimit};
 ghost use Rattle.pg_message.specs.Private.LentReader.{lent_bytes};
 ghost use Rattle.pg_wire.specs.Decoder.{Pushes, IsLasting, Takes};
 ghost use Rattle.pg_wire.specs.BackDecoder.{TakesLent};
 ghost use Rattle.pg_wire.specs.Spellings.{LetsBytes, TakesSpelling};
-ghost use Rattle.pg_wire.specs.Private.Held.{back_state, spellings_state, IsHeldFront};
+ghost use Rattle.pg_wire.specs.Private.Held.{back_state, spellings_state, IsHeldFront, HoldsNext};
 
 use crate::back::Cut;
 use crate::buffer::drop_first;
 use crate::fault::WireFault;
-use crate::find::{Found, Judged, find, find_lent, find_whole};
+use crate::find::{Judged, find, find_whole, lent_size};
 use bytes::BytesMut;
 use pg_message::{BackMessage, Message};
 use std::alloc::Global;
@@ -111,6 +111,18 @@ impl<M: Message> Stream<M> {
         }
     }
 
+    /// Ends the holding, and holds so many bytes of what is kept.
+    fn hold(&mut self, count: usize)
+        requires { count ≤ length self.old.rest.kept }
+        ensures front { self.new.front ≡ take count self.old.rest.kept }
+        ensures rest { self.new.rest ≡ record self.old.rest { kept = drop count self.old.rest.kept } }
+    {
+        // what is held stays in the buffer, so that it isn't left empty, with room to be given back
+        let held = self.held;
+        self.buffer.advance(held);
+        self.held = count;
+    }
+
     /// The limit of a message's length field.
     pub fn limit(&self) -> u32
         ensures { result ≡ self.now.rest.limit }
@@ -193,8 +205,7 @@ impl<M: Message> Stream<M> {
                 Err(reason)
             }
             Judged::Whole(_, len) => {
-                self.let_go();
-                self.held = len + 1;
+                self.hold(len + 1);
                 Ok(true)
             }
         }
@@ -202,35 +213,34 @@ impl<M: Message> Stream<M> {
 }
 
 impl Stream<BackMessage> {
+    /// Holds the next message of a backend where it is all there and one that is lent, and else changes nothing; whether it did.
+    fn hold_next(&mut self) -> bool
+        ensures { HoldsNext self.old result self.new }
+    {
+        if self.fault.is_some() {
+            return false;
+        }
+        let Some(size) = lent_size(self.limit, self.rest()) else {
+            return false;
+        };
+        self.hold(size);
+        true
+    }
+
     /// The next message of a backend: one that is lent stays in the buffer, and another is taken off.
+    // a part of its callers: to hold a row they need no room for another message
+    #[inline(always)]
     pub fn next_lent(&mut self) -> Result<Cut, WireFault>
         ensures call { TakesLent (back_state self.old) result (back_state self.new) }
         ensures front { IsHeldFront self.old.front → IsHeldFront self.new.front }
     {
-        if let Some(fault) = self.fault {
-            self.let_go();
-            return Err(fault);
+        if self.hold_next() {
+            return Ok(Cut::Held);
         }
-        match find_lent(self.alloc, self.limit, self.rest()) {
-            Ok(Found::Nothing) => {
-                self.let_go();
-                Ok(Cut::Nothing)
-            }
-            Ok(Found::Lent(size)) => {
-                self.let_go();
-                self.held = size;
-                Ok(Cut::Held)
-            }
-            Ok(Found::Other(message, size)) => {
-                self.take_off(size);
-                Ok(Cut::Other(message))
-            }
-            Err(WireFault::Memory) => Err(WireFault::Memory),
-            Err(reason) => {
-                self.let_go();
-                self.fault = Some(reason);
-                Err(reason)
-            }
+        match self.next() {
+            Ok(None) => Ok(Cut::Nothing),
+            Ok(Some(message)) => Ok(Cut::Other(message)),
+            Err(fault) => Err(fault),
         }
     }
 }

@@ -4,9 +4,8 @@ use Rattle.pg_wire.specs.declared.fault.WireFault.{WireFault}
 use Rattle.pg_wire.specs.declared.fault.WireFault.TheVariants as wire
 use Rattle.pg_wire.specs.declared.find.Judged.{Judged}
 use Rattle.pg_wire.specs.declared.find.Judged.TheVariants as judged
-use Rattle.pg_wire.specs.declared.find.Found.{Found}
-use Rattle.pg_wire.specs.declared.find.Found.TheVariants as found
 use Rattle.pg_message.specs.declared.lent.Lent.{Lent}
+use Rattle.pg_message.specs.declared.message.BackMessage.{BackMessage}
 use Rattle.pg_message.specs.Backend.{backend}
 use Rattle.pg_message.specs.Direction.{Direction, spelling}
 use Rattle.pg_message.specs.Lent.{message_of, is_lent}
@@ -42,11 +41,13 @@ Finds d limit rest (Ok None) = IsOpen d limit rest × (length rest < limit + 1)
 Finds d limit rest (Ok (Some x)) = IsFirst d limit rest x.0 x.1
 Finds d limit rest (Err f) = Refuses d limit rest f
 
--- the same of a backend's messages, some of which are lent
-abbrev pub FindsLent : ℕ → List ℕ → Result Found WireFault → Type 0
-FindsLent limit rest (Ok found.Nothing) = IsOpen backend limit rest × (length rest < limit + 1)
-FindsLent limit rest (Ok (found.Lent len)) = (lent : Lent) × (5 ≤ len)
+-- The rest begins with no message within the limit that is lent.
+abbrev pub BeginsNoLent : ℕ → List ℕ → Type 0
+BeginsNoLent limit rest = (m : BackMessage) (more : List ℕ) → IsWithin backend limit m
+    → rest ≡ spelling backend m ++ more → is_lent m ≡ false
+
+-- how many bytes a message that is lent takes at the beginning of the rest, if one is there
+abbrev pub FindsLent : ℕ → List ℕ → Option ℕ → Type 0
+FindsLent limit rest (Some len) = (lent : Lent) × (5 ≤ len)
     × (lent_bytes (take len rest) ≡ Some lent) × IsFirst backend limit rest (message_of lent) len
-FindsLent limit rest (Ok (found.Other m len)) = (is_lent m ≡ false)
-    × IsFirst backend limit rest m len
-FindsLent limit rest (Err f) = Refuses backend limit rest f
+FindsLent limit rest None = BeginsNoLent limit rest

@@ -1,4 +1,4 @@
-use Rattle.std.proofs.Common.{◌+◌, ◌-◌, List, ℕ, take, drop, subst, arith}
+use Rattle.std.proofs.Common.{◌+◌, ◌-◌, take, drop, subst, arith}
 use Rattle.pg_message.specs.Message.{JudgesBody}
 use Rattle.pg_wire.proofs.Rests.{message_found}
 use Rattle.pg_wire.proofs.find.find_whole.Goals as goal

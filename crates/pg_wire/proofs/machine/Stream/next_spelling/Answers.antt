@@ -5,8 +5,5 @@ use Rattle.pg_wire.proofs.machine.Stream.next_spelling.Goals as goal
 
 pub returns-in-Whole : goal.returns-in-Whole
 returns-in-Whole g c =
-    let after = c.self-in-Whole in
-    let gone = c.let_go-in-Whole in
     let unfailed = sym (ap (λ (s : StreamState). s.rest.fault) c.self.view_is) ∙ c.in_default.is in
-    spelling_held g.M.Message.direction c.args.self.now c.rest.result.now gone.new.self after.inside.held after.inside.buffer.items after.inside.limit after.inside.fault (c.in-Whole.len + 1)
-    c.self.inside.limit (ap (λ (s : StreamState). s.rest.limit) c.self.view_is) unfailed c.rest.ensures after.view_is after.invariant.0 gone.ensures.front gone.ensures.rest c.in-Whole.ensures
+    spelling_held g.M.Message.direction c.args.self.now c.hold.new.self c.self.inside.limit c.rest.result.now (c.in-Whole.len + 1) (ap (λ (s : StreamState). s.rest.limit) c.self.view_is) c.rest.ensures unfailed c.hold.ensures.front c.hold.ensures.rest c.in-Whole.ensures
