@@ -1,6 +1,5 @@
-use Rattle.std.proofs.Common.{◌∙◌, ap}
+use Rattle.std.proofs.Common.{◌∙◌}
 use Rattle.pgpipe_loop.proofs.LineWriting.{whole_text}
-use Rattle.pgpipe_loop.specs.Private.Lines.{LineState}
 use Rattle.pgpipe_loop.specs.contracts.lines.buffer.LineBuffer.{the_view}
 use Rattle.pgpipe_loop.proofs.lines.buffer.LineBuffer.into_text.Goals as goal
 
