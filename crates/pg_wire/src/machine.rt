@@ -214,6 +214,8 @@ impl<M: Message> Stream<M> {
 
 impl Stream<BackMessage> {
     /// Holds the next message of a backend where it is all there and one that is lent, and else changes nothing; whether it did.
+    // a call of its own: as a part of a caller's loop it takes the registers that the loop works with
+    #[inline(never)]
     fn hold_next(&mut self) -> bool
         ensures { HoldsNext self.old result self.new }
     {
