@@ -1,12 +1,12 @@
 -- A block of values holds what was put into it, each value where it begins.
-use Rattle.std.proofs.Common.{◌≡◌, ◌⊎◌, inl, inr, ℕ, zero, suc, ◌+◌, ◌-◌, ◌^◌, ◌<◌, ◌≤◌, false, ltb, List, [], ◌∷◌, ◌++◌, length, get_or, take, drop, Option, Some, None, refl, sym, ap, subst, ◌∙◌, append_assoc, arith, length-append, lit<, lit≤}
+use Rattle.std.proofs.Common.{◌≡◌, ℕ, zero, suc, ◌+◌, ◌-◌, ◌^◌, ◌<◌, ◌≤◌, false, ltb, List, [], ◌∷◌, ◌++◌, length, get_or, take, drop, Option, Some, None, refl, sym, ap, subst, ◌∙◌, append_assoc, arith, length-append, lit<, lit≤}
 use Rattle.std.specs.Prelude.{IsSome}
 use Rattle.std.specs.List.{slice_get}
 use Rattle.std.proofs.lemmas.Grind.{flat_map-append}
 use Rattle.std.specs.Int.{w16, w32, to_be_bytes, from_be_bytes}
-use Rattle.std.proofs.lemmas.Bool.{cases_lt, ltb-false}
+use Rattle.std.proofs.lemmas.Bool.{ltb-false}
 use Rattle.std.proofs.lemmas.List.{append-nil, get_or-drop, drop_at, drop_more, take_at, take-append-drop, length-drop}
-use Rattle.std.proofs.lemmas.Option.{get_or_from_slice_get, slice_get-get_or, slice_get_past, slice_get_within}
+use Rattle.std.proofs.lemmas.Option.{slice_get-get_or, slice_get_past}
 use Rattle.pg_layout.specs.Field.{value, value_bytes, listed}
 use Rattle.pg_layout.specs.Private.Reader.{◌>>=◌, times_at, value_at, number_at, value_of_length}
 use Rattle.pg_layout.proofs.Layouts.{IsBytes, Spelled, times_again, times_sound, bind_some, some_is, guard_some, wide32}
@@ -85,12 +85,11 @@ module _ (places block : List ℕ) (b : IsBlock places block) where
   count_is = sym (length-starts 0 Values) ∙ ap length (sym b.starts_are)
 
   -- the value that begins at a place
-  pub value_there : (i place : ℕ) → Some place ≡ slice_get places i → ValueThere places block i place
-  value_there i place found =
-      let lt : i < length places = slice_get_within places i place (sym found) in
+  pub value_there : (i place : ℕ) → i < length places → ((d : ℕ) → place ≡ get_or places i d) → ValueThere places block i place
+  value_there i place lt is =
       let within : i < length Values = omega (arith, count_is, lt) in
       let v = get_or Values i None in
-      let at : place ≡ length (spelled (take i Values)) = sym (get_or_from_slice_get places i place 0 (sym found)) ∙ ap (λ (ps : List ℕ). get_or ps i 0) b.starts_are ∙ start_is 0 Values i 0 within ∙ zero_first (length (spelled (take i Values))) in
+      let at : place ≡ length (spelled (take i Values)) = is 0 ∙ ap (λ (ps : List ℕ). get_or ps i 0) b.starts_are ∙ start_is 0 Values i 0 within ∙ zero_first (length (spelled (take i Values))) in
       let from : drop place block ≡ value_bytes v ++ spelled (drop (i + 1) Values) = ap (λ (n : ℕ). drop n block) at ∙ ap (drop (length (spelled (take i Values)))) (sym b.whole) ∙ from_start Values i ∙ ap spelled (drop_more Values i None within) in
       let parts : spelled Values ≡ spelled (take i Values) ++ spelled (drop i Values) = ap spelled (sym (take-append-drop i Values)) ∙ flat_map-append value_bytes (take i Values) (drop i Values) in
       let all : length block ≡ length (spelled (take i Values)) + length (spelled (drop i Values)) = ap length (sym b.whole ∙ parts) ∙ length-append (spelled (take i Values)) (spelled (drop i Values)) in
@@ -99,19 +98,15 @@ module _ (places block : List ℕ) (b : IsBlock places block) where
       let read = value_reads.again v (spelled (drop (i + 1) Values)) (record { no_zero = refl; countable = refl; of_type = tt }) (omega (arith, limit, b.short, all, front)) in
       (v, spelled (drop (i + 1) Values), omega (arith, at, all), ap value_at from ∙ read, slice_get-get_or Values i None within)
 
+  -- the same, where the places and the block were lent as these lists
+  pub found_there : (lent : List ℕ) → lent ≡ places → (i place : ℕ) → i < length lent → ((d : ℕ) → place ≡ get_or lent i d) → ValueThere places block i place
+  found_there lent e i place lt is = value_there i place (omega (arith, ap length e, lt)) (λ d. is d ∙ ap (λ (ps : List ℕ). get_or ps i d) e)
+
   pub read_there : (i place : ℕ) (t : ValueThere places block i place) (lent rest : List ℕ) → lent ≡ block → rest ≡ drop place lent → value_at rest ≡ Some (t.0, t.1)
   read_there i place t lent rest e back = ap value_at (back ∙ ap (drop place) e) ∙ t.3
 
-  -- there is none where there is no place
-  pub nothing_there : (i : ℕ) → None ≡ slice_get places i → slice_get Values i ≡ None
-  nothing_there i none = by (cases_lt i (length places))
-    where
-      by : (i < length places) ⊎ (length places ≤ i) → slice_get Values i ≡ None
-      by (inl lt) = absurd (apart (get_or places i 0) (none ∙ slice_get-get_or places i 0 lt))
-        where
-          apart : (place : ℕ) → None ≡ Some place → ⊥
-          apart place e = cc
-      by (inr le) = slice_get_past Values i (omega (arith, count_is, le))
+  pub nothing_there : (i : ℕ) → length places ≤ i → slice_get Values i ≡ None
+  nothing_there i le = slice_get_past Values i (omega (arith, count_is, le))
 
   -- one value more
   pub one_more : (v : Option (List ℕ)) → length block + length (value_bytes v) ≤ longest_block → (values_left (length (places ++ length block ∷ [])) (block ++ value_bytes v) ≡ Values ++ v ∷ []) × IsBlock (places ++ length block ∷ []) (block ++ value_bytes v)

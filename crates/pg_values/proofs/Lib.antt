@@ -1,5 +1,4 @@
 pub mod Views
-pub mod Heads
 pub mod Blocks
 pub mod Equal
 pub mod Lists

@@ -4,7 +4,6 @@
 //! It stands between `pg_layout` and `pg_message`. Users name `pg_wire`, which passes on what they need of it.
 #![tactic(auto)]
 
-mod block;
 mod fields;
 mod parameters;
 mod part;

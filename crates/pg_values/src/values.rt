@@ -1,6 +1,6 @@
 //! The values of a row or a Bind, in one block of memory.
 
-ghost use Rattle.std.specs.Prelude.{◌≡◌, ◌↔◌, ◌<◌, ◌+◌, ◌≤◌, [], ◌∷◌, ◌++◌, length, map, option_copied, option_map, slice_get, vec_len, OnOk, OnErr, IfOk, IfErr, IsTrue, Err};
+ghost use Rattle.std.specs.Prelude.{◌≡◌, ◌↔◌, ◌<◌, ◌+◌, ◌≤◌, [], ◌∷◌, ◌++◌, length, map, option_copied, option_map, slice_get, vec_len, OnOk, OnErr, IfOk, IfErr, IfSome, IsTrue, Err};
 ghost use Rattle.std.specs.Prelude.{nat_eq};
 ghost use Rattle.std.specs.Option.{option_eq};
 ghost use Rattle.std.specs.Cmp.Lexicographic.{pointwise, lists_per, lists_equiv, options_equiv, nat_list_eq_equiv};
@@ -11,7 +11,6 @@ ghost use Rattle.pg_layout.specs.Private.Reader.{Gives, counted_at, times_at, va
 ghost use Rattle.pg_values.specs.Private.Block.{IsBlock, IsRow, joined, spelled, longest_block};
 ghost use Rattle.pg_values.specs.Private.View.{values_left};
 
-use crate::block::Block;
 use crate::places::places_at;
 use crate::view::{LentValues, RowView};
 use pg_layout::{BodyFault, EncodeFault, LONGEST, lent_value_at, u16_at};
@@ -24,7 +23,10 @@ use std::marker::Model;
 /// block of memory. A clause sees the list of the values.
 #[derive(Drop)]
 pub struct Values {
-    block: Block,
+    // where each value begins in the block
+    places: Vec<u32>,
+    // the values one after the other, each as it stands in a message: its length and its bytes, or -1 for null
+    block: Vec<u8>,
 }
 
 impl Model for Values {
@@ -34,28 +36,26 @@ impl Model for Values {
 
     ghost Value = { List (Option (List ℕ)) };
 
-    ghost view = { λ v. values_left (length v.block.places) v.block.bytes };
+    ghost view = { λ v. values_left (length v.places.items) v.block.items };
 
-    ghost invariant = { λ v. IsBlock v.block.places v.block.bytes };
+    ghost invariant = { λ v. IsBlock v.places.items v.block.items };
 }
 
-/// How many bytes these values take in a block, or 0 where no block can hold them.
-fn room_for(list: &[Option<&[u8]>]) -> usize
-    ensures { result ≤ longest_block }
+/// Puts a value, which stands in two parts, at the end of a block, or leaves the block as it was where memory is refused.
+fn put(block: &mut Vec<u8>, value: Option<(&[u8], &[u8])>) -> Result<(), AllocError>
+    requires { IfSome value (λ parts. length parts.0.now + length parts.1.now ≤ longest_block) }
+    ensures ok { OnOk result (block.new.items ≡ block.old.items ++ value_bytes (joined value.entry)) }
+    ensures err { OnErr result (block.new.items ≡ block.old.items) }
 {
-    let mut room = 0;
-    for value in list {
-        let size = match value {
-            None => 0,
-            Some(bytes) => bytes.len(),
-        };
-        let left = LONGEST as usize - room;
-        if left < 4 || left - 4 < size {
-            return 0;
-        }
-        room += 4 + size;
-    }
-    room
+    let Some((first, rest)) = value else {
+        return block.extend_from_slice(&[255; 4]);
+    };
+    let size = first.len() + rest.len();
+    // once there is room nothing is refused
+    block.reserve(4 + size)?;
+    block.extend_from_slice(&(size as u32).to_be_bytes())?;
+    block.extend_from_slice(first)?;
+    block.extend_from_slice(rest)
 }
 
 /// So many values and the bytes after them.
@@ -65,8 +65,8 @@ fn block_at(alloc: Global, count: u16, bytes: &[u8]) -> Result<(Values, &[u8]), 
 {
     let (places, rest) = places_at(alloc, count, bytes)?;
     let (block, _) = bytes.split_at(bytes.len() - rest.len());
-    let block = Block::of(alloc, places, block)?;
-    Ok((Values { block }, rest))
+    let block = Vec::from_slice(alloc, block)?;
+    Ok((Values { places, block }, rest))
 }
 
 /// The values at the beginning of the bytes, after their count, and the bytes after them: they are read once, and copied at once.
@@ -88,18 +88,9 @@ impl Values {
         ensures { result ≡ [] }
     {
         Values {
-            block: Block::new(alloc),
+            places: Vec::new(alloc),
+            block: Vec::new(alloc),
         }
-    }
-
-    /// The same, with room for so many values, which take so many bytes.
-    fn with_room(alloc: Global, count: usize, room: usize) -> Result<Values, AllocError>
-        requires { room ≤ longest_block }
-        ensures { IfOk result (λ values. values ≡ []) }
-    {
-        Ok(Values {
-            block: Block::with_room(alloc, count, room)?,
-        })
     }
 
     /// Copies these values. Its faults are TooLong, where no message could hold them, and Memory.
@@ -108,7 +99,7 @@ impl Values {
         ensures too_long { result ≡ Err TooLong
             → longest_block < length (spelled (map option_copied list.now)) }
     {
-        let mut values = Values::with_room(alloc, list.len(), room_for(list))?;
+        let mut values = Values::new(alloc);
         for value in list {
             values.push(*value)?;
         }
@@ -134,14 +125,14 @@ impl Values {
     pub fn len(&self) -> usize
         ensures { result ≡ length self.now }
     {
-        self.block.len()
+        self.places.len()
     }
 
     /// Whether there is no value.
     pub fn is_empty(&self) -> bool
         ensures { IsTrue result ↔ (self.now ≡ []) }
     {
-        self.block.is_empty()
+        self.places.is_empty()
     }
 
     /// The values as a message spells them, one after the other.
@@ -149,15 +140,15 @@ impl Values {
         ensures bytes { result.now ≡ spelled self.now }
         ensures short { length result.now ≤ longest_block }
     {
-        self.block.bytes()
+        self.block.as_slice()
     }
 
     /// The value at `index`, or `None` past the end. A value that is None is null.
     pub fn get(&self, index: usize) -> Option<Option<&[u8]>>
         ensures { option_map option_copied result ≡ slice_get self.now index }
     {
-        let place = self.block.place(index)? as usize;
-        let (_, rest) = self.block.bytes().split_at(place);
+        let place = *self.places.get(index)? as usize;
+        let (_, rest) = self.block.as_slice().split_at(place);
         let (value, _) = lent_value_at(rest)?;
         Some(value)
     }
@@ -166,7 +157,7 @@ impl Values {
     pub fn iter(&self) -> LentValues<'_>
         ensures { result ≡ self.now }
     {
-        LentValues::new(self.block.len(), self.block.bytes())
+        LentValues::new(self.places.len(), self.block.as_slice())
     }
 
     /// Adds a value at the end. TooLong says that no message could hold the values any more, and Memory that memory was refused; the list
@@ -194,11 +185,14 @@ impl Values {
             None => 0,
             Some((first, rest)) => first.len() + rest.len(),
         };
-        let room = LONGEST as usize - self.block.bytes().len();
+        let room = LONGEST as usize - self.block.len();
         if room < 4 || room - 4 < size {
             return Err(EncodeFault::TooLong);
         }
-        self.block.push(value, size)?;
+        let place = self.block.len() as u32;
+        self.places.reserve(1)?;
+        put(&mut self.block, value)?;
+        self.places.push(place)?;
         Ok(())
     }
 }
@@ -208,8 +202,10 @@ impl Clone for Values {
     ghost is_clone = { λ values copy. copy ≡ values };
 
     fn clone(&self) -> Result<Self, AllocError> {
+        let alloc = *self.block.allocator();
         Ok(Values {
-            block: self.block.copied()?,
+            places: Vec::from_slice(alloc, self.places.as_slice())?,
+            block: Vec::from_slice(alloc, self.block.as_slice())?,
         })
     }
 }
@@ -221,7 +217,7 @@ impl PartialEq for Values {
     ghost laws = { lists_per (partial_equiv_from_equiv (options_equiv nat_list_eq_equiv)) };
 
     fn eq(&self, other: &Self) -> bool {
-        self.len() == other.len() && self.block.bytes() == other.block.bytes()
+        self.len() == other.len() && self.block == other.block
     }
 }
 

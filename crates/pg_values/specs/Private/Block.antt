@@ -1,6 +1,5 @@
 -- Values in one block of memory: as a row spells them, one after the other, and where each begins.
-use Rattle.std.specs.Prelude.{ℕ, zero, suc, ◌+◌, ◌-◌, ◌≡◌, ◌<◌, ◌≤◌, List, [], ◌∷◌, ◌++◌, length, take, drop, Option, None, Some}
-use Rattle.std.specs.Int.{w32, from_le_bytes}
+use Rattle.std.specs.Prelude.{ℕ, ◌+◌, ◌≡◌, ◌≤◌, List, [], ◌∷◌, ◌++◌, length, Option, None, Some}
 use Rattle.std.specs.Borrow.{Bor}
 use Rattle.std.specs.List.{flat_map}
 use Rattle.pg_layout.specs.Field.{value_bytes}
@@ -41,40 +40,3 @@ pub record IsBlock (places block : List ℕ) : Type 0 where
   pub whole : spelled (values_left (length places) block) ≡ block
   pub starts_are : places ≡ starts 0 (values_left (length places) block)
   pub short : length block ≤ longest_block
-
--- ---- how it is kept: the places of the first eight values stand in a head of 32 bytes
-
--- the places that so many times four bytes spell
-unfoldable pub places_in : ℕ → List ℕ → List ℕ
-places_in zero head = []
-places_in (suc n) head = from_le_bytes w32 (take 4 head) ∷ places_in n (drop 4 head)
-
--- the places of so many values: those of the first eight, which the head spells, and the far ones
-abbrev pub places_of : ℕ → List ℕ → List ℕ → List ℕ
-places_of count head far = places_in (count - (count - 8)) head ++ far
-
--- what a clause sees of a block: where each of its values begins, and the values
-pub record BlockParts : Type 0 where
-  pub places : List ℕ
-  pub bytes : List ℕ
-
--- The bytes begin with a head wherever there are any, and there are some where there is a value;
--- just the values after the first eight have far places.
-pub record IsHeaded (count : ℕ) (bytes far : List ℕ) : Type 0 where
-  pub head : 0 < length bytes → 32 ≤ length bytes
-  pub some : 0 < count → 0 < length bytes
-  pub far_count : length far ≡ count - 8
-
--- The bytes begin with a head now, and stand as they were where they had one.
-pub record HasHead (old new : List ℕ) : Type 0 where
-  pub there : 32 ≤ length new
-  pub same : 0 < length old → new ≡ old
-  pub after : drop 32 new ≡ drop 32 old
-
--- After so many places this one was added, to the head or to the far ones, and nothing after the
--- head was changed.
-pub record AddsPlace (count place : ℕ) (head far head' far' : List ℕ) : Type 0 where
-  pub places : places_of (count + 1) head' far' ≡ places_of count head far ++ place ∷ []
-  pub after : drop 32 head' ≡ drop 32 head
-  pub size : length head' ≡ length head
-  pub far_count : length far' ≡ count + 1 - 8

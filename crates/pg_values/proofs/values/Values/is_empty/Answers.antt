@@ -4,6 +4,6 @@ use Rattle.pg_values.proofs.values.Values.is_empty.Goals as goal
 
 pub returns : goal.returns
 returns c =
-    let count = count_is c.self.inside.block.places c.self.inside.block.bytes c.self.invariant in
+    let count = count_is c.self.inside.places.items c.self.inside.block.items c.self.invariant in
     let same = ap length c.self.view_is in
     search (rules, none_of_none)

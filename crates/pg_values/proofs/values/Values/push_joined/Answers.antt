@@ -1,4 +1,4 @@
-use Rattle.std.proofs.Common.{rules, ◌≤◌, ◌+◌, [], ◌∷◌, ◌++◌, length, List, ℕ, Option, ap, ◌∙◌, length-append}
+use Rattle.std.proofs.Common.{rules, ◌≡◌, ◌≤◌, ◌+◌, [], ◌∷◌, ◌++◌, length, List, ℕ, Option, refl, ap, ◌∙◌, length-append}
 use Rattle.pg_layout.specs.Field.{value_bytes}
 use Rattle.pg_values.specs.Private.Block.{joined, longest_block}
 use Rattle.pg_values.proofs.Blocks.{one_more}
@@ -7,10 +7,14 @@ use Rattle.pg_values.proofs.values.Values.push_joined.Goals.{in-None, in-Some}
 
 pub invariant_of-self-2 : goal.invariant_of-self-2
 invariant_of-self-2 c =
-    let short : length c.self.inside.block.bytes + length (value_bytes (joined c.args.value)) ≤ longest_block = elim c.match-value.branch [ in-None w ↦ search rules | in-Some w ↦ (let len = length-append w.in-Some.first.now w.in-Some.rest.now in search rules) ] in
-    rw (c.in_ok-push.ensures.places, c.in_ok-push.ensures.bytes) (one_more c.self.inside.block.places c.self.inside.block.bytes c.self.invariant (joined c.args.value) short).1
+    let short : length c.self.inside.block.items + length (value_bytes (joined c.args.value)) ≤ longest_block = elim c.match-value.branch [ in-None w ↦ search rules | in-Some w ↦ (let len = length-append w.in-Some.first.now w.in-Some.rest.now in search rules) ] in
+    let at : c.len-place.result ≡ length c.self.inside.block.items = search rules in
+    let places : c.push.new.self.items ≡ c.self.inside.places.items ++ length c.self.inside.block.items ∷ [] = c.in_ok-push.ensures.items ∙ rw (at, c.reserve.ensures.items) refl in
+    rw (places, c.in_ok-put.ensures.ok) (one_more c.self.inside.places.items c.self.inside.block.items c.self.invariant (joined c.args.value) short).1
 
 pub returns-clause-ok : goal.returns-clause-ok
 returns-clause-ok c =
-    let short : length c.self.inside.block.bytes + length (value_bytes (joined c.args.value)) ≤ longest_block = elim c.match-value.branch [ in-None w ↦ search rules | in-Some w ↦ (let len = length-append w.in-Some.first.now w.in-Some.rest.now in search rules) ] in
-    rw (c.in_ok-push.ensures.places, c.in_ok-push.ensures.bytes) ((one_more c.self.inside.block.places c.self.inside.block.bytes c.self.invariant (joined c.args.value) short).0 ∙ ap (λ (vs : List (Option (List ℕ))). vs ++ joined c.args.value ∷ []) c.self.view_is)
+    let short : length c.self.inside.block.items + length (value_bytes (joined c.args.value)) ≤ longest_block = elim c.match-value.branch [ in-None w ↦ search rules | in-Some w ↦ (let len = length-append w.in-Some.first.now w.in-Some.rest.now in search rules) ] in
+    let at : c.len-place.result ≡ length c.self.inside.block.items = search rules in
+    let places : c.push.new.self.items ≡ c.self.inside.places.items ++ length c.self.inside.block.items ∷ [] = c.in_ok-push.ensures.items ∙ rw (at, c.reserve.ensures.items) refl in
+    rw (places, c.in_ok-put.ensures.ok) ((one_more c.self.inside.places.items c.self.inside.block.items c.self.invariant (joined c.args.value) short).0 ∙ ap (λ (vs : List (Option (List ℕ))). vs ++ joined c.args.value ∷ []) c.self.view_is)
