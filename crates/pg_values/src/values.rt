@@ -11,6 +11,7 @@ ghost use Rattle.pg_layout.specs.Private.Reader.{Gives, counted_at, times_at, va
 ghost use Rattle.pg_values.specs.Private.Block.{IsBlock, IsRow, joined, spelled, longest_block};
 ghost use Rattle.pg_values.specs.Private.View.{values_left};
 
+use crate::part::ValueList;
 use crate::places::places_at;
 use crate::view::{LentValues, RowView};
 use pg_layout::{BodyFault, EncodeFault, LONGEST, lent_value_at, u16_at};
@@ -58,6 +59,20 @@ fn put(block: &mut Vec<u8>, value: Option<(&[u8], &[u8])>) -> Result<(), AllocEr
     block.extend_from_slice(rest)
 }
 
+/// How many bytes these values take in a block, or 0 where no block can hold them.
+fn room_for(list: &[Option<&[u8]>]) -> usize
+    ensures fits { length (spelled (map option_copied list.now)) ≤ longest_block
+        → result ≡ length (spelled (map option_copied list.now)) }
+    ensures too_long { longest_block < length (spelled (map option_copied list.now))
+        → result ≡ 0 }
+{
+    // a message has the count of the values in front of them, of two bytes
+    match list.room_after(LONGEST + 2) {
+        Some(left) => (LONGEST - left) as usize,
+        None => 0,
+    }
+}
+
 /// So many values and the bytes after them.
 fn block_at(alloc: Global, count: u16, bytes: &[u8]) -> Result<(Values, &[u8]), BodyFault>
     requires short { length bytes.now ≤ longest_block }
@@ -93,13 +108,26 @@ impl Values {
         }
     }
 
+    /// The same, with room for so many values, which take so many bytes.
+    fn with_room(alloc: Global, count: usize, room: usize) -> Result<Values, AllocError>
+        ensures { IfOk result (λ values. values ≡ []) }
+    {
+        if room == 0 {
+            return Ok(Values::new(alloc));
+        }
+        Ok(Values {
+            places: Vec::with_capacity(alloc, count)?,
+            block: Vec::with_capacity(alloc, room)?,
+        })
+    }
+
     /// Copies these values. Its faults are TooLong, where no message could hold them, and Memory.
     pub fn from_slice(alloc: Global, list: &[Option<&[u8]>]) -> Result<Values, EncodeFault>
         ensures ok { IfOk result (λ values. values ≡ map option_copied list.now) }
         ensures too_long { result ≡ Err TooLong
             → longest_block < length (spelled (map option_copied list.now)) }
     {
-        let mut values = Values::new(alloc);
+        let mut values = Values::with_room(alloc, list.len(), room_for(list))?;
         for value in list {
             values.push(*value)?;
         }
