@@ -100,23 +100,24 @@ pub fn find_whole<M: Message>(limit: u32, rest: &[u8]) -> Judged
     }
 }
 
-/// How many bytes the message at the beginning of a backend's rest takes, if it is all there and one that is lent.
-pub fn lent_size(limit: u32, rest: &[u8]) -> Option<usize>
+/// How many bytes the message at the beginning of a backend's rest takes, if it is all there and one that is lent, which is judged in
+/// place. A fault is found where the tag is that of one that is lent.
+pub fn lent_size(limit: u32, rest: &[u8]) -> Result<Option<usize>, WireFault>
     requires { IsLimit limit }
     ensures { FindsLent limit rest.now result }
 {
     let Some((tag, len)) = head(rest) else {
-        return None;
+        return Ok(None);
     };
     if !Lent::has_tag(tag) {
-        return None;
+        return Ok(None);
     }
     match judge_length::<BackMessage>(limit, rest, tag, len) {
-        Judged::Open => None,
-        Judged::Faulty(_) => None,
+        Judged::Open => Ok(None),
+        Judged::Faulty(fault) => Err(fault),
         Judged::Whole(tag, len) => match Lent::of_body(tag, &rest[5..len + 1]) {
-            Some(_) => Some(len + 1),
-            None => None,
+            Some(_) => Ok(Some(len + 1)),
+            None => Err(WireFault::BadBody(tag)),
         },
     }
 }

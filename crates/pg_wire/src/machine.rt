@@ -2,7 +2,6 @@
 
 ghost use Rattle.std.specs.Prelude.{◌≡◌, ◌≤◌, [], true, take, drop, length};
 ghost use Rattle.pg_message.specs.Direction.{IsLimit};
-ghost use Rattle.pg_message.specs.Private.LentReader.{lent_bytes};
 ghost use Rattle.pg_wire.specs.Decoder.{Pushes, IsLasting, Takes};
 ghost use Rattle.pg_wire.specs.BackDecoder.{TakesLent};
 ghost use Rattle.pg_wire.specs.Spellings.{LetsBytes, TakesSpelling};
@@ -115,7 +114,8 @@ impl<M: Message> Stream<M> {
     fn hold(&mut self, count: usize)
         requires { count ≤ length self.old.rest.kept }
         ensures front { self.new.front ≡ take count self.old.rest.kept }
-        ensures rest { self.new.rest ≡ record self.old.rest { kept = drop count self.old.rest.kept } }
+        ensures rest { self.new.rest
+            ≡ record self.old.rest { kept = drop count self.old.rest.kept } }
     {
         // what is held stays in the buffer, so that it isn't left empty, with room to be given back
         let held = self.held;
@@ -213,20 +213,28 @@ impl<M: Message> Stream<M> {
 }
 
 impl Stream<BackMessage> {
-    /// Holds the next message of a backend where it is all there and one that is lent, and else changes nothing; whether it did.
+    /// Holds the next message of a backend where it is all there and one that is lent; whether it did. A fault is found here where the
+    /// tag is that of one that is lent; else nothing changes.
     // a call of its own: as a part of a caller's loop it takes the registers that the loop works with
     #[inline(never)]
-    fn hold_next(&mut self) -> bool
+    fn hold_next(&mut self) -> Result<bool, WireFault>
         ensures { HoldsNext self.old result self.new }
     {
         if self.fault.is_some() {
-            return false;
+            return Ok(false);
         }
-        let Some(size) = lent_size(self.limit, self.rest()) else {
-            return false;
-        };
-        self.hold(size);
-        true
+        match lent_size(self.limit, self.rest()) {
+            Ok(None) => Ok(false),
+            Ok(Some(size)) => {
+                self.hold(size);
+                Ok(true)
+            }
+            Err(found) => {
+                self.let_go();
+                self.fault = Some(found);
+                Err(found)
+            }
+        }
     }
 
     /// The next message of a backend: one that is lent stays in the buffer, and another is taken off.
@@ -236,7 +244,7 @@ impl Stream<BackMessage> {
         ensures call { TakesLent (back_state self.old) result (back_state self.new) }
         ensures front { IsHeldFront self.old.front → IsHeldFront self.new.front }
     {
-        if self.hold_next() {
+        if self.hold_next()? {
             return Ok(Cut::Held);
         }
         match self.next() {

@@ -9,7 +9,7 @@ use Rattle.pg_message.specs.declared.message.BackMessage.{BackMessage}
 use Rattle.pg_message.specs.Backend.{backend}
 use Rattle.pg_message.specs.Direction.{Direction, spelling}
 use Rattle.pg_message.specs.Lent.{message_of, is_lent}
-use Rattle.pg_message.specs.Private.LentReader.{lent_bytes}
+use Rattle.pg_message.specs.Private.LentReader.{has_lent, lent_bytes}
 use Rattle.pg_wire.specs.Stream.{IsWithin, IsWhole, IsFaulty, IsOpen}
 use Rattle.pg_wire.specs.Decoder.{WantsMemory}
 
@@ -46,8 +46,14 @@ abbrev pub BeginsNoLent : ℕ → List ℕ → Type 0
 BeginsNoLent limit rest = (m : BackMessage) (more : List ℕ) → IsWithin backend limit m
     → rest ≡ spelling backend m ++ more → is_lent m ≡ false
 
--- how many bytes a message that is lent takes at the beginning of the rest, if one is there
-abbrev pub FindsLent : ℕ → List ℕ → Option ℕ → Type 0
-FindsLent limit rest (Some len) = (lent : Lent) × (5 ≤ len)
+-- Where all bytes of the next message are there, its tag isn't that of one that is lent.
+abbrev pub HasOtherTag : ℕ → List ℕ → Type 0
+HasOtherTag limit rest = (t len : ℕ) → IsWhole backend limit rest t len → has_lent t ≡ false
+
+-- how many bytes a message that is lent takes at the beginning of the rest, if one is there, or a
+-- fault of the rest; a whole one with the tag of one that is lent is either
+abbrev pub FindsLent : ℕ → List ℕ → Result (Option ℕ) WireFault → Type 0
+FindsLent limit rest (Ok (Some len)) = (lent : Lent) × (5 ≤ len)
     × (lent_bytes (take len rest) ≡ Some lent) × IsFirst backend limit rest (message_of lent) len
-FindsLent limit rest None = BeginsNoLent limit rest
+FindsLent limit rest (Ok None) = BeginsNoLent limit rest × HasOtherTag limit rest
+FindsLent limit rest (Err f) = IsFaulty backend limit rest f

@@ -1,14 +1,14 @@
 use Rattle.std.proofs.Common.{◌≡◌, ℕ, ◌+◌, ◌-◌, true, sym, subst, ◌∙◌, arith}
 use Rattle.pg_message.specs.Private.LentReader.{has_lent}
 use Rattle.pg_wire.proofs.Rests.{same_tag}
-use Rattle.pg_wire.proofs.Lendings.{lent_tag, lent_found, none_lent, faulty_lends_none}
+use Rattle.pg_wire.proofs.Lendings.{lent_tag, lent_found, bad_lent, open_lends_none}
 use Rattle.pg_wire.proofs.find.lent_size.Goals as goal
 
 pub judge_length-requires-clause-known : goal.judge_length-requires-clause-known
 judge_length-requires-clause-known c = lent_tag c.in-Some.tag (sym c.if-not-has_tag.ensures)
 
-pub returns-in-Faulty : goal.returns-in-Faulty
-returns-in-Faulty c = faulty_lends_none c.args.limit c.args.rest.now c.in-Faulty.field-0 c.in-Faulty.ensures
+pub returns-in-Open : goal.returns-in-Open
+returns-in-Open c = open_lends_none c.args.limit c.args.rest.now c.requires.1 (λ i. omega (arith, c.type_inv.rest i)) c.in-Open.ensures.0
 
 pub returns-in-Some-of_body : goal.returns-in-Some-of_body
 returns-in-Some-of_body c =
@@ -20,4 +20,4 @@ pub returns-in-None : goal.returns-in-None
 returns-in-None c =
     let same = same_tag c.args.rest.now c.in-Whole.tag c.in-Some.tag _ _ c.in-Whole.ensures.head c.in-Some.ensures in
     let known = subst (λ (t : ℕ). has_lent t ≡ true) (sym same) (sym c.if-not-has_tag.ensures) in
-    none_lent c.args.limit c.args.rest.now c.in-Whole.tag c.in-Whole.len (c.in-Whole.len + 1 - 5) (λ i. omega (arith, c.type_inv.rest i)) c.in-Whole.ensures (omega arith) known (sym c.of_body.ensures ∙ c.in-None.is)
+    bad_lent c.args.limit c.args.rest.now c.in-Whole.tag c.in-Whole.len (c.in-Whole.len + 1 - 5) (λ i. omega (arith, c.type_inv.rest i)) c.in-Whole.ensures (omega arith) known (sym c.of_body.ensures ∙ c.in-None.is)
