@@ -1,6 +1,6 @@
 //! Bytes in hexadecimal, sixteen at a time.
 
-ghost use Rattle.std.specs.Prelude.{◌≡◌, ◌<◌, ◌≤◌, ◌+◌, ◌*◌, ◌/◌, ◌%◌, ◌++◌, ℕ, List, length, slice_index, take, drop};
+ghost use Rattle.std.specs.Prelude.{◌≡◌, ◌<◌, ◌≤◌, ◌+◌, ◌*◌, ◌/◌, ◌%◌, ◌++◌, ℕ, length, slice_index, take, drop};
 ghost use Rattle.hex.specs.Hex.{encode_lower, lower_digits};
 
 use std::simd::prelude::*;

@@ -1,9 +1,9 @@
 -- Values that are written one by one.
-use Rattle.std.proofs.Common.{◌≡◌, ℕ, suc, ◌+◌, List, [], ◌∷◌, ◌++◌, map, length, take, Option, Result, Ok, Err, refl, sym, ap, subst, ◌∙◌, append-nil, append_assoc, arith}
+use Rattle.std.proofs.Common.{◌≡◌, ℕ, suc, ◌+◌, List, [], ◌∷◌, ◌++◌, map, length, Option, Result, Ok, Err, refl, sym, ap, subst, ◌∙◌, append-nil, append_assoc, arith}
 use Rattle.std.specs.Option.{option_copied}
 use Rattle.std.specs.Int.{w16, to_be_bytes}
 use Rattle.std.specs.Iterator.{Drains, DrainsIf, YieldsFirstBy}
-use Rattle.std.proofs.lemmas.List.{map-append, take-append-le, take_all}
+use Rattle.std.proofs.lemmas.List.{map-append}
 use Rattle.std.proofs.lemmas.Iterator.{items_from_drains}
 use Rattle.std.proofs.lemmas.Iterator.Consumers.{YieldsList-from_first}
 use Rattle.pg_copy.specs.fault.RowFault.{RowFault}
@@ -25,10 +25,6 @@ LentValue = Option (Bor (List ℕ))
 
 pub prefix_then : (a b c : List ℕ) → IsPrefix a b → IsPrefix b c → IsPrefix a c
 prefix_then a b c p q = (p.0 ++ q.0, sym (append_assoc a p.0 q.0) ∙ ap (λ (l : List ℕ). l ++ q.0) p.1 ∙ q.1)
-
--- what stood before stands again where the rest is cut off
-pub cut_off : (a b : List ℕ) → IsPrefix a b → take (length a) b ≡ a
-cut_off a b p = ap (λ (l : List ℕ). take (length a) l) (sym p.1) ∙ take-append-le (length a) a p.0 (omega arith) ∙ take_all (length a) a (omega arith)
 
 pub write_begins : (fault : Option RowFault) (spelled old : List ℕ) (r : Result Unit RowFault) (new : List ℕ) → Writes fault spelled old r new → IsPrefix old new
 write_begins fault spelled old (Ok x) new w = (spelled, sym w.1)
@@ -81,9 +77,6 @@ line_more o o' m values v old mid new same count w one =
 
 pub row_more : (values : List LentValue) (v : LentValue) (old mid new : List ℕ) → WritesFields (row_of values) old mid → Writes (field_fault (option_copied v)) (value (option_copied v)) mid (Ok tt) new → WritesFields (row_of (values ++ v ∷ [])) old new
 row_more values v old mid new w one = subst (λ (row : Row). WritesFields row old new) (row_of_more values v) (values_more (row_of values) (option_copied v) old mid new w one)
-
-pub copies_more : (values : List LentValue) (v : LentValue) (copies more : Row) → copies ≡ row_of values → more ≡ copies ++ option_copied v ∷ [] → more ≡ row_of (values ++ v ∷ [])
-copies_more values v copies more e m = m ∙ ap (λ (l : Row). l ++ option_copied v ∷ []) e ∙ row_of_more values v
 
 -- the line is whole
 pub line_whole : FieldsAreLine → (o : Options) (m : ℕ) (values : List LentValue) (old mid new : List ℕ) → m ≡ length values → WritesTextFields o 0 (row_of values) old mid → Writes (end_fault m) (newline ∷ []) mid (Ok tt) new → Writes (text_fault o (row_of values)) (written_row o (row_of values)) old (Ok tt) new

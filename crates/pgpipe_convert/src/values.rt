@@ -1,6 +1,6 @@
 //! The values of a row that is lent, written one by one from where they stand, or copied.
 
-ghost use Rattle.std.specs.Prelude.{◌≡◌, Ok, OnOk, OnErr, IfOk, zero, option_copied};
+ghost use Rattle.std.specs.Prelude.{◌≡◌, Ok, OnOk, IfOk, option_copied};
 ghost use Rattle.std.specs.Iterator.{IsFinite};
 ghost use mathlib.Core.List.{IsPrefix};
 ghost use Rattle.pg_copy.specs.Row.{Row, Writes, binary_fault};
