@@ -15,10 +15,11 @@ use Rattle.pg_message.specs.Private.LentReader.{has_lent, lent_body, lent_bytes,
 use Rattle.pg_message.specs.Backend.{backend}
 use Rattle.pg_message.specs.Message.{IsTag, IsMessage}
 use Rattle.pg_message.proofs.Lendings.{lends}
-use Rattle.pg_wire.specs.Stream.{IsWhole, IsOpen}
+use Rattle.pg_wire.specs.Stream.{IsWhole}
 use Rattle.pg_wire.specs.Decoder.{DecoderState, Takes}
 use Rattle.pg_wire.specs.BackDecoder.{LetsGo}
-use Rattle.pg_wire.specs.Private.Found.{IsFirst, HasOtherTag, FindsLent}
+use Rattle.pg_wire.specs.Private.Found.{IsFirst, FindsLent}
+use Rattle.pg_wire.specs.declared.find.Found.TheVariants as found
 use Rattle.pg_wire.specs.Spellings.{LetsBytes}
 use Rattle.pg_wire.specs.Private.Held.{IsHeldFront}
 use Rattle.pg_wire.proofs.Rests.{IsBytes-drop, message_found, bad_fault}
@@ -60,7 +61,7 @@ module _ (limit : ℕ) (rest : List ℕ) (t len n : ℕ) where
   body_lends : IsBytes rest → has_lent t ≡ true → LendsBody t (take n (drop 5 rest)) (lent_body t (take n (drop 5 rest)))
   body_lends fits known = lends t (take n (drop 5 rest)) known (IsBytes-take n (drop 5 rest) (IsBytes-drop 5 rest fits))
 
-  pub lent_found : (lent : Lent) → limit ≤ longest → IsBytes rest → IsWhole backend limit rest t len → n ≡ len - 4 → has_lent t ≡ true → lent_body t (take n (drop 5 rest)) ≡ Some lent → FindsLent limit rest (Ok (Some (len + 1)))
+  pub lent_found : (lent : Lent) → limit ≤ longest → IsBytes rest → IsWhole backend limit rest t len → n ≡ len - 4 → has_lent t ≡ true → lent_body t (take n (drop 5 rest)) ≡ Some lent → FindsLent limit rest (Ok (found.Lent (len + 1)))
   lent_found lent small fits whole size known is =
       let message : IsMessage backend t (take n (drop 5 rest)) (message_of lent) = subst (LendsBody t (take n (drop 5 rest))) is (body_lends fits known) in
       let first = message_found backend limit rest t len n (message_of lent) small fits whole size message in
@@ -68,27 +69,6 @@ module _ (limit : ℕ) (rest : List ℕ) (t len n : ℕ) where
 
   pub bad_lent : IsBytes rest → IsWhole backend limit rest t len → n ≡ len - 4 → has_lent t ≡ true → lent_body t (take n (drop 5 rest)) ≡ None → FindsLent limit rest (Err (wire.BadBody t))
   bad_lent fits whole size known is = bad_fault backend limit rest t len n whole size (subst (LendsBody t (take n (drop 5 rest))) is (body_lends fits known))
-
--- ---- no message that is lent
-
--- where the rest is open, no whole message stands there with the tag of one that is lent
-module _ (limit : ℕ) (rest : List ℕ) (small : limit ≤ longest) (fits : IsBytes rest) (is_open : IsOpen backend limit rest) where
-  no_whole_lent : (t len : ℕ) → IsWhole backend limit rest t len → has_lent t ≡ true → (x : Option Lent) → lent_body t (take (len - 4) (drop 5 rest)) ≡ x → ⊥
-  no_whole_lent t len whole known (Some lent) is =
-      let message : IsMessage backend t (take (len - 4) (drop 5 rest)) (message_of lent) = subst (LendsBody t (take (len - 4) (drop 5 rest))) is (body_lends limit rest t len (len - 4) fits known) in
-      let first = message_found backend limit rest t len (len - 4) (message_of lent) small fits whole refl message in
-      is_open.no_message (message_of lent) (drop (len + 1) rest) first.0 first.1
-  no_whole_lent t len whole known None is = is_open.no_fault (wire.BadBody t) (bad_lent limit rest t len (len - 4) fits whole refl known is)
-
-  pub open_has_other_tag : HasOtherTag limit rest
-  open_has_other_tag t len whole = by (has_lent t) refl
-    where
-      by : (b : Bool) → has_lent t ≡ b → has_lent t ≡ false
-      by false is = is
-      by true is = absurd (no_whole_lent t len whole is (lent_body t (take (len - 4) (drop 5 rest))) refl)
-
-  pub open_lends_none : FindsLent limit rest (Ok None)
-  open_lends_none = (λ m more w e. absurd (is_open.no_message m more w e), open_has_other_tag)
 
 -- ---- the beginning of the buffer
 

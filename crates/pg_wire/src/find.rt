@@ -100,23 +100,33 @@ pub fn find_whole<M: Message>(limit: u32, rest: &[u8]) -> Judged
     }
 }
 
-/// How many bytes the message at the beginning of a backend's rest takes, if it is all there and one that is lent, which is judged in
-/// place. A fault is found where the tag is that of one that is lent.
-pub fn lent_size(limit: u32, rest: &[u8]) -> Result<Option<usize>, WireFault>
+/// What stands at the beginning of a backend's rest, where some messages are lent.
+pub enum Found {
+    /// Not all of a message.
+    Nothing,
+    /// A message that is lent takes so many bytes.
+    Lent(usize),
+    /// The head of another message.
+    Other,
+}
+
+/// What stands at the beginning of a backend's rest. A message that is lent is judged in place, and a fault is found only where the tag is
+/// that of one that is lent.
+pub fn find_lent(limit: u32, rest: &[u8]) -> Result<Found, WireFault>
     requires { IsLimit limit }
     ensures { FindsLent limit rest.now result }
 {
     let Some((tag, len)) = head(rest) else {
-        return Ok(None);
+        return Ok(Found::Nothing);
     };
     if !Lent::has_tag(tag) {
-        return Ok(None);
+        return Ok(Found::Other);
     }
     match judge_length::<BackMessage>(limit, rest, tag, len) {
-        Judged::Open => Ok(None),
+        Judged::Open => Ok(Found::Nothing),
         Judged::Faulty(fault) => Err(fault),
         Judged::Whole(tag, len) => match Lent::of_body(tag, &rest[5..len + 1]) {
-            Some(_) => Ok(Some(len + 1)),
+            Some(_) => Ok(Found::Lent(len + 1)),
             None => Err(WireFault::BadBody(tag)),
         },
     }

@@ -10,7 +10,7 @@ ghost use Rattle.pg_wire.specs.Private.Held.{back_state, spellings_state, IsHeld
 use crate::back::Cut;
 use crate::buffer::drop_first;
 use crate::fault::WireFault;
-use crate::find::{Judged, find, find_whole, lent_size};
+use crate::find::{Found, Judged, find, find_lent, find_whole};
 use bytes::BytesMut;
 use pg_message::{BackMessage, Message};
 use std::alloc::Global;
@@ -213,26 +213,26 @@ impl<M: Message> Stream<M> {
 }
 
 impl Stream<BackMessage> {
-    /// Holds the next message of a backend where it is all there and one that is lent; whether it did. A fault is found here where the
-    /// tag is that of one that is lent; else nothing changes.
+    /// Looks at the next message of a backend, and holds one that is lent. The fault of one that only has the tag of such a message is stored,
+    /// for `next` to tell; else nothing changes.
     // a call of its own: as a part of a caller's loop it takes the registers that the loop works with
     #[inline(never)]
-    fn hold_next(&mut self) -> Result<bool, WireFault>
+    fn hold_next(&mut self) -> Found
         ensures { HoldsNext self.old result self.new }
     {
         if self.fault.is_some() {
-            return Ok(false);
+            return Found::Other;
         }
-        match lent_size(self.limit, self.rest()) {
-            Ok(None) => Ok(false),
-            Ok(Some(size)) => {
+        match find_lent(self.limit, self.rest()) {
+            Ok(Found::Nothing) => Found::Nothing,
+            Ok(Found::Lent(size)) => {
                 self.hold(size);
-                Ok(true)
+                Found::Lent(size)
             }
+            Ok(Found::Other) => Found::Other,
             Err(found) => {
-                self.let_go();
                 self.fault = Some(found);
-                Err(found)
+                Found::Other
             }
         }
     }
@@ -244,8 +244,13 @@ impl Stream<BackMessage> {
         ensures call { TakesLent (back_state self.old) result (back_state self.new) }
         ensures front { IsHeldFront self.old.front → IsHeldFront self.new.front }
     {
-        if self.hold_next()? {
-            return Ok(Cut::Held);
+        match self.hold_next() {
+            Found::Nothing => {
+                self.let_go();
+                return Ok(Cut::Nothing);
+            }
+            Found::Lent(_) => return Ok(Cut::Held),
+            Found::Other => {}
         }
         match self.next() {
             Ok(None) => Ok(Cut::Nothing),

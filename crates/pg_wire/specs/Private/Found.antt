@@ -4,6 +4,8 @@ use Rattle.pg_wire.specs.declared.fault.WireFault.{WireFault}
 use Rattle.pg_wire.specs.declared.fault.WireFault.TheVariants as wire
 use Rattle.pg_wire.specs.declared.find.Judged.{Judged}
 use Rattle.pg_wire.specs.declared.find.Judged.TheVariants as judged
+use Rattle.pg_wire.specs.declared.find.Found.{Found}
+use Rattle.pg_wire.specs.declared.find.Found.TheVariants as found
 use Rattle.pg_message.specs.declared.lent.Lent.{Lent}
 use Rattle.pg_message.specs.declared.message.BackMessage.{BackMessage}
 use Rattle.pg_message.specs.Backend.{backend}
@@ -50,10 +52,11 @@ BeginsNoLent limit rest = (m : BackMessage) (more : List ℕ) → IsWithin backe
 abbrev pub HasOtherTag : ℕ → List ℕ → Type 0
 HasOtherTag limit rest = (t len : ℕ) → IsWhole backend limit rest t len → has_lent t ≡ false
 
--- how many bytes a message that is lent takes at the beginning of the rest, if one is there, or a
--- fault of the rest; a whole one with the tag of one that is lent is either
-abbrev pub FindsLent : ℕ → List ℕ → Result (Option ℕ) WireFault → Type 0
-FindsLent limit rest (Ok (Some len)) = (lent : Lent) × (5 ≤ len)
+-- what stands at the beginning of the rest, where some messages are lent; a whole message with the tag
+-- of one that is lent is either lent or a fault
+abbrev pub FindsLent : ℕ → List ℕ → Result Found WireFault → Type 0
+FindsLent limit rest (Ok found.Nothing) = IsOpen backend limit rest × (length rest < limit + 1)
+FindsLent limit rest (Ok (found.Lent len)) = (lent : Lent) × (5 ≤ len)
     × (lent_bytes (take len rest) ≡ Some lent) × IsFirst backend limit rest (message_of lent) len
-FindsLent limit rest (Ok None) = BeginsNoLent limit rest × HasOtherTag limit rest
+FindsLent limit rest (Ok found.Other) = BeginsNoLent limit rest × HasOtherTag limit rest
 FindsLent limit rest (Err f) = IsFaulty backend limit rest f

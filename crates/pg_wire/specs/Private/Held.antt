@@ -1,15 +1,18 @@
 -- What is common to the decoders of tagged messages: a buffer whose beginning may be a message that
 -- was given and is still held.
-use Rattle.std.specs.Prelude.{◌≡◌, ◌≤◌, ◌⊎◌, [], ℕ, Bool, true, false, List, length, Some, None, Result, Ok, Err}
+use Rattle.std.specs.Prelude.{◌≡◌, ◌≤◌, ◌⊎◌, [], ℕ, List, length, Some, None, Ok}
 use Rattle.std.specs.Option.{IsSome}
 use Rattle.pg_message.specs.Private.LentReader.{lent_bytes}
 use Rattle.pg_message.specs.declared.lent.Lent.{Lent}
 use Rattle.pg_message.specs.Backend.{backend}
 use Rattle.pg_message.specs.Lent.{message_of}
+use Rattle.pg_wire.specs.Stream.{IsFaulty}
 use Rattle.pg_wire.specs.Private.Found.{BeginsNoLent, HasOtherTag}
+use Rattle.pg_wire.specs.declared.find.Found.{Found}
+use Rattle.pg_wire.specs.declared.find.Found.TheVariants as found
 use Rattle.pg_wire.specs.Decoder.{DecoderState, Takes}
 use Rattle.pg_wire.specs.BackDecoder.{BackState}
-use Rattle.pg_wire.specs.Spellings.{SpellingsState, LetsBytes}
+use Rattle.pg_wire.specs.Spellings.{SpellingsState}
 use Rattle.pg_wire.specs.declared.fault.WireFault.{WireFault}
 
 -- the bytes of the message that is still held, if one is, and the stream after it
@@ -29,13 +32,18 @@ back_state s = record { stream = s.rest; held = lent_bytes s.front }
 abbrev pub IsHeldFront : List ℕ → Type 0
 IsHeldFront front = (front ≡ []) ⊎ ((5 ≤ length front) × IsSome (lent_bytes front))
 
--- The next message was held, where it is all there and one that is lent; or a fault was found, always
--- where the tag of a whole one is that of one that is lent; or nothing was changed.
-abbrev pub HoldsNext : StreamState → Result Bool WireFault → StreamState → Type 0
-HoldsNext old (Ok true) new = (lent : Lent) × (5 ≤ length new.front)
+-- A fault of the rest was found, and is stored.
+abbrev pub StoresFault : StreamState → StreamState → Type 0
+StoresFault old new = (f : WireFault) × (old.rest.fault ≡ None)
+    × IsFaulty backend old.rest.limit old.rest.kept f
+    × (new ≡ record old { rest = record old.rest { fault = Some f } })
+
+-- Nothing whole is next; or the next message was held; or its fault was stored; or nothing was changed,
+-- where no message that is lent is next, and a whole one has another tag.
+abbrev pub HoldsNext : StreamState → Found → StreamState → Type 0
+HoldsNext old found.Nothing new = (new ≡ old) × Takes backend old.rest (Ok None) old.rest
+HoldsNext old (found.Lent size) new = (lent : Lent) × (5 ≤ length new.front)
     × (lent_bytes new.front ≡ Some lent)
     × Takes backend old.rest (Ok (Some (message_of lent))) new.rest
-HoldsNext old (Ok false) new = (new ≡ old) × (old.rest.fault ≡ None
-    → BeginsNoLent old.rest.limit old.rest.kept × HasOtherTag old.rest.limit old.rest.kept)
-HoldsNext old (Err f) new = Takes backend old.rest (Err f) new.rest
-    × LetsBytes {A = Bool} old.front (Err f) new.front
+HoldsNext old found.Other new = StoresFault old new ⊎ ((new ≡ old) × (old.rest.fault ≡ None
+    → BeginsNoLent old.rest.limit old.rest.kept × HasOtherTag old.rest.limit old.rest.kept))

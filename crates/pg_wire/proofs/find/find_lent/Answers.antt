@@ -1,14 +1,11 @@
 use Rattle.std.proofs.Common.{◌≡◌, ℕ, ◌+◌, ◌-◌, true, sym, subst, ◌∙◌, arith}
 use Rattle.pg_message.specs.Private.LentReader.{has_lent}
 use Rattle.pg_wire.proofs.Rests.{same_tag}
-use Rattle.pg_wire.proofs.Lendings.{lent_tag, lent_found, bad_lent, open_lends_none}
-use Rattle.pg_wire.proofs.find.lent_size.Goals as goal
+use Rattle.pg_wire.proofs.Lendings.{lent_tag, lent_found, bad_lent}
+use Rattle.pg_wire.proofs.find.find_lent.Goals as goal
 
 pub judge_length-requires-clause-known : goal.judge_length-requires-clause-known
 judge_length-requires-clause-known c = lent_tag c.in-Some.tag (sym c.if-not-has_tag.ensures)
-
-pub returns-in-Open : goal.returns-in-Open
-returns-in-Open c = open_lends_none c.args.limit c.args.rest.now c.requires.1 (λ i. omega (arith, c.type_inv.rest i)) c.in-Open.ensures.0
 
 pub returns-in-Some-of_body : goal.returns-in-Some-of_body
 returns-in-Some-of_body c =
