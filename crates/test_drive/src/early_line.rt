@@ -1,11 +1,11 @@
 //! Early clients that are driven over a link, and what driving one came to, in few words.
 
-use crate::line::{Line, WELCOME};
-use pg_client::{CallFault, EarlyClient, Item, Loss, Phase, Settings};
+use crate::line::WELCOME;
+use pg_client::{EarlyClient, Item, Loss, Phase, Settings};
 use pg_drive::{DriveFault, DrivenEarly, drive_early};
 use pg_wire::{Request, Seq};
 use std::alloc::{AllocError, Global};
-use std::test::Fail;
+use test_base::Line;
 
 /// What driving an early client came to, without what its messages hold.
 #[derive(Clone, Copy, Debug, PartialEq, Eq)]
@@ -82,8 +82,7 @@ fn fresh(alloc: Global, link: Line<'_>) -> Result<Driving<'_>, AllocError> {
     })
 }
 
-/// An early client, what it has put out, and the link that it is driven over. What a test asks of it answers whether it was so: only
-/// the test's end then lets it go, since to prove that takes long.
+/// An early client, what it has put out, and the link that it is driven over. What a test asks of it answers whether it was so.
 #[derive(Drop)]
 pub(crate) struct Driving<'a> {
     client: EarlyClient,
@@ -93,31 +92,26 @@ pub(crate) struct Driving<'a> {
 
 impl<'a> Driving<'a> {
     /// A client that was started, and whose startup packet waits to be sent.
-    pub(crate) fn started(alloc: Global, link: Line<'a>) -> Result<Driving<'a>, Fail> {
-        let mut it = fresh(alloc, link)?;
-        it.start()?;
-        Ok(it)
+    pub(crate) fn started(alloc: Global, link: Line<'a>) -> Option<Driving<'a>> {
+        let mut it = fresh(alloc, link).ok()?;
+        if it.starts() { Some(it) } else { None }
     }
 
     /// A client that has made a query, whose message waits to be sent.
-    pub(crate) fn asked(alloc: Global, link: Line<'a>) -> Result<Driving<'a>, Fail> {
-        let query = Request::Query(Seq::from_slice(alloc, b"SELECT 1")?);
+    pub(crate) fn asked(alloc: Global, link: Line<'a>) -> Option<Driving<'a>> {
+        let query = Request::Query(Seq::from_slice(alloc, b"SELECT 1").ok()?);
         let mut it = Driving::started(alloc, link)?;
-        it.ask(query)?;
-        Ok(it)
+        if it.asks(query) { Some(it) } else { None }
     }
 
-    fn start(&mut self) -> Result<(), CallFault> {
-        self.client.start(&mut self.out)
+    fn starts(&mut self) -> bool {
+        self.client.start(&mut self.out).is_ok()
     }
 
-    fn ask(&mut self, query: Request) -> Result<(), Fail> {
-        self.client.feed(&WELCOME, &mut self.out)?;
+    fn asks(&mut self, query: Request) -> bool {
+        let welcomed = self.feeds(&WELCOME);
         self.out.clear();
-        match self.client.request(query, &mut self.out) {
-            Ok(()) => Ok(()),
-            Err((_, fault)) => Err(fault.into()),
-        }
+        welcomed && self.client.request(query, &mut self.out).is_ok()
     }
 
     /// Takes these bytes, and not by the link.

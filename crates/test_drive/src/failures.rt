@@ -1,11 +1,11 @@
 //! A link that fails at one call, for each call of a drive: what was sent and received before stands.
 
-use crate::line::{Driving, Line, STARTUP, line_of};
+use crate::line::{Driving, STARTUP};
 use pg_client::{Cause, Phase};
 use pg_drive::{DriveFault, Driven};
 use pg_wire::{Request, Seq};
 use std::alloc::Global;
-use std::test::Fail;
+use test_base::{Line, holds, line_of};
 
 /// AuthenticationCleartextPassword and then the welcome.
 const GIVEN: [u8; 24] = [
@@ -32,13 +32,13 @@ fn failing(alloc: Global, gives: &[u8], send: u64, receive: u64) -> Line<'_> {
 }
 
 /// A drive that begins with the startup, and one that begins with a query.
-fn startup(alloc: Global, send: u64, receive: u64) -> Result<Driving<'static>, Fail> {
-    let password = Seq::from_slice(alloc, b"p")?;
+fn startup(alloc: Global, send: u64, receive: u64) -> Option<Driving<'static>> {
+    let password = Seq::from_slice(alloc, b"p").ok()?;
     Driving::started(alloc, Some(password), failing(alloc, &GIVEN, send, receive))
 }
 
-fn query(alloc: Global, send: u64, receive: u64) -> Result<Driving<'static>, Fail> {
-    let request = Request::Query(Seq::from_slice(alloc, b"SELECT 1")?);
+fn query(alloc: Global, send: u64, receive: u64) -> Option<Driving<'static>> {
+    let request = Request::Query(Seq::from_slice(alloc, b"SELECT 1").ok()?);
     Driving::asked(alloc, request, failing(alloc, ANSWER, send, receive))
 }
 
@@ -87,95 +87,103 @@ impl Driving<'_> {
 }
 
 #[test]
-fn each_send_of_a_startup(rt: HostRuntime) -> Result<(), Fail> {
+fn each_send_of_a_startup(rt: HostRuntime) {
+    let alloc = rt.alloc();
     for sent in 0..16usize {
-        let mut it = startup(rt.alloc(), sent as u64 + 1, 0)?;
-        assert!(rt; it.is_failed(false, false));
-        assert!(rt; it.has_sent_of(&STARTUP, sent));
-        assert!(rt; it.has_to_send_of(&STARTUP, 16 - sent));
-        assert!(rt; it.is_left(24));
+        let held = holds(startup(alloc, sent as u64 + 1, 0), |it| {
+            it.is_failed(false, false)
+                && it.has_sent_of(&STARTUP, sent)
+                && it.has_to_send_of(&STARTUP, 16 - sent)
+                && it.is_left(24)
+        });
+        assert!(rt; held, "{sent}");
     }
-    Ok(())
 }
 
 #[test]
-fn each_send_of_a_password(rt: HostRuntime) -> Result<(), Fail> {
+fn each_send_of_a_password(rt: HostRuntime) {
     // it waits only once it was asked for
+    let alloc = rt.alloc();
     for sent in 16..23usize {
-        let mut it = startup(rt.alloc(), sent as u64 + 1, 0)?;
-        assert!(rt; it.is_failed(false, false));
-        assert!(rt; it.has_sent_of(&SENT, sent));
-        assert!(rt; it.has_to_send_of(&SENT, 23 - sent));
-        assert!(rt; it.is_left(15));
+        let held = holds(startup(alloc, sent as u64 + 1, 0), |it| {
+            it.is_failed(false, false)
+                && it.has_sent_of(&SENT, sent)
+                && it.has_to_send_of(&SENT, 23 - sent)
+                && it.is_left(15)
+        });
+        assert!(rt; held, "{sent}");
     }
-    Ok(())
 }
 
 #[test]
-fn each_receive_of_a_question(rt: HostRuntime) -> Result<(), Fail> {
+fn each_receive_of_a_question(rt: HostRuntime) {
+    let alloc = rt.alloc();
     for received in 0..9usize {
-        let mut it = startup(rt.alloc(), 0, received as u64 + 1)?;
-        assert!(rt; it.is_failed(false, false));
-        assert!(rt; it.has_sent_of(&SENT, 16));
-        assert!(rt; it.has_to_send(b""));
-        assert!(rt; it.is_left(24 - received));
+        let held = holds(startup(alloc, 0, received as u64 + 1), |it| {
+            it.is_failed(false, false)
+                && it.has_sent_of(&SENT, 16)
+                && it.has_to_send(b"")
+                && it.is_left(24 - received)
+        });
+        assert!(rt; held, "{received}");
     }
-    Ok(())
 }
 
 #[test]
-fn each_receive_of_a_welcome(rt: HostRuntime) -> Result<(), Fail> {
+fn each_receive_of_a_welcome(rt: HostRuntime) {
+    let alloc = rt.alloc();
     for received in 9..24usize {
-        let mut it = startup(rt.alloc(), 0, received as u64 + 1)?;
-        assert!(rt; it.is_failed(false, false));
-        assert!(rt; it.has_sent_of(&SENT, 23));
-        assert!(rt; it.has_to_send(b""));
-        assert!(rt; it.is_left(24 - received));
+        let held = holds(startup(alloc, 0, received as u64 + 1), |it| {
+            it.is_failed(false, false)
+                && it.has_sent_of(&SENT, 23)
+                && it.has_to_send(b"")
+                && it.is_left(24 - received)
+        });
+        assert!(rt; held, "{received}");
     }
-    Ok(())
 }
 
 #[test]
-fn each_send_of_a_query(rt: HostRuntime) -> Result<(), Fail> {
+fn each_send_of_a_query(rt: HostRuntime) {
+    let alloc = rt.alloc();
     for sent in 0..14usize {
-        let mut it = query(rt.alloc(), sent as u64 + 1, 0)?;
-        assert!(rt; it.is_failed(true, false));
-        assert!(rt; it.has_sent_of(QUERY, sent));
-        assert!(rt; it.has_to_send_of(QUERY, 14 - sent));
-        assert!(rt; it.is_left(12));
+        let held = holds(query(alloc, sent as u64 + 1, 0), |it| {
+            it.is_failed(true, false)
+                && it.has_sent_of(QUERY, sent)
+                && it.has_to_send_of(QUERY, 14 - sent)
+                && it.is_left(12)
+        });
+        assert!(rt; held, "{sent}");
     }
-    Ok(())
 }
 
 #[test]
-fn each_receive_of_a_query(rt: HostRuntime) -> Result<(), Fail> {
+fn each_receive_of_a_query(rt: HostRuntime) {
+    let alloc = rt.alloc();
     for received in 0..12usize {
-        let mut it = query(rt.alloc(), 0, received as u64 + 1)?;
-        // the error is seen once its six bytes are there
-        assert!(rt; it.is_failed(true, received >= 6));
-        assert!(rt; it.has_sent_of(QUERY, 14));
-        assert!(rt; it.has_to_send(b""));
-        assert!(rt; it.is_left(12 - received));
+        let held = holds(query(alloc, 0, received as u64 + 1), |it| {
+            // the error is seen once its six bytes are there
+            it.is_failed(true, received >= 6)
+                && it.has_sent_of(QUERY, 14)
+                && it.has_to_send(b"")
+                && it.is_left(12 - received)
+        });
+        assert!(rt; held, "{received}");
     }
-    Ok(())
 }
 
 #[test]
-fn past_the_last_call_of_a_startup(rt: HostRuntime) -> Result<(), Fail> {
-    let mut it = startup(rt.alloc(), 24, 25)?;
-    assert!(rt; it.ends_well(Phase::Ready));
-    assert!(rt; it.has_sent(&SENT));
-    assert!(rt; it.has_to_send(b""));
-    assert!(rt; it.is_left(0));
-    Ok(())
+fn past_the_last_call_of_a_startup(rt: HostRuntime) {
+    let held = holds(startup(rt.alloc(), 24, 25), |it| {
+        it.ends_well(Phase::Ready) && it.has_sent(&SENT) && it.has_to_send(b"") && it.is_left(0)
+    });
+    assert!(rt; held);
 }
 
 #[test]
-fn past_the_last_call_of_a_query(rt: HostRuntime) -> Result<(), Fail> {
-    let mut it = query(rt.alloc(), 15, 13)?;
-    assert!(rt; it.ends_well(Phase::Ready));
-    assert!(rt; it.has_sent(QUERY));
-    assert!(rt; it.has_to_send(b""));
-    assert!(rt; it.is_left(0));
-    Ok(())
+fn past_the_last_call_of_a_query(rt: HostRuntime) {
+    let held = holds(query(rt.alloc(), 15, 13), |it| {
+        it.ends_well(Phase::Ready) && it.has_sent(QUERY) && it.has_to_send(b"") && it.is_left(0)
+    });
+    assert!(rt; held);
 }

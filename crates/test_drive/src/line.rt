@@ -1,10 +1,10 @@
-//! A link in memory, which fails where a test wants it, and the clients that are driven over it.
+//! Clients that are driven over a link in memory.
 
-use pg_client::{CallFault, Client, FeedFault, Loss, Phase, Settings};
+use pg_client::{Client, Loss, Phase, Settings};
 use pg_drive::{DriveFault, Driven, drive};
-use pg_wire::{LinkFault, Request, Seq, Sink, Source};
+use pg_wire::{Request, Seq};
 use std::alloc::{AllocError, Global};
-use std::test::Fail;
+use test_base::Line;
 
 /// The startup packet of the user `u`.
 pub(crate) const STARTUP: [u8; 16] = [
@@ -13,73 +13,6 @@ pub(crate) const STARTUP: [u8; 16] = [
 
 /// AuthenticationOk and ReadyForQuery.
 pub(crate) const WELCOME: [u8; 15] = [0x52, 0, 0, 0, 8, 0, 0, 0, 0, 0x5A, 0, 0, 0, 5, 0x49];
-
-/// A link that gives these bytes and takes what is sent, both so many at a time. One receive and one send fail, or none where
-/// their number is 0.
-#[derive(Drop)]
-pub(crate) struct Line<'a> {
-    pub(crate) gives: &'a [u8],
-    pub(crate) taken: Vec<u8>,
-    most: usize,
-    receives: u64,
-    sends: u64,
-    pub(crate) fails_at_receive: u64,
-    pub(crate) fails_at_send: u64,
-    pub(crate) failures: u64,
-}
-
-impl<'a> Source for Line<'a> {
-    ghost failures = { λ s. s.failures };
-
-    ghost gives = { λ _ _ _. Unit {0} };
-
-    ghost has_ended = { λ _. Unit {0} };
-
-    fn receive(&mut self, into: &mut [u8]) -> Result<usize, LinkFault> {
-        self.receives = self.receives.saturating_add(1);
-        if self.receives == self.fails_at_receive {
-            self.failures = self.failures.saturating_add(1);
-            return Err(LinkFault);
-        }
-        let count = self.gives.len().min(into.len()).min(self.most);
-        let (piece, rest) = self.gives.split_at(count);
-        into.split_at_mut(count).0.copy_from_slice(piece);
-        self.gives = rest;
-        Ok(count)
-    }
-}
-
-impl<'a> Sink for Line<'a> {
-    ghost failures = { λ s. s.failures };
-
-    ghost takes = { λ _ _ _. Unit {0} };
-
-    fn send(&mut self, piece: &[u8]) -> Result<usize, LinkFault> {
-        self.sends = self.sends.saturating_add(1);
-        let count = piece.len().min(self.most.max(1));
-        if self.sends == self.fails_at_send
-            || self.taken.extend_from_slice(&piece[..count]).is_err()
-        {
-            self.failures = self.failures.saturating_add(1);
-            return Err(LinkFault);
-        }
-        Ok(count)
-    }
-}
-
-/// A link that doesn't fail.
-pub(crate) fn line_of(alloc: Global, gives: &[u8], most: usize) -> Line<'_> {
-    Line {
-        gives,
-        taken: Vec::new(alloc),
-        most,
-        receives: 0,
-        sends: 0,
-        fails_at_receive: 0,
-        fails_at_send: 0,
-        failures: 0,
-    }
-}
 
 /// A client of the user `u` and of this password, in phase New.
 fn fresh(alloc: Global, password: Option<Seq<u8>>) -> Result<Client, AllocError> {
@@ -93,8 +26,7 @@ fn fresh(alloc: Global, password: Option<Seq<u8>>) -> Result<Client, AllocError>
     Ok(Client::new(alloc, settings))
 }
 
-/// A client, what it has put out, and the link that it is driven over. What a test asks of it answers whether it was so: only
-/// the test's end then lets it go, since to prove that takes long.
+/// A client, what it has put out, and the link that it is driven over. What a test asks of it answers whether it was so.
 #[derive(Drop)]
 pub(crate) struct Driving<'a> {
     pub(crate) client: Client,
@@ -103,13 +35,9 @@ pub(crate) struct Driving<'a> {
 }
 
 impl<'a> Driving<'a> {
-    fn new(
-        alloc: Global,
-        password: Option<Seq<u8>>,
-        link: Line<'a>,
-    ) -> Result<Driving<'a>, AllocError> {
-        Ok(Driving {
-            client: fresh(alloc, password)?,
+    fn new(alloc: Global, password: Option<Seq<u8>>, link: Line<'a>) -> Option<Driving<'a>> {
+        Some(Driving {
+            client: fresh(alloc, password).ok()?,
             out: Vec::new(alloc),
             link,
         })
@@ -120,39 +48,30 @@ impl<'a> Driving<'a> {
         alloc: Global,
         password: Option<Seq<u8>>,
         link: Line<'a>,
-    ) -> Result<Driving<'a>, Fail> {
+    ) -> Option<Driving<'a>> {
         let mut it = Driving::new(alloc, password, link)?;
-        it.start()?;
-        Ok(it)
+        if it.starts() { Some(it) } else { None }
     }
 
-    fn start(&mut self) -> Result<(), CallFault> {
-        self.client.start(&mut self.out)
+    fn starts(&mut self) -> bool {
+        self.client.start(&mut self.out).is_ok()
     }
 
     /// A client that has made a request, whose message waits to be sent.
-    pub(crate) fn asked(
-        alloc: Global,
-        request: Request,
-        link: Line<'a>,
-    ) -> Result<Driving<'a>, Fail> {
+    pub(crate) fn asked(alloc: Global, request: Request, link: Line<'a>) -> Option<Driving<'a>> {
         let mut it = Driving::started(alloc, None, link)?;
-        it.ask(request)?;
-        Ok(it)
+        if it.asks(request) { Some(it) } else { None }
     }
 
-    fn ask(&mut self, request: Request) -> Result<(), Fail> {
-        self.feed(&WELCOME)?;
+    fn asks(&mut self, request: Request) -> bool {
+        let welcomed = self.feeds(&WELCOME);
         self.out.clear();
-        match self.client.request(request, &mut self.out) {
-            Ok(()) => Ok(()),
-            Err((_, fault)) => Err(fault.into()),
-        }
+        welcomed && self.client.request(request, &mut self.out).is_ok()
     }
 
-    /// Feeds the client.
-    pub(crate) fn feed(&mut self, piece: &[u8]) -> Result<(), FeedFault> {
-        self.client.feed(piece, &mut self.out)
+    /// Takes this piece, and not by the link.
+    pub(crate) fn feeds(&mut self, piece: &[u8]) -> bool {
+        self.client.feed(piece, &mut self.out).is_ok()
     }
 
     /// Drives the client, with at most so many receives.

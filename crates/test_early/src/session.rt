@@ -1,9 +1,8 @@
 //! The sessions that are tested, and the items that come of them.
 
 use pg_client::{Cause, EarlyClient, Item, Loss, Next, Phase, Settings};
-use pg_wire::{Request, Seq};
+use pg_wire::{Request, Seq, Status};
 use std::alloc::{AllocError, Global};
-use std::test::Fail;
 
 /// AuthenticationOk and ReadyForQuery.
 pub(crate) const WELCOME: &[u8] = b"R\0\0\0\x08\0\0\0\0Z\0\0\0\x05I";
@@ -18,7 +17,7 @@ pub(crate) const READY: &[u8] = b"Z\0\0\0\x05I";
 /// CopyInResponse without columns.
 pub(crate) const COPY_IN: &[u8] = b"G\0\0\0\x07\0\0\0";
 
-pub(crate) fn query(alloc: Global) -> Result<Request, AllocError> {
+fn query(alloc: Global) -> Result<Request, AllocError> {
     Ok(Request::Query(Seq::from_slice(alloc, b"SELECT 1")?))
 }
 
@@ -28,8 +27,7 @@ fn fresh(alloc: Global) -> Result<EarlyClient, AllocError> {
     Ok(EarlyClient::new(alloc, settings))
 }
 
-/// An early client, and its output. What it is asked for answers whether it was so: a test's own body then lets it go but once,
-/// since to prove that takes long.
+/// An early client, and its output. What it is asked for answers whether it was so.
 #[derive(Drop)]
 pub(crate) struct Session {
     client: EarlyClient,
@@ -142,8 +140,28 @@ impl Session {
         same && !self.has_item()
     }
 
+    /// The next items have just these tags.
+    pub(crate) fn gives_first(&mut self, tags: &[u8]) -> bool {
+        let mut same = true;
+        for tag in tags {
+            same = self.next_tag() == *tag && same;
+        }
+        same
+    }
+
+    /// Gives the query, as settled.
+    pub(crate) fn gives_settled_query(&mut self, alloc: Global) -> bool {
+        match query(alloc) {
+            Ok(request) => self.gives_item(Item::Settled {
+                request,
+                status: Status::Idle,
+            }),
+            Err(_) => false,
+        }
+    }
+
     /// Gives this item.
-    pub(crate) fn gives_item(&mut self, item: Item) -> bool {
+    fn gives_item(&mut self, item: Item) -> bool {
         self.client.take_item() == Some(item)
     }
 

@@ -9,6 +9,7 @@ use pg_backend::{
 use pg_wire::{CopyHead, Seq, Status, WireFault};
 use std::alloc::{AllocError, Global};
 use std::test::Fail;
+use test_base::{holds, is_told};
 
 /// An SSLRequest, and a Startup with the user `u`.
 const OPENING: [u8; 24] = [
@@ -50,20 +51,22 @@ fn begin(alloc: Global, script: Script) -> Result<Backend, ScriptFault> {
     Ok(Backend::new(alloc, script, 1_073_741_823))
 }
 
-/// A backend, and what it has put out. What a test asks of it answers whether it was so: only the test's end then lets it go,
-/// since to prove that takes long.
+/// A backend, and what it has put out. What a test asks of it answers whether it was so.
 #[derive(Drop)]
 struct Serving {
     backend: Backend,
     out: Vec<u8>,
 }
 
-/// A backend that plays this script, and has put nothing out.
-fn backend_of(alloc: Global, script: Script) -> Result<Serving, ScriptFault> {
-    Ok(Serving {
-        backend: begin(alloc, script)?,
-        out: Vec::new(alloc),
-    })
+/// A backend that plays this script, if memory was left for it, and has put nothing out.
+fn backend_of(alloc: Global, script: Result<Script, AllocError>) -> Result<Serving, ScriptFault> {
+    match script {
+        Ok(script) => Ok(Serving {
+            backend: begin(alloc, script)?,
+            out: Vec::new(alloc),
+        }),
+        Err(_) => Err(ScriptFault::Memory),
+    }
 }
 
 impl Serving {
@@ -140,18 +143,20 @@ struct Case<'a> {
 }
 
 #[test]
-fn a_connection_is_opened(rt: HostRuntime) -> Result<(), Fail> {
-    let mut it = backend_of(rt.alloc(), silent(rt.alloc()))?;
-    assert!(rt; it.takes(&OPENING));
-    assert!(rt; it.steps(Ok(true)));
-    assert!(rt; it.steps(Ok(true)));
-    assert!(rt; it.has_put(b"NR\0\0\0\x08\0\0\0\0Z\0\0\0\x05I"));
-    assert!(rt; it.stands(BackPhase::Ready, 0));
-    Ok(())
+fn a_connection_is_opened(rt: HostRuntime) {
+    let alloc = rt.alloc();
+    let held = holds(backend_of(alloc, Ok(silent(alloc))).ok(), |it| {
+        it.takes(&OPENING)
+            && it.steps(Ok(true))
+            && it.steps(Ok(true))
+            && it.has_put(b"NR\0\0\0\x08\0\0\0\0Z\0\0\0\x05I")
+            && it.stands(BackPhase::Ready, 0)
+    });
+    assert!(rt; held);
 }
 
 #[test]
-fn single_inputs_are_answered(rt: HostRuntime) -> Result<(), Fail> {
+fn single_inputs_are_answered(rt: HostRuntime) {
     let stray = Err(BackendFault::Unexpected(b'p'));
     let unknown = Err(BackendFault::Wire(WireFault::UnknownTag(33)));
     let cases = [
@@ -210,30 +215,38 @@ fn single_inputs_are_answered(rt: HostRuntime) -> Result<(), Fail> {
             logged: 0,
         },
     ];
+    let alloc = rt.alloc();
     for case in cases {
-        let mut it = backend_of(rt.alloc(), silent(rt.alloc()))?;
         let input = case.input;
-        assert!(rt; it.fits(&case), "{input:?}");
+        let held = holds(
+            backend_of(alloc, Ok(silent(alloc))).ok(),
+            |it| it.fits(&case),
+        );
+        assert!(rt; held, "{input:?}");
     }
-    Ok(())
+}
+
+/// A script whose one answer has a tag with a zero byte.
+fn unspelled(alloc: Global) -> Result<Script, AllocError> {
+    let zero = answer(alloc, ScriptPart::Command(text(alloc, b"\0")?))?;
+    Ok(Script {
+        answers: Seq::new(vec![in alloc; zero]?),
+        ..silent(alloc)
+    })
 }
 
 #[test]
 fn faults_are_told(rt: HostRuntime) -> Result<(), Fail> {
     let alloc = rt.alloc();
-    let wire = format!(in alloc; "{}", BackendFault::Wire(WireFault::UnknownTag(33)))?;
-    assert_eq!(rt; wire.as_str(), "K1 Wire W1 UnknownTag 33");
-    let stray = format!(in alloc; "{}", BackendFault::Unexpected(80))?;
-    assert_eq!(rt; stray.as_str(), "K4 Unexpected 80");
-    let memory = format!(in alloc; "{}", BackendFault::Memory)?;
-    assert_eq!(rt; memory.as_str(), "K2 Memory");
-    let copies = format!(in alloc; "{}", ScriptFault::Copies)?;
-    assert_eq!(rt; copies.as_str(), "S1 Copies");
-    let zero = ScriptPart::Command(text(alloc, b"\0")?);
-    let script = Script {
-        answers: Seq::new(vec![in alloc; answer(alloc, zero)?]?),
-        ..silent(alloc)
-    };
-    assert_eq!(rt; script.check(alloc), Err(ScriptFault::Encode));
+    let wire = BackendFault::Wire(WireFault::UnknownTag(33));
+    assert!(rt; is_told(alloc, wire, "K1 Wire W1 UnknownTag 33")?);
+    assert!(rt; is_told(alloc, BackendFault::Unexpected(80), "K4 Unexpected 80")?);
+    assert!(rt; is_told(alloc, BackendFault::Memory, "K2 Memory")?);
+    assert!(rt; is_told(alloc, ScriptFault::Copies, "S1 Copies")?);
+    let held = holds(
+        unspelled(alloc).ok(),
+        |script| script.check(alloc) == Err(ScriptFault::Encode),
+    );
+    assert!(rt; held);
     Ok(())
 }

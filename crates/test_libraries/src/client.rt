@@ -6,7 +6,7 @@ mod passwords;
 use pg_client::{Cause, Client, Loss, Phase, Settings, Settled};
 use pg_wire::{Aside, Fields, Outcome, Part, Request, Seq, Status, Step};
 use std::alloc::{AllocError, Global};
-use std::test::Fail;
+use test_base::holds;
 
 /// AuthenticationOk and ReadyForQuery.
 const WELCOME: &[u8] = b"R\0\0\0\x08\0\0\0\0Z\0\0\0\x05I";
@@ -33,8 +33,7 @@ fn group(alloc: Global) -> Result<Request, AllocError> {
     Ok(Request::Group(Seq::new(vec![in alloc; execute(alloc)]?)))
 }
 
-/// A client, and what it has put out. What a test asks of it answers whether it was so: only the test's end then lets it go, since
-/// to prove that takes long.
+/// A client, and what it has put out. What a test asks of it answers whether it was so.
 #[derive(Drop)]
 struct Session {
     client: Client,
@@ -168,29 +167,35 @@ fn failed(alloc: Global) -> Result<Settled, AllocError> {
 }
 
 #[test]
-fn a_group_waits_for_its_last_byte(rt: HostRuntime) -> Result<(), Fail> {
-    let mut session = fresh(rt.alloc())?;
-    assert!(rt; session.is_answered(rt.alloc(), &ANSWER[..13]));
-    assert!(rt; session.settles_nothing());
-    assert!(rt; session.shows(Some(Status::Idle), Phase::Busy));
-    Ok(())
+fn a_group_waits_for_its_last_byte(rt: HostRuntime) {
+    let alloc = rt.alloc();
+    let held = holds(fresh(alloc).ok(), |session| {
+        session.is_answered(alloc, &ANSWER[..13])
+            && session.settles_nothing()
+            && session.shows(Some(Status::Idle), Phase::Busy)
+    });
+    assert!(rt; held);
 }
 
 #[test]
-fn a_group_settles_at_its_last_byte(rt: HostRuntime) -> Result<(), Fail> {
-    let mut session = fresh(rt.alloc())?;
-    assert!(rt; session.is_answered(rt.alloc(), &ANSWER[..13]));
-    assert!(rt; session.takes(&ANSWER[13..]));
-    assert!(rt; session.gives(completed(rt.alloc(), Vec::new(rt.alloc())), Status::Idle));
-    Ok(())
+fn a_group_settles_at_its_last_byte(rt: HostRuntime) {
+    let alloc = rt.alloc();
+    let held = holds(fresh(alloc).ok(), |session| {
+        session.is_answered(alloc, &ANSWER[..13])
+            && session.takes(&ANSWER[13..])
+            && session.gives(completed(alloc, Vec::new(alloc)), Status::Idle)
+    });
+    assert!(rt; held);
 }
 
 #[test]
-fn a_group_settles_with_its_error(rt: HostRuntime) -> Result<(), Fail> {
-    let mut session = fresh(rt.alloc())?;
-    assert!(rt; session.is_answered(rt.alloc(), b"E\0\0\0\x05\0Z\0\0\0\x05E"));
-    assert!(rt; session.gives(failed(rt.alloc()), Status::Failed));
-    Ok(())
+fn a_group_settles_with_its_error(rt: HostRuntime) {
+    let alloc = rt.alloc();
+    let held = holds(fresh(alloc).ok(), |session| {
+        session.is_answered(alloc, b"E\0\0\0\x05\0Z\0\0\0\x05E")
+            && session.gives(failed(alloc), Status::Failed)
+    });
+    assert!(rt; held);
 }
 
 /// The query that is settled with a notice.
@@ -200,28 +205,32 @@ fn noted(alloc: Global) -> Result<Settled, AllocError> {
 }
 
 #[test]
-fn a_notice_stays_for_the_next_group(rt: HostRuntime) -> Result<(), Fail> {
-    let mut session = fresh(rt.alloc())?;
-    assert!(rt; session.begins());
-    assert!(rt; session.takes(b"N\0\0\0\x05\0"));
-    assert!(rt; session.makes(query(rt.alloc())));
-    assert!(rt; session.takes(ANSWER));
-    assert!(rt; session.gives(noted(rt.alloc()), Status::Idle));
-    Ok(())
+fn a_notice_stays_for_the_next_group(rt: HostRuntime) {
+    let alloc = rt.alloc();
+    let held = holds(fresh(alloc).ok(), |session| {
+        session.begins()
+            && session.takes(b"N\0\0\0\x05\0")
+            && session.makes(query(alloc))
+            && session.takes(ANSWER)
+            && session.gives(noted(alloc), Status::Idle)
+    });
+    assert!(rt; held);
 }
 
 #[test]
-fn what_is_lost_is_handed_back_once(rt: HostRuntime) -> Result<(), Fail> {
-    let mut session = fresh(rt.alloc())?;
-    assert!(rt; session.is_answered(rt.alloc(), &ANSWER[..13]));
-    assert!(rt; session.loses_query(rt.alloc(), false) == Ok(true));
-    Ok(())
+fn what_is_lost_is_handed_back_once(rt: HostRuntime) {
+    let alloc = rt.alloc();
+    let held = holds(fresh(alloc).ok(), |session| {
+        session.is_answered(alloc, &ANSWER[..13]) && session.loses_query(alloc, false) == Ok(true)
+    });
+    assert!(rt; held);
 }
 
 #[test]
-fn what_is_lost_says_its_error(rt: HostRuntime) -> Result<(), Fail> {
-    let mut session = fresh(rt.alloc())?;
-    assert!(rt; session.is_answered(rt.alloc(), ERROR));
-    assert!(rt; session.loses_query(rt.alloc(), true) == Ok(true));
-    Ok(())
+fn what_is_lost_says_its_error(rt: HostRuntime) {
+    let alloc = rt.alloc();
+    let held = holds(fresh(alloc).ok(), |session| {
+        session.is_answered(alloc, ERROR) && session.loses_query(alloc, true) == Ok(true)
+    });
+    assert!(rt; held);
 }

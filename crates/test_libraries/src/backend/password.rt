@@ -2,10 +2,10 @@
 
 use super::{Serving, backend_of, silent};
 use crate::values::text;
-use pg_backend::{Auth, BackPhase, BackendFault, Script, ScriptFault};
+use pg_backend::{Auth, BackPhase, BackendFault, Script};
 use pg_wire::WireFault;
 use std::alloc::{AllocError, Global};
-use std::test::Fail;
+use test_base::holds;
 
 /// A Startup with the users `x` and `c`, of which the last counts.
 const STARTUP: &[u8] = b"\0\0\0\x17\0\x03\0\0user\0x\0user\0c\0\0";
@@ -26,24 +26,26 @@ struct Case<'a> {
     phase: BackPhase,
 }
 
-fn cleartext(alloc: Global) -> Result<Auth, AllocError> {
-    Ok(Auth::Cleartext(text(alloc, b"ab")?))
-}
-
-fn md5(alloc: Global) -> Result<Auth, AllocError> {
-    Ok(Auth::Md5 {
-        password: text(alloc, b"ab")?,
-        salt: [1, 2, 3, 4],
-    })
-}
-
-/// A backend that lets clients in so.
-fn admitting(alloc: Global, auth: Auth) -> Result<Serving, ScriptFault> {
-    let script = Script {
+/// Clients are let in so.
+fn admitting(alloc: Global, auth: Auth) -> Script {
+    Script {
         auth,
         ..silent(alloc)
+    }
+}
+
+/// Clients are let in by the password `ab`.
+fn cleartext(alloc: Global) -> Result<Script, AllocError> {
+    Ok(admitting(alloc, Auth::Cleartext(text(alloc, b"ab")?)))
+}
+
+/// Clients are let in by an MD5 text of the password `ab`.
+fn md5(alloc: Global) -> Result<Script, AllocError> {
+    let auth = Auth::Md5 {
+        password: text(alloc, b"ab")?,
+        salt: [1, 2, 3, 4],
     };
-    backend_of(alloc, script)
+    Ok(admitting(alloc, auth))
 }
 
 impl Serving {
@@ -66,7 +68,7 @@ impl Serving {
 }
 
 #[test]
-fn a_cleartext_password_is_asked_for(rt: HostRuntime) -> Result<(), Fail> {
+fn a_cleartext_password_is_asked_for(rt: HostRuntime) {
     let cases = [
         Case {
             input: b"p\0\0\0\x07ab\0",
@@ -117,18 +119,20 @@ fn a_cleartext_password_is_asked_for(rt: HostRuntime) -> Result<(), Fail> {
             phase: BackPhase::Password,
         },
     ];
+    let alloc = rt.alloc();
     let question = b"R\0\0\0\x08\0\0\0\x03";
     for case in cases {
-        let mut it = admitting(rt.alloc(), cleartext(rt.alloc())?)?;
         let input = case.input;
-        assert!(rt; it.asks(question));
-        assert!(rt; it.lets_in(&case), "{input:?}");
+        let held = holds(
+            backend_of(alloc, cleartext(alloc)).ok(),
+            |it| it.asks(question) && it.lets_in(&case),
+        );
+        assert!(rt; held, "{input:?}");
     }
-    Ok(())
 }
 
 #[test]
-fn an_md5_answer_is_asked_for(rt: HostRuntime) -> Result<(), Fail> {
+fn an_md5_answer_is_asked_for(rt: HostRuntime) {
     let cases = [
         Case {
             input: b"p\0\0\0\x28md596838e208aad1ff8fc396693d03e488d\0",
@@ -143,38 +147,44 @@ fn an_md5_answer_is_asked_for(rt: HostRuntime) -> Result<(), Fail> {
             phase: BackPhase::Closed,
         },
     ];
+    let alloc = rt.alloc();
     let question = b"R\0\0\0\x0C\0\0\0\x05\x01\x02\x03\x04";
     for case in cases {
-        let mut it = admitting(rt.alloc(), md5(rt.alloc())?)?;
         let input = case.input;
-        assert!(rt; it.asks(question));
-        assert!(rt; it.lets_in(&case), "{input:?}");
+        let held = holds(
+            backend_of(alloc, md5(alloc)).ok(),
+            |it| it.asks(question) && it.lets_in(&case),
+        );
+        assert!(rt; held, "{input:?}");
     }
-    Ok(())
 }
 
 #[test]
-fn a_client_that_is_let_in_is_answered(rt: HostRuntime) -> Result<(), Fail> {
-    let mut it = admitting(rt.alloc(), cleartext(rt.alloc())?)?;
-    assert!(rt; it.asks(b"R\0\0\0\x08\0\0\0\x03"));
-    assert!(rt; it.takes(b"p\0\0\0\x07ab\0Q\0\0\0\x0DSELECT 1\0"));
-    assert!(rt; it.runs());
-    assert!(rt; it.has_put_from_to(WELCOME, b""));
-    assert!(rt; it.stands(BackPhase::Ready, 1));
-    // a password is no message of the session
-    assert!(rt; it.takes(b"p\0\0\0\x07ab\0"));
-    assert!(rt; it.steps(Err(BackendFault::Unexpected(b'p'))));
-    Ok(())
+fn a_client_that_is_let_in_is_answered(rt: HostRuntime) {
+    let alloc = rt.alloc();
+    let held = holds(backend_of(alloc, cleartext(alloc)).ok(), |it| {
+        it.asks(b"R\0\0\0\x08\0\0\0\x03")
+            && it.takes(b"p\0\0\0\x07ab\0Q\0\0\0\x0DSELECT 1\0")
+            && it.runs()
+            && it.has_put_from_to(WELCOME, b"")
+            && it.stands(BackPhase::Ready, 1)
+            // a password is no message of the session
+            && it.takes(b"p\0\0\0\x07ab\0")
+            && it.steps(Err(BackendFault::Unexpected(b'p')))
+    });
+    assert!(rt; held);
 }
 
 #[test]
-fn a_client_that_is_refused_stays_out(rt: HostRuntime) -> Result<(), Fail> {
-    let mut it = admitting(rt.alloc(), cleartext(rt.alloc())?)?;
-    assert!(rt; it.asks(b"R\0\0\0\x08\0\0\0\x03"));
-    assert!(rt; it.takes(b"p\0\0\0\x06a\0p\0\0\0\x07ab\0"));
-    assert!(rt; it.steps(Ok(true)));
-    assert!(rt; it.steps(Err(BackendFault::Closed)));
-    assert!(rt; it.has_put(WRONG));
-    assert!(rt; it.backend.push(b"Q") == Err(BackendFault::Closed));
-    Ok(())
+fn a_client_that_is_refused_stays_out(rt: HostRuntime) {
+    let alloc = rt.alloc();
+    let held = holds(backend_of(alloc, cleartext(alloc)).ok(), |it| {
+        it.asks(b"R\0\0\0\x08\0\0\0\x03")
+            && it.takes(b"p\0\0\0\x06a\0p\0\0\0\x07ab\0")
+            && it.steps(Ok(true))
+            && it.steps(Err(BackendFault::Closed))
+            && it.has_put(WRONG)
+            && it.backend.push(b"Q") == Err(BackendFault::Closed)
+    });
+    assert!(rt; held);
 }

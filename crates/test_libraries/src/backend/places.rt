@@ -3,20 +3,19 @@
 use super::{OPENING, Serving, answer, backend_of, copy_in, silent};
 use pg_backend::{BackPhase, BackendFault, Script};
 use pg_wire::{Seq, WireFault};
-use std::alloc::Global;
-use std::test::Fail;
+use std::alloc::{AllocError, Global};
+use test_base::holds;
 
 /// A Query of `SELECT 1`.
 const QUERY: &[u8] = b"Q\0\0\0\x0DSELECT 1\0";
 
-/// A backend that answers one request by a copy from the client.
-fn copying(alloc: Global) -> Result<Serving, Fail> {
+/// The answer to one request is a copy from the client.
+fn copying(alloc: Global) -> Result<Script, AllocError> {
     let copy = answer(alloc, copy_in(alloc)?)?;
-    let script = Script {
+    Ok(Script {
         answers: Seq::new(vec![in alloc; copy]?),
         ..silent(alloc)
-    };
-    Ok(backend_of(alloc, script)?)
+    })
 }
 
 impl Serving {
@@ -34,36 +33,49 @@ impl Serving {
 }
 
 #[test]
-fn a_query_ends_a_copy(rt: HostRuntime) -> Result<(), Fail> {
-    let mut it = copying(rt.alloc())?;
-    assert!(rt; it.opens(&OPENING));
-    assert!(rt; it.opens(b"Q\0\0\0\x09COPY\0"));
-    assert!(rt; it.stands(BackPhase::CopyIn, 0));
-    let said = b"E\0\0\0\x36SERROR\0VERROR\0C08P01\0Munexpected message in COPY\0\0Z\0\0\0\x05I";
-    assert!(rt; it.says(QUERY, said, Ok(true), BackPhase::Ready));
-    assert!(rt; it.stands(BackPhase::Ready, 1));
-    Ok(())
+fn a_query_ends_a_copy(rt: HostRuntime) {
+    let alloc = rt.alloc();
+    let held = holds(backend_of(alloc, copying(alloc)).ok(), |it| {
+        it.opens(&OPENING)
+            && it.opens(b"Q\0\0\0\x09COPY\0")
+            && it.stands(BackPhase::CopyIn, 0)
+            && it.says(
+                QUERY,
+                b"E\0\0\0\x36SERROR\0VERROR\0C08P01\0Munexpected message in COPY\0\0Z\0\0\0\x05I",
+                Ok(true),
+                BackPhase::Ready,
+            )
+            && it.stands(BackPhase::Ready, 1)
+    });
+    assert!(rt; held);
 }
 
 #[test]
-fn a_query_strays_in_a_group(rt: HostRuntime) -> Result<(), Fail> {
-    let mut it = backend_of(rt.alloc(), silent(rt.alloc()))?;
-    assert!(rt; it.opens(&OPENING));
-    assert!(rt; it.says(b"P\0\0\0\x08\0\0\0\0", b"", Ok(true), BackPhase::Grouping));
-    let said = b"E\0\0\0\x2ESFATAL\0VFATAL\0C08P01\0Munexpected message\0\0";
-    let stray = Err(BackendFault::Unexpected(81));
-    assert!(rt; it.says(QUERY, said, stray, BackPhase::Closed));
-    Ok(())
+fn a_query_strays_in_a_group(rt: HostRuntime) {
+    let alloc = rt.alloc();
+    let held = holds(backend_of(alloc, Ok(silent(alloc))).ok(), |it| {
+        it.opens(&OPENING)
+            && it.says(b"P\0\0\0\x08\0\0\0\0", b"", Ok(true), BackPhase::Grouping)
+            && it.says(
+                QUERY,
+                b"E\0\0\0\x2ESFATAL\0VFATAL\0C08P01\0Munexpected message\0\0",
+                Err(BackendFault::Unexpected(81)),
+                BackPhase::Closed,
+            )
+    });
+    assert!(rt; held);
 }
 
 #[test]
-fn a_faulty_stream_closes_for_good(rt: HostRuntime) -> Result<(), Fail> {
-    let mut it = backend_of(rt.alloc(), silent(rt.alloc()))?;
-    assert!(rt; it.opens(&OPENING));
-    assert!(rt; it.takes(b"!\0\0\0\x04"));
-    assert!(rt; it.steps(Err(BackendFault::Wire(WireFault::UnknownTag(33)))));
-    let said = it.out.len();
-    assert!(rt; it.steps(Err(BackendFault::Closed)));
-    assert_eq!(rt; it.out.len(), said);
-    Ok(())
+fn a_faulty_stream_closes_for_good(rt: HostRuntime) {
+    let alloc = rt.alloc();
+    let held = holds(backend_of(alloc, Ok(silent(alloc))).ok(), |it| {
+        it.opens(&OPENING)
+            && it.takes(b"!\0\0\0\x04")
+            && it.steps(Err(BackendFault::Wire(WireFault::UnknownTag(33))))
+            && it.sends()
+            && it.steps(Err(BackendFault::Closed))
+            && it.has_put(b"")
+    });
+    assert!(rt; held);
 }

@@ -7,7 +7,7 @@ use crate::values::{row, text};
 use pg_backend::{BackPhase, Script, ScriptPart};
 use pg_wire::{Column, Seq};
 use std::alloc::{AllocError, Global};
-use std::test::Fail;
+use test_base::holds;
 
 /// What psql 15 sends for `SELECT 1`, for a COPY of two rows and for an empty query, as recorded/psql.hex has it.
 const SESSION: [u8; 141] = [
@@ -52,11 +52,6 @@ fn script(alloc: Global) -> Result<Script, AllocError> {
     })
 }
 
-/// A backend that plays the script.
-fn playing(alloc: Global) -> Result<Serving, Fail> {
-    Ok(backend_of(alloc, script(alloc)?)?)
-}
-
 impl Serving {
     /// Serves a session in pieces of this many bytes.
     fn serves(&mut self, session: &[u8], size: usize) -> bool
@@ -69,14 +64,14 @@ impl Serving {
         served
     }
 
-    /// Has loaded this chunk by its second request.
-    fn has_loaded(&self, chunk: Seq<u8>) -> bool {
-        let loaded = self
-            .backend
-            .log()
-            .get(1)
-            .map(|logged| logged.loaded.as_slice());
-        loaded == Some(&[chunk])
+    /// Has loaded just this chunk by its second request.
+    fn has_loaded(&self, chunk: &[u8]) -> bool {
+        match self.backend.log().get(1) {
+            Some(logged) => {
+                matches!(logged.loaded.as_slice(), [loaded] if loaded.as_slice() == chunk)
+            }
+            None => false,
+        }
     }
 
     /// Has put out and logged the same.
@@ -86,31 +81,37 @@ impl Serving {
 }
 
 #[test]
-fn psql_is_served(rt: HostRuntime) -> Result<(), Fail> {
-    let mut it = playing(rt.alloc())?;
-    assert!(rt; it.serves(&SESSION, SESSION.len()));
-    assert!(rt; it.stands(BackPhase::Closed, 3));
-    let begins = b"NR\0\0\0\x08\0\0\0\0Z\0\0\0\x05IT";
-    let ends = b"C\0\0\0\x0BCOPY 2\0Z\0\0\0\x05II\0\0\0\x04Z\0\0\0\x05I";
-    assert!(rt; it.has_put_from_to(begins, ends));
-    Ok(())
+fn psql_is_served(rt: HostRuntime) {
+    let alloc = rt.alloc();
+    let held = holds(backend_of(alloc, script(alloc)).ok(), |it| {
+        it.serves(&SESSION, SESSION.len())
+            && it.stands(BackPhase::Closed, 3)
+            && it.has_put_from_to(
+                b"NR\0\0\0\x08\0\0\0\0Z\0\0\0\x05IT",
+                b"C\0\0\0\x0BCOPY 2\0Z\0\0\0\x05II\0\0\0\x04Z\0\0\0\x05I",
+            )
+    });
+    assert!(rt; held);
 }
 
 #[test]
-fn psql_loads_two_rows(rt: HostRuntime) -> Result<(), Fail> {
-    let chunk = text(rt.alloc(), b"a\nb\n")?;
-    let mut it = playing(rt.alloc())?;
-    assert!(rt; it.serves(&SESSION, SESSION.len()));
-    assert!(rt; it.has_loaded(chunk));
-    Ok(())
+fn psql_loads_two_rows(rt: HostRuntime) {
+    let alloc = rt.alloc();
+    let held = holds(backend_of(alloc, script(alloc)).ok(), |it| {
+        it.serves(&SESSION, SESSION.len()) && it.has_loaded(b"a\nb\n")
+    });
+    assert!(rt; held);
 }
 
 #[test]
-fn psql_is_served_a_byte_at_a_time(rt: HostRuntime) -> Result<(), Fail> {
-    let mut whole = playing(rt.alloc())?;
-    assert!(rt; whole.serves(&SESSION, SESSION.len()));
-    let mut cut = playing(rt.alloc())?;
-    assert!(rt; cut.serves(&SESSION, 1));
-    assert!(rt; whole.is_as(&cut));
-    Ok(())
+fn psql_is_served_a_byte_at_a_time(rt: HostRuntime) {
+    let alloc = rt.alloc();
+    let held = holds(backend_of(alloc, script(alloc)).ok(), |whole| {
+        whole.serves(&SESSION, SESSION.len())
+            && holds(
+                backend_of(alloc, script(alloc)).ok(),
+                |cut| cut.serves(&SESSION, 1) && cut.is_as(whole),
+            )
+    });
+    assert!(rt; held);
 }

@@ -4,32 +4,36 @@ use super::{Session, WELCOME, execute, fresh, group, query};
 use pg_client::{CallFault, Cause, Phase};
 use pg_wire::{EncodeFault, Request, Seq, Step, Target};
 use std::alloc::{AllocError, Global};
-use std::test::Fail;
+use test_base::holds;
 
 #[test]
-fn start_puts_the_startup_packet(rt: HostRuntime) -> Result<(), Fail> {
-    let mut session = fresh(rt.alloc())?;
-    assert!(rt; session.starts());
-    assert!(rt; session.has_put(b"\0\0\0\x10\0\x03\0\0user\0u\0\0", Phase::Starting));
-    Ok(())
+fn start_puts_the_startup_packet(rt: HostRuntime) {
+    let held = holds(fresh(rt.alloc()).ok(), |session| {
+        session.starts() && session.has_put(b"\0\0\0\x10\0\x03\0\0user\0u\0\0", Phase::Starting)
+    });
+    assert!(rt; held);
 }
 
 #[test]
-fn a_query_is_put_out(rt: HostRuntime) -> Result<(), Fail> {
-    let mut session = fresh(rt.alloc())?;
-    assert!(rt; session.begins());
-    assert!(rt; session.makes(query(rt.alloc())));
-    assert!(rt; session.has_put(b"Q\0\0\0\x0DSELECT 1\0", Phase::Busy));
-    Ok(())
+fn a_query_is_put_out(rt: HostRuntime) {
+    let alloc = rt.alloc();
+    let held = holds(fresh(alloc).ok(), |session| {
+        session.begins()
+            && session.makes(query(alloc))
+            && session.has_put(b"Q\0\0\0\x0DSELECT 1\0", Phase::Busy)
+    });
+    assert!(rt; held);
 }
 
 #[test]
-fn a_group_is_put_out(rt: HostRuntime) -> Result<(), Fail> {
-    let mut session = fresh(rt.alloc())?;
-    assert!(rt; session.begins());
-    assert!(rt; session.makes(group(rt.alloc())));
-    assert!(rt; session.has_put(b"E\0\0\0\x09\0\0\0\0\0S\0\0\0\x04", Phase::Busy));
-    Ok(())
+fn a_group_is_put_out(rt: HostRuntime) {
+    let alloc = rt.alloc();
+    let held = holds(fresh(alloc).ok(), |session| {
+        session.begins()
+            && session.makes(group(alloc))
+            && session.has_put(b"E\0\0\0\x09\0\0\0\0\0S\0\0\0\x04", Phase::Busy)
+    });
+    assert!(rt; held);
 }
 
 impl Session {
@@ -87,21 +91,24 @@ impl Session {
 }
 
 #[test]
-fn terminate_ends_the_session(rt: HostRuntime) -> Result<(), Fail> {
-    let mut session = fresh(rt.alloc())?;
-    assert!(rt; session.begins());
-    assert!(rt; session.terminates());
-    assert!(rt; session.has_put(b"X\0\0\0\x04", Phase::Closed(Cause::Terminated)));
-    Ok(())
+fn terminate_ends_the_session(rt: HostRuntime) {
+    let held = holds(fresh(rt.alloc()).ok(), |session| {
+        session.begins()
+            && session.terminates()
+            && session.has_put(b"X\0\0\0\x04", Phase::Closed(Cause::Terminated))
+    });
+    assert!(rt; held);
 }
 
 #[test]
-fn a_second_request_is_handed_back(rt: HostRuntime) -> Result<(), Fail> {
-    let mut session = fresh(rt.alloc())?;
-    assert!(rt; session.begins());
-    assert!(rt; session.makes(query(rt.alloc())));
-    assert!(rt; session.hands_query_back(rt.alloc()) == Ok(true));
-    Ok(())
+fn a_second_request_is_handed_back(rt: HostRuntime) {
+    let alloc = rt.alloc();
+    let held = holds(fresh(alloc).ok(), |session| {
+        session.begins()
+            && session.makes(query(alloc))
+            && session.hands_query_back(alloc) == Ok(true)
+    });
+    assert!(rt; held);
 }
 
 /// A group of two steps, of which the second has no spelling.
@@ -115,54 +122,60 @@ fn unspelled(alloc: Global) -> Result<Request, AllocError> {
 }
 
 #[test]
-fn what_has_no_spelling_is_handed_back(rt: HostRuntime) -> Result<(), Fail> {
-    let mut session = fresh(rt.alloc())?;
-    assert!(rt; session.begins());
-    assert!(rt; session.hands_unspelled_back(rt.alloc()) == Ok(true));
-    Ok(())
+fn what_has_no_spelling_is_handed_back(rt: HostRuntime) {
+    let alloc = rt.alloc();
+    let held = holds(fresh(alloc).ok(), |session| {
+        session.begins() && session.hands_unspelled_back(alloc) == Ok(true)
+    });
+    assert!(rt; held);
 }
 
 #[test]
-fn a_group_settles(rt: HostRuntime) -> Result<(), Fail> {
-    let mut session = fresh(rt.alloc())?;
-    assert!(rt; session.begins());
-    assert!(rt; session.makes(group(rt.alloc())));
-    assert!(rt; session.takes(b"s\0\0\0\x04Z\0\0\0\x05I"));
-    assert!(rt; session.settles());
-    Ok(())
+fn a_group_settles(rt: HostRuntime) {
+    let alloc = rt.alloc();
+    let held = holds(fresh(alloc).ok(), |session| {
+        session.begins()
+            && session.makes(group(alloc))
+            && session.takes(b"s\0\0\0\x04Z\0\0\0\x05I")
+            && session.settles()
+    });
+    assert!(rt; held);
 }
 
 #[test]
-fn without_a_key_nothing_is_cancelled(rt: HostRuntime) -> Result<(), Fail> {
-    let mut session = fresh(rt.alloc())?;
-    assert!(rt; session.begins());
-    assert!(rt; session.has_no_key());
-    Ok(())
+fn without_a_key_nothing_is_cancelled(rt: HostRuntime) {
+    let held = holds(fresh(rt.alloc()).ok(), |session| {
+        session.begins() && session.has_no_key()
+    });
+    assert!(rt; held);
 }
 
 #[test]
-fn the_last_key_cancels(rt: HostRuntime) -> Result<(), Fail> {
-    let mut session = fresh(rt.alloc())?;
-    let keys = b"K\0\0\0\x0C\0\0\0\x03\0\0\0\x04K\0\0\0\x0C\0\0\0\x01\0\0\0\x02";
-    assert!(rt; session.is_introduced(keys));
-    assert!(rt; session.cancels());
-    let packet = b"\0\0\0\x10\x04\xD2\x16\x2E\0\0\0\x01\0\0\0\x02";
-    assert!(rt; session.has_put(packet, Phase::Ready));
-    Ok(())
+fn the_last_key_cancels(rt: HostRuntime) {
+    let held = holds(fresh(rt.alloc()).ok(), |session| {
+        session.is_introduced(b"K\0\0\0\x0C\0\0\0\x03\0\0\0\x04K\0\0\0\x0C\0\0\0\x01\0\0\0\x02")
+            && session.cancels()
+            && session.has_put(
+                b"\0\0\0\x10\x04\xD2\x16\x2E\0\0\0\x01\0\0\0\x02",
+                Phase::Ready,
+            )
+    });
+    assert!(rt; held);
 }
 
 #[test]
-fn the_last_value_counts(rt: HostRuntime) -> Result<(), Fail> {
-    let mut session = fresh(rt.alloc())?;
-    assert!(rt; session.is_introduced(b"S\0\0\0\x08a\0c\0S\0\0\0\x08a\0b\0"));
-    assert!(rt; session.knows());
-    Ok(())
+fn the_last_value_counts(rt: HostRuntime) {
+    let held = holds(fresh(rt.alloc()).ok(), |session| {
+        session.is_introduced(b"S\0\0\0\x08a\0c\0S\0\0\0\x08a\0b\0") && session.knows()
+    });
+    assert!(rt; held);
 }
 
 #[test]
-fn a_value_counts_that_comes_later(rt: HostRuntime) -> Result<(), Fail> {
-    let mut session = fresh(rt.alloc())?;
-    assert!(rt; session.is_answered(rt.alloc(), b"S\0\0\0\x08a\0b\0"));
-    assert!(rt; session.knows());
-    Ok(())
+fn a_value_counts_that_comes_later(rt: HostRuntime) {
+    let alloc = rt.alloc();
+    let held = holds(fresh(alloc).ok(), |session| {
+        session.is_answered(alloc, b"S\0\0\0\x08a\0b\0") && session.knows()
+    });
+    assert!(rt; held);
 }

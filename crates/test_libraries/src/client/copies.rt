@@ -3,7 +3,7 @@
 use super::{ANSWER, Session, fresh, group};
 use pg_client::{CallFault, Cause, FeedFault, Phase};
 use std::alloc::Global;
-use std::test::Fail;
+use test_base::holds;
 
 /// CopyInResponse of text without a column.
 const COPY_IN: &[u8] = b"G\0\0\0\x07\0\0\0";
@@ -38,86 +38,99 @@ impl Session {
 }
 
 #[test]
-fn chunks_are_put_out(rt: HostRuntime) -> Result<(), Fail> {
-    let mut session = fresh(rt.alloc())?;
-    assert!(rt; session.copies(rt.alloc()));
-    assert!(rt; session.puts_chunk(b""));
-    assert!(rt; session.puts_chunk(b"1\n"));
-    assert!(rt; session.has_put(b"d\0\0\0\x04d\0\0\0\x061\n", Phase::CopyingIn));
-    Ok(())
+fn chunks_are_put_out(rt: HostRuntime) {
+    let alloc = rt.alloc();
+    let held = holds(fresh(alloc).ok(), |session| {
+        session.copies(alloc)
+            && session.puts_chunk(b"")
+            && session.puts_chunk(b"1\n")
+            && session.has_put(b"d\0\0\0\x04d\0\0\0\x061\n", Phase::CopyingIn)
+    });
+    assert!(rt; held);
 }
 
 #[test]
-fn the_end_of_a_copy_is_put_out(rt: HostRuntime) -> Result<(), Fail> {
-    let mut session = fresh(rt.alloc())?;
-    assert!(rt; session.copies(rt.alloc()));
-    assert!(rt; session.puts_chunk(b""));
-    assert!(rt; session.ends_copy());
-    assert!(rt; session.has_put(b"d\0\0\0\x04c\0\0\0\x04", Phase::Busy));
-    Ok(())
+fn the_end_of_a_copy_is_put_out(rt: HostRuntime) {
+    let alloc = rt.alloc();
+    let held = holds(fresh(alloc).ok(), |session| {
+        session.copies(alloc)
+            && session.puts_chunk(b"")
+            && session.ends_copy()
+            && session.has_put(b"d\0\0\0\x04c\0\0\0\x04", Phase::Busy)
+    });
+    assert!(rt; held);
 }
 
 #[test]
-fn a_copy_that_is_done_settles(rt: HostRuntime) -> Result<(), Fail> {
-    let mut session = fresh(rt.alloc())?;
-    assert!(rt; session.copies(rt.alloc()));
-    assert!(rt; session.ends_copy());
-    assert!(rt; session.takes(ANSWER));
-    assert!(rt; session.settles());
-    Ok(())
+fn a_copy_that_is_done_settles(rt: HostRuntime) {
+    let alloc = rt.alloc();
+    let held = holds(fresh(alloc).ok(), |session| {
+        session.copies(alloc) && session.ends_copy() && session.takes(ANSWER) && session.settles()
+    });
+    assert!(rt; held);
 }
 
 #[test]
-fn the_failure_of_a_copy_is_put_out(rt: HostRuntime) -> Result<(), Fail> {
-    let mut session = fresh(rt.alloc())?;
-    assert!(rt; session.copies(rt.alloc()));
-    assert!(rt; session.fails_copy(b"no"));
-    assert!(rt; session.has_put(b"f\0\0\0\x07no\0", Phase::Busy));
-    Ok(())
+fn the_failure_of_a_copy_is_put_out(rt: HostRuntime) {
+    let alloc = rt.alloc();
+    let held = holds(fresh(alloc).ok(), |session| {
+        session.copies(alloc)
+            && session.fails_copy(b"no")
+            && session.has_put(b"f\0\0\0\x07no\0", Phase::Busy)
+    });
+    assert!(rt; held);
 }
 
 #[test]
-fn a_copy_that_failed_is_not_completed(rt: HostRuntime) -> Result<(), Fail> {
-    let mut session = fresh(rt.alloc())?;
-    assert!(rt; session.copies(rt.alloc()));
-    assert!(rt; session.fails_copy(b"no"));
-    let fault = FeedFault::Unexpected(67);
-    assert!(rt; session.refuses(ANSWER, fault, Cause::Unexpected));
-    Ok(())
+fn a_copy_that_failed_is_not_completed(rt: HostRuntime) {
+    let alloc = rt.alloc();
+    let held = holds(fresh(alloc).ok(), |session| {
+        session.copies(alloc)
+            && session.fails_copy(b"no")
+            && session.refuses(ANSWER, FeedFault::Unexpected(67), Cause::Unexpected)
+    });
+    assert!(rt; held);
 }
 
 #[test]
-fn a_copy_is_not_completed_before_its_end(rt: HostRuntime) -> Result<(), Fail> {
-    let mut session = fresh(rt.alloc())?;
-    assert!(rt; session.is_answered(rt.alloc(), b""));
-    let copied = b"G\0\0\0\x07\0\0\0C\0\0\0\x07OK\0";
-    let fault = FeedFault::Unexpected(67);
-    assert!(rt; session.refuses(copied, fault, Cause::Unexpected));
-    Ok(())
+fn a_copy_is_not_completed_before_its_end(rt: HostRuntime) {
+    let alloc = rt.alloc();
+    let held = holds(fresh(alloc).ok(), |session| {
+        session.is_answered(alloc, b"")
+            && session.refuses(
+                b"G\0\0\0\x07\0\0\0C\0\0\0\x07OK\0",
+                FeedFault::Unexpected(67),
+                Cause::Unexpected,
+            )
+    });
+    assert!(rt; held);
 }
 
 #[test]
-fn a_group_wants_no_copy(rt: HostRuntime) -> Result<(), Fail> {
-    let mut session = fresh(rt.alloc())?;
-    assert!(rt; session.begins());
-    assert!(rt; session.makes(group(rt.alloc())));
-    let fault = FeedFault::Unexpected(71);
-    assert!(rt; session.refuses(COPY_IN, fault, Cause::Unexpected));
-    Ok(())
+fn a_group_wants_no_copy(rt: HostRuntime) {
+    let alloc = rt.alloc();
+    let held = holds(fresh(alloc).ok(), |session| {
+        session.begins()
+            && session.makes(group(alloc))
+            && session.refuses(COPY_IN, FeedFault::Unexpected(71), Cause::Unexpected)
+    });
+    assert!(rt; held);
 }
 
 #[test]
-fn a_busy_client_takes_no_chunk(rt: HostRuntime) -> Result<(), Fail> {
-    let mut session = fresh(rt.alloc())?;
-    assert!(rt; session.is_answered(rt.alloc(), b""));
-    assert!(rt; session.takes_no_chunk(Phase::Busy));
-    Ok(())
+fn a_busy_client_takes_no_chunk(rt: HostRuntime) {
+    let alloc = rt.alloc();
+    let held = holds(fresh(alloc).ok(), |session| {
+        session.is_answered(alloc, b"") && session.takes_no_chunk(Phase::Busy)
+    });
+    assert!(rt; held);
 }
 
 #[test]
-fn a_ready_client_takes_no_chunk(rt: HostRuntime) -> Result<(), Fail> {
-    let mut session = fresh(rt.alloc())?;
-    assert!(rt; session.is_answered(rt.alloc(), ANSWER));
-    assert!(rt; session.takes_no_chunk(Phase::Ready));
-    Ok(())
+fn a_ready_client_takes_no_chunk(rt: HostRuntime) {
+    let alloc = rt.alloc();
+    let held = holds(fresh(alloc).ok(), |session| {
+        session.is_answered(alloc, ANSWER) && session.takes_no_chunk(Phase::Ready)
+    });
+    assert!(rt; held);
 }

@@ -3,7 +3,7 @@
 use super::{ANSWER, ERROR, Session, WELCOME, fresh};
 use pg_client::{Cause, FeedFault, Phase};
 use pg_wire::{Fields, WireFault};
-use std::test::Fail;
+use test_base::holds;
 
 impl Session {
     fn is_refused(&mut self, bytes: &[u8], fault: FeedFault) -> bool {
@@ -19,64 +19,85 @@ impl Session {
 }
 
 #[test]
-fn a_result_without_a_request(rt: HostRuntime) -> Result<(), Fail> {
-    let mut session = fresh(rt.alloc())?;
-    assert!(rt; session.begins());
-    let fault = FeedFault::Unexpected(67);
-    assert!(rt; session.refuses(ANSWER, fault, Cause::Unexpected));
-    Ok(())
+fn a_result_without_a_request(rt: HostRuntime) {
+    let held = holds(fresh(rt.alloc()).ok(), |session| {
+        session.begins() && session.refuses(ANSWER, FeedFault::Unexpected(67), Cause::Unexpected)
+    });
+    assert!(rt; held);
 }
 
 #[test]
-fn an_error_without_a_request(rt: HostRuntime) -> Result<(), Fail> {
-    let mut session = fresh(rt.alloc())?;
-    assert!(rt; session.begins());
-    let fault = FeedFault::ServerEnd(Fields::new(rt.alloc()));
-    assert!(rt; session.refuses(ERROR, fault, Cause::ServerEnd));
-    Ok(())
+fn an_error_without_a_request(rt: HostRuntime) {
+    let alloc = rt.alloc();
+    let held = holds(fresh(alloc).ok(), |session| {
+        session.begins()
+            && session.refuses(
+                ERROR,
+                FeedFault::ServerEnd(Fields::new(alloc)),
+                Cause::ServerEnd,
+            )
+    });
+    assert!(rt; held);
 }
 
 #[test]
-fn an_error_of_the_startup(rt: HostRuntime) -> Result<(), Fail> {
-    let mut session = fresh(rt.alloc())?;
-    assert!(rt; session.starts());
-    let fault = FeedFault::StartupError(Fields::new(rt.alloc()));
-    assert!(rt; session.refuses(ERROR, fault, Cause::StartupError));
-    Ok(())
+fn an_error_of_the_startup(rt: HostRuntime) {
+    let alloc = rt.alloc();
+    let held = holds(fresh(alloc).ok(), |session| {
+        session.starts()
+            && session.refuses(
+                ERROR,
+                FeedFault::StartupError(Fields::new(alloc)),
+                Cause::StartupError,
+            )
+    });
+    assert!(rt; held);
 }
 
 #[test]
-fn another_way_of_authentication(rt: HostRuntime) -> Result<(), Fail> {
-    let mut session = fresh(rt.alloc())?;
-    assert!(rt; session.starts());
-    let fault = FeedFault::UnsupportedAuth(10);
-    assert!(rt; session.refuses(b"R\0\0\0\x08\0\0\0\x0A", fault, Cause::UnsupportedAuth));
-    Ok(())
+fn another_way_of_authentication(rt: HostRuntime) {
+    let held = holds(fresh(rt.alloc()).ok(), |session| {
+        session.starts()
+            && session.refuses(
+                b"R\0\0\0\x08\0\0\0\x0A",
+                FeedFault::UnsupportedAuth(10),
+                Cause::UnsupportedAuth,
+            )
+    });
+    assert!(rt; held);
 }
 
 #[test]
-fn a_password_that_is_asked_for(rt: HostRuntime) -> Result<(), Fail> {
-    let mut session = fresh(rt.alloc())?;
-    assert!(rt; session.starts());
-    let fault = FeedFault::PasswordWanted;
-    assert!(rt; session.refuses(b"R\0\0\0\x08\0\0\0\x03", fault, Cause::PasswordWanted));
-    Ok(())
+fn a_password_that_is_asked_for(rt: HostRuntime) {
+    let held = holds(fresh(rt.alloc()).ok(), |session| {
+        session.starts()
+            && session.refuses(
+                b"R\0\0\0\x08\0\0\0\x03",
+                FeedFault::PasswordWanted,
+                Cause::PasswordWanted,
+            )
+    });
+    assert!(rt; held);
 }
 
 #[test]
-fn a_ready_without_a_welcome(rt: HostRuntime) -> Result<(), Fail> {
-    let mut session = fresh(rt.alloc())?;
-    assert!(rt; session.starts());
-    let fault = FeedFault::Unexpected(90);
-    assert!(rt; session.refuses(&WELCOME[9..], fault, Cause::Unexpected));
-    Ok(())
+fn a_ready_without_a_welcome(rt: HostRuntime) {
+    let held = holds(fresh(rt.alloc()).ok(), |session| {
+        session.starts()
+            && session.refuses(&WELCOME[9..], FeedFault::Unexpected(90), Cause::Unexpected)
+    });
+    assert!(rt; held);
 }
 
 #[test]
-fn a_stream_with_a_fault(rt: HostRuntime) -> Result<(), Fail> {
-    let mut session = fresh(rt.alloc())?;
-    assert!(rt; session.begins());
-    let fault = FeedFault::Wire(WireFault::ShortLength(3));
-    assert!(rt; session.refuses(b"Z\0\0\0\x03", fault, Cause::Wire));
-    Ok(())
+fn a_stream_with_a_fault(rt: HostRuntime) {
+    let held = holds(fresh(rt.alloc()).ok(), |session| {
+        session.begins()
+            && session.refuses(
+                b"Z\0\0\0\x03",
+                FeedFault::Wire(WireFault::ShortLength(3)),
+                Cause::Wire,
+            )
+    });
+    assert!(rt; held);
 }

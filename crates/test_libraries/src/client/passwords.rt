@@ -4,7 +4,7 @@ use super::{Session, WELCOME, query};
 use pg_client::{CallFault, Cause, Client, FeedFault, Phase, Settings};
 use pg_wire::{EncodeFault, Seq};
 use std::alloc::{AllocError, Global};
-use std::test::Fail;
+use test_base::holds;
 
 /// AuthenticationCleartextPassword.
 const ASKED: &[u8] = b"R\0\0\0\x08\0\0\0\x03";
@@ -41,70 +41,80 @@ impl Session {
 }
 
 #[test]
-fn a_password_is_put_out(rt: HostRuntime) -> Result<(), Fail> {
-    let mut session = given(rt.alloc(), b"ab")?;
-    assert!(rt; session.is_asked(ASKED));
-    assert!(rt; session.has_put(b"p\0\0\0\x07ab\0", Phase::Starting));
-    Ok(())
+fn a_password_is_put_out(rt: HostRuntime) {
+    let held = holds(given(rt.alloc(), b"ab").ok(), |session| {
+        session.is_asked(ASKED) && session.has_put(b"p\0\0\0\x07ab\0", Phase::Starting)
+    });
+    assert!(rt; held);
 }
 
 #[test]
-fn an_md5_text_is_put_out(rt: HostRuntime) -> Result<(), Fail> {
-    let mut session = given(rt.alloc(), b"ab")?;
-    assert!(rt; session.is_asked(ASKED_MD5));
-    let message = b"p\0\0\0\x28md596838e208aad1ff8fc396693d03e488d\0";
-    assert!(rt; session.has_put(message, Phase::Starting));
-    Ok(())
+fn an_md5_text_is_put_out(rt: HostRuntime) {
+    let held = holds(given(rt.alloc(), b"ab").ok(), |session| {
+        session.is_asked(ASKED_MD5)
+            && session.has_put(
+                b"p\0\0\0\x28md596838e208aad1ff8fc396693d03e488d\0",
+                Phase::Starting,
+            )
+    });
+    assert!(rt; held);
 }
 
 #[test]
-fn it_is_put_out_once_the_question_is_whole(rt: HostRuntime) -> Result<(), Fail> {
-    let mut session = given(rt.alloc(), b"ab")?;
-    assert!(rt; session.is_asked(&ASKED_MD5[..12]));
-    assert!(rt; session.has_put(b"", Phase::Starting));
-    Ok(())
+fn it_is_put_out_once_the_question_is_whole(rt: HostRuntime) {
+    let held = holds(given(rt.alloc(), b"ab").ok(), |session| {
+        session.is_asked(&ASKED_MD5[..12]) && session.has_put(b"", Phase::Starting)
+    });
+    assert!(rt; held);
 }
 
 #[test]
-fn without_a_question_nothing_is_put_out(rt: HostRuntime) -> Result<(), Fail> {
-    let mut session = given(rt.alloc(), b"ab")?;
-    assert!(rt; session.is_asked(WELCOME));
-    assert!(rt; session.has_put(b"", Phase::Ready));
-    Ok(())
+fn without_a_question_nothing_is_put_out(rt: HostRuntime) {
+    let held = holds(given(rt.alloc(), b"ab").ok(), |session| {
+        session.is_asked(WELCOME) && session.has_put(b"", Phase::Ready)
+    });
+    assert!(rt; held);
 }
 
 #[test]
-fn a_session_follows(rt: HostRuntime) -> Result<(), Fail> {
-    let mut session = given(rt.alloc(), b"ab")?;
-    assert!(rt; session.is_asked(ASKED));
-    assert!(rt; session.sends());
-    assert!(rt; session.takes(WELCOME));
-    assert!(rt; session.makes(query(rt.alloc())));
-    assert!(rt; session.has_put(b"Q\0\0\0\x0DSELECT 1\0", Phase::Busy));
-    Ok(())
+fn a_session_follows(rt: HostRuntime) {
+    let alloc = rt.alloc();
+    let held = holds(given(alloc, b"ab").ok(), |session| {
+        session.is_asked(ASKED)
+            && session.sends()
+            && session.takes(WELCOME)
+            && session.makes(query(alloc))
+            && session.has_put(b"Q\0\0\0\x0DSELECT 1\0", Phase::Busy)
+    });
+    assert!(rt; held);
 }
 
 #[test]
-fn a_second_question(rt: HostRuntime) -> Result<(), Fail> {
-    let mut session = given(rt.alloc(), b"ab")?;
-    assert!(rt; session.is_asked(ASKED));
-    let fault = FeedFault::Unexpected(0x52);
-    assert!(rt; session.refuses(ASKED_MD5, fault, Cause::Unexpected));
-    Ok(())
+fn a_second_question(rt: HostRuntime) {
+    let held = holds(given(rt.alloc(), b"ab").ok(), |session| {
+        session.is_asked(ASKED)
+            && session.refuses(ASKED_MD5, FeedFault::Unexpected(0x52), Cause::Unexpected)
+    });
+    assert!(rt; held);
 }
 
 #[test]
-fn another_way_after_a_question(rt: HostRuntime) -> Result<(), Fail> {
-    let mut session = given(rt.alloc(), b"ab")?;
-    assert!(rt; session.is_asked(ASKED));
-    let fault = FeedFault::Unexpected(0x52);
-    assert!(rt; session.refuses(b"R\0\0\0\x08\0\0\0\x0A", fault, Cause::Unexpected));
-    Ok(())
+fn another_way_after_a_question(rt: HostRuntime) {
+    let held = holds(given(rt.alloc(), b"ab").ok(), |session| {
+        session.is_asked(ASKED)
+            && session.refuses(
+                b"R\0\0\0\x08\0\0\0\x0A",
+                FeedFault::Unexpected(0x52),
+                Cause::Unexpected,
+            )
+    });
+    assert!(rt; held);
 }
 
 #[test]
-fn a_password_with_a_zero_byte(rt: HostRuntime) -> Result<(), Fail> {
-    let mut session = given(rt.alloc(), b"a\0b")?;
-    assert!(rt; session.cannot_start());
-    Ok(())
+fn a_password_with_a_zero_byte(rt: HostRuntime) {
+    let held = holds(given(rt.alloc(), b"a\0b").ok(), |session| {
+        session.cannot_start()
+    });
+    assert!(rt; held);
 }

@@ -1,12 +1,26 @@
-use pg_wire::{First, FirstDecoder, FrontMessage, WireFault};
+use pg_wire::{First, FirstDecoder, FrontDecoder, FrontMessage, WireFault};
 use std::alloc::Global;
-use std::test::Fail;
+use test_base::holds;
+
+/// A decoder to which these bytes were pushed.
+fn pushed(alloc: Global, bytes: &[u8]) -> Result<FirstDecoder, WireFault> {
+    let mut decoder = FirstDecoder::new(alloc);
+    decoder.push(bytes)?;
+    Ok(decoder)
+}
 
 /// What a new decoder answers for these bytes.
 fn first_of(alloc: Global, bytes: &[u8]) -> Result<Option<First>, WireFault> {
-    let mut decoder = FirstDecoder::new(alloc);
-    decoder.push(bytes)?;
-    decoder.next()
+    pushed(alloc, bytes)?.next()
+}
+
+/// The decoder that goes on, with the limit 64, where one was called three times after these bytes.
+fn passed_on(alloc: Global, bytes: &[u8]) -> Result<FrontDecoder, WireFault> {
+    let mut first = pushed(alloc, bytes)?;
+    for _ in 0..3u8 {
+        let _ = first.next();
+    }
+    Ok(first.into_front(64))
 }
 
 #[test]
@@ -36,40 +50,69 @@ fn packets_are_judged(rt: HostRuntime) {
     assert!(rt; matches!(first_of(alloc, &byte_after[..7]), Ok(None)));
 }
 
+/// What a decoder gave: of a Startup the number of its parameters.
+#[derive(Clone, Copy, PartialEq, Eq)]
+enum Came {
+    Nothing,
+    Startup(usize),
+    Gss,
+    /// Another packet.
+    Other,
+    Fault(WireFault),
+}
+
+/// What the decoder gives.
+fn next(decoder: &mut FirstDecoder) -> Came {
+    match decoder.next() {
+        Ok(None) => Came::Nothing,
+        Ok(Some(First::Startup(pairs))) => Came::Startup(pairs.len()),
+        Ok(Some(First::Gss)) => Came::Gss,
+        Ok(Some(_)) => Came::Other,
+        Err(fault) => Came::Fault(fault),
+    }
+}
+
 #[test]
 fn a_startup_may_have_no_parameter(rt: HostRuntime) {
     let startup = [0, 0, 0, 9, 0, 3, 0, 0, 0];
-    let Ok(Some(First::Startup(pairs))) = first_of(rt.alloc(), &startup) else {
-        assert!(rt; false, "no startup");
-        return;
-    };
-    assert!(rt; pairs.is_empty());
+    let held = holds(
+        pushed(rt.alloc(), &startup).ok(),
+        |first| next(first) == Came::Startup(0),
+    );
+    assert!(rt; held);
+}
+
+/// GSSENCRequest, a Startup without parameters, and a Sync.
+const OPENING: [u8; 22] = [
+    0, 0, 0, 8, 0x04, 0xD2, 0x16, 0x30, 0, 0, 0, 9, 0, 3, 0, 0, 0, b'S', 0, 0, 0, 4,
+];
+
+#[test]
+fn what_comes_after_the_startup_is_passed_on(rt: HostRuntime) {
+    let held = holds(pushed(rt.alloc(), &OPENING[..19]).ok(), |first| {
+        next(first) == Came::Gss
+            && next(first) == Came::Startup(0)
+            && next(first) == Came::Nothing
+            && first.push(&OPENING[19..]).is_ok()
+            && first.kept() == 5
+    });
+    assert!(rt; held);
+    let held = holds(
+        passed_on(rt.alloc(), &OPENING).ok(),
+        |front| matches!(front.next(), Ok(Some(FrontMessage::Sync))),
+    );
+    assert!(rt; held);
 }
 
 #[test]
-fn what_comes_after_the_startup_is_passed_on(rt: HostRuntime) -> Result<(), Fail> {
-    let mut first = FirstDecoder::new(rt.alloc());
-    first.push(&[
-        0, 0, 0, 8, 0x04, 0xD2, 0x16, 0x30, 0, 0, 0, 9, 0, 3, 0, 0, 0, b'S', 0,
-    ])?;
-    assert!(rt; matches!(first.next(), Ok(Some(First::Gss))));
-    assert!(rt; matches!(first.next(), Ok(Some(First::Startup(_)))));
-    assert!(rt; matches!(first.next(), Ok(None)));
-    first.push(&[0, 0, 4])?;
-    assert_eq!(rt; first.kept(), 5);
-    let mut front = first.into_front(64);
-    assert!(rt; matches!(front.next(), Ok(Some(FrontMessage::Sync))));
-    Ok(())
-}
-
-#[test]
-fn a_fault_is_passed_on(rt: HostRuntime) -> Result<(), Fail> {
-    let mut first = FirstDecoder::new(rt.alloc());
-    first.push(&[0, 0, 0, 7])?;
-    assert!(rt; matches!(first.next(), Err(WireFault::ShortLength(7))));
-    assert!(rt; matches!(first.push(&[1]), Err(WireFault::ShortLength(7))));
-    let mut front = first.into_front(64);
-    assert!(rt; matches!(front.next(), Err(WireFault::ShortLength(7))));
-    assert!(rt; matches!(front.push(&[1]), Err(WireFault::ShortLength(7))));
-    Ok(())
+fn a_fault_is_passed_on(rt: HostRuntime) {
+    let fault = WireFault::ShortLength(7);
+    let held = holds(pushed(rt.alloc(), &[0, 0, 0, 7]).ok(), |first| {
+        next(first) == Came::Fault(fault) && first.push(&[1]) == Err(fault)
+    });
+    assert!(rt; held);
+    let held = holds(passed_on(rt.alloc(), &[0, 0, 0, 7]).ok(), |front| {
+        matches!(front.next(), Err(given) if given == fault) && front.push(&[1]) == Err(fault)
+    });
+    assert!(rt; held);
 }

@@ -1,7 +1,8 @@
 //! Rows, errors and notices that a decoder lends.
 
-use pg_wire::{BackDecoder, BackMessage, Cut, Lent, Status, WireFault};
-use std::test::Fail;
+use super::{Came, gives_ready, next, pushed};
+use pg_wire::{BackDecoder, BackMessage, Cut, Lent, WireFault};
+use test_base::holds;
 
 const ROW: [u8; 15] = [
     0x44, 0, 0, 0, 0x0E, 0, 2, 0xFF, 0xFF, 0xFF, 0xFF, 0, 0, 0, 0,
@@ -13,77 +14,14 @@ const ERROR: [u8; 17] = [
 
 const READY: [u8; 6] = [0x5A, 0, 0, 0, 5, 0x49];
 
-#[test]
-fn a_row_is_lent(rt: HostRuntime) -> Result<(), Fail> {
-    let mut decoder = BackDecoder::new(rt.alloc(), 64);
-    decoder.push(&ROW)?;
-    assert!(rt; decoder.held().is_none());
-    assert!(rt; matches!(decoder.next_lent(), Ok(Cut::Held)));
-    assert_eq!(rt; decoder.kept(), 0);
-    let Some(Lent::Row(row)) = decoder.held() else {
-        assert!(rt; false, "no row");
-        return Ok(());
-    };
-    let mut values = row.values();
-    assert!(rt; matches!(values.next(), Some(None)));
-    assert!(rt; matches!(values.next(), Some(Some(text)) if text.is_empty()));
-    assert!(rt; values.next().is_none());
-    assert!(rt; values.next().is_none());
-    assert_eq!(rt; row.values().count(), 2);
-    Ok(())
-}
-
-#[test]
-fn an_error_is_lent(rt: HostRuntime) -> Result<(), Fail> {
-    let mut decoder = BackDecoder::new(rt.alloc(), 64);
-    decoder.push(&ERROR)?;
-    assert!(rt; matches!(decoder.next_lent(), Ok(Cut::Held)));
-    let Some(Lent::Error(error)) = decoder.held() else {
-        assert!(rt; false, "no error");
-        return Ok(());
-    };
-    let mut fields = error.fields();
-    assert!(rt; matches!(fields.next(), Some((67, text)) if text == b"57014".as_slice()));
-    assert!(rt; matches!(fields.next(), Some((77, text)) if text == b"no".as_slice()));
-    assert!(rt; fields.next().is_none());
-    Ok(())
-}
-
-#[test]
-fn a_notice_without_fields_is_lent(rt: HostRuntime) -> Result<(), Fail> {
-    let mut decoder = BackDecoder::new(rt.alloc(), 64);
-    decoder.push(&[0x4E, 0, 0, 0, 5, 0])?;
-    assert!(rt; matches!(decoder.next_lent(), Ok(Cut::Held)));
-    let Some(Lent::Notice(notice)) = decoder.held() else {
-        assert!(rt; false, "no notice");
-        return Ok(());
-    };
-    assert!(rt; notice.fields().next().is_none());
-    Ok(())
-}
-
-#[test]
-fn another_message_is_given(rt: HostRuntime) -> Result<(), Fail> {
-    let mut decoder = BackDecoder::new(rt.alloc(), 64);
-    decoder.push(&READY)?;
-    assert!(rt;
-        matches!(
-            decoder.next_lent(),
-            Ok(Cut::Other(BackMessage::Ready(Status::Idle)))
-        )
-    );
-    assert!(rt; decoder.held().is_none());
-    assert!(rt; matches!(decoder.next_lent(), Ok(Cut::Nothing)));
-    Ok(())
-}
-
-/// Whether the decoder lends a row of two values now.
-fn lends_two_values(decoder: &BackDecoder) -> bool {
-    let Some(Lent::Row(row)) = decoder.held() else {
-        return false;
-    };
-    let mut values = row.values();
-    values.next().is_some() && values.next().is_some() && values.next().is_none()
+/// What the decoder gives by `next_lent`.
+fn next_lent(decoder: &mut BackDecoder) -> Came {
+    match decoder.next_lent() {
+        Ok(Cut::Nothing) => Came::Nothing,
+        Ok(Cut::Held) => Came::Held,
+        Ok(Cut::Other(message)) => Came::Message(message.tag()),
+        Err(fault) => Came::Fault(fault),
+    }
 }
 
 /// Whether this is an error of two fields.
@@ -94,58 +32,151 @@ fn is_error(message: &BackMessage) -> bool {
     }
 }
 
-#[test]
-fn a_row_comes_byte_by_byte(rt: HostRuntime) -> Result<(), Fail> {
-    let mut decoder = BackDecoder::new(rt.alloc(), 64);
-    for byte in &ROW {
-        assert!(rt; matches!(decoder.next_lent(), Ok(Cut::Nothing)));
-        decoder.push(&[*byte])?;
+/// Whether it gives an error of two fields.
+fn gives_error(decoder: &mut BackDecoder) -> bool {
+    match decoder.next() {
+        Ok(Some(message)) => is_error(&message),
+        Ok(None) | Err(_) => false,
     }
-    assert!(rt; matches!(decoder.next_lent(), Ok(Cut::Held)));
-    assert!(rt; lends_two_values(&decoder));
-    Ok(())
 }
 
-#[test]
-fn each_call_ends_the_lending(rt: HostRuntime) -> Result<(), Fail> {
-    let mut decoder = BackDecoder::new(rt.alloc(), 64);
-    decoder.push(&ROW)?;
-    decoder.push(&ERROR)?;
-    decoder.push(&ROW)?;
-    decoder.push(&ROW)?;
-    decoder.push(&READY[..3])?;
-    assert!(rt; matches!(decoder.next_lent(), Ok(Cut::Held)));
-    assert!(rt; lends_two_values(&decoder));
-    assert_eq!(rt; decoder.kept(), 50);
-    let Some(error) = decoder.next()? else {
-        assert!(rt; false, "no error");
-        return Ok(());
+/// Whether the decoder lends a row of a null and an empty text now.
+fn lends_null_and_empty(decoder: &BackDecoder) -> bool {
+    let Some(Lent::Row(row)) = decoder.held() else {
+        return false;
     };
-    assert!(rt; is_error(&error));
-    assert!(rt; decoder.held().is_none());
-    assert!(rt; matches!(decoder.next_lent(), Ok(Cut::Held)));
-    decoder.push(&[])?;
-    assert!(rt; decoder.held().is_none());
-    assert!(rt; matches!(decoder.next_lent(), Ok(Cut::Held)));
-    assert!(rt; lends_two_values(&decoder));
-    assert!(rt; matches!(decoder.next_lent(), Ok(Cut::Nothing)));
-    assert!(rt; decoder.held().is_none());
-    decoder.push(&READY[3..])?;
-    assert!(rt; matches!(decoder.next(), Ok(Some(BackMessage::Ready(Status::Idle)))));
-    assert_eq!(rt; decoder.kept(), 0);
-    Ok(())
+    let mut values = row.values();
+    matches!(values.next(), Some(None))
+        && matches!(values.next(), Some(Some(text)) if text.is_empty())
+        && values.next().is_none()
+        && values.next().is_none()
+        && row.values().count() == 2
+}
+
+/// Whether the decoder lends the error now.
+fn lends_error(decoder: &BackDecoder) -> bool {
+    let Some(Lent::Error(error)) = decoder.held() else {
+        return false;
+    };
+    let mut fields = error.fields();
+    matches!(fields.next(), Some((67, text)) if text == b"57014".as_slice())
+        && matches!(fields.next(), Some((77, text)) if text == b"no".as_slice())
+        && fields.next().is_none()
+}
+
+/// Whether the decoder lends a notice without fields now.
+fn lends_bare_notice(decoder: &BackDecoder) -> bool {
+    match decoder.held() {
+        Some(Lent::Notice(notice)) => notice.fields().next().is_none(),
+        _ => false,
+    }
+}
+
+/// Whether nothing whole is found before each of these bytes, which are pushed one by one.
+fn waits_for_each(decoder: &mut BackDecoder, bytes: &[u8]) -> bool {
+    let mut waits = true;
+    for byte in bytes {
+        waits = waits && next_lent(decoder) == Came::Nothing && decoder.push(&[*byte]).is_ok();
+    }
+    waits
 }
 
 #[test]
-fn a_row_that_is_none_is_a_fault(rt: HostRuntime) -> Result<(), Fail> {
-    let mut decoder = BackDecoder::new(rt.alloc(), 64);
-    decoder.push(&ROW)?;
-    decoder.push(&[0x44, 0, 0, 0, 7, 0, 0, 0])?;
-    assert!(rt; matches!(decoder.next_lent(), Ok(Cut::Held)));
-    assert!(rt; matches!(decoder.next_lent(), Err(WireFault::BadBody(68))));
-    assert!(rt; decoder.held().is_none());
-    assert!(rt; matches!(decoder.next(), Err(WireFault::BadBody(68))));
-    assert!(rt; matches!(decoder.push(&[]), Err(WireFault::BadBody(68))));
-    assert_eq!(rt; decoder.kept(), 8);
-    Ok(())
+fn a_row_is_lent(rt: HostRuntime) {
+    let held = holds(pushed(rt.alloc(), &ROW).ok(), |decoder| {
+        decoder.held().is_none()
+            && next_lent(decoder) == Came::Held
+            && decoder.kept() == 0
+            && lends_null_and_empty(decoder)
+    });
+    assert!(rt; held);
+}
+
+#[test]
+fn an_error_is_lent(rt: HostRuntime) {
+    let held = holds(pushed(rt.alloc(), &ERROR).ok(), |decoder| {
+        next_lent(decoder) == Came::Held && lends_error(decoder)
+    });
+    assert!(rt; held);
+}
+
+#[test]
+fn a_notice_without_fields_is_lent(rt: HostRuntime) {
+    let held = holds(pushed(rt.alloc(), &[0x4E, 0, 0, 0, 5, 0]).ok(), |decoder| {
+        next_lent(decoder) == Came::Held && lends_bare_notice(decoder)
+    });
+    assert!(rt; held);
+}
+
+#[test]
+fn another_message_is_given(rt: HostRuntime) {
+    let held = holds(pushed(rt.alloc(), &READY).ok(), |decoder| {
+        next_lent(decoder) == Came::Message(b'Z')
+            && decoder.held().is_none()
+            && next_lent(decoder) == Came::Nothing
+    });
+    assert!(rt; held);
+}
+
+#[test]
+fn a_row_comes_byte_by_byte(rt: HostRuntime) {
+    let held = holds(pushed(rt.alloc(), b"").ok(), |decoder| {
+        waits_for_each(decoder, &ROW)
+            && next_lent(decoder) == Came::Held
+            && lends_null_and_empty(decoder)
+    });
+    assert!(rt; held);
+}
+
+/// Whether all of these are pushed.
+fn takes_all(decoder: &mut BackDecoder, pieces: &[&[u8]]) -> bool {
+    let mut taken = true;
+    for piece in pieces {
+        taken = taken && decoder.push(piece).is_ok();
+    }
+    taken
+}
+
+#[test]
+fn each_call_ends_the_lending(rt: HostRuntime) {
+    let pieces = [
+        ERROR.as_slice(),
+        ROW.as_slice(),
+        ROW.as_slice(),
+        &READY[..3],
+    ];
+    let held = holds(pushed(rt.alloc(), &ROW).ok(), |decoder| {
+        takes_all(decoder, &pieces)
+            && next_lent(decoder) == Came::Held
+            && lends_null_and_empty(decoder)
+            && decoder.kept() == 50
+            && gives_error(decoder)
+            && decoder.held().is_none()
+            && next_lent(decoder) == Came::Held
+            && decoder.push(&[]).is_ok()
+            && decoder.held().is_none()
+            && next_lent(decoder) == Came::Held
+            && lends_null_and_empty(decoder)
+            && next_lent(decoder) == Came::Nothing
+            && decoder.held().is_none()
+            && decoder.push(&READY[3..]).is_ok()
+            && gives_ready(decoder)
+            && decoder.kept() == 0
+    });
+    assert!(rt; held);
+}
+
+#[test]
+fn a_row_that_is_none_is_a_fault(rt: HostRuntime) {
+    let fault = WireFault::BadBody(68);
+    let held = holds(pushed(rt.alloc(), &ROW).ok(), |decoder| {
+        decoder.push(&[0x44, 0, 0, 0, 7, 0, 0, 0]).is_ok()
+            && next_lent(decoder) == Came::Held
+            && next_lent(decoder) == Came::Fault(fault)
+            && decoder.held().is_none()
+            && next(decoder) == Came::Fault(fault)
+            && decoder.push(&[]) == Err(fault)
+            && decoder.kept() == 8
+    });
+    assert!(rt; held);
 }

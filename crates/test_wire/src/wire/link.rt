@@ -2,6 +2,7 @@ use pg_wire::{LinkFault, Over, PATIENCE, Patient, Sink, Source};
 use std::io;
 use std::io::{ErrorKind, Read, Write};
 use std::test::Fail;
+use test_base::is_told;
 
 // Gives or takes a byte a call, and fails at some calls in a row, by errors of one kind.
 #[derive(Drop)]
@@ -221,9 +222,6 @@ fn a_slice_is_received_whole(rt: HostRuntime) -> Result<(), Fail> {
     assert_eq!(rt; &into, b"ab");
     assert_eq!(rt; source.receive(&mut into), Ok(1));
     assert_eq!(rt; source.receive(&mut into), Ok(0));
-    assert_eq!(rt;
-        LinkFault.to_string(rt.alloc())?.as_str(),
-        "the link failed"
-    );
+    assert!(rt; is_told(rt.alloc(), LinkFault, "the link failed")?);
     Ok(())
 }

@@ -1,0 +1,24 @@
+//! What the crates of tests have in common.
+#![tactic(auto)]
+
+mod line;
+
+pub use line::{Line, line_of};
+use std::alloc::{AllocError, Global};
+use std::fmt::Display;
+
+/// Whether a value could be made for a test, and the test says this of it. The value is let go here, where its type isn't known: to prove
+/// for a client or a backend that it is let go takes ten seconds, in each test that owns one.
+pub fn holds<T: Drop, F: FnOnce(&mut T) -> bool>(made: Option<T>, says: F) -> bool
+    requires { F.IsAlwaysCallable says }
+{
+    match made {
+        Some(mut it) => says(&mut it),
+        None => false,
+    }
+}
+
+/// Whether a value is displayed as this text.
+pub fn is_told<D: Display + Drop>(alloc: Global, value: D, text: &str) -> Result<bool, AllocError> {
+    Ok(format!(in alloc; "{value}")?.as_str() == text)
+}
