@@ -62,6 +62,14 @@ impl Failure {
         }
     }
 
+    /// Why the words of the command line can't be had: memory was refused, or one isn't text.
+    pub fn of_words(error: io::Error) -> Failure {
+        match error.kind() {
+            io::ErrorKind::OutOfMemory => Failure::Memory,
+            _ => Failure::Words("a word is not UTF-8"),
+        }
+    }
+
     /// Whether nothing was printed of it yet.
     pub fn is_untold(&self) -> bool {
         !matches!(self, Failure::Refused | Failure::Rejected | Failure::Lost)

@@ -41,7 +41,7 @@ fn run<R: Env + Files + Net + Input + Print + AllocGlobal, E: Sink + Drop>(
     errors: E,
 ) -> Result<(), Failure> {
     let words: Vec<String> = env::args(rt)
-        .map_err(|_| Failure::Words("a word is not UTF-8"))?
+        .map_err(Failure::of_words)?
         .collect(rt.alloc())?;
     let words = Words::of(words.as_slice())?;
     if words.help {
