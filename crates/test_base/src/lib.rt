@@ -1,6 +1,9 @@
 //! What the crates of tests have in common.
 #![tactic(auto)]
 
+ghost use Rattle.std.specs.Prelude.{◌≡◌, MatchOption, false};
+ghost use Rattle.std.specs.Fn.{FnOnceReturnsAtMut};
+
 mod line;
 
 pub use line::{Line, line_of};
@@ -11,6 +14,8 @@ use std::fmt::Display;
 /// for a client or a backend that it is let go takes ten seconds, in each test that owns one.
 pub fn holds<T: Drop, F: FnOnce(&mut T) -> bool>(made: Option<T>, says: F) -> bool
     requires { F.IsAlwaysCallable says }
+    ensures { MatchOption made (result ≡ false)
+        (λ it. (after : _) × FnOnceReturnsAtMut F.FnOnce says it result after) }
 {
     match made {
         Some(mut it) => says(&mut it),
