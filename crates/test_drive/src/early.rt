@@ -105,6 +105,7 @@ fn a_copy_is_awaited_without_a_receive(rt: HostRuntime) {
     let held = holds(Driving::asked(alloc, line_of(alloc, COPY_IN, 8)), |it| {
         it.gives(9, Told::Early(b'G'))
             && it.gives(9, Told::CopyIn)
+            && it.is_left(6)
             && it.gives(9, Told::CopyIn)
             && it.is_left(6)
             && it.stands(Phase::CopyingIn)
