@@ -17,19 +17,35 @@ use Rattle.pg_client.specs.declared.phase.Phase.{Phase}
 use Rattle.pg_client.specs.declared.settled.Loss.{Loss}
 use Rattle.pg_client.specs.declared.settled.Settled.{Settled}
 use Rattle.pg_client.specs.declared.stand.Stand.{Stand}
+use Rattle.pg_client.specs.declared.settings.Settings.{Settings}
+use Rattle.pg_client.specs.Session.{Happening}
 use Rattle.pg_client.specs.Client.{ClientView}
-use Rattle.pg_client.specs.History.{Carries, History, IsHistoryOf, happenings, with_call, with_fed, with_handed_back}
+use Rattle.pg_client.specs.Feed.{FeedAnswers}
+use Rattle.pg_client.specs.History.{Carries, History, IsHistoryOf, happenings, with_call, with_fed, with_handed_back, with_heard}
 use Rattle.pg_client.specs.Lost.{HandsBack, Loses}
 use Rattle.pg_client.specs.Early.{EarlyHears, EarlyView, IsEarlyHistoryOf, Row}
-use Rattle.pg_client.specs.EarlyLent.{ComesBefore, EarlyHearsNext, EarlyHearsSome, FeedsAll, GivesBefore, IsEarlyHistoryBefore, Lends, LosesBefore, NextByCause, NextByItems, Pushes, PushesByCause, RefusesPiece, TakesLent, lent_items}
-use Rattle.pg_client.specs.Private.Collector.{TellsSame}
+use Rattle.pg_client.specs.EarlyLent.{ComesBefore, EarlyHearsNext, EarlyHearsSome, FeedsAll, FeedsNothing, GivesBefore, IsEarlyHistoryBefore, Lends, LosesBefore, NextByCause, NextByItems, Pushes, PushesByCause, RefusesPiece, TakesLent, lent_items}
+use Rattle.pg_client.specs.Private.Collector.{Telling, TellsSame}
 use Rattle.pg_client.specs.Private.Feeding.{IsHearing}
-use Rattle.pg_client.specs.Private.Lending.{GivesBy, GivesNext, GoesGiving, IsStill, KeepsPiece, TakesNext, waiting}
+use Rattle.pg_client.specs.Private.Lending.{emptied, giving, giving_other, GivesBy, GivesNext, GoesGiving, IsStill, KeepsPiece, TakesNext, waiting}
 use Rattle.pg_client.specs.Private.Machine.{MachineView, client_at, FeedsMachine, Goes, HandlesAll, keeping}
 use Rattle.pg_client.specs.Private.Queue.{early_view, queued, row_at, row_of}
 use Rattle.pg_client.proofs.Feeding.{hearing, starved}
 use Rattle.pg_client.proofs.HeardPast.{heard_of}
 use Rattle.pg_client.proofs.Queued.{Called, accepted, client_is, fits_there, given_one, hands_back, loss_carries, stood_for}
+
+-- ---- a fault
+
+-- each fault that comes closes the client
+closes : (settings : Settings) (hs : List Happening) (rest piece : List ℕ) (f : FeedFault) (closed : Option Cause) → FeedAnswers settings hs rest piece (Err f) closed → (c : Cause) × (closed ≡ Some c)
+closes settings hs rest piece (feeding.Wire f) closed a = (cause.Wire, a.1)
+closes settings hs rest piece (feeding.Unexpected t) closed a = (cause.Unexpected, a.1)
+closes settings hs rest piece (feeding.UnsupportedAuth code) closed a = (cause.UnsupportedAuth, a.1)
+closes settings hs rest piece feeding.PasswordWanted closed a = (cause.PasswordWanted, a.1)
+closes settings hs rest piece (feeding.StartupError fields) closed a = (cause.StartupError, a.1)
+closes settings hs rest piece (feeding.ServerEnd fields) closed a = (cause.ServerEnd, a.1)
+closes settings hs rest piece feeding.Memory closed a = (cause.Memory, a.1)
+closes settings hs rest piece feeding.Closed closed a = absurd a
 
 -- ---- histories
 
@@ -40,17 +56,17 @@ lending_other h given e held r = record { client = r.client; stands_for = ap (λ
 pub waited_one : (unread : List ℕ) (h : History) (given : List Item) (e : EarlyView) (t : Item) (ts : List Item) → e.items ≡ t ∷ ts → IsEarlyHistoryBefore unread h given e → IsEarlyHistoryBefore unread h (given ++ t ∷ []) (record e { items = ts })
 waited_one unread h given e t ts is b = record { first = b.first; kept = b.kept; history = given_one h given (record e { kept = b.first }) t ts is b.history }
 
--- A machine that is open and still to hear these bytes: a client that may have its queue, between two messages.
+-- A machine that is open and still to hear these bytes, and where no item waits: a client that may have its queue, between two messages.
 record StillToHear (unread : List ℕ) (h : History) (given : List Item) (m : MachineView Queue) : Type 0 where
   pub stand : Stand
   pub settled : List Settled
   pub fits : queued.fits m.collector stand settled
   pub hearing : IsHearing (length h.fed) (with_fed unread h) (client_at m stand settled)
-  pub tells : queued.tells m.collector given (happenings h)
+  pub tells : emptied.tells m.collector given (happenings h)
 
 module _ (m : MachineView Queue) (none : m.closed ≡ None) (unread : List ℕ) (h : History) (given : List Item) where
-  still_to_hear : IsEarlyHistoryBefore unread h given (early_view m) → StillToHear unread h given m
-  still_to_hear b =
+  still_to_hear : waiting m ≡ [] → IsEarlyHistoryBefore unread h given (early_view m) → StillToHear unread h given m
+  still_to_hear empty b =
       let k : MachineView Queue = record m { kept = b.first } in
       let r : IsEarlyHistoryOf h given (early_view k) = b.history in
       let client : ClientView = client_at k r.client.stand r.client.settled in
@@ -60,7 +76,7 @@ module _ (m : MachineView Queue) (none : m.closed ≡ None) (unread : List ℕ) 
         settled = r.client.settled;
         fits = fits_there k r.client r.stands_for;
         hearing = subst (λ (bs : List ℕ). IsHearing (length h.fed) (with_fed unread h) (record client { kept = bs })) (sym b.kept) (hearing h client none past unread);
-        tells = r.items;
+        tells = (r.items, empty);
       }
 
   -- a piece that memory is refused for
@@ -86,55 +102,70 @@ module _ (m : MachineView Queue) (none : m.closed ≡ None) (unread : List ℕ) 
         answers = s.hears.answers;
       })
 
-  module _ (n : MachineView Queue) (before after : List ℕ) where
-    some_heard : (more : List Item) → GoesGiving more m n before after → IsEarlyHistoryBefore unread h given (early_view m) → EarlyHearsSome unread h given more (early_view n) before after
-    some_heard more g b =
-        let s = still_to_hear b in
+  module _ (n : MachineView Queue) (before after : List ℕ) (empty : waiting m ≡ []) (b : IsEarlyHistoryBefore unread h given (early_view m)) where
+    some_heard : (is : Telling) (t : Item) → ((hs : List Happening) → is given hs → giving t n.collector given hs) → GoesGiving is m n before after → EarlyHearsSome unread h given (t ∷ []) (early_view n) before after × (hs : List Happening) × is given hs
+    some_heard is t once g =
+        let s = still_to_hear empty b in
         let x = g s.stand s.settled s.fits in
         let k = x.3.history (length h.fed) (with_fed unread h) s.hearing in
         let of = heard_of h unread k.0 x.3.added (client_at n x.0 x.1) k.1 k.2 in
-        record {
-          added = x.3.added;
-          put = x.3.put;
-          taken = of.taken;
-          left = n.kept;
-          cut = of.cut;
-          more = k.0;
-          history = record {
-            first = [];
-            kept = refl;
+        let hs : List Happening = happenings (with_heard k.0 n.kept x.3.added (with_fed unread h)) in (
+          record {
+            added = x.3.added;
+            put = x.3.put;
+            taken = of.taken;
+            left = n.kept;
+            cut = of.cut;
+            more = k.0;
             history = record {
-              client = record (client_at n x.0 x.1) { kept = [] };
-              stands_for = stood_for (record n { kept = [] }) x.0 x.1 x.2;
-              history = of.history;
-              items = k.3 given s.tells;
+              first = [];
+              kept = refl;
+              history = record {
+                client = record (client_at n x.0 x.1) { kept = [] };
+                stands_for = stood_for (record n { kept = [] }) x.0 x.1 x.2;
+                history = of.history;
+                items = (once hs (k.3 given s.tells)).0;
+              };
             };
-          };
-        }
+          },
+          hs,
+          k.3 given s.tells,
+        )
 
-    all_heard : (r : Result Unit FeedFault) → HandlesAll queued m r n before after → IsEarlyHistoryBefore unread h given (early_view m) → EarlyHears (with_fed unread h) given unread r (early_view n) before after
-    all_heard r g b =
-        let s = still_to_hear b in
+    all_heard : (r : Result Unit FeedFault) → HandlesAll emptied m r n before after → (waiting n ≡ []) × EarlyHears (with_fed unread h) given unread r (early_view n) before after
+    all_heard r g =
+        let s = still_to_hear empty b in
         let x = g s.stand s.settled s.fits in
         let heard = x.3.hears (length h.fed) (with_fed unread h) unread (length-append h.fed unread) s.hearing in
-        record {
-          added = x.3.added;
-          put = x.3.put;
-          more = heard.hears.more;
-          rest = heard.hears.rest;
-          history = record { client = client_at n x.0 x.1; stands_for = stood_for n x.0 x.1 x.2; history = heard.hears.history; items = heard.tells given s.tells };
-          answers = heard.hears.answers;
-        }
+        let told = heard.tells given s.tells in (
+          told.1,
+          record {
+            added = x.3.added;
+            put = x.3.put;
+            more = heard.hears.more;
+            rest = heard.hears.rest;
+            history = record { client = client_at n x.0 x.1; stands_for = stood_for n x.0 x.1 x.2; history = heard.hears.history; items = told.0 };
+            answers = heard.hears.answers;
+          },
+        )
 
-    next_heard : (r : Result Next FeedFault) → GivesBy m r n before after → n.closed ≡ None → IsEarlyHistoryBefore unread h given (early_view m) → EarlyHearsNext unread h given r (early_view n) before after
-    next_heard (Ok next.Nothing) g is_open b = all_heard (Ok tt) g.1 b
-    next_heard (Ok next.Held) g is_open b =
-        subst (λ (o : Option Row). EarlyHearsSome unread h given (lent_items o) (early_view n) before after) (sym (ap (λ (c : Option Cause). row_at c n.held) is_open ∙ ap row_of g.1)) (some_heard (Early (DataRow g.0) ∷ []) g.2 b)
-    next_heard (Ok (next.Item t)) g is_open b = some_heard (t ∷ []) g.1 b
-    next_heard (Err f) g is_open b = all_heard (Err f) g b
+    next_heard : (x : Next) → GivesBy m (Ok x) n before after → n.closed ≡ None → (waiting n ≡ []) × EarlyHearsNext unread h given (Ok x) (early_view n) before after
+    next_heard next.Nothing g is_open = all_heard (Ok tt) g.1
+    next_heard next.Held g is_open =
+        let heard = some_heard (giving (Early (DataRow g.0)) n.collector) (Early (DataRow g.0)) (λ hs k. k) g.2 in
+        (heard.2.1, subst (λ (o : Option Row). EarlyHearsSome unread h given (lent_items o) (early_view n) before after) (sym (ap (λ (c : Option Cause). row_at c n.held) is_open ∙ ap row_of g.1)) heard.0)
+    next_heard (next.Item t) g is_open =
+        let heard = some_heard (giving_other t n.collector) t (λ hs k. k.1) g.1 in
+        (heard.2.1.1, (heard.2.0, heard.0))
 
-    next_fault : (f : FeedFault) → GivesBy m (Err f) n before after → IsEarlyHistoryBefore unread h given (early_view m) → EarlyHearsNext unread h given (Err f) (early_view n) before after
-    next_fault f g b = all_heard (Err f) g b
+    -- after a fault it is closed, and lends no row
+    lends_none : (f : FeedFault) → EarlyHears (with_fed unread h) given unread (Err f) (early_view n) before after → (early_view n).held ≡ None
+    lends_none f e =
+        let c = closes n.settings (happenings (with_heard e.more e.rest e.added (with_fed unread h))) e.rest unread f n.closed e.answers in
+        ap (λ (o : Option Cause). row_at o n.held) c.1
+
+    next_fault : (f : FeedFault) → GivesBy m (Err f) n before after → (waiting n ≡ []) × EarlyHearsNext unread h given (Err f) (early_view n) before after
+    next_fault f g = let heard = all_heard (Err f) g in (heard.0, (lends_none f heard.1, heard.1))
 
 -- ---- next_lent
 
@@ -146,19 +177,19 @@ lends m n (Err f) before after s g = tt
 
 module _ (old : EarlyView) (m n : MachineView Queue) (same : early_view m ≡ old) where
   module _ (before after : List ℕ) where
-    takes_open : (r : Result Next FeedFault) → m.closed ≡ None → IsStill m r n → GivesBy m r n before after → NextByCause None (early_view m) r (early_view n) before after
-    takes_open (Ok x) none s g = (lends m n (Ok x) before after s g, λ unread h given b. next_heard m none unread h given n before after (Ok x) g s.is_open b)
-    takes_open (Err f) none s g = (tt, λ unread h given b. next_fault m none unread h given n before after f g b)
+    takes_open : (r : Result Next FeedFault) → m.closed ≡ None → waiting m ≡ [] → IsStill m r n → GivesBy m r n before after → NextByCause None (early_view m) r (early_view n) before after
+    takes_open (Ok x) none empty s g = (lends m n (Ok x) before after s g, λ unread h given b. next_heard m none unread h given n before after empty b x g s.is_open)
+    takes_open (Err f) none empty s g = (tt, λ unread h given b. next_fault m none unread h given n before after empty b f g)
 
-    takes_none : (r : Result Next FeedFault) → GivesNext m.closed m r n before after → NextByCause m.closed (early_view m) r (early_view n) before after
-    takes_none r g = by m.closed refl g
+    takes_none : (r : Result Next FeedFault) → waiting m ≡ [] → GivesNext m.closed m r n before after → NextByCause m.closed (early_view m) r (early_view n) before after
+    takes_none r empty g = by m.closed refl g
       where
         by : (o : Option Cause) → m.closed ≡ o → GivesNext o m r n before after → NextByCause o (early_view m) r (early_view n) before after
-        by None none k = takes_open r none k.0 k.1
+        by None none k = takes_open r none empty k.0 k.1
         by (Some c) some k = (k.0, ap early_view k.1, k.2)
 
     takes_by : (r : Result Next FeedFault) (items : List Item) → waiting m ≡ items → TakesNext items m r n before after → NextByItems items (early_view m) r (early_view n) before after
-    takes_by r [] is k = takes_none r k
+    takes_by r [] is k = takes_none r is k
     takes_by r (t ∷ ts) is k =
         let now : early_view n ≡ record (early_view m) { items = ts } = ap early_view k.2 ∙ ap (λ (xs : List Item). record (early_view m) { items = xs }) k.1 in
         (k.0, now, k.3, λ unread h given b. subst (IsEarlyHistoryBefore unread h (given ++ t ∷ [])) (sym now) (waited_one unread h given (early_view m) t ts is b))
@@ -270,6 +301,11 @@ module _ (old : EarlyView) (m n : MachineView Queue) (same : early_view m ≡ ol
           history = record { client = client_at n x.0 x.1; stands_for = stood_for n x.0 x.1 x.2; history = heard.hears.history; items = heard.tells given q.items };
           answers = heard.hears.answers;
         }
+
+    pub feeds_nothing : (m.closed ≡ None → length piece ≡ 0 → (r ≡ Ok tt) × (n ≡ m) × (after ≡ before)) → FeedsNothing old piece r (early_view n) before after
+    feeds_nothing same_then is_open empty =
+        let h = same_then (ap (λ (e : EarlyView). e.closed) same ∙ is_open) empty in
+        (h.0, ap early_view h.1 ∙ same, h.2)
 
     pub feeds_all : FeedsMachine queued m.closed m piece r n before after → FeedsAll old piece r (early_view n) before after
     feeds_all k = subst (λ (e : EarlyView). FeedsAll e piece r (early_view n) before after) same (by m.closed refl k)

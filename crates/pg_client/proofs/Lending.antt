@@ -2,15 +2,16 @@
 use Rattle.std.proofs.Common.{◌≡◌, ℕ, List, [], ◌∷◌, ◌++◌, Bool, true, false, cond, is_err, is_some, Option, Some, None, Result, Ok, Err, refl, sym, ap, subst, ◌∙◌, append_assoc}
 use Rattle.std.specs.Option.{option_map}
 use Rattle.std.specs.Prelude.{◌↔◌, ◌≢◌, IsTrue}
-use Rattle.std.proofs.lemmas.List.{append-nil}
+use Rattle.std.proofs.lemmas.List.{append-nil, append_cancel_left}
 use Rattle.pg_wire.specs.message.BackMessage.{BackMessage}
 use Rattle.pg_wire.specs.message.BackMessage.TheVariants as back
+use Rattle.pg_wire.specs.declared.session.Request.{Request}
 use Rattle.pg_wire.specs.declared.session.Step.{Step}
 use Rattle.pg_wire.specs.declared.session.Step.TheVariants as step
 use Rattle.pg_wire.specs.lent.Lent.{Lent}
 use Rattle.pg_wire.specs.lent.Lent.TheVariants as lents
 use Rattle.pg_wire.specs.value.Target.TheVariants.{Statement, Portal}
-use Rattle.pg_wire.specs.Lent.{message_of}
+use Rattle.pg_wire.specs.Lent.{message_of, is_lent}
 use Rattle.pg_wire.specs.declared.back.Cut.TheVariants as cut
 use Rattle.pg_wire.specs.Backend.{backend}
 use Rattle.pg_wire.specs.BackDecoder.{BackState, LetsGo, TakesLent}
@@ -18,7 +19,7 @@ use Rattle.pg_wire.specs.Decoder.{DecoderState, Pushes, Takes}
 use Rattle.pg_wire.specs.declared.fault.WireFault.{WireFault}
 use Rattle.pg_wire.specs.declared.fault.WireFault.TheVariants as wire
 use Rattle.pg_wire.specs.Direction.{spelling}
-use Rattle.pg_wire.specs.Segment.{Asked as What, Results, Steps, asked}
+use Rattle.pg_wire.specs.Segment.{Asked as What, Results, Steps, asked, status_of}
 use Rattle.pg_wire.specs.Stream.{IsOpen, IsWithin}
 use Rattle.pg_segment.specs.declared.segment.CopyAnswer.{CopyAnswer}
 use Rattle.pg_segment.specs.declared.segment.CopyAnswer.TheVariants.{Awaited, Done, Refused}
@@ -40,23 +41,27 @@ use Rattle.pg_client.specs.declared.phase.Cause.{Cause}
 use Rattle.pg_client.specs.declared.phase.Cause.TheVariants as cause
 use Rattle.pg_client.specs.declared.settled.Settled.{Settled}
 use Rattle.pg_client.specs.declared.stand.Stand.{Stand}
+use Rattle.pg_client.specs.declared.stand.Stand.TheVariants as stands
 use Rattle.pg_client.specs.declared.startup.ToSend.TheVariants.{Nothing}
 use Rattle.pg_client.specs.declared.startup.Welcome.TheVariants.{Fresh, Asked, Admitted}
 use Rattle.pg_client.specs.Client.{ClientView}
 use Rattle.pg_client.specs.Closed.{cause_of}
-use Rattle.pg_client.specs.Stand.{Leads, hear}
-use Rattle.pg_client.specs.Early.{Row, early_stand, items_in}
+use Rattle.pg_client.specs.Session.{Happening}
+use Rattle.pg_client.specs.Stand.{Effect, Leads, Stands, hear, hear_with}
+use Rattle.pg_client.specs.Early.{Row, early_stand, item_for, items_in}
+use Rattle.pg_client.specs.EarlyLent.{IsNoRow}
+use Rattle.pg_client.specs.Private.Collector.{Telling, TellsMessage, TellsSame}
 use Rattle.pg_client.specs.Private.Early.{early_fault, early_leads, items_at, TakesIn}
-use Rattle.pg_client.specs.Private.Feeding.{HearsMessage, HearsOne, PutsAnswer, leaving}
-use Rattle.pg_client.specs.Private.Lending.{GivesBy, GivesNext, GoesGiving, HearsLent, IsOldest, IsStill, KeepsPiece, LentBy, NextBy, NextGiving, PassesRow, TakesNext, TakesOldest, TellsGiving, WholeBy, WholeGiving, waiting}
-use Rattle.pg_client.specs.Private.Machine.{MachineView, client_at, HandlesWhole, keeping}
+use Rattle.pg_client.specs.Private.Feeding.{HearsMessage, HearsOne, MovesBy, PutsAnswer, leaving}
+use Rattle.pg_client.specs.Private.Lending.{emptied, giving, giving_other, GivesBy, GivesNext, GoesGiving, HearsLent, IsOldest, IsStill, KeepsPiece, LentBy, NextBy, NextGiving, PassesRow, TakesNext, TakesOldest, TellsGiving, WholeBy, WholeGiving, waiting}
+use Rattle.pg_client.specs.Private.Machine.{MachineView, client_at, HandlesNext, HandlesWhole, keeping}
 use Rattle.pg_client.specs.Private.Queue.{queued, row_at, row_of}
 use Rattle.pg_client.proofs.EarlyItems.{items_came}
 use Rattle.pg_client.proofs.EarlyStands.{Led, hears_in, led}
 use Rattle.pg_client.proofs.Feeding.{shorter}
 use Rattle.pg_client.proofs.Handling.{GoneOn, all_end, all_fault, held_is, lent_in, next_in, next_not_in, whole_not_in}
 use Rattle.pg_client.proofs.HeardPast.{goes_past}
-use Rattle.pg_client.proofs.Messages.{heard_and_sent, result_heard}
+use Rattle.pg_client.proofs.Messages.{asks_nothing, heard_and_sent, result_heard}
 
 -- ---- which values a row has decides nothing
 
@@ -107,6 +112,26 @@ pub passes_any : (old new : EarlyStand) (row : Row) (r : Result Unit FeedFault) 
 passes_any old new row (Ok x) h = row_leads old row ∙ h
 passes_any old new row (Err f) h = (row_leads old row ∙ h.0, h.1 ∙ sym (row_fault old row), h.2)
 
+-- ---- a queue in which no item waits
+
+-- the items given are all
+told_all : (given : List Item) (q : Queue) (hs : List Happening) → emptied.tells q given hs → given ≡ items_in hs
+told_all given q hs t = sym (append-nil given) ∙ ap (λ (is : List Item). given ++ is) (sym t.1) ∙ t.0
+
+-- a message that tells of nothing leaves it so
+same_emptied : (q n : Queue) → TellsSame queued q n → TellsSame emptied q n
+same_emptied q n h given hs t = (h given hs t.0, append_cancel_left given n.items.items q.items.items (h given hs t.0 ∙ sym t.0) ∙ t.1)
+
+module _ (now new : MachineView Queue) (before after : List ℕ) where
+  pub next_emptied : HandlesNext queued now (Ok true) new before after → waiting new ≡ [] → HandlesNext emptied now (Ok true) new before after
+  next_emptied h empty stand settled f = let x = h stand settled f in (x.0, x.1, x.2, (x.3.0, λ given hs ts s t. (x.3.1 given hs ts s t.0, empty)))
+
+  next_emptied_end : HandlesNext queued now (Ok false) new before after → HandlesNext emptied now (Ok false) new before after
+  next_emptied_end h stand settled f = let x = h stand settled f in (x.0, x.1, x.2, (x.3.0, same_emptied now.collector new.collector x.3.1))
+
+  next_emptied_fault : (q : FeedFault) → HandlesNext queued now (Err q) new before after → HandlesNext emptied now (Err q) new before after
+  next_emptied_fault q h stand settled f = let x = h stand settled f in (x.0, x.1, x.2, (x.3.0, same_emptied now.collector new.collector x.3.1))
+
 -- ---- a row that is lent
 
 row_is : (row : Row) → IsResult (back.DataRow row)
@@ -131,30 +156,32 @@ module _ (v : MachineView Queue) (k : Queue) (row : Row) (out : List ℕ) where
       by feeding.Memory h = (h.2, same)
       by x h = (h.0, h.1, h.2, same)
 
-  module _ (p : early_leads v.collector.stand m ≡ Some k.stand) (empty : waiting v ≡ []) (none : k.items.items ≡ []) (stand : Stand) (settled : List Settled) (f : v.collector.stand ≡ early_stand stand) where
-    tells_row : TellsGiving (Early m ∷ []) stand m v.collector k
-    tells_row given hs ts s t =
-        ap (λ (is : List Item). (given ++ Early m ∷ []) ++ is) none
-        ∙ append-nil (given ++ Early m ∷ [])
-        ∙ ap (λ (is : List Item). is ++ Early m ∷ []) (sym (append-nil given) ∙ ap (λ (is : List Item). given ++ is) (sym empty) ∙ t)
-        ∙ ap (λ (is : List Item). items_in hs ++ is) (sym (items_row (early_stand stand) k.stand row (subst (λ (x : EarlyStand). early_leads x m ≡ Some k.stand) f p)))
-        ∙ sym (items_came hs m stand ts s (λ d. refl))
+  module _ (p : early_leads v.collector.stand m ≡ Some k.stand) (none : k.items.items ≡ []) (stand : Stand) (settled : List Settled) (f : v.collector.stand ≡ early_stand stand) where
+    tells_row : TellsGiving (giving (Early m) k) stand m v.collector
+    tells_row given hs ts s t = (
+      ap (λ (is : List Item). (given ++ Early m ∷ []) ++ is) none
+          ∙ append-nil (given ++ Early m ∷ [])
+          ∙ ap (λ (is : List Item). is ++ Early m ∷ []) (told_all given v.collector hs t)
+          ∙ ap (λ (is : List Item). items_in hs ++ is) (sym (items_row (early_stand stand) k.stand row (subst (λ (x : EarlyStand). early_leads x m ≡ Some k.stand) f p)))
+          ∙ sym (items_came hs m stand ts s (λ d. refl)),
+      none,
+    )
 
     passed_there : (now : Stand) → hear stand m ≡ Leads now → HearsMessage m (client_at v stand settled) (Ok tt) (client_at (record v { collector = k }) now settled) × PutsAnswer v.settings m out (Ok tt) out
     passed_there now h =
         let client : ClientView = client_at v stand settled in
         heard_and_sent m client (record client { stand = now }) Nothing (Ok tt) out out (result_heard m client client now (Ok Nothing) refl (row_is row) h) refl
 
-  pub pass_given : PassesRow v.collector.stand row (Ok tt) k.stand → waiting v ≡ [] → k.items.items ≡ [] → WholeGiving (Early m ∷ []) m v (record v { collector = k }) out out
-  pass_given p empty none stand settled f = by (early_leads (early_stand stand) m) (led stand m refl) (subst (λ (x : EarlyStand). early_leads x m ≡ Some k.stand) f p)
+  pub pass_given : PassesRow v.collector.stand row (Ok tt) k.stand → k.items.items ≡ [] → WholeGiving (giving (Early m) k) m v (record v { collector = k }) out out
+  pass_given p none stand settled f = by (early_leads (early_stand stand) m) (led stand m refl) (subst (λ (x : EarlyStand). early_leads x m ≡ Some k.stand) f p)
     where
       by : (o : Option EarlyStand) → Led stand m o → o ≡ Some k.stand → (now : Stand) × (left : List Settled) × (k.stand ≡ early_stand now) × HearsMessage m (client_at v stand settled) (Ok tt) (client_at (record v { collector = k }) now left)
-          × PutsAnswer v.settings m out (Ok tt) out × TellsGiving (Early m ∷ []) stand m v.collector k
+          × PutsAnswer v.settings m out (Ok tt) out × TellsGiving (giving (Early m) k) stand m v.collector
       by None l e = absurd cc
       by (Some x) l e =
           let i : x ≡ k.stand = cc in
-          let both = passed_there p empty none stand settled f l.0 l.2 in
-          (l.0, settled, sym i ∙ l.1, both.0, both.1, tells_row p empty none stand settled f)
+          let both = passed_there p none stand settled f l.0 l.2 in
+          (l.0, settled, sym i ∙ l.1, both.0, both.1, tells_row p none stand settled f)
 
   -- whichever message is lent: it is that row
   pub row_lent : (result : Result (Option Next) FeedFault) (n : MachineView Queue) → v.held ≡ Some (lents.Row row) → ((end : List ℕ) → LentBy (lents.Row row) v result n end) → HearsLent v result n
@@ -164,11 +191,62 @@ module _ (v : MachineView Queue) (k : Queue) (row : Row) (out : List ℕ) where
 
 -- ---- the item of a message
 
-module _ (m : BackMessage) (v mid n : MachineView Queue) (before after : List ℕ) (w : HandlesWhole queued m v (Ok tt) mid before after) where
-  item_given : (t : Item) → waiting mid ≡ t ∷ waiting n → n ≡ record mid { collector = record mid.collector { items = n.collector.items } } → WholeGiving (t ∷ []) m v n before after
-  item_given t popped others = subst (λ (x : MachineView Queue). WholeGiving (t ∷ []) m v x before after) (sym others) (λ stand settled f.
+-- the message is no row
+abbrev pub IsOther : BackMessage → Type 0
+IsOther m = (row : Row) → m ≡ back.DataRow row → ⊥
+
+pub other_not_lent : (m : BackMessage) → is_lent m ≡ false → IsOther m
+other_not_lent m never row e = let k : is_lent (back.DataRow row) ≡ false = subst (λ (x : BackMessage). is_lent x ≡ false) e never in cc
+
+pub other_lent : (lent : Lent) → row_of (Some lent) ≡ None → IsOther (message_of lent)
+other_lent (lents.Row values) never row e = cc
+other_lent (lents.Error fields) never row e = cc
+other_lent (lents.Notice fields) never row e = cc
+
+no_row_for : (request : Request) (m : BackMessage) → IsOther m → IsNoRow (item_for request m)
+no_row_for request (back.Ready status) other row e = cc
+no_row_for request m other row e = other row cc
+
+-- a message that isn't a row has one item, if it has any, and that is no row
+one_item : (stand : EarlyStand) (m : BackMessage) → IsOther m → (t : Item) (ts : List Item) → t ∷ ts ≡ items_at stand m → IsNoRow t × (ts ≡ [])
+one_item early.New m other t ts e = absurd cc
+one_item (early.Starting w) m other t ts e = absurd cc
+one_item early.Idle m other t ts e =
+    let is : t ≡ Early m = cc in
+    (λ row k. other row (let q : Early m ≡ Early (back.DataRow row) = sym is ∙ k in cc), cc)
+one_item (early.Busy request place) m other t ts e =
+    let is : t ≡ item_for request m = cc in
+    (subst IsNoRow (sym is) (no_row_for request m other), cc)
+
+-- while no request is outstanding a ReadyForQuery may not come
+no_end : (password : Option (List ℕ)) (stand : Stand) (m : BackMessage) (old new : ClientView) → MovesBy (hear_with password stand m) old new → early_stand stand ≡ early.Idle → status_of m ≡ None
+no_end password stand (back.Ready status) old new moves idle = absurd (by stand moves idle)
+  where
+    by : (x : Stand) → MovesBy (hear_with password x (back.Ready status)) old new → early_stand x ≡ early.Idle → ⊥
+    by stands.New h e = cc
+    by (stands.Starting w) h e = cc
+    by (stands.Idle asides) h e = subst (λ (q : Effect). MovesBy q old new) (asks_nothing password (stands.Idle asides) (back.Ready status) refl) h
+    by (stands.Busy segment) h e = cc
+no_end password stand m old new moves idle = refl
+
+module _ (m : BackMessage) (v mid n : MachineView Queue) (before after : List ℕ) (w : HandlesWhole queued m v (Ok tt) mid before after) (other : IsOther m) where
+  module _ (t : Item) (popped : waiting mid ≡ t ∷ waiting n) (stand : Stand) (idle : early_stand stand ≡ early.Idle → status_of m ≡ None) (told : TellsMessage queued stand m v.collector mid.collector) where
+    -- the items that wait are those of the message
+    items_are : (given : List Item) (hs : List Happening) (settled : List Settled) → Stands hs stand settled → emptied.tells v.collector given hs → t ∷ waiting n ≡ items_at (early_stand stand) m
+    items_are given hs settled s q =
+        sym popped
+        ∙ append_cancel_left given (waiting mid) (items_at (early_stand stand) m)
+        (told given hs settled s q.0 ∙ items_came hs m stand settled s idle ∙ ap (λ (is : List Item). is ++ items_at (early_stand stand) m) (sym (told_all given v.collector hs q)))
+
+    tells_item : TellsGiving (giving_other t n.collector) stand m v.collector
+    tells_item given hs settled s q =
+        let one = one_item (early_stand stand) m other t (waiting n) (items_are given hs settled s q) in
+        (one.0, (append_assoc given (t ∷ []) n.collector.items.items ∙ ap (λ (is : List Item). given ++ is) (sym popped) ∙ told given hs settled s q.0, one.1))
+
+  item_given : (t : Item) → waiting mid ≡ t ∷ waiting n → n ≡ record mid { collector = record mid.collector { items = n.collector.items } } → WholeGiving (giving_other t n.collector) m v n before after
+  item_given t popped others = subst (λ (x : MachineView Queue). WholeGiving (giving_other t n.collector) m v x before after) (sym others) (λ stand settled f.
       let x = w stand settled f in
-      (x.0, x.1, x.2, x.3, x.4, λ given hs ts s q. append_assoc given (t ∷ []) n.collector.items.items ∙ ap (λ (is : List Item). given ++ is) (sym popped) ∙ x.5 given hs ts s q))
+      (x.0, x.1, x.2, x.3, x.4, tells_item t popped stand (no_end v.settings.password stand m (client_at v stand settled) (client_at mid x.0 x.1) x.3.moves) x.5))
 
   pub whole_by : (o : Option Next) → TakesOldest mid o n → row_of mid.held ≡ None → WholeBy m v o n before after
   whole_by None h lent = (subst (λ (x : MachineView Queue). HandlesWhole queued m v (Ok tt) x before after) (sym h.1) w, ap waiting h.1 ∙ h.0)
@@ -180,8 +258,8 @@ module _ (v n : MachineView Queue) (kept : List ℕ) (m : BackMessage) (before a
   front : v.kept ≡ spelling backend m ++ n.kept
   front = begins ∙ ap (λ (bs : List ℕ). spelling backend m ++ bs) (sym same)
 
-  next_giving : (more : List Item) → WholeGiving more m (record v { kept = kept }) n before after → NextGiving more v n before after
-  next_giving more w stand settled f =
+  next_giving : (is : Telling) → WholeGiving is m (record v { kept = kept }) n before after → NextGiving is v n before after
+  next_giving is w stand settled f =
       let x = w stand settled f in
       let one : HearsOne m (leaving (client_at v stand settled) n.kept) (client_at n x.0 x.1) = subst (λ (bs : List ℕ). HearsOne m (leaving (client_at v stand settled) bs) (client_at n x.0 x.1)) (sym same) x.3 in
       (x.0, x.1, x.2, (m, within, front, one, x.4), x.5)
@@ -189,8 +267,8 @@ module _ (v n : MachineView Queue) (kept : List ℕ) (m : BackMessage) (before a
   pub next_by : (o : Option Next) → WholeBy m (record v { kept = kept }) o n before after → NextBy v (Ok o) n before after
   next_by None h = (next_in queued v kept m n before after within begins same h.0, h.1, shorter m v.kept n.kept front)
   next_by (Some next.Nothing) h = absurd h
-  next_by (Some next.Held) h = (h.0, h.1, next_giving (Early (back.DataRow h.0) ∷ []) h.2)
-  next_by (Some (next.Item t)) h = (h.0, next_giving (t ∷ []) h.1)
+  next_by (Some next.Held) h = (h.0, h.1, next_giving (giving (Early (back.DataRow h.0)) n.collector) h.2)
+  next_by (Some (next.Item t)) h = (h.0, next_giving (giving_other t n.collector) h.1)
 
 -- by the decoder's call
 module _ (v : MachineView Queue) (d e : BackState) (kept_is : v.kept ≡ d.stream.kept) (limit_is : d.stream.limit ≡ v.settings.limit) where
@@ -236,7 +314,7 @@ module _ (v : MachineView Queue) (d e : BackState) (kept_is : v.kept ≡ d.strea
 
     pub next_other : HandlesWhole queued m cut_off (Ok tt) k before after → k.held ≡ e.held → k.kept ≡ e.stream.kept → (o : Option Next) (n : MachineView Queue) → TakesOldest k o n → NextBy v (Ok o) n before after
     next_other w held kept o n h =
-        next_by v n e.stream.kept m before after (within_is m t.takes) (kept_is ∙ t.takes.2) (oldest_kept n o h ∙ kept) o (whole_by m cut_off k n before after w o h (ap row_of (held ∙ t.holds.0)))
+        next_by v n e.stream.kept m before after (within_is m t.takes) (kept_is ∙ t.takes.2) (oldest_kept n o h ∙ kept) o (whole_by m cut_off k n before after w (other_not_lent m t.holds.1) o h (ap row_of (held ∙ t.holds.0)))
 
     pub next_not_other : (f : FeedFault) → HandlesWhole queued m cut_off (Err f) k before after → NextBy v (Err f) (record k { closed = cause_of f }) before after
     next_not_other f w = next_not_in queued v e.stream.kept m f k (cause_of f) before after (within_is m t.takes) (kept_is ∙ t.takes.2) w refl
@@ -247,20 +325,20 @@ pub none_given : (o : Option Next) → ((given : Next) → o ≡ Some given → 
 none_given None other = refl
 none_given (Some given) other = absurd (other given refl)
 
-module _ (v now new : MachineView Queue) (start out end : List ℕ) (g : GoneOn queued v now start out) where
-  goes_giving : (more : List Item) → NextGiving more now new out end → GoesGiving more v new start end
-  goes_giving more h stand settled f =
+module _ (v now new : MachineView Queue) (start out end : List ℕ) (g : GoneOn emptied v now start out) where
+  goes_giving : (is : Telling) → NextGiving is now new out end → GoesGiving is v new start end
+  goes_giving is h stand settled f =
       let x = g.goes stand settled f in
       let y = h x.0 x.1 x.2 in
-      (y.0, y.1, y.2, goes_past (client_at v stand settled) (queued.tells v.collector) (client_at now x.0 x.1) (queued.tells now.collector) (client_at new y.0 y.1) (λ given. queued.tells new.collector (given ++ more)) start out end x.3 y.3 y.4)
+      (y.0, y.1, y.2, goes_past (client_at v stand settled) (emptied.tells v.collector) (client_at now x.0 x.1) (emptied.tells now.collector) (client_at new y.0 y.1) is start out end x.3 y.3 y.4)
 
   pub gives_by : (given : Next) → NextBy now (Ok (Some given)) new out end → GivesBy v (Ok given) new start end
-  gives_by next.Nothing h = (h.0, all_end queued v now new start out end g h.1)
-  gives_by next.Held h = (h.0, h.1, goes_giving (Early (back.DataRow h.0) ∷ []) h.2)
-  gives_by (next.Item t) h = (h.0, goes_giving (t ∷ []) h.1)
+  gives_by next.Nothing h = (h.0, all_end emptied v now new start out end g (next_emptied_end now new out end h.1))
+  gives_by next.Held h = (h.0, h.1, goes_giving (giving (Early (back.DataRow h.0)) new.collector) h.2)
+  gives_by (next.Item t) h = (h.0, goes_giving (giving_other t new.collector) h.1)
 
   pub gives_fault : (f : FeedFault) → NextBy now (Err f) new out end → GivesBy v (Err f) new start end
-  gives_fault f h = all_fault queued v now new f start out end g h
+  gives_fault f h = all_fault emptied v now new f start out end g (next_emptied_fault now new out end f h)
 
 -- ---- the oldest item
 

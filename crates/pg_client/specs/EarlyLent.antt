@@ -1,6 +1,6 @@
 -- Taking the items of an early client one by one, with rows lent: push keeps bytes, and next_lent
 -- hears their messages up to the next item.
-use Rattle.std.specs.Prelude.{◌≡◌, ℕ, ◌<◌, List, [], ◌∷◌, ◌++◌, length, Option, Some, None, Result, Ok, Err}
+use Rattle.std.specs.Prelude.{◌≡◌, ◌≢◌, ℕ, ◌<◌, List, [], ◌∷◌, ◌++◌, length, Option, Some, None, Result, Ok, Err}
 use Rattle.pg_wire.specs.message.BackMessage.{BackMessage}
 use Rattle.pg_wire.specs.message.BackMessage.TheVariants.{DataRow}
 use Rattle.pg_client.specs.declared.call.Call.{Call}
@@ -54,6 +54,13 @@ FeedsAll old piece result new before after = old.closed ≡ None → 0 < length 
     → (unread : List ℕ) (h : History) (given : List Item) → IsEarlyHistoryBefore unread h given old
     → EarlyHears (with_fed (unread ++ piece) h) given (unread ++ piece) result new before after
 
+-- A piece without bytes that is fed to an early client that is open changes nothing: no byte is
+-- heard that was still to be heard, and a row that was lent is lent still.
+abbrev pub FeedsNothing : EarlyView → List ℕ → Result Unit FeedFault → EarlyView → List ℕ → List ℕ
+    → Type 0
+FeedsNothing old piece result new before after = old.closed ≡ None → length piece ≡ 0
+    → (result ≡ Ok tt) × (new ≡ old) × (after ≡ before)
+
 -- ---- push
 
 -- What push does to an early client that is open. Ok: it keeps the piece, and lends no row any
@@ -76,8 +83,8 @@ PushesByCause None old piece result new = KeepsAll old piece result new
 abbrev pub Pushes : EarlyView → List ℕ → Result Unit FeedFault → EarlyView → Type 0
 Pushes old piece result new = PushesByCause old.closed old piece result new
 
--- Where push was refused memory, it is as if the piece had been fed with the bytes that were still to
--- be heard, and feed had been refused memory before it heard a message.
+-- Where push was refused memory, it is as if the piece had been fed with the bytes that were still
+-- to be heard, and feed had been refused memory before it heard a message.
 abbrev pub RefusesPiece : EarlyView → List ℕ → FeedFault → EarlyView → Type 0
 RefusesPiece old piece f new = old.closed ≡ None → (unread : List ℕ) (h : History)
     (given : List Item) (out : List ℕ) → IsEarlyHistoryBefore unread h given old
@@ -105,29 +112,36 @@ abbrev pub lent_items : Option Row → List Item
 lent_items None = []
 lent_items (Some row) = Early (DataRow row) ∷ []
 
--- What an early client with this history does with the bytes that it is still to hear. Nothing: it
--- hears all of them, as if they were fed now, and no item waits. Held: it hears messages up to a
+-- The item is no row.
+abbrev pub IsNoRow : Item → Type 0
+IsNoRow t = (row : Row) → t ≢ Early (DataRow row)
+
+-- What an early client with this history, where no item waits, does with the bytes that it is still
+-- to hear. Nothing: it hears all of them, as if they were fed now. Held: it hears messages up to a
 -- row, whose item is given as the row is lent. Item: it hears messages up to one with this item,
--- which is given. A fault: it hears all messages up to that, as if the bytes were fed now.
+-- which is given and is no row. A fault: it hears all messages up to that, as if the bytes were fed
+-- now, and lends no row.
 abbrev pub EarlyHearsNext : List ℕ → History → List Item → Result Next FeedFault → EarlyView
     → List ℕ → List ℕ → Type 0
 EarlyHearsNext unread h given (Ok next.Nothing) new before after =
     EarlyHears (with_fed unread h) given unread (Ok tt) new before after
 EarlyHearsNext unread h given (Ok next.Held) new before after =
     EarlyHearsSome unread h given (lent_items new.held) new before after
-EarlyHearsNext unread h given (Ok (next.Item t)) new before after =
-    EarlyHearsSome unread h given (t ∷ []) new before after
-EarlyHearsNext unread h given (Err f) new before after =
-    EarlyHears (with_fed unread h) given unread (Err f) new before after
+EarlyHearsNext unread h given (Ok (next.Item t)) new before after = IsNoRow t
+    × EarlyHearsSome unread h given (t ∷ []) new before after
+EarlyHearsNext unread h given (Err f) new before after = (new.held ≡ None)
+    × EarlyHears (with_fed unread h) given unread (Err f) new before after
 
--- Whether a row is lent after this answer: after Held one is, and after another none.
+-- Whether a row is lent after this answer: after Held one is, and after Nothing and Item none. Of a
+-- fault EarlyHearsNext says it.
 abbrev pub Lends : Result Next FeedFault → Option Row → Type 0
 Lends (Ok next.Held) held = (row : Row) × (held ≡ Some row)
 Lends (Ok _) held = held ≡ None
 Lends (Err f) held = Unit {0}
 
 -- What next_lent does to an early client that is closed for this reason, or open (None), and has no
--- item. A closed one answers Closed, and nothing changes.
+-- item. A closed one answers Closed, and nothing changes. After an open one's answer no item waits
+-- either: of the messages that it hears, one at most has an item, and that is given.
 abbrev pub NextByCause : Option Cause → EarlyView → Result Next FeedFault → EarlyView → List ℕ
     → List ℕ → Type 0
 NextByCause (Some c) old result new before after = (result ≡ Err feeding.Closed) × (new ≡ old)
@@ -135,7 +149,7 @@ NextByCause (Some c) old result new before after = (result ≡ Err feeding.Close
 NextByCause None old result new before after = Lends result new.held
     × ((unread : List ℕ) (h : History) (given : List Item)
     → IsEarlyHistoryBefore unread h given old
-    → EarlyHearsNext unread h given result new before after)
+    → (new.items ≡ []) × EarlyHearsNext unread h given result new before after)
 
 -- What next_lent does to an early client where these items wait: the oldest is given, and nothing
 -- else changes.

@@ -10,7 +10,7 @@ ghost use Rattle.pg_client.specs.History.{blank, happenings, History, with_hande
 ghost use Rattle.pg_client.specs.Calls.{Cancels, RefusesCopy, RefusesEnd, RefusesUnless};
 ghost use Rattle.pg_client.specs.Lost.{first_cause, Loses};
 ghost use Rattle.pg_client.specs.Early.{EarlyAccepts, EarlyFeeds, IsEarlyHistoryOf, StandsFor};
-ghost use Rattle.pg_client.specs.EarlyLent.{ComesBefore, FeedsAll, GivesBefore, IsEarlyHistoryBefore, LosesBefore, Pushes, RefusesPiece, TakesLent};
+ghost use Rattle.pg_client.specs.EarlyLent.{ComesBefore, FeedsAll, FeedsNothing, GivesBefore, IsEarlyHistoryBefore, LosesBefore, Pushes, RefusesPiece, TakesLent};
 
 use crate::early::Queue;
 use crate::fault::{CallFault, FeedFault};
@@ -160,11 +160,14 @@ impl EarlyClient {
     }
 
     /// Takes the bytes that came from the server, as [`Client::feed`](crate::Client::feed). The items of the messages then wait
-    /// for [`take_item`](EarlyClient::take_item). Where memory for an item is refused, its message wasn't handled (F7 Memory).
+    /// for [`take_item`](EarlyClient::take_item). Where memory for an item is refused, its message wasn't handled (F7 Memory). A piece
+    /// without bytes changes nothing, even where pushed bytes are still to be heard.
     pub fn feed(&mut self, piece: &[u8], out: &mut Vec<u8>) -> Result<(), FeedFault>
         ensures settings { self.new.settings ≡ self.old.settings }
         ensures feeds { EarlyFeeds self.old piece.now result self.new out.old.items out.new.items }
         ensures unread { FeedsAll self.old piece.now result self.new out.old.items
+            out.new.items }
+        ensures nothing { FeedsNothing self.old piece.now result self.new out.old.items
             out.new.items }
         ensures lends_none { OnOk result (0 < length piece.now → self.new.held ≡ None) }
     {
@@ -185,8 +188,9 @@ impl EarlyClient {
 
     /// The next item, of the bytes that were pushed: the one that [`take_item`](EarlyClient::take_item) would give after a
     /// [`feed`](EarlyClient::feed) of them. Where it is a row, the answer is Held: its item counts as given, no memory is taken for it, and
-    /// [`held`](EarlyClient::held) lends it. Nothing says that no message is whole any more, and no item waits. The answers to the
-    /// server are put out, and the faults are those of [`feed`](EarlyClient::feed).
+    /// [`held`](EarlyClient::held) lends it; a row comes as an item only where it waited before the call. Nothing says that no message is
+    /// whole any more, and no item waits. The answers to the server are put out, and the faults are those of
+    /// [`feed`](EarlyClient::feed); after one no row is lent.
     ///
     /// What is called before Nothing was answered comes before the bytes that are still to be heard.
     pub fn next_lent(&mut self, out: &mut Vec<u8>) -> Result<Next, FeedFault>

@@ -5,10 +5,10 @@ use crate::item::Item;
 /// What a call of [`next_lent`](crate::EarlyClient::next_lent) came to.
 #[derive(Debug, PartialEq, Drop)]
 pub enum Next {
-    /// More bytes are to come.
+    /// No message is whole any more, and no item waits.
     Nothing,
     /// A row, which [`held`](crate::EarlyClient::held) lends. Its item counts as given.
     Held,
-    /// The next item, which is no row that is lent.
+    /// The next item. It is no row, unless it waited before the call.
     Item(Item),
 }

@@ -20,6 +20,8 @@ use Rattle.pg_client.specs.declared.stand.Stand.{Stand}
 use Rattle.pg_client.specs.Session.{Happening, Came}
 use Rattle.pg_client.specs.Stand.{Stands}
 use Rattle.pg_client.specs.Early.{Row as Values}
+use Rattle.pg_client.specs.EarlyLent.{IsNoRow}
+use Rattle.pg_client.specs.Private.Collector.{Collects, Telling}
 use Rattle.pg_client.specs.Private.Early.{early_fault, early_leads}
 use Rattle.pg_client.specs.Private.Feeding.{GoesPast, HearsMessage, HearsNext, PutsAnswer}
 use Rattle.pg_client.specs.Private.Machine.{MachineView, client_at, HandlesAll, HandlesNext, HandlesWhole}
@@ -44,6 +46,22 @@ KeepsPiece None old piece (Err f) new = ⊥
 abbrev pub waiting : MachineView Queue → List Item
 waiting m = m.collector.items.items
 
+-- As queued, of a queue in which no item waits.
+abbrev pub emptied : Collects Queue
+emptied =
+    record {
+      fits = queued.fits;
+      tells = λ q given hs. queued.tells q given hs × (q.items.items ≡ []);
+    }
+
+-- It has told of the events once this item is given, and then no item waits.
+abbrev pub giving : Item → Queue → Telling
+giving t q = λ given hs. emptied.tells q (given ++ t ∷ []) hs
+
+-- The same, and the item is no row.
+abbrev pub giving_other : Item → Queue → Telling
+giving_other t q = λ given hs. IsNoRow t × giving t q given hs
+
 -- The oldest item was taken.
 abbrev pub IsOldest : MachineView Queue → Next → MachineView Queue → Type 0
 IsOldest old given new = (t : Item) × (given ≡ next.Item t) × (waiting old ≡ t ∷ waiting new)
@@ -62,23 +80,22 @@ PassesRow old row (Ok x) new = early_leads old (DataRow row) ≡ Some new
 PassesRow old row (Err f) new = (early_leads old (DataRow row) ≡ None)
     × (f ≡ early_fault old (DataRow row)) × (new ≡ old)
 
--- It has told of one message more, which came to a client that stands there, once these items are
--- given.
-abbrev pub TellsGiving : List Item → Stand → BackMessage → Queue → Queue → Type 0
-TellsGiving more stand m old new = (given : List Item) (hs : List Happening)
-    (settled : List Settled) → Stands hs stand settled → queued.tells old given hs
-    → queued.tells new (given ++ more) (hs ++ Came m ∷ [])
+-- Where the queue had told of the events, and no item waited, this is told of them with one message
+-- more, which came to a client that stands there.
+abbrev pub TellsGiving : Telling → Stand → BackMessage → Queue → Type 0
+TellsGiving is stand m old = (given : List Item) (hs : List Happening) (settled : List Settled)
+    → Stands hs stand settled → emptied.tells old given hs → is given (hs ++ Came m ∷ [])
 
--- Wherever a client may stand that has the old queue, the client there handles the message, and the
--- new queue has told of it once these items are given.
-abbrev pub WholeGiving : List Item → BackMessage → MachineView Queue → MachineView Queue → List ℕ
+-- Wherever a client may stand that has the old queue, the client there handles the message, and
+-- this is told of it.
+abbrev pub WholeGiving : Telling → BackMessage → MachineView Queue → MachineView Queue → List ℕ
     → List ℕ → Type 0
-WholeGiving more m old new before after = (stand : Stand) (settled : List Settled)
+WholeGiving is m old new before after = (stand : Stand) (settled : List Settled)
     → queued.fits old.collector stand settled
     → (now : Stand) × (left : List Settled) × queued.fits new.collector now left
     × HearsMessage m (client_at old stand settled) (Ok tt) (client_at new now left)
     × PutsAnswer old.settings m before (Ok tt) after
-    × TellsGiving more stand m old.collector new.collector
+    × TellsGiving is stand m old.collector
 
 -- The message was handled, and this is given of it: nothing, where it has no item; a row that goes
 -- on being lent; or its item.
@@ -88,9 +105,9 @@ WholeBy m old None new before after = HandlesWhole queued m old (Ok tt) new befo
     × (waiting new ≡ [])
 WholeBy m old (Some next.Nothing) new before after = ⊥
 WholeBy m old (Some next.Held) new before after = (row : Values) × (new.held ≡ Some (Row row))
-    × WholeGiving (Early (DataRow row) ∷ []) m old new before after
+    × WholeGiving (giving (Early (DataRow row)) new.collector) m old new before after
 WholeBy m old (Some (next.Item t)) new before after = (row_of new.held ≡ None)
-    × WholeGiving (t ∷ []) m old new before after
+    × WholeGiving (giving_other t new.collector) m old new before after
 
 -- What is done with the message that is lent.
 abbrev pub LentBy : Lent → MachineView Queue → Result (Option Next) FeedFault → MachineView Queue
@@ -106,14 +123,13 @@ HearsLent old result new = (lent : Lent) (out : List ℕ) → old.held ≡ Some 
     → LentBy lent old result new out
 
 -- Wherever a client may stand that has the old queue, the client there handles the next message,
--- and the new queue has told of it once these items are given.
-abbrev pub NextGiving : List Item → MachineView Queue → MachineView Queue → List ℕ → List ℕ
-    → Type 0
-NextGiving more old new before after = (stand : Stand) (settled : List Settled)
+-- and this is told of it.
+abbrev pub NextGiving : Telling → MachineView Queue → MachineView Queue → List ℕ → List ℕ → Type 0
+NextGiving is old new before after = (stand : Stand) (settled : List Settled)
     → queued.fits old.collector stand settled
     → (now : Stand) × (left : List Settled) × queued.fits new.collector now left
     × (h : HearsNext (client_at old stand settled) (Ok true) (client_at new now left) before after)
-    × TellsGiving more stand h.0 old.collector new.collector
+    × TellsGiving is stand h.0 old.collector
 
 -- What the next message gives: nothing (None), where it has no item; Nothing, where no message is
 -- whole; a row that is lent; or its item.
@@ -124,34 +140,33 @@ NextBy old (Ok None) new before after = HandlesNext queued old (Ok true) new bef
 NextBy old (Ok (Some next.Nothing)) new before after = (row_of new.held ≡ None)
     × HandlesNext queued old (Ok false) new before after
 NextBy old (Ok (Some next.Held)) new before after = (row : Values) × (new.held ≡ Some (Row row))
-    × NextGiving (Early (DataRow row) ∷ []) old new before after
+    × NextGiving (giving (Early (DataRow row)) new.collector) old new before after
 NextBy old (Ok (Some (next.Item t))) new before after = (row_of new.held ≡ None)
-    × NextGiving (t ∷ []) old new before after
+    × NextGiving (giving_other t new.collector) old new before after
 NextBy old (Err f) new before after = HandlesNext queued old (Err f) new before after
 
 -- ---- all messages up to an item
 
--- Wherever a client may stand that has the old queue, the client there goes on from message to
--- message, at least one, and the new queue has told of them once these items are given.
-abbrev pub GoesGiving : List Item → MachineView Queue → MachineView Queue → List ℕ → List ℕ
-    → Type 0
-GoesGiving more old new before after = (stand : Stand) (settled : List Settled)
+-- Wherever a client may stand that has the old queue, in which no item waits, the client there goes
+-- on from message to message, at least one, and this is told of them.
+abbrev pub GoesGiving : Telling → MachineView Queue → MachineView Queue → List ℕ → List ℕ → Type 0
+GoesGiving is old new before after = (stand : Stand) (settled : List Settled)
     → queued.fits old.collector stand settled
     → (now : Stand) × (left : List Settled) × queued.fits new.collector now left
-    × GoesPast (client_at old stand settled) (queued.tells old.collector) (client_at new now left)
-    (λ given. queued.tells new.collector (given ++ more)) before after
+    × GoesPast (client_at old stand settled) (emptied.tells old.collector) (client_at new now left)
+    is before after
 
--- What is given after some messages: Nothing, where no message is whole any more; a row that is
--- lent; or an item.
+-- What is given after some messages, where no item waited: Nothing, where no message is whole any
+-- more; a row that is lent; or an item. No item waits then.
 abbrev pub GivesBy : MachineView Queue → Result Next FeedFault → MachineView Queue → List ℕ
     → List ℕ → Type 0
 GivesBy old (Ok next.Nothing) new before after = (row_of new.held ≡ None)
-    × HandlesAll queued old (Ok tt) new before after
+    × HandlesAll emptied old (Ok tt) new before after
 GivesBy old (Ok next.Held) new before after = (row : Values) × (new.held ≡ Some (Row row))
-    × GoesGiving (Early (DataRow row) ∷ []) old new before after
+    × GoesGiving (giving (Early (DataRow row)) new.collector) old new before after
 GivesBy old (Ok (next.Item t)) new before after = (row_of new.held ≡ None)
-    × GoesGiving (t ∷ []) old new before after
-GivesBy old (Err f) new before after = HandlesAll queued old (Err f) new before after
+    × GoesGiving (giving_other t new.collector) old new before after
+GivesBy old (Err f) new before after = HandlesAll emptied old (Err f) new before after
 
 -- The machine has the settings that it had, and is open where there was no fault.
 pub record IsStill {A : Type 0} (old : MachineView Queue) (result : Result A FeedFault)

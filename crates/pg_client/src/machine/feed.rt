@@ -22,6 +22,8 @@ impl<K: Collector> Machine<K> {
         ensures feeds { FeedsMachine K.way self.old.closed self.old piece.now result self.new
             out.old.items out.new.items }
         ensures lends_none { OnOk result (0 < length piece.now → self.new.held ≡ None) }
+        ensures nothing { self.old.closed ≡ None → length piece.now ≡ 0 → (result ≡ Ok tt)
+            × (self.new ≡ self.old) × (out.new.items ≡ out.old.items) }
     {
         if self.closed.is_some() {
             return Err(FeedFault::Closed);

@@ -18,7 +18,7 @@ returns-clause-hears c = λ row is.
           subst (λ r. HearsLent c.args.self.now r (record v { collector = k })) (sym w.result-is)
           (subst (λ m. HearsLent m (Ok (Some next.Held)) (record v { collector = k })) c.self.view_is
           (row_lent v k row [] (Ok (Some next.Held)) (record v { collector = k }) held
-          (λ end. (row, held, pass_given v k row end (passes_any v.collector.stand k.stand row (Ok tt) w.in-Ok.ensures.passes) empty (c.pass_row.ensures.items ∙ empty)))))
+          (λ end. (row, held, pass_given v k row end (passes_any v.collector.stand k.stand row (Ok tt) w.in-Ok.ensures.passes) (c.pass_row.ensures.items ∙ empty)))))
       | in-Err w ↦
           subst (λ r. HearsLent c.args.self.now r (record v { collector = k })) (sym w.result-is)
           (subst (λ m. HearsLent m (Err w.in-Err.fault) (record v { collector = k })) c.self.view_is
