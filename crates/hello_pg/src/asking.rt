@@ -3,7 +3,7 @@
 use crate::failure::Failure;
 use crate::printing::Printer;
 use crate::session::Session;
-use pg_client::{FeedFault, Item, Loss};
+use pg_client::{FeedFault, Item};
 use pg_drive::{DriveFault, DrivenEarly};
 use pg_wire::{Sink, Source};
 use std::alloc::Global;
@@ -36,6 +36,7 @@ fn refuse<O: Sink, E: Sink>(fault: FeedFault, printer: &mut Printer<O, E>) -> Re
             Err(Failure::Rejected)
         }
         FeedFault::UnsupportedAuth(SCRAM) => Err(Failure::Scram),
+        FeedFault::PasswordWanted => Err(Failure::NoPassword),
         fault => Err(Failure::NoSession(fault)),
     }
 }
@@ -84,18 +85,19 @@ fn go_on<L: Source + Sink, I: Source, O: Sink, E: Sink>(
         Ok(DrivenEarly::CopyIn) => session.put_chunk(input)?,
         Ok(DrivenEarly::Ready | DrivenEarly::TurnsUsed) => {}
         Ok(DrivenEarly::Lost(loss)) | Err(DriveFault::Link(loss)) => {
-            return lose(&loss, printer);
+            printer.tell_loss(&loss)?;
+            return Err(Failure::Lost);
         }
         Err(DriveFault::Feed(fault)) => {
             print_rest(session, printer)?;
-            printer.tell_fault(&fault)?;
-            return lose(&session.lost(), printer);
+            printer.tell_closing(&fault, &session.lost())?;
+            return Err(Failure::Closed);
         }
     }
     Ok(false)
 }
 
-// Prints what came before the connection was of no more use.
+// Prints what came before the client closed the session.
 fn print_rest<L: Source + Sink, O: Sink, E: Sink>(
     session: &mut Session<L>,
     printer: &mut Printer<O, E>,
@@ -107,10 +109,4 @@ fn print_rest<L: Source + Sink, O: Sink, E: Sink>(
         print(&item, printer)?;
     }
     Ok(())
-}
-
-// Tells which query is in doubt.
-fn lose<O: Sink, E: Sink>(loss: &Loss, printer: &mut Printer<O, E>) -> Result<bool, Failure> {
-    printer.tell_loss(loss)?;
-    Err(Failure::Lost)
 }

@@ -15,6 +15,7 @@ use crate::printing::Printer;
 use crate::session::{Session, connect};
 use crate::words::{HELP, Target, Words};
 use pg_wire::{Over, Patient, Sink};
+use standard_streams::{ClosedStream, all_open};
 use std::fs::File;
 use std::io::{Read, Write};
 use std::net::Net;
@@ -23,7 +24,9 @@ use std::rt::{Env, Files};
 use std::{env, io};
 
 fn main(rt: HostRuntime) -> ExitCode {
-    match run(&rt, Over::new(Patient::new(rt.stderr()))) {
+    // before anything is opened, which would take the place of a stream that is closed
+    let streams = all_open(&rt.stdin(), &rt.stdout(), &rt.stderr());
+    match run(&rt, streams, Over::new(Patient::new(rt.stderr()))) {
         Ok(()) => ExitCode::SUCCESS,
         Err(failure) => {
             if failure.is_untold() {
@@ -35,18 +38,20 @@ fn main(rt: HostRuntime) -> ExitCode {
     }
 }
 
-// Does what the words ask for.
+// Does what the words ask for, where the standard streams are open.
 fn run<R: Env + Files + Net + Input + Print + AllocGlobal, E: Sink + Drop>(
     rt: &R,
+    streams: Result<(), ClosedStream>,
     errors: E,
 ) -> Result<(), Failure> {
     let words: Vec<String> = env::args(rt)
         .map_err(Failure::of_words)?
         .collect(rt.alloc())?;
-    let words = Words::of(words.as_slice())?;
+    let words = Words::of(rt.alloc(), words.as_slice())?;
     if words.help {
         return println!(rt; "{HELP}").map_err(|_| Failure::Output);
     }
+    streams?;
     match words.output {
         Some(path) => {
             let file = File::create(rt, path).map_err(Failure::File)?;
@@ -88,7 +93,9 @@ fn with_input<R: Env + Net + Input + AllocGlobal, I: Read + Drop, W: Write + Dro
     let mut printer = Printer::new(alloc, words.count, output, errors);
     let mut session = Session::new(alloc, target.settings, link);
     start(&mut session, &mut printer)?;
-    ask(alloc, &mut session, words.query, &mut input, &mut printer)?;
+    for query in words.queries.iter() {
+        ask(alloc, &mut session, query, &mut input, &mut printer)?;
+    }
     session.end();
     printer.judge()
 }

@@ -176,21 +176,32 @@ impl<O: Sink, E: Sink> Printer<O, E> {
         Ok(())
     }
 
-    /// Prints why the client takes nothing more of what the server sends.
-    pub fn tell_fault(&mut self, fault: &FeedFault) -> Result<(), Failure> {
+    /// Prints why the client closed the session, and which query is in doubt.
+    pub fn tell_closing(&mut self, fault: &FeedFault, loss: &Loss) -> Result<(), Failure> {
+        if let FeedFault::ServerEnd(fields) = fault {
+            self.tell(fields)?;
+        }
         self.flush()?;
-        writeln!(self.text, "hello_pg: {fault}").map_err(|_| Failure::Memory)?;
-        self.flush_errors();
-        Ok(())
+        let why = reason(fault);
+        writeln!(
+            self.text,
+            "hello_pg: {fault}: the client closed the session, since {why}"
+        )
+        .map_err(|_| Failure::Memory)?;
+        self.tell_doubt("the session was closed", loss)
     }
 
-    /// Prints which query is in doubt.
+    /// Prints that the connection was lost, and which query is in doubt.
     pub fn tell_loss(&mut self, loss: &Loss) -> Result<(), Failure> {
         self.flush()?;
-        let Some(Request::Query(query)) = &loss.unsettled else {
-            return Ok(());
-        };
-        put_doubt(query, loss.seen_error, &mut self.text)?;
+        self.tell_doubt("the connection was lost", loss)
+    }
+
+    // Prints which query is in doubt, since this has happened.
+    fn tell_doubt(&mut self, event: &str, loss: &Loss) -> Result<(), Failure> {
+        if let Some(Request::Query(query)) = &loss.unsettled {
+            put_doubt(event, query, loss.seen_error, &mut self.text)?;
+        }
         self.flush_errors();
         Ok(())
     }
@@ -202,12 +213,32 @@ impl<O: Sink, E: Sink> Printer<O, E> {
     }
 }
 
-// Appends what is told of a query that is in doubt.
-fn put_doubt(query: &Seq<u8>, seen_error: bool, text: &mut Vec<u8>) -> Result<(), AllocError> {
+// Why a client closes a session by itself.
+fn reason(fault: &FeedFault) -> &'static str {
+    match fault {
+        FeedFault::Wire(_) => "what the server sent is no message that it takes",
+        FeedFault::Unexpected(_) => "the server sent a message that has no place there",
+        FeedFault::UnsupportedAuth(_) => "the server asks for what is left out",
+        FeedFault::PasswordWanted => "the server asks for a password",
+        FeedFault::StartupError(_) | FeedFault::ServerEnd(_) => "the server ended it",
+        FeedFault::Memory => "memory was refused",
+        FeedFault::Closed => "it was closed before",
+    }
+}
+
+// Appends what is told of a query that is in doubt, since this has happened.
+fn put_doubt(
+    event: &str,
+    query: &Seq<u8>,
+    seen_error: bool,
+    text: &mut Vec<u8>,
+) -> Result<(), AllocError> {
+    text.extend_from_slice(b"hello_pg: ")?;
+    text.extend_from_slice(event.as_bytes())?;
     text.extend_from_slice(if seen_error {
-        b"hello_pg: the connection was lost after an error of: ".as_slice()
+        b" after an error of: ".as_slice()
     } else {
-        b"hello_pg: the connection was lost, and this may or may not have taken effect: ".as_slice()
+        b", and this may or may not have taken effect: ".as_slice()
     })?;
     text.extend_from_slice(query.as_slice())?;
     Ok(text.push(b'\n')?)

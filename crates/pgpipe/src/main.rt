@@ -3,17 +3,20 @@
 #![tactic(auto)]
 
 use pg_pair::Direct;
-use pg_wire::{Over, Patient, Sink};
+use pg_wire::{Over, Patient};
 use pgpipe_words::{
     Disk, Failure, connect_to_itself, do_task, exit_code, explain, task_of, words_failure,
 };
+use standard_streams::{ClosedStream, all_open};
 use std::net::Net;
 use std::process::ExitCode;
 use std::rt::{Env, Files};
 use std::{env, io};
 
 fn main(rt: HostRuntime) -> ExitCode {
-    let ended = run(&rt);
+    // before anything is opened, which would take the place of a stream that is closed
+    let streams = all_open(&rt.stdin(), &rt.stdout(), &rt.stderr());
+    let ended = run(&rt, streams);
     if let Err(failure) = &ended {
         // where this can't be written, the status still tells
         let _ = eprintln!(rt; "pgpipe: {failure}");
@@ -24,6 +27,7 @@ fn main(rt: HostRuntime) -> ExitCode {
 // Does what the words ask for.
 fn run<R: Env + Files + Net + Input + Print + Eprint + AllocGlobal>(
     rt: &R,
+    streams: Result<(), ClosedStream>,
 ) -> Result<ExitCode, Failure> {
     let words: Vec<String> = env::args(rt)
         .map_err(|error| words_failure(&error))?
@@ -37,8 +41,10 @@ fn run<R: Env + Files + Net + Input + Print + Eprint + AllocGlobal>(
     let mut source = Over::new(Patient::new(rt.reader()));
     let mut sink = Over::new(Patient::new(io::writer(rt)));
     if task.is_over_tcp() {
-        // where the output is closed, the connection would be opened in its place, and would take what is printed
-        sink.send(&[]).map_err(|_| Failure::Device)?;
+        // nothing is read while the connection is open, and nothing is told: so the other two may be closed
+        if matches!(streams, Err(ClosedStream::Output)) {
+            return Err(Failure::Device);
+        }
         let carrier = connect_to_itself(rt)?;
         do_task(rt.alloc(), task, &files, carrier, &mut source, &mut sink)?;
     } else {

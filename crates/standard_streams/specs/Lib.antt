@@ -1,0 +1,2 @@
+-- The look at the standard streams.
+pub mod Look
