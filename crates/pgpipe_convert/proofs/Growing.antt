@@ -138,7 +138,7 @@ module _ {K : Type 0} (takes : K → List ℕ → K → Type 0) (failures : K �
       let left = after_rows (row ∷ []) (rows_left at_end r'') in
       let next : ComeNext at_end r' [] left = λ bytes given h. left_next at_end r' (row ∷ []) r'' g.goes_on.may_go_on on bytes given h ∙ ap (λ (l : List Row). reading_of l (rows_left at_end r'').ending) (append_assoc given (row ∷ []) (rows_left at_end r'').rows ∙ ap (λ (l : List Row). l ++ (row ∷ (rows_left at_end r'').rows)) (sym (append-nil given))) in
       (left, (row, rows_left at_end r'', refl, p.0), rw p.1 (were_put r' out' sink' left g next))
-  row_stops r' out' sink' row r'' stop.Memory mid begun g on p = (rows_left at_end r', rw p (record { rows = g.rows; each_writable = g.each_writable; come_next = left_next at_end r g.rows r' begun g.goes_on; put = g.put; within = g.within }))
+  row_stops r' out' sink' row r'' stop.Memory mid begun g on p = (rows_left at_end r', rw p.1 (record { rows = g.rows; each_writable = g.each_writable; come_next = left_next at_end r g.rows r' begun g.goes_on; put = g.put; within = g.within }))
   row_stops r' out' sink' row r'' stop.SourceFailed mid begun g on p = p
   row_stops r' out' sink' row r'' stop.SinkFailed mid begun g on p = absurd p
   row_stops r' out' sink' row r'' stop.Endless mid begun g on p = p

@@ -1,20 +1,26 @@
 -- Values that are written one by one.
-use Rattle.std.proofs.Common.{◌≡◌, ℕ, suc, ◌+◌, List, [], ◌∷◌, ◌++◌, map, length, Option, Result, Ok, Err, refl, sym, ap, subst, ◌∙◌, append-nil, append_assoc, arith}
-use Rattle.std.specs.Option.{option_copied}
+use Rattle.std.proofs.Common.{◌≡◌, ℕ, suc, ◌+◌, ◌<◌, ◌≤◌, Bool, true, false, cond, ltb, eqb, List, [], ◌∷◌, ◌++◌, ◌||◌, map, length, Option, Some, None, Result, Ok, Err, refl, sym, ap, subst, ◌∙◌, append-nil, append_assoc, length-append, arith}
+use Rattle.std.specs.Cmp.Lexicographic.{unequal}
 use Rattle.std.specs.Int.{w16, to_be_bytes}
-use Rattle.std.specs.Iterator.{Drains, DrainsIf, YieldsFirstBy}
+use Rattle.std.specs.Iterator.{Drains, Yields, YieldsFirstBy}
+use Rattle.std.specs.List.{flat_map, list_any, position_from}
+use Rattle.std.specs.Option.{option_copied}
+use Rattle.std.specs.Result.{OnOk, OnErr}
+use Rattle.std.proofs.lemmas.Bool.{cond-true, cond-false, ne_eqb, le-ltb, lt-ltb}
 use Rattle.std.proofs.lemmas.List.{map-append}
-use Rattle.std.proofs.lemmas.Iterator.{items_from_drains}
+use Rattle.std.proofs.lemmas.Iterator.{YieldsList, items_from_drains}
 use Rattle.std.proofs.lemmas.Iterator.Consumers.{YieldsList-from_first}
 use Rattle.pg_copy.specs.fault.RowFault.{RowFault}
 use Rattle.pg_copy.specs.fault.RowFault.TheVariants as faults
-use Rattle.pg_copy.specs.Row.{Row, width_fault, field_fault, binary_fault, Writes}
+use Rattle.pg_copy.specs.Row.{Row, is_misfit, is_long, width_fault, field_fault, binary_fault, Writes}
 use Rattle.pg_copy.specs.Binary.{value, binary_row}
 use Rattle.pg_copy.specs.BinaryLaws.{WritesFields, FieldsAreRow}
-use Rattle.pg_copy.specs.Text.{Options, newline, written_row, text_fault}
+use Rattle.pg_copy.specs.Text.{Options, newline, letter_for, with_letter, written_byte, written_row, is_like_null, like_null, text_fault}
 use Rattle.pg_copy.specs.TextLaws.{WritesTextFields, FieldsAreLine}
-use Rattle.pg_copy.specs.TextWriter.{next_fault, next_written, end_fault}
-use Rattle.pgpipe_convert.specs.Private.Values.{AreGiven}
+use Rattle.pg_copy.specs.TextWriter.{RowWriterState, next_fault, next_written, end_fault}
+use Rattle.pgpipe_convert.specs.declared.values.Progress.{Progress}
+use Rattle.pgpipe_convert.specs.declared.values.Progress.TheVariants as progress
+use Rattle.pgpipe_convert.specs.Private.Values.{AreGiven, WritesInPart, progress_of, judged_at, LineStands, LineGoesOn, RowStands, RowGoesOn}
 use denote.Ref.{Bor}
 use mathlib.Core.List.{IsPrefix}
 
@@ -33,7 +39,54 @@ write_begins fault spelled old (Err faults.FieldLong) new w = ([], append-nil ol
 write_begins fault spelled old (Err (faults.LikeNull n)) new w = ([], append-nil old ∙ sym w.1)
 write_begins fault spelled old (Err faults.Memory) new w = ([], append-nil old ∙ sym w.1)
 
--- ---- the fields of a line
+-- ---- tests of the values of a row
+
+-- a value more that doesn't pass
+none_so_far : (test : Option (List ℕ) → Bool) (i : ℕ) (row : Row) (v : Option (List ℕ)) → position_from test i row ≡ None → test v ≡ false → position_from test i (row ++ v ∷ []) ≡ None
+none_so_far test i [] v none is = cond-false (test v) _ _ is
+none_so_far test i (x ∷ row) v none is = go (test x) none (λ h. none_so_far test (i + 1) row v h is)
+  where
+    go : (t : Bool) → ◌≡◌ {A = Option ℕ} (cond t (Some i) (position_from test (i + 1) row)) None → (position_from test (i + 1) row ≡ None → position_from test (i + 1) (row ++ v ∷ []) ≡ None) → ◌≡◌ {A = Option ℕ} (cond t (Some i) (position_from test (i + 1) (row ++ v ∷ []))) None
+    go true h rest = absurd (clash h)
+      where
+        clash : Some i ≡ None → ⊥
+        clash k = cc
+    go false h rest = rest h
+
+-- the first value that passes
+first_is : (test : Option (List ℕ) → Bool) (i : ℕ) (row : Row) (v : Option (List ℕ)) (more : Row) → position_from test i row ≡ None → test v ≡ true → position_from test i (row ++ v ∷ more) ≡ Some (i + length row)
+first_is test i [] v more none is =
+    let same : i ≡ i + 0 = omega arith in
+    cond-true (test v) _ _ is ∙ ap Some same
+first_is test i (x ∷ row) v more none is =
+    let same : i + 1 + length row ≡ i + suc (length row) = omega arith in
+    go (test x) none (λ h. first_is test (i + 1) row v more h is ∙ ap Some same)
+  where
+    go : (t : Bool) → ◌≡◌ {A = Option ℕ} (cond t (Some i) (position_from test (i + 1) row)) None → (position_from test (i + 1) row ≡ None → position_from test (i + 1) (row ++ v ∷ more) ≡ Some (i + suc (length row)))
+        → ◌≡◌ {A = Option ℕ} (cond t (Some i) (position_from test (i + 1) (row ++ v ∷ more))) (Some (i + suc (length row)))
+    go true h rest = absurd (clash h)
+      where
+        clash : Some i ≡ None → ⊥
+        clash k = cc
+    go false h rest = rest h
+
+none_passes : (test : Option (List ℕ) → Bool) (row : Row) (v : Option (List ℕ)) → list_any test row ≡ false → test v ≡ false → list_any test (row ++ v ∷ []) ≡ false
+none_passes test [] v none is = rw is refl
+none_passes test (x ∷ row) v none is = go (test x) none (λ h. none_passes test row v h is)
+  where
+    go : (t : Bool) → (t || list_any test row) ≡ false → (list_any test row ≡ false → list_any test (row ++ v ∷ []) ≡ false) → (t || list_any test (row ++ v ∷ [])) ≡ false
+    go true h rest = h
+    go false h rest = rest h
+
+one_passes : (test : Option (List ℕ) → Bool) (row : Row) (v : Option (List ℕ)) (more : Row) → test v ≡ true → list_any test (row ++ v ∷ more) ≡ true
+one_passes test [] v more is = rw is refl
+one_passes test (x ∷ row) v more is = go (test x) (one_passes test row v more is)
+  where
+    go : (t : Bool) → list_any test (row ++ v ∷ more) ≡ true → (t || list_any test (row ++ v ∷ more)) ≡ true
+    go true rest = refl
+    go false rest = rest
+
+-- ---- the values of a line
 
 -- one more is written
 fields_more : (o : Options) (n : ℕ) (row : Row) (v : Option (List ℕ)) (m : ℕ) (old mid new : List ℕ) → m ≡ n + length row → WritesTextFields o n row old mid → Writes (next_fault o m v) (next_written o m v) mid (Ok tt) new → WritesTextFields o n (row ++ v ∷ []) old new
@@ -42,9 +95,135 @@ fields_more o n [] v m old mid new e w one =
     (new, subst (λ (k : ℕ). Writes (next_fault o k v) (next_written o k v) old (Ok tt) new) m_is (subst (λ (l : List ℕ). Writes (next_fault o m v) (next_written o m v) l (Ok tt) new) w one), refl)
 fields_more o n (x ∷ row) v m old mid new e w one = (w.0, w.1, fields_more o (suc n) row v m w.0 mid new (omega (arith, e)) w.2 one)
 
-pub fields_begin : (o : Options) (n : ℕ) (row : Row) (old new : List ℕ) → WritesTextFields o n row old new → IsPrefix old new
-fields_begin o n [] old new w = ([], append-nil old ∙ sym w)
-fields_begin o n (x ∷ row) old new w = prefix_then old w.0 new (next_written o n x, sym w.1.1) (fields_begin o (suc n) row w.0 new w.2)
+-- a value without a fault isn't like null
+fine_field : (o : Options) (n : ℕ) (v : Option (List ℕ)) → next_fault o n v ≡ None → is_like_null o v ≡ false
+fine_field o n v e = go (ltb n 32767) (is_like_null o v) e
+  where
+    go : (few like : Bool) → ◌≡◌ {A = Option RowFault} (cond few (cond like (Some (faults.LikeNull n)) None) (Some (faults.Width (suc n)))) None → like ≡ false
+    go true true h = absurd cc
+    go true false h = refl
+    go false like h = absurd cc
+
+-- a value with a fault is like null, where there are few before it
+faulty_field : (o : Options) (n : ℕ) (v : Option (List ℕ)) (f : RowFault) → n < 32767 → next_fault o n v ≡ Some f → (f ≡ faults.LikeNull n) × (is_like_null o v ≡ true)
+faulty_field o n v f few e = go (ltb n 32767) (is_like_null o v) (lt-ltb n 32767 few) e
+  where
+    go : (low like : Bool) → low ≡ true → ◌≡◌ {A = Option RowFault} (cond low (cond like (Some (faults.LikeNull n)) None) (Some (faults.Width (suc n)))) (Some f) → (f ≡ faults.LikeNull n) × (like ≡ true)
+    go true true k h = (cc, refl)
+    go true false k h = absurd cc
+    go false like k h = absurd cc
+
+-- how far values have come doesn't change what they are
+pub line_off : (o : Options) (row : Row) (start : List ℕ) (so_far less : Progress) (w : RowWriterState) (out : List ℕ) → (less ≡ progress.Written → so_far ≡ progress.Written) → LineStands o row start so_far w out → LineStands o row start less w out
+line_off o row start so_far less w out off s = record { options = s.options; few = s.few; none_like_null = s.none_like_null; written = λ e. s.written (off e); begun = s.begun }
+
+module _ (o : Options) (row : Row) (start : List ℕ) (v : Option (List ℕ)) (w w' : RowWriterState) (old : List ℕ) (so_far : Progress) (s : LineStands o row start so_far w old) where
+  -- the value is like null
+  field_refused : (f : RowFault) (new : List ℕ) → f ≡ faults.LikeNull (length row) → is_like_null w.options v ≡ true → new ≡ old → w' ≡ w → LineGoesOn o row start v (Err f) w' new
+  field_refused f new is like same kept = (ap (λ (x : RowWriterState). x.options) kept ∙ s.options, is, subst (λ (p : Options). is_like_null p v ≡ true) s.options like, subst (λ (l : List ℕ). IsPrefix start l) (sym same) s.begun)
+
+  -- the value isn't like null, but it isn't written
+  field_judged : (next : Progress) (new : List ℕ) → (next ≡ progress.Written → ⊥) → is_like_null w.options v ≡ false → w'.options ≡ w.options → w'.fields ≤ suc w.fields → IsPrefix old new → LineGoesOn o row start v (Ok next) w' new
+  field_judged next new other fine options few begun = record {
+    options = options ∙ s.options;
+    few = omega (arith, few, s.few, length-append row (v ∷ []));
+    none_like_null = none_so_far (is_like_null o) 0 row v s.none_like_null (subst (λ (p : Options). is_like_null p v ≡ false) s.options fine);
+    written = λ e. absurd (other e);
+    begun = prefix_then start old new s.begun begun;
+  }
+
+  -- the value was given to the writer, which wrote those before it
+  pub field_put : (r : Result Unit RowFault) (new : List ℕ) → so_far ≡ progress.Written → w.fields < 32767 → Writes (next_fault w.options w.fields v) (next_written w.options w.fields v) old r new → OnOk r (w' ≡ record w { fields = suc w.fields }) → OnErr r (w' ≡ w) → LineGoesOn o row start v (progress_of r) w' new
+  field_put (Ok x) new all few one ok err =
+      let at = s.written all in
+      let options = ap (λ (y : RowWriterState). y.options) ok ∙ s.options in
+      let count = ap (λ (y : RowWriterState). y.fields) ok in
+      let more : w'.fields ≡ length (row ++ v ∷ []) = omega (arith, count, at.0, length-append row (v ∷ [])) in
+      let mine = subst (λ (p : Options). Writes (next_fault p w.fields v) (next_written p w.fields v) old (Ok tt) new) s.options one in
+      record {
+        options = options;
+        few = omega (arith, more);
+        none_like_null = none_so_far (is_like_null o) 0 row v s.none_like_null (fine_field o w.fields v mine.0);
+        written = λ e. (more, fields_more o 0 row v w.fields start old new (omega (arith, at.0)) at.1 mine);
+        begun = prefix_then start old new s.begun (next_written w.options w.fields v, sym one.1);
+      }
+  field_put (Err faults.Memory) new all few one ok err = field_judged progress.Refused new (λ e. cc) (fine_field w.options w.fields v one.0) (ap (λ (y : RowWriterState). y.options) err) (omega (arith, ap (λ (y : RowWriterState). y.fields) err)) ([], append-nil old ∙ sym one.1)
+  field_put (Err (faults.Width n)) new all few one ok err = let f = faulty_field w.options w.fields v (faults.Width n) few one.0 in field_refused (faults.Width n) new (f.0 ∙ ap faults.LikeNull (s.written all).0) f.1 one.1 err
+  field_put (Err faults.FieldLong) new all few one ok err = let f = faulty_field w.options w.fields v faults.FieldLong few one.0 in field_refused faults.FieldLong new (f.0 ∙ ap faults.LikeNull (s.written all).0) f.1 one.1 err
+  field_put (Err (faults.LikeNull n)) new all few one ok err = let f = faulty_field w.options w.fields v (faults.LikeNull n) few one.0 in field_refused (faults.LikeNull n) new (f.0 ∙ ap faults.LikeNull (s.written all).0) f.1 one.1 err
+
+  -- the value was given to the writer, to be judged alone
+  pub field_tried : (r : Result Unit RowFault) (new : List ℕ) (before : ℕ) → (so_far ≡ progress.Written → ⊥) → w.fields < 32767 → length row ≡ before → Writes (next_fault w.options w.fields v) (next_written w.options w.fields v) old r new → OnOk r (w' ≡ record w { fields = suc w.fields }) → OnErr r (w' ≡ w)
+      → LineGoesOn o row start v (judged_at before so_far r) w' new
+  field_tried (Ok x) new before other few e one ok err = field_judged so_far new other (fine_field w.options w.fields v one.0) (ap (λ (y : RowWriterState). y.options) ok) (omega (arith, ap (λ (y : RowWriterState). y.fields) ok)) (next_written w.options w.fields v, sym one.1)
+  field_tried (Err faults.Memory) new before other few e one ok err = field_judged so_far new other (fine_field w.options w.fields v one.0) (ap (λ (y : RowWriterState). y.options) err) (omega (arith, ap (λ (y : RowWriterState). y.fields) err)) ([], append-nil old ∙ sym one.1)
+  field_tried (Err (faults.LikeNull n)) new before other few e one ok err = field_refused (faults.LikeNull before) new (ap faults.LikeNull (sym e)) (faulty_field w.options w.fields v (faults.LikeNull n) few one.0).1 one.1 err
+  field_tried (Err (faults.Width n)) new before other few e one ok err = absurd (clash (faulty_field w.options w.fields v (faults.Width n) few one.0).0)
+    where
+      clash : faults.Width n ≡ faults.LikeNull w.fields → ⊥
+      clash k = cc
+  field_tried (Err faults.FieldLong) new before other few e one ok err = absurd (clash (faulty_field w.options w.fields v faults.FieldLong few one.0).0)
+    where
+      clash : faults.FieldLong ≡ faults.LikeNull w.fields → ⊥
+      clash k = cc
+
+-- no text is written with fewer bytes than it has
+letter_first : (l : Option ℕ) (b : ℕ) → 1 ≤ length (with_letter l b)
+letter_first None b = omega arith
+letter_first (Some letter) b = omega arith
+
+written_longer : (delimiter : ℕ) (text : List ℕ) → length text ≤ length (flat_map (written_byte delimiter) text)
+written_longer delimiter [] = omega arith
+written_longer delimiter (b ∷ text) = omega (arith, letter_first (letter_for delimiter b) b, written_longer delimiter text, length-append (written_byte delimiter b) (flat_map (written_byte delimiter) text))
+
+-- neither null nor a longer text is like null
+pub unlike_null : (o : Options) (row : Row) (start : List ℕ) (v : Option (List ℕ)) (w : RowWriterState) (old : List ℕ) (so_far : Progress) → LineStands o row start so_far w old → (so_far ≡ progress.Written → ⊥) → is_like_null o v ≡ false → LineGoesOn o row start v (Ok so_far) w old
+unlike_null o row start v w old so_far s other fine = field_judged o row start v w w old so_far s so_far old other (subst (λ (p : Options). is_like_null p v ≡ false) (sym s.options) fine) refl (omega arith) ([], append-nil old)
+
+pub longer_unlike : (o : Options) (text : List ℕ) → length o.null_mark < length text → is_like_null o (Some text) ≡ false
+longer_unlike o text longer = unequal eqb (flat_map (written_byte o.delimiter) text) o.null_mark (λ e. omega (arith, e, longer, written_longer o.delimiter text))
+
+-- a row of some values, but not too many
+fits_count : (n : ℕ) → 0 < n → n ≤ 32767 → (eqb n 0 || ltb 32767 n) ≡ false
+fits_count n some few = rw (ne_eqb n 0 (λ e. omega (arith, some, e)), le-ltb 32767 n few) refl
+
+fits_line : (row : Row) → 0 < length row → length row ≤ 32767 → is_misfit row ≡ false
+fits_line row some few = fits_count (length row) some few
+
+-- the fault of a row that has one value that is like null, and none before
+pub line_faulty : (o : Options) (row : Row) (v : Option (List ℕ)) (more all : Row) (start new : List ℕ) (f : RowFault) (so_far : Progress) (w w' : RowWriterState) (old : List ℕ) → LineStands o row start so_far w old → LineGoesOn o row start v (Err f) w' new → all ≡ row ++ v ∷ more → 0 < length all → length all ≤ 32767 → WritesInPart (text_fault o all) (written_row o all) start (Err f) new
+line_faulty o row v more all start new f so_far w w' old s g e some few =
+    let at : 0 + length row ≡ length row = omega arith in
+    let fault : text_fault o all ≡ Some (faults.LikeNull (length row)) = cond-false (is_misfit all) _ _ (fits_line all some few) ∙ ap (λ (l : Row). like_null (position_from (is_like_null o) 0 l)) e ∙ ap like_null (first_is (is_like_null o) 0 row v more s.none_like_null g.2 ∙ ap Some at) in
+    rw g.1 (fault, g.3)
+
+-- a row none of whose values is like null
+line_fine : (o : Options) (row : Row) (start : List ℕ) (so_far : Progress) (w : RowWriterState) (out : List ℕ) → LineStands o row start so_far w out → 0 < length row → length row ≤ 32767 → text_fault o row ≡ None
+line_fine o row start so_far w out s some few = cond-false (is_misfit row) _ _ (fits_line row some few) ∙ ap like_null s.none_like_null
+
+-- a row whose values were judged alone
+pub line_judged : (o : Options) (row : Row) (start : List ℕ) (so_far : Progress) (w : RowWriterState) (out : List ℕ) → LineStands o row start so_far w out → (so_far ≡ progress.Written → ⊥) → 0 < length row → length row ≤ 32767 → WritesInPart (text_fault o row) (written_row o row) start (Ok so_far) out
+line_judged o row start progress.Written w out s other some few = absurd (other refl)
+line_judged o row start progress.PutOff w out s other some few = (line_fine o row start progress.PutOff w out s some few, s.begun)
+line_judged o row start progress.Refused w out s other some few = (line_fine o row start progress.Refused w out s some few, s.begun)
+
+-- the line is ended
+pub line_ended : FieldsAreLine → (o : Options) (row : Row) (start : List ℕ) (so_far : Progress) (w : RowWriterState) (mid : List ℕ) (r : Result Unit RowFault) (new : List ℕ) → so_far ≡ progress.Written → LineStands o row start so_far w mid → 0 < length row → length row ≤ 32767 → Writes (end_fault w.fields) (newline ∷ []) mid r new
+    → WritesInPart (text_fault o row) (written_row o row) start (progress_of r) new
+line_ended law o row start so_far w mid r new all s some few last = by r (subst (λ (k : ℕ). Writes (end_fault k) (newline ∷ []) mid r new) (s.written all).0 last)
+  where
+    none : (n : ℕ) → 0 < n → (f : RowFault) → end_fault n ≡ Some f → ⊥
+    none n lt f k = clash (sym (cond-false (eqb n 0) _ _ (ne_eqb n 0 (λ e. omega (arith, lt, e)))) ∙ k)
+      where
+        clash : ◌≡◌ {A = Option RowFault} None (Some f) → ⊥
+        clash h = cc
+
+    by : (q : Result Unit RowFault) → Writes (end_fault (length row)) (newline ∷ []) mid q new → WritesInPart (text_fault o row) (written_row o row) start (progress_of q) new
+    by (Ok x) h = law.line o row start mid new (s.written all).1 h
+    by (Err faults.Memory) h = (line_fine o row start so_far w mid s some few, subst (λ (l : List ℕ). IsPrefix start l) (sym h.1) s.begun)
+    by (Err (faults.Width n)) h = absurd (none (length row) some (faults.Width n) h.0)
+    by (Err faults.FieldLong) h = absurd (none (length row) some faults.FieldLong h.0)
+    by (Err (faults.LikeNull n)) h = absurd (none (length row) some (faults.LikeNull n) h.0)
 
 -- ---- the values of a binary row
 
@@ -52,9 +231,123 @@ values_more : (row : Row) (v : Option (List ℕ)) (old mid new : List ℕ) → W
 values_more [] v old mid new w one = (new, subst (λ (l : List ℕ). Writes (field_fault v) (value v) l (Ok tt) new) w one, refl)
 values_more (x ∷ row) v old mid new w one = (w.0, w.1, values_more row v w.0 mid new w.2 one)
 
-pub values_begin : (row : Row) (old new : List ℕ) → WritesFields row old new → IsPrefix old new
-values_begin [] old new w = ([], append-nil old ∙ sym w)
-values_begin (x ∷ row) old new w = prefix_then old w.0 new (value x, sym w.1.1) (values_begin row w.0 new w.2)
+fine_value : (v : Option (List ℕ)) → field_fault v ≡ None → is_long v ≡ false
+fine_value v e = go (is_long v) e
+  where
+    go : (long : Bool) → ◌≡◌ {A = Option RowFault} (cond long (Some faults.FieldLong) None) None → long ≡ false
+    go true h = absurd cc
+    go false h = refl
+
+faulty_value : (v : Option (List ℕ)) (f : RowFault) → field_fault v ≡ Some f → (f ≡ faults.FieldLong) × (is_long v ≡ true)
+faulty_value v f e = go (is_long v) e
+  where
+    go : (long : Bool) → ◌≡◌ {A = Option RowFault} (cond long (Some faults.FieldLong) None) (Some f) → (f ≡ faults.FieldLong) × (long ≡ true)
+    go true h = (cc, refl)
+    go false h = absurd cc
+
+pub row_off : (columns : ℕ) (row : Row) (start : List ℕ) (so_far less : Progress) (out : List ℕ) → (less ≡ progress.Written → so_far ≡ progress.Written) → RowStands columns row start so_far out → RowStands columns row start less out
+row_off columns row start so_far less out off s = record { fits = s.fits; none_long = s.none_long; written = λ e. s.written (off e); begun = s.begun }
+
+module _ (columns : ℕ) (row : Row) (start : List ℕ) (v : Option (List ℕ)) (old : List ℕ) (so_far : Progress) (s : RowStands columns row start so_far old) where
+  pub value_refused : (f : RowFault) (new : List ℕ) → f ≡ faults.FieldLong → is_long v ≡ true → new ≡ old → RowGoesOn columns row start v (Err f) new
+  value_refused f new is long same = (is, long, subst (λ (l : List ℕ). IsPrefix start l) (sym same) s.begun)
+
+  pub value_judged : (next : Progress) (new : List ℕ) → (next ≡ progress.Written → ⊥) → is_long v ≡ false → new ≡ old → RowGoesOn columns row start v (Ok next) new
+  value_judged next new other fine same = record {
+    fits = s.fits;
+    none_long = none_passes is_long row v s.none_long fine;
+    written = λ e. absurd (other e);
+    begun = subst (λ (l : List ℕ). IsPrefix start l) (sym same) s.begun;
+  }
+
+  pub value_put : (r : Result Unit RowFault) (new : List ℕ) → so_far ≡ progress.Written → Writes (field_fault v) (value v) old r new → RowGoesOn columns row start v (progress_of r) new
+  value_put (Ok x) new all one = record {
+    fits = s.fits;
+    none_long = none_passes is_long row v s.none_long (fine_value v one.0);
+    written = λ e. let w = s.written all in (w.0, w.1, values_more row v w.0 old new w.2 one);
+    begun = prefix_then start old new s.begun (value v, sym one.1);
+  }
+  value_put (Err faults.Memory) new all one = value_judged progress.Refused new (λ e. cc) (fine_value v one.0) one.1
+  value_put (Err (faults.Width n)) new all one = let f = faulty_value v (faults.Width n) one.0 in value_refused (faults.Width n) new f.0 f.1 one.1
+  value_put (Err faults.FieldLong) new all one = value_refused faults.FieldLong new refl (faulty_value v faults.FieldLong one.0).1 one.1
+  value_put (Err (faults.LikeNull n)) new all one = let f = faulty_value v (faults.LikeNull n) one.0 in value_refused (faults.LikeNull n) new f.0 f.1 one.1
+
+-- the fault of a row of so many values
+module _ (row : Row) where
+  width_then : (rest : Option RowFault) (f : RowFault) → width_fault (length row) ≡ Some f → ◌≡◌ {A = Option RowFault} (cond (is_misfit row) (Some (faults.Width (length row))) rest) (Some f)
+  width_then rest f e = go (is_misfit row) e
+    where
+      go : (misfit : Bool) → ◌≡◌ {A = Option RowFault} (cond misfit (Some (faults.Width (length row))) None) (Some f) → ◌≡◌ {A = Option RowFault} (cond misfit (Some (faults.Width (length row))) rest) (Some f)
+      go true h = h
+      go false h = absurd cc
+
+  width_fits : (rest : Option RowFault) → width_fault (length row) ≡ None → ◌≡◌ {A = Option RowFault} (cond (is_misfit row) (Some (faults.Width (length row))) rest) rest
+  width_fits rest e = go (is_misfit row) e
+    where
+      go : (misfit : Bool) → ◌≡◌ {A = Option RowFault} (cond misfit (Some (faults.Width (length row))) None) None → ◌≡◌ {A = Option RowFault} (cond misfit (Some (faults.Width (length row))) rest) rest
+      go true h = absurd cc
+      go false h = refl
+
+err_is : (f g : RowFault) → ◌≡◌ {A = Result Progress RowFault} (Err g) (Err f) → f ≡ g
+err_is f g e = cc
+
+ok_err : (f : RowFault) (p : Progress) → ◌≡◌ {A = Result Progress RowFault} (Ok p) (Err f) → ⊥
+ok_err f p e = cc
+
+-- the number of values was refused, but for memory
+pub count_faulty : (columns : ℕ) (row : Row) (old : List ℕ) (r : Result Unit RowFault) (new : List ℕ) (f : RowFault) → length row ≡ columns → Writes (width_fault columns) (to_be_bytes w16 columns) old r new → progress_of r ≡ Err f → WritesInPart (binary_fault row) (binary_row row) old (Err f) new
+count_faulty columns row old r new f e w is = by r w is
+  where
+    one : (g : RowFault) → f ≡ g → (width_fault columns ≡ Some g) × (new ≡ old) → WritesInPart (binary_fault row) (binary_row row) old (Err g) new → WritesInPart (binary_fault row) (binary_row row) old (Err f) new
+    one g same h k = rw same k
+
+    fault : (g : RowFault) → width_fault columns ≡ Some g → binary_fault row ≡ Some g
+    fault g h = width_then row _ g (subst (λ (k : ℕ). width_fault k ≡ Some g) (sym e) h)
+
+    by : (q : Result Unit RowFault) → Writes (width_fault columns) (to_be_bytes w16 columns) old q new → progress_of q ≡ Err f → WritesInPart (binary_fault row) (binary_row row) old (Err f) new
+    by (Ok x) h k = absurd (ok_err f progress.Written k)
+    by (Err faults.Memory) h k = absurd (ok_err f progress.Refused k)
+    by (Err (faults.Width n)) h k = one (faults.Width n) (err_is f (faults.Width n) k) h (fault (faults.Width n) h.0, ([], append-nil old ∙ sym h.1))
+    by (Err faults.FieldLong) h k = one faults.FieldLong (err_is f faults.FieldLong k) h (fault faults.FieldLong h.0, ([], append-nil old ∙ sym h.1))
+    by (Err (faults.LikeNull n)) h k = one (faults.LikeNull n) (err_is f (faults.LikeNull n) k) h (fault (faults.LikeNull n) h.0, ([], append-nil old ∙ sym h.1))
+
+-- no value has come
+pub row_begun : (columns : ℕ) (start : List ℕ) (r : Result Unit RowFault) (out : List ℕ) (so_far : Progress) → Writes (width_fault columns) (to_be_bytes w16 columns) start r out → progress_of r ≡ Ok so_far → RowStands columns [] start so_far out
+row_begun columns start (Ok x) out so_far w is = record { fits = w.0; none_long = refl; written = λ e. (out, w, refl); begun = (to_be_bytes w16 columns, sym w.1) }
+row_begun columns start (Err faults.Memory) out so_far w is =
+    let same : so_far ≡ progress.Refused = cc in
+    record { fits = w.0; none_long = refl; written = λ e. absurd (clash (sym same ∙ e)); begun = ([], append-nil start ∙ sym w.1) }
+  where
+    clash : progress.Refused ≡ progress.Written → ⊥
+    clash k = cc
+row_begun columns start (Err (faults.Width n)) out so_far w is = absurd cc
+row_begun columns start (Err faults.FieldLong) out so_far w is = absurd cc
+row_begun columns start (Err (faults.LikeNull n)) out so_far w is = absurd cc
+
+module _ (columns : ℕ) (row : Row) (start : List ℕ) (out : List ℕ) where
+  -- a value is too long
+  pub row_faulty : (so_far : Progress) (v : Option (List ℕ)) (more all : Row) (new : List ℕ) (f : RowFault) → RowStands columns row start so_far out → RowGoesOn columns row start v (Err f) new → all ≡ row ++ v ∷ more → length all ≡ columns → WritesInPart (binary_fault all) (binary_row all) start (Err f) new
+  row_faulty so_far v more all new f s g e width =
+      let fits : width_fault (length all) ≡ None = subst (λ (k : ℕ). width_fault k ≡ None) (sym width) s.fits in
+      let long : list_any is_long all ≡ true = ap (list_any is_long) e ∙ one_passes is_long row v more g.1 in
+      rw g.0 (width_fits all _ fits ∙ cond-true (list_any is_long all) _ _ long, g.2)
+
+  -- no value is too long
+  pub row_ended : FieldsAreRow → (so_far : Progress) → RowStands columns row start so_far out → length row ≡ columns → WritesInPart (binary_fault row) (binary_row row) start (Ok so_far) out
+  row_ended law so_far s width = by so_far (λ e. s.written e)
+    where
+      fits : width_fault (length row) ≡ None
+      fits = subst (λ (k : ℕ). width_fault k ≡ None) (sym width) s.fits
+
+      fine : binary_fault row ≡ None
+      fine = width_fits row _ fits ∙ cond-false (list_any is_long row) _ _ s.none_long
+
+      by : (p : Progress) → (p ≡ progress.Written → (mid : List ℕ) × Writes (width_fault columns) (to_be_bytes w16 columns) start (Ok tt) mid × WritesFields row mid out) → WritesInPart (binary_fault row) (binary_row row) start (Ok p) out
+      by progress.Written written =
+          let w = written refl in
+          law.row row start w.0 out (subst (λ (k : ℕ). Writes (width_fault k) (to_be_bytes w16 k) start (Ok tt) w.0) (sym width) w.1) w.2
+      by progress.PutOff written = (fine, s.begun)
+      by progress.Refused written = (fine, s.begun)
 
 -- ---- values that an iterator gives
 
@@ -65,34 +358,32 @@ pub length-row_of : (values : List LentValue) → length (row_of values) ≡ len
 length-row_of [] = refl
 length-row_of (v ∷ values) = ap suc (length-row_of values)
 
-row_of_more : (values : List LentValue) (v : LentValue) → row_of values ++ option_copied v ∷ [] ≡ row_of (values ++ v ∷ [])
+pub row_of_more : (values : List LentValue) (v : LentValue) → row_of values ++ option_copied v ∷ [] ≡ row_of (values ++ v ∷ [])
 row_of_more values v = sym (map-append option_copied values (v ∷ []))
 
--- as one more value is written, of a line whose writer has these options and so many fields
-pub line_more : (o o' : Options) (m : ℕ) (values : List LentValue) (v : LentValue) (old mid new : List ℕ) → o' ≡ o → m ≡ length values → WritesTextFields o 0 (row_of values) old mid → Writes (next_fault o' m (option_copied v)) (next_written o' m (option_copied v)) mid (Ok tt) new → WritesTextFields o 0 (row_of (values ++ v ∷ [])) old new
-line_more o o' m values v old mid new same count w one =
-    subst (λ (row : Row). WritesTextFields o 0 row old new) (row_of_more values v)
-    (fields_more o 0 (row_of values) (option_copied v) m old mid new (omega (arith, count, length-row_of values)) w
-    (subst (λ (p : Options). Writes (next_fault p m (option_copied v)) (next_written p m (option_copied v)) mid (Ok tt) new) same one))
+-- a row that is lent gives its values
+pub are_given : (row : Row) → AreGiven (YieldsFirstBy option_copied (λ (left : Row). left)) row row
+are_given row = (YieldsList-from_first option_copied (λ (left : Row). left) row refl).runs
 
-pub row_more : (values : List LentValue) (v : LentValue) (old mid new : List ℕ) → WritesFields (row_of values) old mid → Writes (field_fault (option_copied v)) (value (option_copied v)) mid (Ok tt) new → WritesFields (row_of (values ++ v ∷ [])) old new
-row_more values v old mid new w one = subst (λ (row : Row). WritesFields row old new) (row_of_more values v) (values_more (row_of values) (option_copied v) old mid new w one)
+module _ {S : Type 0} (gives : S → Option LentValue → S → Type 0) where
+  -- what was given, one value more and what is left are the row
+  pub given_more : (seen : List LentValue) (row : Row) (s t : S) (v : LentValue) (u : S) → AreGiven gives s row → Yields gives s seen t → gives t (Some v) u → (more : Row) × (row ≡ row_of seen ++ option_copied v ∷ more)
+  given_more [] [] s t v u given y g = absurd (given v u (subst (λ (k : S). gives k (Some v) u) (sym y) g))
+  given_more [] (z ∷ row) s t v u given y g = (row, ap (λ (x : Option (List ℕ)). x ∷ row) (sym (given.1 v u (subst (λ (k : S). gives k (Some v) u) (sym y) g)).0))
+  given_more (x ∷ seen) [] s t v u given y g = absurd (given x y.0 y.1)
+  given_more (x ∷ seen) (z ∷ row) s t v u given y g =
+      let next = given.1 x y.0 y.1 in
+      let rest = given_more seen row y.0 t v u next.1 y.2 g in
+      (rest.0, ap (λ (w : Option (List ℕ)). w ∷ row) (sym next.0) ∙ ap (λ (l : Row). option_copied x ∷ l) rest.1)
 
--- the line is whole
-pub line_whole : FieldsAreLine → (o : Options) (m : ℕ) (values : List LentValue) (old mid new : List ℕ) → m ≡ length values → WritesTextFields o 0 (row_of values) old mid → Writes (end_fault m) (newline ∷ []) mid (Ok tt) new → Writes (text_fault o (row_of values)) (written_row o (row_of values)) old (Ok tt) new
-line_whole law o m values old mid new count w last = law.line o (row_of values) old mid new w (subst (λ (k : ℕ). Writes (end_fault k) (newline ∷ []) mid (Ok tt) new) (count ∙ sym (length-row_of values)) last)
+  -- so there is room for it in the row
+  pub given_fewer : (seen : List LentValue) (row : Row) (s t : S) (v : LentValue) (u : S) → AreGiven gives s row → Yields gives s seen t → gives t (Some v) u → length seen < length row
+  given_fewer seen row s t v u given y g =
+      let m = given_more seen row s t v u given y g in
+      omega (arith, ap (λ (l : Row). length l) m.1, length-append (row_of seen) (option_copied v ∷ m.0), length-row_of seen)
 
--- the row is whole
-pub row_whole : FieldsAreRow → (columns : ℕ) (values : List LentValue) (old mid new : List ℕ) → columns ≡ length values → Writes (width_fault columns) (to_be_bytes w16 columns) old (Ok tt) mid → WritesFields (row_of values) mid new → Writes (binary_fault (row_of values)) (binary_row (row_of values)) old (Ok tt) new
-row_whole law columns values old mid new count first w = law.row (row_of values) old mid new (subst (λ (k : ℕ). Writes (width_fault k) (to_be_bytes w16 k) old (Ok tt) mid) (count ∙ sym (length-row_of values)) first) w
-
--- the values of a row that is lent are the row
-pub given_row : (row : Row) (holds : Row → Type 0) → AreGiven (YieldsFirstBy option_copied (λ (left : Row). left)) row holds → holds row
-given_row row holds g = subst holds (items_from_drains g.0 (drains g.1) (YieldsList-from_first option_copied (λ (left : Row). left) row refl)) g.2
-  where
-    drains : Drains (YieldsFirstBy option_copied (λ (left : Row). left)) row g.0 → DrainsIf (YieldsFirstBy option_copied (λ (left : Row). left)) (Unit {0}) row g.0
-    drains d = (d.1.0, d.1.1, λ w. (d.0, d.1.2))
-
--- the number of values and some values begin with what stood there
-pub row_begins : (columns : ℕ) (values : List LentValue) (old mid new : List ℕ) (r : Result Unit RowFault) → Writes (width_fault columns) (to_be_bytes w16 columns) old r mid → WritesFields (row_of values) mid new → IsPrefix old new
-row_begins columns values old mid new r first w = prefix_then old mid new (write_begins (width_fault columns) (to_be_bytes w16 columns) old r mid first) (values_begin (row_of values) mid new w)
+  -- all that was given is the row
+  pub given_all : (seen : List LentValue) (row : Row) (s : S) → AreGiven gives s row → Drains gives s seen → row_of seen ≡ row
+  given_all seen row s given d =
+      let list : YieldsList gives option_copied s row = record { runs = given } in
+      items_from_drains seen (d.1.0, d.1.1, λ w. (d.0, d.1.2)) list

@@ -1,5 +1,6 @@
 pub mod Readers
 pub mod Growing
+pub mod Widths
 pub mod Converting
 pub mod Sent
 pub mod Lent

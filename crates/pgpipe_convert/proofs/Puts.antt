@@ -1,8 +1,6 @@
--- A row that is put, by its values or by a copy of it.
-use Rattle.std.proofs.Common.{◌≡◌, Bool, true, false, List, [], ◌∷◌, ℕ, Option, Some, None, Result, Ok, Err, ◌⊎◌, inl, inr, refl, subst}
+-- A row that is put.
+use Rattle.std.proofs.Common.{◌≡◌, Bool, true, false, List, [], ◌∷◌, ℕ, Option, Some, None, Result, Ok, Err, inr, refl, subst}
 use Rattle.std.specs.Option.{IsSome}
-use Rattle.std.specs.Option.{option_copied}
-use Rattle.std.specs.Iterator.{YieldsFirstBy}
 use Rattle.pg_copy.specs.fault.RowFault.{RowFault}
 use Rattle.pg_copy.specs.fault.RowFault.TheVariants as faults
 use Rattle.pg_copy.specs.Row.{Row, Writes}
@@ -11,10 +9,8 @@ use Rattle.pgpipe_convert.specs.declared.convert.Converted.{Converted}
 use Rattle.pgpipe_convert.specs.declared.copy_rows.RowReader.{RowReader}
 use Rattle.pgpipe_convert.specs.Convert.{FileWriting}
 use Rattle.pgpipe_convert.specs.Private.Converting.{row_stop, ReadsOn, GivesRow, WritesRow, PutsNext}
-use Rattle.pgpipe_convert.specs.Private.Values.{AreGiven}
 use Rattle.pg_copy.specs.Lent.{as_next, Lends}
 use Rattle.pgpipe_convert.proofs.Readers.{stopped}
-use Rattle.pgpipe_convert.proofs.Lent.{given_row}
 
 -- a writer's answer, with the stop for its fault
 abbrev pub stopped_row : Result Unit RowFault → Result Bool (Stop Converted)
@@ -26,16 +22,7 @@ row_puts to row out (Ok x) out' w = w
 row_puts to row out (Err (faults.Width n)) out' w = w
 row_puts to row out (Err faults.FieldLong) out' w = w
 row_puts to row out (Err (faults.LikeNull n)) out' w = w
-row_puts to row out (Err faults.Memory) out' w = w.1
-
--- a row that is lent was copied, unless memory was refused
-pub copy_puts : (to : FileWriting) (row : Row) (out : List ℕ) (r : Result Unit RowFault) (out' : List ℕ) → ((r ≡ Err faults.Memory) × (out' ≡ out)) ⊎ AreGiven (YieldsFirstBy option_copied (λ (left : Row). left)) row (λ x. Writes (to.row_fault x) (to.row x) out r out') → WritesRow to row out (stopped_row r) out'
-copy_puts to row out r out' (inl m) = rw m.0 m.1
-copy_puts to row out r out' (inr g) = row_puts to row out r out' (given_row row (λ x. Writes (to.row_fault x) (to.row x) out r out') g)
-
--- its values were written one by one
-pub values_put : (to : FileWriting) (row : Row) (out out' : List ℕ) → AreGiven (YieldsFirstBy option_copied (λ (left : Row). left)) row (λ x. Writes (to.row_fault x) (to.row x) out (Ok tt) out') → WritesRow to row out (Ok true) out'
-values_put to row out out' g = given_row row (λ x. Writes (to.row_fault x) (to.row x) out (Ok tt) out') g
+row_puts to row out (Err faults.Memory) out' w = w
 
 -- ---- the next row
 
@@ -49,6 +36,14 @@ row_next at_end to r r' row out (Err s) out' on w = inr (row, on, w)
 pub lent_next : (at_end : Bool) (to : FileWriting) (r r' : RowReader) (held : Option Row) (out : List ℕ) (result : Result Bool (Stop Converted)) (out' : List ℕ) → IsSome held → GivesRow at_end r (Ok held) r' → ((row : Row) → held ≡ Some row → WritesRow to row out result out') → PutsNext at_end to r out result r' out'
 lent_next at_end to r r' (Some row) out result out' some on w = row_next at_end to r r' row out result out' on (w row refl)
 lent_next at_end to r r' None out result out' some on w = absurd cc
+
+-- the row that `next_lent` lends comes next
+pub lent_reads_on : {F : Type 0} (stop_of : F → Stop Converted) (r r' : RowReader) (held : Option Row) (lends : Bool) (row : Row) → lends ≡ true → held ≡ Some row → GivesRow false r (stopped stop_of (as_next (Ok lends) held)) r' → ReadsOn false r (row ∷ []) r'
+lent_reads_on stop_of r r' (Some x) true row e k g =
+    let same : x ≡ row = cc in
+    subst (λ (y : Row). ReadsOn false r (y ∷ []) r') same g
+lent_reads_on stop_of r r' None true row e k g = absurd cc
+lent_reads_on stop_of r r' held false row e k g = absurd cc
 
 -- what `next_lent` answered, and what was made of the row that it lent
 pub lent_puts : {F : Type 0} (stop_of : F → Stop Converted) (to : FileWriting) (r r' : RowReader) (held : Option Row) (lends : Bool) (out : List ℕ) (result : Result Bool (Stop Converted)) (out' : List ℕ) → lends ≡ true → Lends {F = F} (Ok lends) held → GivesRow false r (stopped stop_of (as_next (Ok lends) held)) r' → ((row : Row) → held ≡ Some row → WritesRow to row out result out') → PutsNext false to r out result r' out'

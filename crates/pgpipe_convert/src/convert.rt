@@ -7,7 +7,7 @@ ghost use Rattle.pgpipe_base.specs.Receiving.{longest_piece, HasStopped, CountsN
 ghost use Rattle.pg_copy.specs.Text.{default_options};
 ghost use Rattle.pgpipe_convert.specs.Convert.{FileReading, file_of, file_with, writing_with, AreAllConverted, ConvertAnswers, ConversionAnswers, EndsFile};
 ghost use Rattle.pgpipe_convert.specs.Private.Values.{writing_by};
-ghost use Rattle.pgpipe_convert.specs.Private.Converting.{file_by, ended_of, HasReadBy, HasConverted, IsAtStep, StepConverts, StepsSource, EndConverts, HasRun};
+ghost use Rattle.pgpipe_convert.specs.Private.Converting.{file_by, ended_of, HasReadBy, HasWidth, HasConverted, IsAtStep, StepConverts, StepsSource, EndConverts, HasRun};
 
 use crate::copy_rows::{RowReader, put_rows, send_rows};
 use crate::format::{Format, RowWriter};
@@ -50,6 +50,7 @@ impl Converting<'_> {
         sink: &mut K,
     ) -> Result<(), Stop<Converted>>
         requires at { IsAtStep self.old.reader }
+        requires width { HasWidth (file_by self.old.reader) self.old.to.columns }
         ensures to { self.new.to ≡ self.old.to }
         ensures steps { (piece : List ℕ) × (length piece ≤ longest_piece)
             × S.gives source.old piece source.new
@@ -75,6 +76,7 @@ impl Converting<'_> {
     // Puts what is left at the end of the input.
     fn end<K: Sink>(&mut self, sink: &mut K) -> Stop<Converted>
         requires at { IsAtStep self.old.reader }
+        requires width { HasWidth (file_by self.old.reader) self.old.to.columns }
         ensures to { self.new.to ≡ self.old.to }
         ensures ends { EndConverts K.takes K.failures (writing_by self.old.to) self.old.reader
             self.old.out.items sink.old result self.new.out.items sink.new }
@@ -90,9 +92,10 @@ impl Converting<'_> {
 
     // Goes on until there is no more to do.
     fn run<S: Source, K: Sink>(&mut self, source: &mut S, sink: &mut K) -> Stop<Converted>
-        requires { HasConverted K.takes K.failures
+        requires begun { HasConverted K.takes K.failures
             (file_by self.old.reader) (writing_by self.old.to) sink.old [] self.old.reader
             self.old.out.items sink.old }
+        requires width { HasWidth (file_by self.old.reader) self.old.to.columns }
         ensures { HasRun S.gives S.failures (S.has_ended source.new) K.takes K.failures
             (file_by self.old.reader) (writing_by self.old.to) source.old sink.old result source.new
             self.new.out.items sink.new }
@@ -119,6 +122,7 @@ fn begin<'a>(
         × (work.out.items ≡ (writing_with options.now to).head)
         × (file_by work.reader ≡ file_with options.now from columns)
         × HasReadBy work.reader [] [] × (ended_of work.reader ≡ false)) }
+    ensures width { IfOk result (λ work. HasWidth (file_by work.reader) work.to.columns) }
     ensures refused { (fault : ToolFault) → result ≡ Err fault → fault ≡ ToolFault.Memory }
 {
     let to = match RowWriter::new(alloc, to, columns, options) {

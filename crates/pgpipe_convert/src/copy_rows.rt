@@ -1,20 +1,18 @@
 //! The rows of a file of either format, read from pieces and written after what is to be sent.
 
-ghost use Rattle.std.specs.Prelude.{◌≡◌, ◌<◌, ◌≤◌, [], ℕ, List, Some, false, true, IfOk, OnOk};
+ghost use Rattle.std.specs.Prelude.{◌≡◌, ◌<◌, ◌≤◌, [], ℕ, List, Some, false, true, length, IfOk, OnOk};
+ghost use Rattle.std.specs.Iterator.{IsFinite};
 ghost use Rattle.pg_copy.specs.Row.{Row};
 ghost use Rattle.pg_copy.specs.BinaryReader.{HasReadBinary};
 ghost use Rattle.pg_copy.specs.TextReader.{HasReadText};
 ghost use Rattle.pgpipe_convert.specs.Convert.{file_with};
 ghost use Rattle.pgpipe_convert.specs.declared.copy_rows.RowReader.TheVariants.{Text, Binary};
-ghost use Rattle.pgpipe_convert.specs.Private.Values.{writing_by};
-ghost use Rattle.pgpipe_convert.specs.Private.Converting.{file_by, ended_of, HasReadBy, text_stop, binary_stop, row_stop, TakesPiece, WritesRow, PutsNext, SendsMuch, PutsRows};
+ghost use Rattle.pgpipe_convert.specs.Private.Values.{AreGiven, writing_by};
+ghost use Rattle.pgpipe_convert.specs.Private.Converting.{file_by, ended_of, HasReadBy, HasWidth, text_stop, binary_stop, row_stop, TakesPiece, WritesRow, PutsNext, SendsMuch, PutsRows};
 
 use crate::convert::Converted;
 use crate::format::{Format, RowWriter, copy_of};
-use pg_copy::{
-    BinaryFault, BinaryReader, BinaryRow, Row, RowFault, TextFault, TextOptions, TextReader,
-    TextRow,
-};
+use pg_copy::{BinaryFault, BinaryReader, Row, RowFault, TextFault, TextOptions, TextReader};
 use pg_wire::Sink;
 use pgpipe_base::outbox::{ROOM, send};
 use pgpipe_base::{Stop, ToolFault};
@@ -108,63 +106,25 @@ fn put_row(row: &Row, to: &RowWriter<'_>, out: &mut Vec<u8>) -> Result<bool, Sto
     }
 }
 
-// Puts a copy of a row of a text file that is lent, and so says why the row can't be written.
-fn copy_text_row(
-    row: &TextRow<'_>,
-    to: &RowWriter<'_>,
-    out: &mut Vec<u8>,
-) -> Result<bool, Stop<Converted>>
-    ensures { WritesRow (writing_by to.now) row.now out.old.items result out.new.items }
-{
-    match to.write_copy(row.values(), out) {
-        Ok(()) => Ok(true),
-        Err(fault) => Err(row_stop(fault)),
-    }
-}
-
-// The same of a binary file.
-fn copy_binary_row(
-    row: &BinaryRow<'_>,
-    to: &RowWriter<'_>,
-    out: &mut Vec<u8>,
-) -> Result<bool, Stop<Converted>>
-    ensures { WritesRow (writing_by to.now) row.now out.old.items result out.new.items }
-{
-    match to.write_copy(row.values(), out) {
-        Ok(()) => Ok(true),
-        Err(fault) => Err(row_stop(fault)),
-    }
-}
-
-// Puts a row of a text file that is lent, value by value.
-fn put_text_row(
-    row: &TextRow<'_>,
+// Puts a row that is lent, of which both give the values.
+fn put_lent<'v, I: Iterator<Item = Option<&'v [u8]>> + Drop>(
+    values: I,
+    again: I,
     to: &mut RowWriter<'_>,
     out: &mut Vec<u8>,
 ) -> Result<bool, Stop<Converted>>
-    ensures writes { WritesRow (writing_by to.old) row.now out.old.items result out.new.items }
+    requires can { I.can_next values × I.can_next again }
+    requires ends { IsFinite (I.remaining values) × IsFinite (I.remaining again) }
+    requires width { (row : Row) × AreGiven I.next_gives values row
+        × AreGiven I.next_gives again row × (length row ≡ to.old.columns) }
+    ensures puts { (row : Row) → AreGiven I.next_gives values row
+        → AreGiven I.next_gives again row → length row ≡ to.old.columns
+        → WritesRow (writing_by to.old) row out.old.items result out.new.items }
     ensures same { to.new ≡ to.old }
 {
-    match to.write_values(row.values(), out) {
+    match to.write_values(values, again, out) {
         Ok(()) => Ok(true),
-        Err(RowFault::Memory) => Err(Stop::Memory),
-        Err(_) => copy_text_row(row, to, out),
-    }
-}
-
-// The same of a binary file.
-fn put_binary_row(
-    row: &BinaryRow<'_>,
-    to: &mut RowWriter<'_>,
-    out: &mut Vec<u8>,
-) -> Result<bool, Stop<Converted>>
-    ensures writes { WritesRow (writing_by to.old) row.now out.old.items result out.new.items }
-    ensures same { to.new ≡ to.old }
-{
-    match to.write_values(row.values(), out) {
-        Ok(()) => Ok(true),
-        Err(RowFault::Memory) => Err(Stop::Memory),
-        Err(_) => copy_binary_row(row, to, out),
+        Err(refusal) => Err(row_stop(refusal)),
     }
 }
 
@@ -174,12 +134,13 @@ fn put_held_text(
     to: &mut RowWriter<'_>,
     out: &mut Vec<u8>,
 ) -> Result<bool, Stop<Converted>>
+    requires width { (row : Row) → reader.now.held ≡ Some row → length row ≡ to.old.columns }
     ensures writes { (row : Row) → reader.now.held ≡ Some row
         → WritesRow (writing_by to.old) row out.old.items result out.new.items }
     ensures same { to.new ≡ to.old }
 {
     match reader.held() {
-        Some(row) => put_text_row(&row, to, out),
+        Some(row) => put_lent(row.values(), row.values(), to, out),
         None => Ok(false),
     }
 }
@@ -190,12 +151,13 @@ fn put_held_binary(
     to: &mut RowWriter<'_>,
     out: &mut Vec<u8>,
 ) -> Result<bool, Stop<Converted>>
+    requires width { (row : Row) → reader.now.held ≡ Some row → length row ≡ to.old.columns }
     ensures writes { (row : Row) → reader.now.held ≡ Some row
         → WritesRow (writing_by to.old) row out.old.items result out.new.items }
     ensures same { to.new ≡ to.old }
 {
     match reader.held() {
-        Some(row) => put_binary_row(&row, to, out),
+        Some(row) => put_lent(row.values(), row.values(), to, out),
         None => Ok(false),
     }
 }
@@ -208,6 +170,7 @@ fn put_waiting_text(
 ) -> Result<bool, Stop<Converted>>
     requires begun { reader.old.ended ≡ false }
     requires read { (bytes : List ℕ) × (given : List Row) × HasReadText reader.old bytes given }
+    requires width { HasWidth (file_by (Text reader.old)) to.old.columns }
     ensures puts { PutsNext false (writing_by to.old) (Text reader.old) out.old.items result
         (Text reader.new) out.new.items }
     ensures same { to.new ≡ to.old }
@@ -227,6 +190,7 @@ fn put_waiting_binary(
 ) -> Result<bool, Stop<Converted>>
     requires begun { reader.old.ended ≡ false }
     requires read { (bytes : List ℕ) × (given : List Row) × HasReadBinary reader.old bytes given }
+    requires width { HasWidth (file_by (Binary reader.old)) to.old.columns }
     ensures puts { PutsNext false (writing_by to.old) (Binary reader.old) out.old.items result
         (Binary reader.new) out.new.items }
     ensures same { to.new ≡ to.old }
@@ -281,6 +245,7 @@ fn put_next(
 ) -> Result<bool, Stop<Converted>>
     requires begun { at_end ≡ false → ended_of reader.old ≡ false }
     requires read { (bytes : List ℕ) × (given : List Row) × HasReadBy reader.old bytes given }
+    requires width { HasWidth (file_by reader.old) to.old.columns }
     ensures puts { PutsNext at_end (writing_by to.old) reader.old out.old.items result reader.new
         out.new.items }
     ensures same { to.new ≡ to.old }
@@ -324,6 +289,7 @@ pub fn put_rows<K: Sink>(
 ) -> Result<(), Stop<Converted>>
     requires begun { at_end ≡ false → ended_of reader.old ≡ false }
     requires read { (bytes : List ℕ) × (given : List Row) × HasReadBy reader.old bytes given }
+    requires width { HasWidth (file_by reader.old) to.old.columns }
     ensures puts { PutsRows K.takes K.failures at_end (writing_by to.old) reader.old out.old.items
         sink.old result reader.new out.new.items sink.new }
     ensures same { to.new ≡ to.old }
@@ -343,6 +309,7 @@ pub fn send_rows<K: Sink>(
 ) -> Result<(), Stop<Converted>>
     requires begun { ended_of reader.old ≡ false }
     requires read { (bytes : List ℕ) × (given : List Row) × HasReadBy reader.old bytes given }
+    requires width { HasWidth (file_by reader.old) to.old.columns }
     ensures puts { PutsRows K.takes K.failures false (writing_by to.old) reader.old out.old.items
         sink.old result reader.new out.new.items sink.new }
     ensures same { to.new ≡ to.old }

@@ -1,13 +1,12 @@
 //! The two formats of COPY files, written.
 
-ghost use Rattle.std.specs.Prelude.{◌≡◌, ◌⊎◌, Ok, Err, None, IfOk, OnOk, OnErr};
+ghost use Rattle.std.specs.Prelude.{◌≡◌, ◌<◌, ◌≤◌, None, length, IfOk};
 ghost use Rattle.std.specs.Iterator.{IsFinite};
-ghost use mathlib.Core.List.{IsPrefix};
 ghost use Rattle.pg_copy.specs.Row.{Row, Writes};
 ghost use Rattle.pgpipe_convert.specs.Convert.{writing_with};
-ghost use Rattle.pgpipe_convert.specs.Private.Values.{AreGiven, writing_by};
+ghost use Rattle.pgpipe_convert.specs.Private.Values.{AreGiven, WritesInPart, WritesOrNot, writing_by};
 
-use crate::values::{put_line, put_values, row_of};
+use crate::values::{Progress, put_line, put_values};
 use pg_copy::{
     Row, RowFault, TextOptions, TextRowWriter, write_binary_head, write_binary_row,
     write_binary_trailer, write_text_row_with,
@@ -15,6 +14,9 @@ use pg_copy::{
 use pgpipe_base::ToolFault;
 use std::alloc::Global;
 use std::marker::Model;
+
+// A row of more bytes is judged before it is written.
+const LARGE_ROW: usize = 1024 * 1024;
 
 /// A format of COPY files (PostgreSQL documentation, page COPY, "File Formats").
 #[derive(Clone, Copy, Debug, PartialEq, Eq)]
@@ -38,7 +40,6 @@ pub fn copy_of(alloc: Global, options: &TextOptions) -> Result<TextOptions, Tool
 /// A writer of files of one format, text with these options. A clause sees how the files are written.
 #[derive(Drop)]
 pub struct RowWriter<'a> {
-    alloc: Global,
     format: Format,
     columns: u16,
     options: &'a TextOptions,
@@ -47,14 +48,15 @@ pub struct RowWriter<'a> {
 }
 
 impl<'a> Model for RowWriter<'a> {
-    ghost use Rattle.std.specs.Prelude.{◌≡◌};
+    ghost use Rattle.std.specs.Prelude.{◌≡◌, ◌<◌, ◌≤◌};
     ghost use Rattle.pgpipe_convert.specs.Private.Values.{RowWriting};
 
     ghost Value = { RowWriting };
 
-    ghost view = { λ w. record { format = w.format; options = w.options.now } };
+    ghost view = { λ w. record { format = w.format; columns = w.columns; options = w.options.now } };
 
-    ghost invariant = { λ w. (w.lines.options ≡ w.options.now) × (w.lines.fields ≡ 0) };
+    ghost invariant = { λ w. (0 < w.columns) × (w.columns ≤ 32767)
+        × (w.lines.options ≡ w.options.now) × (w.lines.fields ≡ 0) };
 }
 
 impl<'a> RowWriter<'a> {
@@ -65,12 +67,13 @@ impl<'a> RowWriter<'a> {
         columns: u16,
         options: &'a TextOptions,
     ) -> Result<RowWriter<'a>, ToolFault>
+        requires { (0 < columns) × (columns ≤ 32767) }
         ensures begun { IfOk result (λ to. writing_by to ≡ writing_with options.now format) }
+        ensures columns { IfOk result (λ to. to.columns ≡ columns) }
         ensures refused { (fault : ToolFault) → result ≡ Err fault → fault ≡ ToolFault.Memory }
     {
         match copy_of(alloc, options) {
             Ok(copy) => Ok(RowWriter {
-                alloc,
                 format,
                 columns,
                 options,
@@ -101,67 +104,104 @@ impl<'a> RowWriter<'a> {
         }
     }
 
-    // Appends a row of these values. A refusal leaves a part of it in `buf`.
+    // Puts a row of these values. Where it has more than `most` bytes, it may be put off. Where it isn't written, a part of it stays.
     fn put_values<'v, I: Iterator<Item = Option<&'v [u8]>> + Drop>(
         &mut self,
         values: I,
+        most: usize,
         buf: &mut Vec<u8>,
-    ) -> Result<(), RowFault>
+    ) -> Result<Progress, RowFault>
         requires can { I.can_next values }
         requires ends { IsFinite (I.remaining values) }
-        ensures ok { OnOk result (AreGiven I.next_gives values (λ row.
-            Writes ((writing_by self.old).row_fault row) ((writing_by self.old).row row)
-            buf.old.items (Ok tt) buf.new.items)) }
-        ensures begun { IsPrefix buf.old.items buf.new.items }
+        requires width { (row : Row) × AreGiven I.next_gives values row
+            × (length row ≡ self.old.columns) }
+        ensures puts { (row : Row) → AreGiven I.next_gives values row
+            → length row ≡ self.old.columns
+            → WritesInPart ((writing_by self.old).row_fault row) ((writing_by self.old).row row)
+            buf.old.items result buf.new.items }
         ensures same { self.new ≡ self.old }
     {
         match self.format {
-            Format::Text => put_line(values, &mut self.lines, buf),
-            Format::Binary => put_values(values, self.columns, buf),
+            Format::Text => put_line(values, most, self.options, &mut self.lines, buf),
+            Format::Binary => put_values(values, most, self.columns, buf),
         }
     }
 
-    /// Appends a row of these values, which are lent, one by one. A refusal leaves `buf` as it was. But for Memory it doesn't say why
-    /// the row can't be written: `write_copy` says it.
-    pub fn write_values<'v, I: Iterator<Item = Option<&'v [u8]>> + Drop>(
+    // The same, but nothing of it stays.
+    fn try_values<'v, I: Iterator<Item = Option<&'v [u8]>> + Drop>(
         &mut self,
         values: I,
+        most: usize,
         buf: &mut Vec<u8>,
-    ) -> Result<(), RowFault>
+    ) -> Result<Progress, RowFault>
         requires can { I.can_next values }
         requires ends { IsFinite (I.remaining values) }
-        ensures ok { OnOk result (AreGiven I.next_gives values (λ row.
-            Writes ((writing_by self.old).row_fault row) ((writing_by self.old).row row)
-            buf.old.items (Ok tt) buf.new.items)) }
-        ensures err { OnErr result (buf.new.items ≡ buf.old.items) }
+        requires width { (row : Row) × AreGiven I.next_gives values row
+            × (length row ≡ self.old.columns) }
+        ensures puts { (row : Row) → AreGiven I.next_gives values row
+            → length row ≡ self.old.columns
+            → WritesOrNot ((writing_by self.old).row_fault row) ((writing_by self.old).row row)
+            buf.old.items result buf.new.items }
         ensures same { self.new ≡ self.old }
     {
         let before = buf.len();
-        match self.put_values(values, buf) {
-            Ok(()) => Ok(()),
-            Err(fault) => {
+        let put = self.put_values(values, most, buf);
+        match put {
+            Ok(Progress::Written) => put,
+            _ => {
                 buf.truncate(before);
-                Err(fault)
+                put
             }
         }
     }
 
-    /// Appends a row of these values, which are copied first. Memory is answered too where that was refused. A refusal leaves `buf` as it
-    /// was.
-    pub fn write_copy<'v, I: Iterator<Item = Option<&'v [u8]>> + Drop>(
-        &self,
+    // Appends a row of these values, however large it is. A refusal leaves `buf` as it was.
+    fn write_large<'v, I: Iterator<Item = Option<&'v [u8]>> + Drop>(
+        &mut self,
         values: I,
         buf: &mut Vec<u8>,
     ) -> Result<(), RowFault>
         requires can { I.can_next values }
         requires ends { IsFinite (I.remaining values) }
-        ensures { ((result ≡ Err RowFault.Memory) × (buf.new.items ≡ buf.old.items))
-            ⊎ AreGiven I.next_gives values (λ row. Writes ((writing_by self.now).row_fault row)
-            ((writing_by self.now).row row) buf.old.items result buf.new.items) }
+        requires width { (row : Row) × AreGiven I.next_gives values row
+            × (length row ≡ self.old.columns) }
+        ensures writes { (row : Row) → AreGiven I.next_gives values row
+            → length row ≡ self.old.columns
+            → Writes ((writing_by self.old).row_fault row) ((writing_by self.old).row row)
+            buf.old.items result buf.new.items }
+        ensures same { self.new ≡ self.old }
     {
-        match row_of(self.alloc, values) {
-            Ok(row) => self.write_row(&row, buf),
-            Err(_) => Err(RowFault::Memory),
+        match self.try_values(values, usize::MAX, buf) {
+            Ok(Progress::Written) => Ok(()),
+            Ok(_) => Err(RowFault::Memory),
+            Err(fault) => Err(fault),
+        }
+    }
+
+    /// Appends a row of these values, which are lent, one by one; `again` gives the same. It answers as `write_row` does for a row of
+    /// them. A large row is judged before it is written, so a row that can't be written takes little memory. A refusal leaves `buf` as
+    /// it was.
+    pub fn write_values<'v, I: Iterator<Item = Option<&'v [u8]>> + Drop>(
+        &mut self,
+        values: I,
+        again: I,
+        buf: &mut Vec<u8>,
+    ) -> Result<(), RowFault>
+        requires can { I.can_next values × I.can_next again }
+        requires ends { IsFinite (I.remaining values) × IsFinite (I.remaining again) }
+        requires width { (row : Row) × AreGiven I.next_gives values row
+            × AreGiven I.next_gives again row × (length row ≡ self.old.columns) }
+        ensures writes { (row : Row) → AreGiven I.next_gives values row
+            → AreGiven I.next_gives again row → length row ≡ self.old.columns
+            → Writes ((writing_by self.old).row_fault row) ((writing_by self.old).row row)
+            buf.old.items result buf.new.items }
+        ensures same { self.new ≡ self.old }
+    {
+        match self.try_values(values, LARGE_ROW, buf) {
+            Ok(Progress::Written) => Ok(()),
+            Ok(Progress::PutOff) => self.write_large(again, buf),
+            Ok(Progress::Refused) => Err(RowFault::Memory),
+            Err(fault) => Err(fault),
         }
     }
 

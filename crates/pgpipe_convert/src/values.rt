@@ -1,115 +1,252 @@
-//! The values of a row that is lent, written one by one from where they stand, or copied.
+//! The values of a row that is lent, written one by one from where they stand.
 
-ghost use Rattle.std.specs.Prelude.{◌≡◌, Ok, OnOk, IfOk, option_copied};
+ghost use Rattle.std.specs.Prelude.{◌≡◌, ◌<◌, ◌≤◌, ℕ, List, Ok, length, option_copied};
 ghost use Rattle.std.specs.Iterator.{IsFinite};
-ghost use mathlib.Core.List.{IsPrefix};
-ghost use Rattle.pg_copy.specs.Row.{Row, Writes, binary_fault};
+ghost use Rattle.pg_copy.specs.Row.{Row, is_long, binary_fault};
 ghost use Rattle.pg_copy.specs.Binary.{binary_row};
-ghost use Rattle.pg_copy.specs.Text.{written_row, text_fault};
-ghost use Rattle.pgpipe_convert.specs.Private.Values.{AreGiven};
+ghost use Rattle.pg_copy.specs.Text.{Options, written_row, text_fault};
+ghost use Rattle.pgpipe_convert.specs.declared.values.Progress.TheVariants.{Written};
+ghost use Rattle.pgpipe_convert.specs.Private.Values.{AreGiven, WritesInPart, progress_of, judged_at, LineStands, LineGoesOn, RowStands, RowGoesOn};
 
 use pg_copy::laws::{fields_are_line, fields_are_row};
-use pg_copy::{Row, RowFault, Seq, TextRowWriter, write_binary_count, write_binary_field};
-use std::alloc::{AllocError, Global};
+use pg_copy::{RowFault, TextOptions, TextRowWriter, write_binary_count, write_binary_field};
 
-/// Appends the line of a row of these values. A refusal leaves a part of it in `out`, and in the writer.
-fn put_fields<'v, I: Iterator<Item = Option<&'v [u8]>> + Drop>(
-    values: I,
-    writer: &mut TextRowWriter,
-    out: &mut Vec<u8>,
-) -> Result<(), RowFault>
-    requires can { I.can_next values }
-    requires ends { IsFinite (I.remaining values) }
-    requires first { writer.old.fields ≡ 0 }
-    ensures ok { OnOk result (AreGiven I.next_gives values (λ row.
-        Writes (text_fault writer.old.options row) (written_row writer.old.options row)
-        out.old.items (Ok tt) out.new.items)) }
-    ensures ended { OnOk result (writer.new ≡ writer.old) }
-    ensures options { writer.new.options ≡ writer.old.options }
-    ensures begun { IsPrefix out.old.items out.new.items }
-{
-    for value in values {
-        writer.field(value, out)?;
-    }
-    writer.end(out)?;
-    fields_are_line();
-    Ok(())
+// The most bytes that a value of a binary file may have.
+const LONGEST_VALUE: usize = 2_147_483_647;
+
+/// What has become of the first values of a row, none of which has a fault.
+#[derive(Clone, Copy, Drop)]
+pub enum Progress {
+    /// They are written.
+    Written,
+    /// They were judged alone from one on, since the row is large.
+    PutOff,
+    /// They were judged alone from one on, since memory was refused.
+    Refused,
 }
 
-/// Appends the line of a row of these values. A refusal leaves a part of it in `out`.
-pub fn put_line<'v, I: Iterator<Item = Option<&'v [u8]>> + Drop>(
-    values: I,
-    writer: &mut TextRowWriter,
-    out: &mut Vec<u8>,
-) -> Result<(), RowFault>
-    requires can { I.can_next values }
-    requires ends { IsFinite (I.remaining values) }
-    requires first { writer.old.fields ≡ 0 }
-    ensures ok { OnOk result (AreGiven I.next_gives values (λ row.
-        Writes (text_fault writer.old.options row) (written_row writer.old.options row)
-        out.old.items (Ok tt) out.new.items)) }
-    ensures same { writer.new ≡ writer.old }
-    ensures begun { IsPrefix out.old.items out.new.items }
+// What a writer's answer comes to.
+fn progress_of(written: Result<(), RowFault>) -> Result<Progress, RowFault>
+    ensures { result ≡ progress_of written }
 {
-    match put_fields(values, writer, out) {
-        Ok(()) => Ok(()),
-        Err(fault) => {
-            writer.give_up();
-            Err(fault)
-        }
+    match written {
+        Ok(()) => Ok(Progress::Written),
+        Err(RowFault::Memory) => Ok(Progress::Refused),
+        Err(fault) => Err(fault),
     }
 }
 
-/// Appends a row of these values, of which there are so many, in binary. Where there are more or fewer, it is refused. A refusal
-/// leaves a part of it in `out`.
-pub fn put_values<'v, I: Iterator<Item = Option<&'v [u8]>> + Drop>(
-    values: I,
-    columns: u16,
-    out: &mut Vec<u8>,
-) -> Result<(), RowFault>
-    requires can { I.can_next values }
-    requires ends { IsFinite (I.remaining values) }
-    ensures ok { OnOk result (AreGiven I.next_gives values (λ row.
-        Writes (binary_fault row) (binary_row row) out.old.items (Ok tt) out.new.items)) }
-    ensures begun { IsPrefix out.old.items out.new.items }
-{
-    let mut left = columns;
-    write_binary_count(usize::from(columns), out)?;
-    for value in values {
-        if left == 0 {
-            return Err(RowFault::Width(usize::from(columns)));
-        }
-        write_binary_field(value, out)?;
-        left -= 1;
-    }
-    if left > 0 {
-        return Err(RowFault::Width(usize::from(columns)));
-    }
-    fields_are_row();
-    Ok(())
-}
-
-/// The row of these values, which are copied.
-pub fn row_of<'v, I: Iterator<Item = Option<&'v [u8]>> + Drop>(
-    alloc: Global,
-    values: I,
-) -> Result<Row, AllocError>
-    requires can { I.can_next values }
-    requires ends { IsFinite (I.remaining values) }
-    ensures { IfOk result (λ copy. AreGiven I.next_gives values (λ row. copy ≡ row)) }
-{
-    let mut row = Vec::new(alloc);
-    for value in values {
-        row.push(copy_of(alloc, value)?)?;
-    }
-    Ok(Seq::new(row))
-}
-
-fn copy_of(alloc: Global, value: Option<&[u8]>) -> Result<Option<Seq<u8>>, AllocError>
-    ensures { IfOk result (λ copy. copy ≡ option_copied value.entry) }
+// Puts a value off, and all after it, where `out` has so many bytes and would have more than `end` with it.
+fn put_off(so_far: Progress, value: Option<&[u8]>, len: usize, end: usize) -> Progress
+    ensures { result ≡ Written → so_far ≡ Written }
 {
     match value {
-        None => Ok(None),
-        Some(bytes) => Ok(Some(Seq::from_slice(alloc, bytes)?)),
+        Some(bytes) if bytes.len() > end.saturating_sub(len) => match so_far {
+            Progress::Written => Progress::PutOff,
+            _ => so_far,
+        },
+        _ => so_far,
     }
+}
+
+// What is said of a value of a line, after so many others, that was given to a writer to be judged alone.
+fn judged_at(
+    before: usize,
+    so_far: Progress,
+    written: Result<(), RowFault>,
+) -> Result<Progress, RowFault>
+    ensures { result ≡ judged_at before so_far written }
+{
+    match written {
+        Err(RowFault::LikeNull(_)) => Err(RowFault::LikeNull(before)),
+        _ => Ok(so_far),
+    }
+}
+
+// Judges a value of a line, after so many others, one of which wasn't written: LikeNull is answered as if they were. Only a text that
+// is no longer than the null mark is given to the writer for it. What then stands in `out` is of no use.
+fn judge_field(
+    value: Option<&[u8]>,
+    before: usize,
+    so_far: Progress,
+    options: &TextOptions,
+    writer: &mut TextRowWriter,
+    out: &mut Vec<u8>,
+) -> Result<Progress, RowFault>
+    requires other { so_far ≡ Written → ⊥ }
+    requires few { writer.old.fields < 32767 }
+    requires options { writer.old.options ≡ options.now }
+    ensures goes_on { (row : Row) (start : List ℕ) → length row ≡ before
+        → LineStands options.now row start so_far writer.old out.old.items
+        → LineGoesOn options.now row start (option_copied value.entry) result writer.new
+        out.new.items }
+{
+    match value {
+        None => Ok(so_far),
+        // no text is written with fewer bytes than it has
+        Some(text) if text.len() > options.null_mark().len() => Ok(so_far),
+        Some(_) => judged_at(before, so_far, writer.field(value, out)),
+    }
+}
+
+// Puts the next value of a line, after so many others: it is written where all those are, and else judged alone.
+fn put_field(
+    value: Option<&[u8]>,
+    before: usize,
+    so_far: Progress,
+    options: &TextOptions,
+    writer: &mut TextRowWriter,
+    out: &mut Vec<u8>,
+) -> Result<Progress, RowFault>
+    requires few { writer.old.fields < 32767 }
+    requires options { writer.old.options ≡ options.now }
+    ensures goes_on { (row : Row) (start : List ℕ) → length row ≡ before
+        → LineStands options.now row start so_far writer.old out.old.items
+        → LineGoesOn options.now row start (option_copied value.entry) result writer.new
+        out.new.items }
+{
+    match so_far {
+        Progress::Written => progress_of(writer.field(value, out)),
+        _ => judge_field(value, before, so_far, options, writer, out),
+    }
+}
+
+// Ends a line, where all its values are written.
+fn end_line(
+    so_far: Progress,
+    writer: &mut TextRowWriter,
+    out: &mut Vec<u8>,
+) -> Result<Progress, RowFault>
+    ensures ends { (o : Options) (row : Row) (start : List ℕ) → 0 < length row
+        → length row ≤ 32767 → LineStands o row start so_far writer.old out.old.items
+        → WritesInPart (text_fault o row) (written_row o row) start result out.new.items }
+    ensures ended { result ≡ Ok Written → writer.new ≡ record writer.old { fields = 0 } }
+    ensures options { writer.new.options ≡ writer.old.options }
+{
+    fields_are_line();
+    match so_far {
+        Progress::Written => progress_of(writer.end(out)),
+        _ => Ok(so_far),
+    }
+}
+
+// Puts the line of a row of these values, of which there are at least one and at most 32,767. Where it isn't written, a part of it stays
+// in `out`, and in the writer.
+fn put_fields<'v, I: Iterator<Item = Option<&'v [u8]>> + Drop>(
+    values: I,
+    most: usize,
+    options: &TextOptions,
+    writer: &mut TextRowWriter,
+    out: &mut Vec<u8>,
+) -> Result<Progress, RowFault>
+    requires can { I.can_next values }
+    requires ends { IsFinite (I.remaining values) }
+    requires few { (row : Row) × AreGiven I.next_gives values row × (length row ≤ 32767) }
+    requires options { writer.old.options ≡ options.now }
+    requires first { writer.old.fields ≡ 0 }
+    ensures puts { (row : Row) → AreGiven I.next_gives values row → 0 < length row
+        → length row ≤ 32767 → WritesInPart (text_fault options.now row)
+        (written_row options.now row) out.old.items result out.new.items }
+    ensures ended { result ≡ Ok Written → writer.new ≡ writer.old }
+    ensures options { writer.new.options ≡ writer.old.options }
+{
+    let end = out.len().saturating_add(most);
+    let mut before = 0;
+    let mut so_far = Progress::Written;
+    for value in values {
+        so_far = put_off(so_far, value, out.len(), end);
+        so_far = put_field(value, before, so_far, options, writer, out)?;
+        before += 1;
+    }
+    end_line(so_far, writer, out)
+}
+
+/// Puts the line of a row of these values, of which there are at least one and at most 32,767. Where the line has more than `most`
+/// bytes, it may be put off. Where it isn't written, a part of it stays in `out`.
+pub fn put_line<'v, I: Iterator<Item = Option<&'v [u8]>> + Drop>(
+    values: I,
+    most: usize,
+    options: &TextOptions,
+    writer: &mut TextRowWriter,
+    out: &mut Vec<u8>,
+) -> Result<Progress, RowFault>
+    requires can { I.can_next values }
+    requires ends { IsFinite (I.remaining values) }
+    requires few { (row : Row) × AreGiven I.next_gives values row × (length row ≤ 32767) }
+    requires options { writer.old.options ≡ options.now }
+    requires first { writer.old.fields ≡ 0 }
+    ensures puts { (row : Row) → AreGiven I.next_gives values row → 0 < length row
+        → length row ≤ 32767 → WritesInPart (text_fault options.now row)
+        (written_row options.now row) out.old.items result out.new.items }
+    ensures same { writer.new ≡ writer.old }
+{
+    let put = put_fields(values, most, options, writer, out);
+    match put {
+        Ok(Progress::Written) => put,
+        _ => {
+            writer.give_up();
+            put
+        }
+    }
+}
+
+fn is_long(value: Option<&[u8]>) -> bool
+    ensures { result ≡ is_long (option_copied value.entry) }
+{
+    match value {
+        None => false,
+        Some(bytes) => bytes.len() > LONGEST_VALUE,
+    }
+}
+
+// Judges a value of a binary row, one of whose values wasn't written.
+fn judge_value(value: Option<&[u8]>, so_far: Progress) -> Result<Progress, RowFault>
+    requires other { so_far ≡ Written → ⊥ }
+    ensures goes_on { (columns : ℕ) (row : Row) (start out : List ℕ)
+        → RowStands columns row start so_far out
+        → RowGoesOn columns row start (option_copied value.entry) result out }
+{
+    if is_long(value) {
+        return Err(RowFault::FieldLong);
+    }
+    Ok(so_far)
+}
+
+// Puts the next value of a binary row: it is written where all before it are, and else judged alone.
+fn put_value(
+    value: Option<&[u8]>,
+    so_far: Progress,
+    out: &mut Vec<u8>,
+) -> Result<Progress, RowFault>
+    ensures goes_on { (columns : ℕ) (row : Row) (start : List ℕ)
+        → RowStands columns row start so_far out.old.items
+        → RowGoesOn columns row start (option_copied value.entry) result out.new.items }
+{
+    match so_far {
+        Progress::Written => progress_of(write_binary_field(value, out)),
+        _ => judge_value(value, so_far),
+    }
+}
+
+/// Puts a row of these values, of which there are so many, in binary. Where the row has more than `most` bytes, it may be put off.
+/// Where it isn't written, a part of it stays in `out`.
+pub fn put_values<'v, I: Iterator<Item = Option<&'v [u8]>> + Drop>(
+    values: I,
+    most: usize,
+    columns: u16,
+    out: &mut Vec<u8>,
+) -> Result<Progress, RowFault>
+    requires can { I.can_next values }
+    requires ends { IsFinite (I.remaining values) }
+    ensures puts { (row : Row) → AreGiven I.next_gives values row → length row ≡ columns
+        → WritesInPart (binary_fault row) (binary_row row) out.old.items result out.new.items }
+{
+    let end = out.len().saturating_add(most);
+    let mut so_far = progress_of(write_binary_count(usize::from(columns), out))?;
+    for value in values {
+        so_far = put_off(so_far, value, out.len(), end);
+        so_far = put_value(value, so_far, out)?;
+    }
+    fields_are_row();
+    Ok(so_far)
 }

@@ -63,6 +63,11 @@ abbrev pub HasReadBy : RowReader → List ℕ → List Row → Type 0
 HasReadBy (reader.Text s) bytes given = HasReadText s bytes given
 HasReadBy (reader.Binary s) bytes given = HasReadBinary s bytes given
 
+-- Each row of such a file has so many values.
+abbrev pub HasWidth : FileReading → ℕ → Type 0
+HasWidth file columns = (at_end : Bool) (bytes : List ℕ)
+    → AllByRecursion (λ row. length row ≡ columns) (file at_end bytes).rows
+
 -- Whatever it was given and has given before: these rows come next in the file, and this is left of
 -- it then.
 abbrev pub ComeNext : Bool → RowReader → List Row → RowsRead Converted → Type 0
@@ -107,13 +112,14 @@ GivesRow at_end r (Err _) r' = ⊥
 
 -- ---- rows that are put
 
--- A row is put (true); or it can't be written, or memory for it was refused, and then nothing is put.
+-- A row is put (true); or it can't be written; or it can be, but memory for it was refused. In the
+-- last two cases nothing is put.
 abbrev pub WritesRow : FileWriting → Row → List ℕ → Result Bool (Stop Converted) → List ℕ → Type 0
 WritesRow to row out (Ok true) out' = IsWritable to row × (out' ≡ out ++ to.row row)
 WritesRow to row out (Ok false) out' = ⊥
 WritesRow to row out (Err (stop.Answer (converted.Row f))) out' = (to.row_fault row ≡ Some f)
     × (out' ≡ out)
-WritesRow to row out (Err stop.Memory) out' = out' ≡ out
+WritesRow to row out (Err stop.Memory) out' = IsWritable to row × (out' ≡ out)
 WritesRow to row out (Err _) out' = ⊥
 
 -- The next row is put (true), or no row is left (false); or the reader gives no row, or the row that

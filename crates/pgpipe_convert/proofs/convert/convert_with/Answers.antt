@@ -15,8 +15,8 @@ returns-in_err-work-clause-converted g c =
     let p = err_from_is_err_and c.from_residual.result c.from_residual.ensures.1 in
     ([], [], refl, refl, rw (p.1, p.2, c.in_err-work.ensures.refused c.in_err-work.field-0.0 refl) (inl (refl, refl)))
 
-pub run-stop-requires : goal.run-stop-requires
-run-stop-requires g c =
+pub run-stop-requires-clause-begun : goal.run-stop-requires-clause-begun
+run-stop-requires-clause-begun g c =
     let begun = c.in_ok-work.ensures.begun in
     let to = c.in_ok-work.work.to in
     stands_first g.K.Sink.takes g.K.Sink.failures (writing_by to) c.args.sink.now c.in_ok-work.work.reader c.in_ok-work.work.out.items (head_within to.options to.format) (begun.1 ∙ ap (λ (w : FileWriting). w.head) (sym begun.0)) begun.3 begun.4

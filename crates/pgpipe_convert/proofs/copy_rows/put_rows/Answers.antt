@@ -1,9 +1,15 @@
-use Rattle.std.proofs.Common.{Bool, Ok, Err, refl, subst, ◌++◌, ◌∙◌}
+use Rattle.std.proofs.Common.{Bool, Ok, Err, refl, sym, subst, ◌++◌, ◌∙◌}
 use Rattle.std.proofs.lemmas.Result.{err_from_is_err_and}
-use Rattle.pgpipe_convert.specs.Private.Converting.{PutsNext}
+use Rattle.pgpipe_convert.specs.Private.Converting.{file_by, HasWidth, PutsNext}
 use Rattle.pgpipe_convert.specs.Private.Values.{RowWriting, writing_by}
 use Rattle.pgpipe_convert.proofs.Growing.{fewer_left, grows_none, grows_more, rows_end, next_stops, send_stops}
+use Rattle.pgpipe_convert.proofs.Widths.{same_width}
 use Rattle.pgpipe_convert.proofs.copy_rows.put_rows.Goals as goal
+
+pub put_next-requires-clause-width : goal.put_next-requires-clause-width
+put_next-requires-clause-width g c =
+    let l = c.loop-out in
+    subst (λ (w : RowWriting). HasWidth (file_by l.reader) w.columns) (sym l.invariant.0) (same_width (file_by c.args.reader.now) (file_by l.reader) c.args.to.now.columns l.invariant.1.goes_on.same c.requires.width)
 
 pub loop-out-init : goal.loop-out-init
 loop-out-init g c = (refl, grows_none g.K.Sink.takes g.K.Sink.failures c.args.at_end (writing_by c.args.to.now) c.args.reader.now c.args.out.now.items c.args.sink.now c.requires.begun)

@@ -1,10 +1,11 @@
-use Rattle.std.proofs.Common.{Ok, Err, inl, refl}
+use Rattle.std.proofs.Common.{false, Ok, Err, inl, refl}
 use Rattle.pg_copy.specs.Lent.{as_next}
 use Rattle.pgpipe_convert.specs.declared.copy_rows.RowReader.TheVariants.{Binary}
 use Rattle.pgpipe_convert.specs.Private.Converting.{binary_stop}
 use Rattle.pgpipe_convert.specs.Private.Values.{writing_by}
 use Rattle.pgpipe_convert.proofs.Readers.{next_binary}
-use Rattle.pgpipe_convert.proofs.Puts.{lent_puts, none_lent}
+use Rattle.pgpipe_convert.proofs.Puts.{lent_puts, lent_reads_on, none_lent}
+use Rattle.pgpipe_convert.proofs.Widths.{row_width}
 use Rattle.pgpipe_convert.proofs.copy_rows.put_waiting_binary.Goals as goal
 
 pub returns-in-Ok-true-clause-puts : goal.returns-in-Ok-true-clause-puts
@@ -31,3 +32,12 @@ returns-in-Err-clause-puts c =
     let new = c.next_lent.new.self in
     let e = c.in-Err.ensures in
     rw c.binary_stop.ensures (inl (next_binary c.args.reader.now new (as_next (Err c.in-Err.fault) new.held) read.0 read.1 read.2 e.same e.ended e.read e.gives, refl))
+
+pub put_held_binary-requires : goal.put_held_binary-requires
+put_held_binary-requires c =
+    let read = c.requires.read in
+    let new = c.next_lent.new.self in
+    let e = c.in-Ok-true.ensures in
+    let lends = c.in-Ok-true.field-0 in
+    let gives = next_binary c.args.reader.now new (as_next (Ok lends) new.held) read.0 read.1 read.2 e.same e.ended e.read e.gives in
+    record { width = λ row held. row_width false (Binary c.args.reader.now) row (Binary new) c.args.to.now.columns read.0 read.1 c.requires.width read.2 (lent_reads_on binary_stop (Binary c.args.reader.now) (Binary new) new.held lends row c.in-Ok-true.field-0-test held gives) }

@@ -1,9 +1,8 @@
 use Rattle.std.proofs.Common.{◌≡◌, length}
-use Rattle.pg_copy.specs.TextLaws.{WritesTextFields}
+use Rattle.pgpipe_convert.specs.Private.Values.{LineStands}
 use Rattle.pgpipe_convert.proofs.Lent.{row_of}
 use Rattle.pgpipe_convert.proofs.values.put_fields.Given as goal
 
 abbrev pub invariant-loop-value : goal.invariant-loop-value
 invariant-loop-value g l = (goal.iterator-loop-value g).can_next l.value-iterator × (goal.iterator-loop-value g).is_finite l.value-iterator
-    × (l.writer.options ≡ l.initial.writer.options) × (l.writer.fields ≡ length l.yielded)
-    × WritesTextFields l.initial.writer.options 0 (row_of l.yielded) l.initial.out.items l.out.items
+    × (l.before ≡ length l.yielded) × LineStands l.options (row_of l.yielded) l.initial.out.items l.so_far l.writer l.out.items

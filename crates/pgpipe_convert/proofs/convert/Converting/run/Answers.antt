@@ -1,9 +1,15 @@
-use Rattle.std.proofs.Common.{arith, ◌∙◌, ap, Ok, Err}
+use Rattle.std.proofs.Common.{arith, ◌∙◌, ap, sym, subst, Ok, Err}
 use Rattle.std.specs.List.{concat}
-use Rattle.pgpipe_convert.specs.Private.Converting.{file_by}
-use Rattle.pgpipe_convert.specs.Private.Values.{writing_by}
+use Rattle.pgpipe_convert.specs.Private.Converting.{file_by, HasWidth}
+use Rattle.pgpipe_convert.specs.Private.Values.{RowWriting, writing_by}
 use Rattle.pgpipe_convert.proofs.Converting.{steps_for, runs_more, run_stops, run_endless}
+use Rattle.pgpipe_convert.proofs.Widths.{same_width}
 use Rattle.pgpipe_convert.proofs.convert.Converting.run.Goals as goal
+
+pub step-requires-clause-width : goal.step-requires-clause-width
+step-requires-clause-width g c =
+    let l = c.loop in
+    subst (λ (w : RowWriting). HasWidth (file_by l.self.reader) w.columns) (sym l.invariant.0) (same_width (file_by c.args.self.now.reader) (file_by l.self.reader) c.args.self.now.to.columns l.invariant.1.stands.is_file c.requires.width)
 
 pub returns-in-Err : goal.returns-in-Err
 returns-in-Err g c =
