@@ -1,15 +1,18 @@
 -- A row of a text file read in place.
-use Rattle.std.proofs.Common.{◌≡◌, ℕ, ◌+◌, Bool, eqb, true, false, cond, List, [], ◌∷◌, ◌++◌, length, take, drop, map, Result, Ok, Err, refl, sym, ap, ◌∙◌, arith}
+use Rattle.std.proofs.Common.{◌≡◌, ℕ, ◌+◌, ◌<◌, Bool, eqb, true, false, cond, List, [], ◌∷◌, ◌++◌, length, take, drop, get_or, map, Result, Ok, Err, refl, sym, ap, ◌∙◌, arith}
 use Rattle.std.specs.Prelude.{OnOk}
 use Rattle.std.proofs.Math.Bool.{not}
 use Rattle.std.specs.Str.{bytes_eq}
-use Rattle.std.proofs.lemmas.Bool.{cond-true, cond-false}
-use Rattle.pg_copy_text.specs.Text.{Options, text_after, field_value, parts_from}
-use Rattle.std.specs.List.{flat_map, onto_first}
+use Rattle.std.proofs.lemmas.Bool.{cond-true, cond-false, or_parts}
+use Rattle.std.proofs.lemmas.Slice.Eq.{bytes_eq-Decides}
+use Rattle.pg_copy_text.specs.Text.{Options, text_after, field_value, parts_from, ends_escaped}
+use Rattle.pg_copy_text.specs.TextOptions.{AreOptions, ends_field}
+use Rattle.std.specs.List.{flat_map, list_any, onto_first}
 use Rattle.std.proofs.lemmas.List.{take_all, append_cancel_left}
 use Rattle.pg_copy_text.specs.declared.text_line.FieldEnd.{FieldEnd}
 use Rattle.pg_copy_text.specs.Private.TextRow.{counted, field_text, line_texts, line_values}
-use Rattle.pg_copy_text.specs.Private.Units.{NoBackslash, has_backslash, units, IsUnitAt, IsFieldEnd}
+use Rattle.pg_copy_text.specs.Private.Units.{NoBackslash, has_backslash, units, units_from, IsUnitAt, IsFieldEnd}
+use Rattle.pg_copy_text.proofs.OptionFacts.{three, option-facts}
 use Rattle.pg_copy_text.proofs.TextParts.{parts-first, parts-none}
 
 pub unless : (t : Bool) → not t ≡ true → t ≡ false
@@ -73,6 +76,36 @@ text-first o rest e h = go e.last refl
 -- those after it are of the fields after it
 pub texts-after : (o : Options) (rest texts after : List ℕ) (n : ℕ) → IsUnitAt o.delimiter rest n → texts ≡ line_texts o rest → texts ≡ field_text o (take n rest) ++ after → after ≡ line_texts o (drop (n + 1) rest)
 texts-after o rest texts after n at e f = append_cancel_left (field_text o (take n rest)) after (line_texts o (drop (n + 1) rest)) (sym f ∙ e ∙ texts-more o rest n at)
+
+-- ---- a null that stands first
+
+-- no unit of a null mark is the delimiter
+clear-units : (d : ℕ) (escaped : Bool) (bytes : List ℕ) → list_any (ends_field d) bytes ≡ false → units_from escaped d bytes ≡ 0
+clear-units d escaped [] h = refl
+clear-units d true (b ∷ bs) h = clear-units d false bs (or_parts (ends_field d b) (list_any (ends_field d) bs) h).1
+clear-units d false (b ∷ bs) h =
+    let p = or_parts (ends_field d b) (list_any (ends_field d) bs) h in
+    let other : cond {A = ℕ} (eqb b d) 1 0 ≡ 0 = ap (λ (t : Bool). cond {A = ℕ} t 1 0) (three (eqb b 10) (eqb b 13) (eqb b d) p.0).2 in
+    omega (arith, other, clear-units d (eqb b 92) bs p.1)
+
+-- with the delimiter after it
+null-unit : (o : Options) (rest : List ℕ) → AreOptions o → length o.null_mark < length rest → take (length o.null_mark) rest ≡ o.null_mark → get_or rest (length o.null_mark) 0 ≡ o.delimiter → IsUnitAt o.delimiter rest (length o.null_mark)
+null-unit o rest are lt is parted =
+    let f = option-facts o are in
+    record {
+      in_range = lt;
+      none = ap (units o.delimiter) is ∙ clear-units o.delimiter false o.null_mark f.mark_clear;
+      closed = ap (ends_escaped false) is ∙ f.mark_closed;
+      is = parted;
+    }
+
+-- no text is copied of it
+pub null-first : (o : Options) (rest : List ℕ) → AreOptions o → length o.null_mark < length rest → bytes_eq (take (length o.null_mark) rest) o.null_mark ≡ true → get_or rest (length o.null_mark) 0 ≡ o.delimiter
+    → line_texts o (drop (length o.null_mark + 1) rest) ≡ line_texts o rest
+null-first o rest are lt eq parted =
+    let n = length o.null_mark in
+    let is : take n rest ≡ o.null_mark = (bytes_eq-Decides (take n rest) o.null_mark).0 eq in
+    sym (texts-more o rest n (null-unit o rest are lt is parted) ∙ ap (λ (x : List ℕ). x ++ line_texts o (drop (n + 1) rest)) (null-text o (take n rest) eq))
 
 -- ---- a line without a backslash
 

@@ -67,7 +67,7 @@ fn plain_in_block(bytes: &[u8], from: usize, delimiter: u8) -> usize
     lowest(special_bits(block, delimiter), 65_536, BLOCK)
 }
 
-/// The same of half a block.
+/// How many of eight bytes are plain, up to the first that may not be. They stand in the block twice.
 fn plain_in_half(bytes: &[u8], from: usize, delimiter: u8) -> usize
     requires { from + 8 ≤ length bytes.now }
     ensures within { result ≤ 8 }
@@ -79,7 +79,7 @@ fn plain_in_half(bytes: &[u8], from: usize, delimiter: u8) -> usize
     lowest(special_bits(twice, delimiter), 256, HALF)
 }
 
-/// The same of a quarter of one.
+/// How many of four bytes are plain, up to the first that may not be. They stand in the block four times.
 fn plain_in_quarter(bytes: &[u8], from: usize, delimiter: u8) -> usize
     requires { from + 4 ≤ length bytes.now }
     ensures within { result ≤ 4 }
@@ -107,7 +107,7 @@ fn end_in_halves(bytes: &[u8], from: usize, delimiter: u8) -> usize
     last + plain_in_half(bytes, last, delimiter)
 }
 
-/// The same of fewer than eight, and more than three.
+/// Where the plain bytes end, of fewer than eight that are left, and more than three: the last four may be some of the first.
 fn end_in_quarters(bytes: &[u8], from: usize, delimiter: u8) -> usize
     requires few { length bytes.now < from + 8 }
     requires some { from + 4 ≤ length bytes.now }
@@ -131,12 +131,24 @@ fn is_backslash_in_block(bytes: &[u8], from: usize) -> bool
     bits_of(u8x16::from_slice(&bytes[from..]), b'\\') != 0
 }
 
-/// Whether a byte may be a backslash. Bytes that are few are not looked at.
+/// Whether a byte may be a backslash, looked at one by one.
+fn is_backslash_among(bytes: &[u8]) -> bool
+    ensures { result ≡ false → NoBackslash bytes.now }
+{
+    for i in 0..bytes.len() {
+        if bytes[i] == b'\\' {
+            return true;
+        }
+    }
+    false
+}
+
+/// Whether a byte may be a backslash.
 pub fn may_have_backslash(bytes: &[u8]) -> bool
     ensures { result ≡ false → NoBackslash bytes.now }
 {
     if bytes.len() < BLOCK {
-        return true;
+        return is_backslash_among(bytes);
     }
     let last = bytes.len() - BLOCK;
     let mut at = 0;

@@ -78,7 +78,7 @@ pub fn field_end(rest: &[u8], delimiter: u8) -> FieldEnd
     ensures { IsFieldEnd delimiter rest.now result }
 {
     let mut plain = true;
-    let mut at = plain_end(rest, 0, delimiter);
+    let mut at = 0;
     while at < rest.len() {
         let byte = rest[at];
         if byte == delimiter {

@@ -45,7 +45,7 @@ pub struct TextReader {
     buffer: RowBuffer,
     // how far the first line of the buffer was walked over
     scan: Scan,
-    // how many bytes the line has whose row is lent, and the texts of its fields that have an escape
+    // how many bytes the line has whose row is lent, and the texts of its fields that have an escape, each after its length
     held_len: usize,
     texts: Vec<u8>,
     stage: TextStage,
@@ -98,7 +98,8 @@ impl TextReader {
         TextReader::with_options(alloc, columns, TextOptions::default())
     }
 
-    /// The same, of a file whose fields the options' delimiter parts, and whose nulls are their null mark.
+    /// A reader of rows of so many columns, 1 to 32,767; or of any number up to 32,767, where None is given. The options' delimiter
+    /// parts the fields, and null is their null mark.
     pub fn with_options(alloc: Global, columns: Option<u16>, options: TextOptions) -> Self
         requires { IfSome columns (λ n. (0 < n) × (n ≤ 32767)) }
         ensures state { result ≡ record {

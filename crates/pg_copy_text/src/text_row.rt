@@ -76,6 +76,25 @@ fn put_field_text(
     put_counted_text(field, texts)
 }
 
+/// The line after the nulls that stand first in it, each with the delimiter after it: no text is copied of them.
+fn after_nulls<'a>(line: &'a [u8], options: &TextOptions) -> &'a [u8]
+    ensures texts { line_texts options.now result.now ≡ line_texts options.now line.now }
+    ensures no_longer { length result.now ≤ length line.now }
+{
+    let delimiter = options.delimiter();
+    let mark = options.null_mark();
+    let mut rest = line;
+    while rest.len() > mark.len() && rest[mark.len()] == delimiter {
+        let (field, _) = rest.split_at(mark.len());
+        if field != mark {
+            return rest;
+        }
+        let (_, after) = rest.split_at(mark.len() + 1);
+        rest = after;
+    }
+    rest
+}
+
 /// Appends the texts of a line's fields that have an escape, each after its length.
 fn put_texts(line: &[u8], options: &TextOptions, texts: &mut Vec<u8>) -> Result<(), AllocError>
     ensures { OnOk result (texts.new.items
@@ -86,13 +105,13 @@ fn put_texts(line: &[u8], options: &TextOptions, texts: &mut Vec<u8>) -> Result<
         return Ok(());
     }
     let delimiter = options.delimiter();
-    let mut rest = line;
+    let mut rest = after_nulls(line, options);
     let mut end = field_end(rest, delimiter);
     while !end.last {
         let (field, _) = rest.split_at(end.len);
         put_field_text(field, end.plain, options, texts)?;
         let (_, after) = rest.split_at(end.len + 1);
-        rest = after;
+        rest = after_nulls(after, options);
         end = field_end(rest, delimiter);
     }
     put_field_text(rest, end.plain, options, texts)
@@ -175,7 +194,7 @@ impl<'a> Model for TextRow<'a> {
 }
 
 impl<'a> TextRow<'a> {
-    /// The row of a line, with the texts of its fields that have an escape.
+    /// The row of a line, with the texts of its fields that have an escape and aren't null, each after its length.
     pub(crate) fn of_line(options: &'a TextOptions, line: &'a [u8], texts: &'a [u8]) -> TextRow<'a>
         requires { texts.now ≡ line_texts options.now line.now }
         ensures { result ≡ line_values options.now line.now }
@@ -228,6 +247,8 @@ impl<'a> Iterator for LentTexts<'a> {
 
     ghost remaining = { item_count (λ left. left) };
 
+    // else a program that calls it in more than one loop pays as much for the call as for a short value
+    #[inline(always)]
     fn next(&mut self) -> Option<Option<&'a [u8]>> {
         if self.ended {
             return None;

@@ -41,7 +41,7 @@ impl TextRowWriter {
         TextRowWriter::with_options(TextOptions::default())
     }
 
-    /// The same, with the options' delimiter and their null mark.
+    /// A writer of rows whose fields the options' delimiter parts, and whose nulls are their null mark.
     pub fn with_options(options: TextOptions) -> Self
         ensures { result ≡ record { options = options; fields = 0 } }
     {
@@ -52,6 +52,8 @@ impl TextRowWriter {
     /// row has 32,767 fields already; then LikeNull with the field's number, where it is a text that would be written as the null
     /// mark is; and Memory where it has neither fault and the buffer could not grow. A refusal leaves `buf` and the row as they were
     /// (PostgreSQL documentation, page COPY, "Text Format").
+    // else a program that calls it in more than one loop pays for a call with each value
+    #[inline(always)]
     pub fn field(&mut self, field: Option<&[u8]>, buf: &mut Vec<u8>) -> Result<(), RowFault>
         ensures written { Writes
             (next_fault self.old.options self.old.fields (option_copied field.entry))

@@ -7,7 +7,7 @@ ghost use Rattle.pg_copy_rows.specs.Row.{Writes};
 ghost use Rattle.pg_copy_text.specs.Private.Units.{IsWrittenFirst};
 ghost use Rattle.pg_copy_text.specs.Text.{default_options, letter_for, written_byte, written_field, written_row, is_like_null, text_fault};
 
-use crate::plain::plain_end;
+use crate::plain::{is_plain, plain_end};
 use crate::text_options::TextOptions;
 use pg_copy_rows::format::{is_misfit, lent};
 use pg_copy_rows::{Row, RowFault};
@@ -40,12 +40,16 @@ fn put_text(text: &[u8], delimiter: u8, buf: &mut Vec<u8>) -> Result<(), AllocEr
     let mut start = 0;
     let mut at = plain_end(text, 0, delimiter);
     while at < text.len() {
-        if let Some(letter) = letter_for(text[at], delimiter) {
-            buf.extend_from_slice(&text[start..at])?;
-            buf.extend_from_slice(&[b'\\', letter])?;
-            start = at + 1;
+        if is_plain(text[at], delimiter) {
+            at = plain_end(text, at + 1, delimiter);
+        } else {
+            if let Some(letter) = letter_for(text[at], delimiter) {
+                buf.extend_from_slice(&text[start..at])?;
+                buf.extend_from_slice(&[b'\\', letter])?;
+                start = at + 1;
+            }
+            at += 1;
         }
-        at = plain_end(text, at + 1, delimiter);
     }
     buf.extend_from_slice(&text[start..])
 }

@@ -11,8 +11,6 @@ use Rattle.pg_layout.specs.Private.Reader.{value_at, counted_at, error_field_at,
 use Rattle.pg_values.specs.Private.View.{row_of, fields_of}
 use Rattle.pg_layout.proofs.Layouts.{IsBytes}
 use Rattle.pg_layout.proofs.Fields.{chosen}
-use Rattle.pg_message.specs.Backend.{tag}
-use Rattle.pg_message.specs.Lent.{is_lent}
 use Rattle.pg_message.specs.Private.BackReader.{back_reading}
 use Rattle.pg_message.specs.Private.LentReader.{has_lent, lent_body, LendsBody}
 use Rattle.pg_message.specs.Private.Reading.{made_of_whole}
@@ -67,10 +65,3 @@ lends t bytes known fits =
         ]
       ]
     ]
-
--- a message of another tag isn't lent
-pub other_tag : (m : BackMessage) → has_lent (tag m) ≡ false → is_lent m ≡ false
-other_tag (DataRow values) e = absurd cc
-other_tag (ErrorResponse fields) e = absurd cc
-other_tag (NoticeResponse fields) e = absurd cc
-other_tag m e = refl

@@ -111,7 +111,9 @@ impl Segment {
         Ok(())
     }
 
-    /// Takes in a row that is lent, as `read` takes its message in. While rows come, it is copied once, to where it is kept.
+    /// Takes in a row that is lent, as `read` takes in the DataRow of its values. Its contract is that of `read` for this message (`ReadsAs`):
+    /// where memory isn't refused, both answer the same and leave the same segment. While rows come, the row is copied once, to where it
+    /// is kept; else `read` is given a copy.
     pub fn read_row(&mut self, alloc: Global, row: &RowView<'_>) -> Result<(), ReadFault>
         ensures { ReadsAs self.old (DataRow row.now) result self.new }
     {
@@ -121,6 +123,7 @@ impl Segment {
         }
         match Values::of_row(alloc, row) {
             Ok(values) => self.read(alloc, BackMessage::DataRow(values)),
+            // as in `Open::add_lent_row`, no other fault is possible of what a decoder gives
             Err(_) => Err(ReadFault::Memory),
         }
     }

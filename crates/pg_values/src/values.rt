@@ -108,7 +108,7 @@ impl Values {
         }
     }
 
-    /// The same, with room for so many values, which take so many bytes.
+    /// No values yet, and room for `count` of them, which take `room` bytes in all. It asks for that memory now, and for none where `room` is 0.
     fn with_room(alloc: Global, count: usize, room: usize) -> Result<Values, AllocError>
         ensures { IfOk result (λ values. values ≡ []) }
     {

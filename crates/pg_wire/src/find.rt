@@ -63,6 +63,8 @@ fn judge_length<M: Message>(limit: u32, rest: &[u8], tag: u8, len: i32) -> Judge
 }
 
 /// The message at the beginning of a rest, and how many bytes it takes.
+// a part of each caller, as `Stream::next` is
+#[inline(always)]
 pub fn find<M: Message>(
     alloc: Global,
     limit: u32,
@@ -106,7 +108,8 @@ pub enum Found {
     Nothing,
     /// A message that is lent takes so many bytes.
     Lent(usize),
-    /// The head of another message.
+    /// Five bytes or more, whose first is no tag of a message that is lent: another message, whole or not, or the fault of one.
+    /// `Stream::hold_next` answers it also where a fault is stored, the one that it has just found too.
     Other,
 }
 

@@ -1,6 +1,7 @@
 //! What the decoders of tagged messages have in common.
 
 ghost use Rattle.std.specs.Prelude.{◌≡◌, ◌≤◌, [], true, take, drop, length};
+ghost use Rattle.pg_message.specs.Backend.{backend};
 ghost use Rattle.pg_message.specs.Direction.{IsLimit};
 ghost use Rattle.pg_wire.specs.Decoder.{Pushes, IsLasting, Takes};
 ghost use Rattle.pg_wire.specs.BackDecoder.{TakesLent};
@@ -158,6 +159,8 @@ impl<M: Message> Stream<M> {
     }
 
     /// The next message, taken off.
+    // a part of each caller: a call that finds nothing whole then pays for no other's way, nor for room for a message
+    #[inline(always)]
     pub fn next(&mut self) -> Result<Option<M>, WireFault>
         ensures call { Takes M.direction self.old.rest result self.new.rest }
         ensures front { LetsBytes self.old.front result self.new.front }
@@ -237,6 +240,16 @@ impl Stream<BackMessage> {
         }
     }
 
+    /// The next message of a backend, taken off, as `next` gives it.
+    // a call of its own: the callers of `next_lent` then have no part of `next`, which only other messages and faults need
+    #[inline(never)]
+    fn next_apart(&mut self) -> Result<Option<BackMessage>, WireFault>
+        ensures call { Takes backend self.old.rest result self.new.rest }
+        ensures front { LetsBytes self.old.front result self.new.front }
+    {
+        self.next()
+    }
+
     /// The next message of a backend: one that is lent stays in the buffer, and another is taken off.
     // a part of its callers: to hold a row they need no room for another message
     #[inline(always)]
@@ -252,7 +265,7 @@ impl Stream<BackMessage> {
             Found::Lent(_) => return Ok(Cut::Held),
             Found::Other => {}
         }
-        match self.next() {
+        match self.next_apart() {
             Ok(None) => Ok(Cut::Nothing),
             Ok(Some(message)) => Ok(Cut::Other(message)),
             Err(fault) => Err(fault),

@@ -55,6 +55,7 @@ impl Open {
     {
         match Values::of_row(alloc, row) {
             Ok(values) => self.add_row(alloc, values),
+            // Memory was refused: the other fault is that of a row longer than any message, and no decoder gives one.
             Err(_) => Err(AllocError),
         }
     }

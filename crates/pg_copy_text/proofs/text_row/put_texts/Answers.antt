@@ -10,7 +10,7 @@ loop-end-preserved c =
     let o = c.args.options.now in
     let at = l.invariant.2.more (unless l.end.last c.loop-end-test.true) in
     let h = texts_more o.delimiter (field_text o) l.texts.items l.rest.now l.end.len _ at l.invariant.0 in
-    (rw (c.in_ok-put_field_text.ensures, c.split_at.ensures.front, c.split_at-in-loop-end.ensures.back) h, l.invariant.1, rw l.invariant.1 at c.field_end-end-in-loop-end.ensures)
+    (rw (c.in_ok-put_field_text.ensures, c.split_at.ensures.front, c.after_nulls-rest-in-loop-end.ensures.texts, c.split_at-in-loop-end.ensures.back) h, l.invariant.1, rw l.invariant.1 at c.field_end-end-in-loop-end.ensures)
 
 pub returns : goal.returns
 returns c =
