@@ -1,7 +1,7 @@
 //! What the crates of tests have in common.
 #![tactic(auto)]
 
-ghost use Rattle.std.specs.Prelude.{◌≡◌, MatchOption, false};
+ghost use Rattle.std.specs.Prelude.{◌≡◌, ◌↔◌, IfOk, IfSome, IsTrue, MatchOption, false};
 ghost use Rattle.std.specs.Fn.{FnOnceReturnsAtMut};
 
 mod line;
@@ -23,7 +23,10 @@ pub fn holds<T: Drop, F: FnOnce(&mut T) -> bool>(made: Option<T>, says: F) -> bo
     }
 }
 
-/// Whether a value is displayed as this text.
-pub fn is_told<D: Display + Drop>(alloc: Global, value: D, text: &str) -> Result<bool, AllocError> {
+/// Whether a value is displayed as this text. The clause is about types that state what they display.
+pub fn is_told<D: Display + Drop>(alloc: Global, value: D, text: &str) -> Result<bool, AllocError>
+    ensures { IfOk result (λ told.
+        IfSome (D.output value) (λ bytes. IsTrue told ↔ (bytes ≡ text.now))) }
+{
     Ok(format!(in alloc; "{value}")?.as_str() == text)
 }

@@ -1,117 +1,245 @@
 //! Rows of COPY files, read in pieces and written.
+//!
+//! Each test is a table that a small function judges. A reader costs the prover much in each function that owns one, so one function
+//! of each format makes readers, and lends them to the others.
 
 mod binary;
 mod faults;
+mod options;
 mod single;
 mod text;
 
-use pg_copy::{BinaryFault, BinaryReader, Row, Seq, TextFault, TextReader, write_text_row};
+use pg_copy::{
+    BinaryFault, BinaryReader, Row, RowFault, Seq, TextFault, TextOptions, TextReader,
+    write_text_row, write_text_row_with,
+};
 use std::alloc::{AllocError, Global};
-use std::test::Fail;
+use std::fmt::Display;
 
-/// These bytes, as a value.
-fn bytes_of(alloc: Global, bytes: &[u8]) -> Result<Seq<u8>, AllocError> {
-    Seq::from_slice(alloc, bytes)
+/// A fault of either format.
+#[derive(Clone, Copy, PartialEq, Eq)]
+enum Fault {
+    Text(TextFault),
+    Binary(BinaryFault),
+}
+
+impl From<TextFault> for Fault {
+    fn from(fault: TextFault) -> Fault {
+        Fault::Text(fault)
+    }
+}
+
+impl From<BinaryFault> for Fault {
+    fn from(fault: BinaryFault) -> Fault {
+        Fault::Binary(fault)
+    }
 }
 
 /// A reader of either format. At the end of the input `push` and `next` do nothing.
 trait Reader {
-    type Fault;
+    fn push(&mut self, piece: &[u8]) -> Result<(), Fault>;
 
-    fn push(&mut self, piece: &[u8]) -> Result<(), Self::Fault>;
+    fn next(&mut self) -> Result<Option<Row>, Fault>;
 
-    fn next(&mut self) -> Result<Option<Row>, Self::Fault>;
+    fn finish(&mut self) -> Result<Option<Row>, Fault>;
 
-    fn finish(&mut self) -> Result<Option<Row>, Self::Fault>;
+    fn done(&self) -> bool;
+
+    fn ended(&self) -> bool;
+
+    fn rows_given(&self) -> u64;
+
+    fn offset(&self) -> u64;
 }
 
 impl Reader for TextReader {
-    type Fault = TextFault;
-
-    fn push(&mut self, piece: &[u8]) -> Result<(), TextFault> {
+    fn push(&mut self, piece: &[u8]) -> Result<(), Fault> {
         if self.ended() {
             return Ok(());
         }
-        TextReader::push(self, piece)
+        TextReader::push(self, piece)?;
+        Ok(())
     }
 
-    fn next(&mut self) -> Result<Option<Row>, TextFault> {
+    fn next(&mut self) -> Result<Option<Row>, Fault> {
         if self.ended() {
             return Ok(None);
         }
-        TextReader::next(self)
+        Ok(TextReader::next(self)?)
     }
 
-    fn finish(&mut self) -> Result<Option<Row>, TextFault> {
-        TextReader::finish(self)
+    fn finish(&mut self) -> Result<Option<Row>, Fault> {
+        Ok(TextReader::finish(self)?)
+    }
+
+    fn done(&self) -> bool {
+        TextReader::done(self)
+    }
+
+    fn ended(&self) -> bool {
+        TextReader::ended(self)
+    }
+
+    fn rows_given(&self) -> u64 {
+        TextReader::rows_given(self)
+    }
+
+    fn offset(&self) -> u64 {
+        TextReader::offset(self)
     }
 }
 
 impl Reader for BinaryReader {
-    type Fault = BinaryFault;
-
-    fn push(&mut self, piece: &[u8]) -> Result<(), BinaryFault> {
+    fn push(&mut self, piece: &[u8]) -> Result<(), Fault> {
         if self.ended() {
             return Ok(());
         }
-        BinaryReader::push(self, piece)
+        BinaryReader::push(self, piece)?;
+        Ok(())
     }
 
-    fn next(&mut self) -> Result<Option<Row>, BinaryFault> {
+    fn next(&mut self) -> Result<Option<Row>, Fault> {
         if self.ended() {
             return Ok(None);
         }
-        BinaryReader::next(self)
+        Ok(BinaryReader::next(self)?)
     }
 
-    fn finish(&mut self) -> Result<Option<Row>, BinaryFault> {
-        BinaryReader::finish(self)
+    fn finish(&mut self) -> Result<Option<Row>, Fault> {
+        Ok(BinaryReader::finish(self)?)
+    }
+
+    fn done(&self) -> bool {
+        BinaryReader::done(self)
+    }
+
+    fn ended(&self) -> bool {
+        BinaryReader::ended(self)
+    }
+
+    fn rows_given(&self) -> u64 {
+        BinaryReader::rows_given(self)
+    }
+
+    fn offset(&self) -> u64 {
+        BinaryReader::offset(self)
     }
 }
 
-/// Writes the rows that wait as canonical lines, of which there are no more than bytes, and gives the fault after them, if there
-/// is one.
-fn write_waiting<R: Reader>(
-    reader: &mut R,
-    most: usize,
-    lines: &mut Vec<u8>,
-) -> Result<Option<R::Fault>, Fail> {
-    for _ in 0..=most {
-        match reader.next() {
-            Ok(Some(row)) => write_text_row(&row, lines)?,
-            Ok(None) => break,
-            Err(fault) => return Ok(Some(fault)),
+// ---- a reader's calls, one by one
+
+/// A call of a reader, or a question to it.
+#[derive(Clone, Copy)]
+enum Call {
+    Push(&'static [u8]),
+    Next,
+    Finish,
+    Done,
+    Ended,
+    RowsGiven,
+    Offset,
+}
+
+/// What a reader answers.
+#[derive(Clone, Copy, PartialEq, Eq)]
+enum Answer {
+    /// The piece was taken.
+    Taken,
+    /// A row came.
+    Row,
+    /// No row came.
+    Nothing,
+    Fault(Fault),
+    Is(bool),
+    Count(u64),
+}
+
+fn taken(answer: Result<(), Fault>) -> Answer {
+    match answer {
+        Ok(()) => Answer::Taken,
+        Err(fault) => Answer::Fault(fault),
+    }
+}
+
+fn given(answer: Result<Option<Row>, Fault>) -> Answer {
+    match answer {
+        Ok(Some(_)) => Answer::Row,
+        Ok(None) => Answer::Nothing,
+        Err(fault) => Answer::Fault(fault),
+    }
+}
+
+fn ask<R: Reader>(reader: &mut R, call: Call) -> Answer {
+    match call {
+        Call::Push(piece) => taken(reader.push(piece)),
+        Call::Next => given(reader.next()),
+        Call::Finish => given(reader.finish()),
+        Call::Done => Answer::Is(reader.done()),
+        Call::Ended => Answer::Is(reader.ended()),
+        Call::RowsGiven => Answer::Count(reader.rows_given()),
+        Call::Offset => Answer::Count(reader.offset()),
+    }
+}
+
+/// Whether a reader answers each call so.
+fn answers<R: Reader>(reader: &mut R, steps: &[(Call, Answer)]) -> bool {
+    for (call, wanted) in steps {
+        if ask(reader, *call) != *wanted {
+            return false;
         }
     }
-    Ok(None)
+    true
 }
 
-/// Writes the rows that are left at the end of the input, and gives the same.
-fn write_left<R: Reader>(
-    reader: &mut R,
-    most: usize,
-    lines: &mut Vec<u8>,
-) -> Result<Option<R::Fault>, Fail> {
+// ---- files, however they are cut
+
+/// Writes the row that an answer gives as a canonical line.
+fn written(answer: Result<Option<Row>, Fault>, lines: &mut Vec<u8>) -> Answer {
+    match answer {
+        Ok(Some(row)) => match write_text_row(&row, lines) {
+            Ok(()) => Answer::Row,
+            Err(_) => Answer::Nothing,
+        },
+        Ok(None) => Answer::Nothing,
+        Err(fault) => Answer::Fault(fault),
+    }
+}
+
+/// Writes the rows that wait, of which there are no more than `most`, and gives the fault after them, if there is one.
+fn write_waiting<R: Reader>(reader: &mut R, most: usize, lines: &mut Vec<u8>) -> Option<Fault> {
     for _ in 0..=most {
-        match reader.finish() {
-            Ok(Some(row)) => write_text_row(&row, lines)?,
-            Ok(None) => break,
-            Err(fault) => return Ok(Some(fault)),
+        match written(reader.next(), lines) {
+            Answer::Row => {}
+            Answer::Fault(fault) => return Some(fault),
+            _ => return None,
         }
     }
-    Ok(None)
+    None
 }
 
-/// Pushes a piece, writes the rows that wait then, and gives the same.
+/// Writes the rows that are left at the end of the input, of which there are no more than `most`, and gives the fault after them, if
+/// there is one.
+fn write_left<R: Reader>(reader: &mut R, most: usize, lines: &mut Vec<u8>) -> Option<Fault> {
+    for _ in 0..=most {
+        match written(reader.finish(), lines) {
+            Answer::Row => {}
+            Answer::Fault(fault) => return Some(fault),
+            _ => return None,
+        }
+    }
+    None
+}
+
+/// Pushes a piece, and writes the rows that wait then.
 fn write_piece<R: Reader>(
     reader: &mut R,
     piece: &[u8],
     most: usize,
     lines: &mut Vec<u8>,
-) -> Result<Option<R::Fault>, Fail> {
+) -> Option<Fault> {
     match reader.push(piece) {
         Ok(()) => write_waiting(reader, most, lines),
-        Err(fault) => Ok(Some(fault)),
+        Err(fault) => Some(fault),
     }
 }
 
@@ -123,20 +251,77 @@ fn write_file<R: Reader>(
     first: usize,
     size: usize,
     lines: &mut Vec<u8>,
-) -> Result<Option<R::Fault>, Fail> {
+) -> Option<Fault> {
     let (front, rest) = file.split_at(first.min(file.len()));
-    if let Some(fault) = write_piece(reader, front, file.len(), lines)? {
-        return Ok(Some(fault));
+    if let Some(fault) = write_piece(reader, front, file.len(), lines) {
+        return Some(fault);
     }
     for piece in rest.chunks(size.max(1)) {
-        if let Some(fault) = write_piece(reader, piece, file.len(), lines)? {
-            return Ok(Some(fault));
+        if let Some(fault) = write_piece(reader, piece, file.len(), lines) {
+            return Some(fault);
         }
     }
     write_left(reader, file.len(), lines)
 }
 
-/// Whether a call gave a row.
-fn is_row<F>(answer: &Result<Option<Row>, F>) -> bool {
-    matches!(answer, Ok(Some(_)))
+// ---- rows, one after the other
+
+/// A row's values, what the call that writes it answers, and all that is written then.
+type WrittenRow = (
+    &'static [Option<&'static [u8]>],
+    Result<(), RowFault>,
+    &'static [u8],
+);
+
+fn value(alloc: Global, bytes: Option<&[u8]>) -> Result<Option<Seq<u8>>, AllocError> {
+    match bytes {
+        Some(bytes) => Ok(Some(Seq::from_slice(alloc, bytes)?)),
+        None => Ok(None),
+    }
+}
+
+/// A row of these values.
+fn row(alloc: Global, values: &[Option<&[u8]>]) -> Result<Row, AllocError> {
+    let mut row = Vec::new(alloc);
+    for bytes in values {
+        row.push(value(alloc, *bytes)?)?;
+    }
+    Ok(Seq::new(row))
+}
+
+fn write_row(
+    row: &Row,
+    options: Option<&TextOptions>,
+    lines: &mut Vec<u8>,
+) -> Result<(), RowFault> {
+    match options {
+        Some(options) => write_text_row_with(row, options, lines),
+        None => write_text_row(row, lines),
+    }
+}
+
+/// Whether these rows are written so, one after the other, with these options or without any.
+fn writes(
+    alloc: Global,
+    options: Option<&TextOptions>,
+    rows: &[WrittenRow],
+) -> Result<bool, AllocError> {
+    let mut lines = Vec::new(alloc);
+    for (values, answer, all) in rows {
+        let row = row(alloc, *values)?;
+        if write_row(&row, options, &mut lines) != *answer || lines.as_slice() != *all {
+            return Ok(false);
+        }
+    }
+    Ok(true)
+}
+
+/// Whether each fault has this text.
+fn are_told<F: Display>(alloc: Global, faults: &[(F, &str)]) -> Result<bool, AllocError> {
+    for (fault, text) in faults {
+        if fault.to_string(alloc)?.as_str() != *text {
+            return Ok(false);
+        }
+    }
+    Ok(true)
 }

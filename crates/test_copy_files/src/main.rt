@@ -4,8 +4,6 @@
 
 mod file;
 mod loops;
-#[cfg(test)]
-mod options;
 mod text_loops;
 
 use anyhow::{Result, bail, ensure};

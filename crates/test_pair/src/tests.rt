@@ -1,3 +1,6 @@
+//! Runs of a pair. Each is a table: the ends, what happens, and what is so then. A pair costs the prover much in each function that
+//! owns one, so one makes it, by `holds`, and lends it to the others.
+
 mod answers;
 mod breaks;
 mod calls;
@@ -5,145 +8,170 @@ mod carriers;
 mod claims;
 mod copies;
 mod drawn;
+mod events;
 mod everywhere;
 mod groups;
 mod outside;
 mod passwords;
 mod rows;
+mod wanted;
 mod worked;
 
-use answers::{query, text};
-use claims::{Claim, hold};
-use pg_pair::{Applied, Call, Carry, Event, Pair, Way};
+use answers::{Ends, pair};
+use claims::{Claim, are_so};
+use events::{TableEvent, event};
+use pg_pair::{Applied, Carry, Pair};
 use std::alloc::{AllocError, Global};
-use std::test::Fail;
+use test_base::holds;
 
 // More than a run here takes of one kind.
 const MANY: u32 = 1_000;
 
-// What the client asks for.
-const ASKED: &[u8] = b"SELECT 1";
-
-fn start() -> Event {
-    Event::Call(Call::Start)
+fn perform<C: Carry>(
+    alloc: Global,
+    pair: &mut Pair<C>,
+    happens: TableEvent,
+) -> Result<Applied, AllocError> {
+    pair.apply(event(alloc, happens)?).map_err(|_| AllocError)
 }
 
-fn asks(alloc: Global, asked: &[u8]) -> Result<Event, AllocError> {
-    Ok(Event::Call(Call::Request(query(alloc, asked)?)))
+/// Lets an event happen, and says whether it was done.
+fn is_done<C: Carry>(
+    alloc: Global,
+    pair: &mut Pair<C>,
+    happens: TableEvent,
+) -> Result<bool, AllocError> {
+    match perform(alloc, pair, happens)? {
+        Applied::Done => Ok(true),
+        _ => Ok(false),
+    }
 }
 
-fn chunk(alloc: Global, bytes: &[u8]) -> Result<Event, AllocError> {
-    Ok(Event::Call(Call::Chunk(text(alloc, bytes)?)))
-}
-
-fn fail(alloc: Global, reason: &[u8]) -> Result<Event, AllocError> {
-    Ok(Event::Call(Call::Fail(text(alloc, reason)?)))
-}
-
-fn perform<C: Carry>(pair: &mut Pair<C>, event: &Event) -> Result<Applied, Fail> {
-    let event = event.clone()?;
-    Ok(pair.apply(event)?)
-}
-
-fn perform_all<C: Carry>(pair: &mut Pair<C>, events: &[Event]) -> Result<(), Fail> {
-    for event in events {
-        perform(pair, event)?;
+fn perform_all<C: Carry>(
+    alloc: Global,
+    pair: &mut Pair<C>,
+    list: &[TableEvent],
+) -> Result<(), AllocError> {
+    for happens in list {
+        is_done(alloc, pair, *happens)?;
     }
     Ok(())
 }
 
-// Lets an event happen until it isn't answered Done.
-fn exhaust<C: Carry>(pair: &mut Pair<C>, event: &Event) -> Result<(), Fail> {
+/// Lets an event happen until it isn't answered Done.
+fn exhaust<C: Carry>(
+    alloc: Global,
+    pair: &mut Pair<C>,
+    happens: TableEvent,
+) -> Result<(), AllocError> {
     for _ in 0..MANY {
-        if perform(pair, event)? != Applied::Done {
+        if !is_done(alloc, pair, happens)? {
             break;
         }
     }
     Ok(())
 }
 
-// Lets an event happen, and then all that waits goes to the backend in deliveries of at most so many bytes, it steps, and all goes to
-// the client.
-fn carry_out<C: Carry>(pair: &mut Pair<C>, event: &Event, cut: u32) -> Result<(), Fail> {
-    perform(pair, event)?;
-    exhaust(pair, &Event::ToBackend(cut))?;
-    exhaust(pair, &Event::Step)?;
-    exhaust(pair, &Event::ToClient(cut))
+/// Lets an event happen, and then all that waits goes to the backend in deliveries of at most so many bytes, it steps, and all goes to
+/// the client.
+fn carry_out<C: Carry>(
+    alloc: Global,
+    pair: &mut Pair<C>,
+    happens: TableEvent,
+    cut: u32,
+) -> Result<(), AllocError> {
+    is_done(alloc, pair, happens)?;
+    exhaust(alloc, pair, TableEvent::ToBackend(cut))?;
+    exhaust(alloc, pair, TableEvent::Step)?;
+    exhaust(alloc, pair, TableEvent::ToClient(cut))
 }
 
-fn carry_out_all<C: Carry>(pair: &mut Pair<C>, events: &[Event], cut: u32) -> Result<(), Fail> {
-    for event in events {
-        carry_out(pair, event, cut)?;
+fn carry_out_all<C: Carry>(
+    alloc: Global,
+    pair: &mut Pair<C>,
+    list: &[TableEvent],
+    cut: u32,
+) -> Result<(), AllocError> {
+    for happens in list {
+        carry_out(alloc, pair, *happens, cut)?;
     }
     Ok(())
 }
 
-// What is done with a pair: the client may be let in, then events are carried out, in deliveries of at most so many bytes, then single
-// ones happen, and at last events are carried out again.
+/// What is done with a pair: the client may be let in, then events are carried out, in deliveries of at most so many bytes, then single
+/// ones happen, and at last events are carried out again.
 #[derive(Clone, Copy)]
 struct Plan<'a> {
     lets_in: bool,
     cut: u32,
-    whole: &'a [Event],
-    single: &'a [Event],
-    last: &'a [Event],
+    whole: &'a [TableEvent],
+    single: &'a [TableEvent],
+    last: &'a [TableEvent],
 }
 
-fn conduct<C: Carry>(
+fn conduct<C: Carry>(alloc: Global, pair: &mut Pair<C>, plan: Plan<'_>) -> Result<(), AllocError> {
+    if plan.lets_in {
+        carry_out(alloc, pair, TableEvent::Start, plan.cut)?;
+    }
+    carry_out_all(alloc, pair, plan.whole, plan.cut)?;
+    perform_all(alloc, pair, plan.single)?;
+    carry_out_all(alloc, pair, plan.last, plan.cut)
+}
+
+/// Whether the claims hold of a pair after what the plan says.
+fn comes_to<C: Carry>(
     alloc: Global,
     pair: &mut Pair<C>,
     plan: Plan<'_>,
     claims: &[Claim<'_, '_>],
-) -> Result<bool, Fail> {
-    if plan.lets_in {
-        carry_out(pair, &start(), plan.cut)?;
-    }
-    carry_out_all(pair, plan.whole, plan.cut)?;
-    perform_all(pair, plan.single)?;
-    carry_out_all(pair, plan.last, plan.cut)?;
-    hold(alloc, pair, claims)
+) -> Result<bool, AllocError> {
+    conduct(alloc, pair, plan)?;
+    are_so(alloc, pair, claims)
 }
 
-// Whether the claims hold of a pair after what the plan says. It alone lets a pair go, since to prove that takes long.
+/// Whether the claims hold of a new pair of these ends after what the plan says.
 fn judge<C: Carry>(
     alloc: Global,
-    pair: Pair<C>,
+    ends: Ends<'_>,
+    carrier: C,
     plan: Plan<'_>,
     claims: &[Claim<'_, '_>],
-) -> Result<bool, Fail> {
-    let mut pair = pair;
-    conduct(alloc, &mut pair, plan, claims)
+) -> bool {
+    holds(
+        pair(alloc, ends, carrier).ok(),
+        |pair| comes_to(alloc, pair, plan, claims) == Ok(true),
+    )
 }
 
-// The events are carried out.
-fn carried_out<'a>(events: &'a [Event], cut: u32) -> Plan<'a> {
+/// The events are carried out.
+fn carried_out<'a>(list: &'a [TableEvent], cut: u32) -> Plan<'a> {
     Plan {
         lets_in: false,
         cut,
-        whole: events,
+        whole: list,
         single: &[],
         last: &[],
     }
 }
 
-// The client is let in, and then these events happen.
-fn started<'a>(events: &'a [Event]) -> Plan<'a> {
+/// The client is let in, and then these events happen.
+fn started<'a>(list: &'a [TableEvent]) -> Plan<'a> {
     Plan {
         lets_in: true,
         cut: 4_096,
         whole: &[],
-        single: events,
+        single: list,
         last: &[],
     }
 }
 
-// These events happen.
-fn happened<'a>(events: &'a [Event]) -> Plan<'a> {
+/// These events happen.
+fn happened<'a>(list: &'a [TableEvent]) -> Plan<'a> {
     Plan {
         lets_in: false,
         cut: 4_096,
         whole: &[],
-        single: events,
+        single: list,
         last: &[],
     }
 }

@@ -3,7 +3,7 @@ use pg_copy::{BinaryFault, RowFault, TextFault, TextOptions};
 use pgpipe_base::ToolFault;
 use pgpipe_convert::convert::{Converted, convert};
 use pgpipe_convert::{Format, convert_with};
-use std::alloc::Global;
+use std::alloc::{AllocError, Global};
 use std::test::Fail;
 
 /// Two columns: 1 and null.
@@ -133,6 +133,87 @@ fn a_row_like_null(rt: HostRuntime) -> Result<(), Fail> {
     let file = text(2, b"1,x\n1,\\x78\n");
     let fault = Converted::Row(RowFault::LikeNull(1));
     assert!(rt; becomes_with(rt.alloc(), file, Format::Text, &options, fault, b"1,x\n"));
+    Ok(())
+}
+
+/// The head, and two rows of two columns: 1 and null, and x and y.
+const TWO_ROWS: &[u8] = b"PGCOPY\n\xFF\r\n\0\0\0\0\0\0\0\0\0\0\x02\0\0\0\x011\xFF\xFF\xFF\xFF\
+    \0\x02\0\0\0\x01x\0\0\0\x01y\xFF\xFF";
+
+#[test]
+fn a_binary_row_like_null(rt: HostRuntime) -> Result<(), Fail> {
+    let (alloc, file) = (rt.alloc(), binary(2, TWO_ROWS));
+    let (first, second) = (
+        TextOptions::new(alloc, b',', b"x")?,
+        TextOptions::new(alloc, b',', b"y")?,
+    );
+    let fault = Converted::Row(RowFault::LikeNull(0));
+    assert!(rt; becomes_with(alloc, file, Format::Text, &first, fault, b"1,x\n"));
+    let fault = Converted::Row(RowFault::LikeNull(1));
+    assert!(rt; becomes_with(alloc, file, Format::Text, &second, fault, b"1,y\n"));
+    // as a binary file it can be written
+    let whole = Converted::Whole;
+    assert!(rt; becomes_with(alloc, file, Format::Binary, &first, whole, TWO_ROWS));
+    Ok(())
+}
+
+/// How many bytes the long text of a large row has: more than a row that is written without a look at all of it.
+const LONG_TEXT: usize = 1_100_000;
+
+/// What stands before a long text, the text, and what stands after it.
+fn around_a_long_text(alloc: Global, before: &[u8], after: &[u8]) -> Result<Vec<u8>, AllocError> {
+    let mut bytes = Vec::new(alloc);
+    bytes.extend_from_slice(before)?;
+    for _ in 0..LONG_TEXT {
+        bytes.push(b'a')?;
+    }
+    bytes.extend_from_slice(after)?;
+    Ok(bytes)
+}
+
+/// Whether this answer and these bytes come of a text file of two columns with these options, in large pieces.
+fn becomes_large(
+    alloc: Global,
+    bytes: &[u8],
+    to: Format,
+    options: &TextOptions,
+    answer: Converted,
+    written: &[u8],
+) -> bool {
+    let mut source = source_of(bytes, 50_000, 0);
+    let mut sink = sheet(alloc, 0);
+    let given = convert_with(alloc, Format::Text, to, 2, options, &mut source, &mut sink);
+    given == Ok(answer) && sink.text.as_slice() == written
+}
+
+#[test]
+fn large_rows(rt: HostRuntime) -> Result<(), Fail> {
+    let (alloc, whole) = (rt.alloc(), Converted::Whole);
+    let options = TextOptions::new(alloc, b',', b"x")?;
+    let first = around_a_long_text(alloc, b"1,x\n", b"\\x41,2\n3,4\n")?;
+    let written = around_a_long_text(alloc, b"1,x\n", b"A,2\n3,4\n")?;
+    let (bytes, text) = (first.as_slice(), written.as_slice());
+    assert!(rt; becomes_large(alloc, bytes, Format::Text, &options, whole, text));
+    let head =
+        b"PGCOPY\n\xFF\r\n\0\0\0\0\0\0\0\0\0\0\x02\0\0\0\x011\xFF\xFF\xFF\xFF\0\x02\0\x10\xC8\xE1";
+    let rest = b"A\0\0\0\x012\0\x02\0\0\0\x013\0\0\0\x014\xFF\xFF";
+    let written = around_a_long_text(alloc, head, rest)?;
+    let file = written.as_slice();
+    assert!(rt; becomes_large(alloc, bytes, Format::Binary, &options, whole, file));
+    Ok(())
+}
+
+#[test]
+fn a_large_row_like_null(rt: HostRuntime) -> Result<(), Fail> {
+    let alloc = rt.alloc();
+    let options = TextOptions::new(alloc, b',', b"x")?;
+    let to = Format::Text;
+    let late = around_a_long_text(alloc, b"1,x\n", b"\\x41,\\x78\n")?;
+    let fault = Converted::Row(RowFault::LikeNull(1));
+    assert!(rt; becomes_large(alloc, late.as_slice(), to, &options, fault, b"1,x\n"));
+    let early = around_a_long_text(alloc, b"1,x\n\\x78,", b"\\x41\n")?;
+    let fault = Converted::Row(RowFault::LikeNull(0));
+    assert!(rt; becomes_large(alloc, early.as_slice(), to, &options, fault, b"1,x\n"));
     Ok(())
 }
 

@@ -25,13 +25,14 @@ fn first_of(alloc: Global, bytes: &[u8]) -> Result<Option<BackMessage>, WireFaul
     pushed(alloc, bytes)?.next()
 }
 
-/// What a decoder gave: of a message its tag.
+/// What a decoder gave.
 #[derive(Clone, Copy, PartialEq, Eq)]
 enum Came {
     Nothing,
     /// A message that is held and lent.
     Held,
-    Message(u8),
+    /// A message that is handed out.
+    Message,
     Fault(WireFault),
 }
 
@@ -39,7 +40,7 @@ enum Came {
 fn next(decoder: &mut BackDecoder) -> Came {
     match decoder.next() {
         Ok(None) => Came::Nothing,
-        Ok(Some(message)) => Came::Message(message.tag()),
+        Ok(Some(_)) => Came::Message,
         Err(fault) => Came::Fault(fault),
     }
 }
@@ -111,12 +112,17 @@ fn bodies_are_judged(rt: HostRuntime) {
     assert!(rt; matches!(first_of(alloc, &below_null), Err(WireFault::BadBody(68))));
 }
 
+/// Whether it gives an EmptyQueryResponse.
+fn gives_empty_query(decoder: &mut BackDecoder) -> bool {
+    matches!(decoder.next(), Ok(Some(BackMessage::EmptyQuery)))
+}
+
 #[test]
 fn a_fault_stays(rt: HostRuntime) {
     let fault = WireFault::ShortLength(3);
     let bytes = [0x49, 0, 0, 0, 4, 0x5A, 0, 0, 0, 3];
     let held = holds(pushed(rt.alloc(), &bytes).ok(), |decoder| {
-        next(decoder) == Came::Message(b'I')
+        gives_empty_query(decoder)
             && next(decoder) == Came::Fault(fault)
             && decoder.push(&[1]) == Err(fault)
             && next(decoder) == Came::Fault(fault)
@@ -202,6 +208,7 @@ fn a_fault_says_its_code_and_numbers(rt: HostRuntime) -> Result<(), Fail> {
     assert!(rt; is_told(alloc, WireFault::BadBody(90), "W4 BadBody 90")?);
     assert!(rt; is_told(alloc, WireFault::ShortLength(-1), "W2 ShortLength -1")?);
     assert!(rt; is_told(alloc, EncodeFault::TooLong, "E4 TooLong")?);
+    assert!(rt; !is_told(alloc, EncodeFault::TooLong, "E3 TooMany")?);
     Ok(())
 }
 

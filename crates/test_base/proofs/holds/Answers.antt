@@ -1,4 +1,4 @@
-use Rattle.std.proofs.Common.{rules, ◌≡◌, MatchOption, false, Bool, Option, refl, sym, subst}
+use Rattle.std.proofs.Common.{rules, ◌≡◌, MatchOption, false, Option, sym, subst}
 use Rattle.std.specs.Fn.{FnOnceReturnsAtMut}
 use Rattle.test_base.proofs.holds.Goals as goal
 

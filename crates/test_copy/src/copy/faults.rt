@@ -1,84 +1,64 @@
 //! What faults say.
 
-use pg_copy::{BinaryFault, RowFault, TextFault};
-use std::test::Fail;
+use super::are_told;
+use pg_copy::{BinaryFault, OptionFault, RowFault, TextFault};
+
+const TEXT: [(TextFault, &str); 5] = [
+    (TextFault::RawReturn, "T1 RawReturn"),
+    (TextFault::LoneBackslash, "T2 LoneBackslash"),
+    (TextFault::Columns(2), "T3 Columns 2"),
+    (TextFault::Memory, "T4 Memory"),
+    (TextFault::RawNewline, "T5 RawNewline"),
+];
 
 #[test]
-fn faults_of_text_have_their_texts(rt: HostRuntime) -> Result<(), Fail> {
-    let alloc = rt.alloc();
-    assert_eq!(rt;
-        TextFault::RawReturn.to_string(alloc)?.as_str(),
-        "T1 RawReturn"
-    );
-    assert_eq!(rt;
-        TextFault::LoneBackslash.to_string(alloc)?.as_str(),
-        "T2 LoneBackslash"
-    );
-    assert_eq!(rt;
-        TextFault::Columns(2).to_string(alloc)?.as_str(),
-        "T3 Columns 2"
-    );
-    assert_eq!(rt; TextFault::Memory.to_string(alloc)?.as_str(), "T4 Memory");
-    assert_eq!(rt;
-        TextFault::RawNewline.to_string(alloc)?.as_str(),
-        "T5 RawNewline"
-    );
-    Ok(())
+fn faults_of_text_have_their_texts(rt: HostRuntime) {
+    assert!(rt; are_told(rt.alloc(), &TEXT) == Ok(true));
 }
 
-#[test]
-fn faults_of_heads_have_their_texts(rt: HostRuntime) -> Result<(), Fail> {
-    let alloc = rt.alloc();
-    assert_eq!(rt;
-        BinaryFault::Signature.to_string(alloc)?.as_str(),
-        "B1 Signature"
-    );
-    assert_eq!(rt;
-        BinaryFault::Flags(65_536).to_string(alloc)?.as_str(),
-        "B2 Flags 65536"
-    );
-    assert_eq!(rt;
-        BinaryFault::Extension(-1).to_string(alloc)?.as_str(),
-        "B3 Extension -1"
-    );
-    Ok(())
-}
+const HEADS: [(BinaryFault, &str); 3] = [
+    (BinaryFault::Signature, "B1 Signature"),
+    (BinaryFault::Flags(65_536), "B2 Flags 65536"),
+    (BinaryFault::Extension(-1), "B3 Extension -1"),
+];
 
 #[test]
-fn faults_of_binary_rows_have_their_texts(rt: HostRuntime) -> Result<(), Fail> {
-    let alloc = rt.alloc();
-    assert_eq!(rt;
-        BinaryFault::FieldCount(2).to_string(alloc)?.as_str(),
-        "B4 FieldCount 2"
-    );
-    assert_eq!(rt;
-        BinaryFault::FieldLength(-2).to_string(alloc)?.as_str(),
-        "B5 FieldLength -2"
-    );
-    assert_eq!(rt;
-        BinaryFault::Truncated.to_string(alloc)?.as_str(),
-        "B6 Truncated"
-    );
-    assert_eq!(rt;
-        BinaryFault::AfterTrailer.to_string(alloc)?.as_str(),
-        "B7 AfterTrailer"
-    );
-    assert_eq!(rt; BinaryFault::Memory.to_string(alloc)?.as_str(), "B8 Memory");
-    Ok(())
+fn faults_of_heads_have_their_texts(rt: HostRuntime) {
+    assert!(rt; are_told(rt.alloc(), &HEADS) == Ok(true));
 }
 
+const BINARY_ROWS: [(BinaryFault, &str); 5] = [
+    (BinaryFault::FieldCount(2), "B4 FieldCount 2"),
+    (BinaryFault::FieldLength(-2), "B5 FieldLength -2"),
+    (BinaryFault::Truncated, "B6 Truncated"),
+    (BinaryFault::AfterTrailer, "B7 AfterTrailer"),
+    (BinaryFault::Memory, "B8 Memory"),
+];
+
 #[test]
-fn faults_of_rows_have_their_texts(rt: HostRuntime) -> Result<(), Fail> {
-    let alloc = rt.alloc();
-    assert_eq!(rt; RowFault::Width(0).to_string(alloc)?.as_str(), "R1 Width 0");
-    assert_eq!(rt;
-        RowFault::FieldLong.to_string(alloc)?.as_str(),
-        "R2 FieldLong"
-    );
-    assert_eq!(rt; RowFault::Memory.to_string(alloc)?.as_str(), "R3 Memory");
-    assert_eq!(rt;
-        RowFault::LikeNull(0).to_string(alloc)?.as_str(),
-        "R4 LikeNull 0"
-    );
-    Ok(())
+fn faults_of_binary_rows_have_their_texts(rt: HostRuntime) {
+    assert!(rt; are_told(rt.alloc(), &BINARY_ROWS) == Ok(true));
+}
+
+const ROWS: [(RowFault, &str); 4] = [
+    (RowFault::Width(0), "R1 Width 0"),
+    (RowFault::FieldLong, "R2 FieldLong"),
+    (RowFault::Memory, "R3 Memory"),
+    (RowFault::LikeNull(0), "R4 LikeNull 0"),
+];
+
+#[test]
+fn faults_of_rows_have_their_texts(rt: HostRuntime) {
+    assert!(rt; are_told(rt.alloc(), &ROWS) == Ok(true));
+}
+
+const OPTIONS: [(OptionFault, &str); 3] = [
+    (OptionFault::Delimiter(97), "O1 Delimiter 97"),
+    (OptionFault::NullMark, "O2 NullMark"),
+    (OptionFault::Memory, "O3 Memory"),
+];
+
+#[test]
+fn faults_of_options_have_their_texts(rt: HostRuntime) {
+    assert!(rt; are_told(rt.alloc(), &OPTIONS) == Ok(true));
 }

@@ -1,77 +1,9 @@
-//! Text files taken and written a row at a time: places that a reader tells, and fields that are written one by one.
+//! Rows of text that are lent, and rows that are written field by field.
 
-use super::is_row;
-use pg_copy::{RowFault, TextFault, TextOptions, TextReader, TextRowWriter};
+use pg_copy::{RowFault, TextOptions, TextReader, TextRowWriter};
 use std::alloc::Global;
-use std::test::Fail;
 
-/// Whether the reader tells how many rows it gave, and where the line begins that a fault stands in.
-fn tells_the_place_of_a_fault(alloc: Global) -> bool {
-    let mut reader = TextReader::new(alloc, Some(1));
-    let pushed = reader.push(b"a\r\n\\\n\r\nd\te\r\n");
-    let first = reader.next();
-    let second = reader.next();
-    let fault = reader.next();
-    pushed == Ok(())
-        && is_row(&first)
-        && is_row(&second)
-        && fault == Err(TextFault::Columns(2))
-        && reader.rows_given() == 2
-        && reader.offset() == 7
-}
-
-/// Whether the reader tells how far the rows go at the end of the input, where the last line is open.
-fn tells_the_end(alloc: Global) -> bool {
-    let mut reader = TextReader::new(alloc, Some(1));
-    let pushed = reader.push(b"a\rbc");
-    let first = reader.finish();
-    let before = reader.offset();
-    let second = reader.finish();
-    let none = reader.finish();
-    pushed == Ok(())
-        && is_row(&first)
-        && before == 2
-        && is_row(&second)
-        && none == Ok(None)
-        && reader.rows_given() == 2
-        && reader.offset() == 4
-}
-
-#[test]
-fn a_reader_of_text_tells_places(rt: HostRuntime) {
-    assert!(rt; tells_the_place_of_a_fault(rt.alloc()));
-    assert!(rt; tells_the_end(rt.alloc()));
-}
-
-#[test]
-fn a_row_is_written_field_by_field(rt: HostRuntime) -> Result<(), Fail> {
-    let mut lines = Vec::new(rt.alloc());
-    let mut writer = TextRowWriter::new();
-    writer.field(Some(b"a\tb"), &mut lines)?;
-    writer.field(None, &mut lines)?;
-    writer.end(&mut lines)?;
-    writer.field(Some(b""), &mut lines)?;
-    writer.end(&mut lines)?;
-    assert_eq!(rt; lines.as_slice(), b"a\\tb\t\\N\n\n".as_slice());
-    assert_eq!(rt; writer.end(&mut lines), Err(RowFault::Width(0)));
-    Ok(())
-}
-
-#[test]
-fn a_field_like_null_is_refused(rt: HostRuntime) -> Result<(), Fail> {
-    let mut lines = Vec::new(rt.alloc());
-    let mut writer = TextRowWriter::with_options(TextOptions::new(rt.alloc(), b',', b"-")?);
-    writer.field(Some(b"a,b"), &mut lines)?;
-    assert_eq!(rt;
-        writer.field(Some(b"-"), &mut lines),
-        Err(RowFault::LikeNull(1))
-    );
-    writer.field(None, &mut lines)?;
-    assert_eq!(rt; lines.as_slice(), b"a\\,b,-".as_slice());
-    writer.give_up();
-    assert_eq!(rt; writer.end(&mut lines), Err(RowFault::Width(0)));
-    Ok(())
-}
+// ---- rows that are lent
 
 /// Whether the reader lends a row of these values.
 fn lends(reader: &TextReader, values: &[Option<&[u8]>]) -> bool {
@@ -88,21 +20,120 @@ fn lends(reader: &TextReader, values: &[Option<&[u8]>]) -> bool {
     count == values.len()
 }
 
+/// Whether the next row that the reader lends has these values.
+fn lends_next(reader: &mut TextReader, values: &[Option<&[u8]>]) -> bool {
+    !reader.ended() && reader.next_lent() == Ok(true) && lends(reader, values)
+}
+
+/// Whether no row is left to be lent, and the reader is done.
+fn lends_no_more(reader: &mut TextReader) -> bool {
+    !reader.ended() && reader.next_lent() == Ok(false) && reader.held().is_none() && reader.done()
+}
+
+/// Whether the reader lends these rows, one after the other, and then none.
+fn lends_all(reader: &mut TextReader, rows: &[&[Option<&[u8]>]]) -> bool {
+    if lends(reader, &[]) {
+        return false;
+    }
+    for values in rows {
+        if !lends_next(reader, *values) {
+            return false;
+        }
+    }
+    lends_no_more(reader)
+}
+
+/// Whether this file of four columns, whose end is marked, is lent as these rows.
+fn is_lent(alloc: Global, file: &[u8], rows: &[&[Option<&[u8]>]]) -> bool {
+    let mut reader = TextReader::new(alloc, Some(4));
+    reader.push(file) == Ok(()) && lends_all(&mut reader, rows)
+}
+
+const LENT: [&[Option<&[u8]>]; 2] = [
+    &[Some(b"a\tb"), Some(b"plain"), None, Some(b"\\N")],
+    &[Some(b"AB"), Some(b""), Some(b"d\\"), Some(b"e")],
+];
+
 #[test]
-fn rows_of_text_are_lent(rt: HostRuntime) -> Result<(), Fail> {
-    let mut reader = TextReader::new(rt.alloc(), Some(4));
-    reader.push(b"a\\tb\tplain\t\\N\t\\\\N\n\\x41\\102\t\td\\\\\te\n\\.\n")?;
-    assert!(rt; !lends(&reader, &[]));
-    assert_eq!(rt; reader.next_lent(), Ok(true));
-    assert!(rt;
-        lends(
-            &reader,
-            &[Some(b"a\tb"), Some(b"plain"), None, Some(b"\\N")]
-        )
-    );
-    assert_eq!(rt; reader.next_lent(), Ok(true));
-    assert!(rt; lends(&reader, &[Some(b"AB"), Some(b""), Some(b"d\\"), Some(b"e")]));
-    assert_eq!(rt; reader.next_lent(), Ok(false));
-    assert!(rt; reader.held().is_none() && reader.done());
-    Ok(())
+fn rows_of_text_are_lent(rt: HostRuntime) {
+    let file = b"a\\tb\tplain\t\\N\t\\\\N\n\\x41\\102\t\td\\\\\te\n\\.\n";
+    assert!(rt; is_lent(rt.alloc(), file, &LENT));
+}
+
+// ---- rows that are written field by field
+
+/// A call of a writer.
+#[derive(Clone, Copy)]
+enum Call {
+    Field(Option<&'static [u8]>),
+    End,
+    GiveUp,
+}
+
+fn make(writer: &mut TextRowWriter, call: Call, lines: &mut Vec<u8>) -> Result<(), RowFault> {
+    match call {
+        Call::Field(value) => writer.field(value, lines),
+        Call::End => writer.end(lines),
+        Call::GiveUp => {
+            writer.give_up();
+            Ok(())
+        }
+    }
+}
+
+/// A call, what it answers, and all that is written then.
+type Step = (Call, Result<(), RowFault>, &'static [u8]);
+
+/// Whether the writer answers each call so, and writes these lines by it.
+fn writes(alloc: Global, writer: &mut TextRowWriter, steps: &[Step]) -> bool {
+    let mut lines = Vec::new(alloc);
+    for (made, answer, all) in steps {
+        if make(writer, *made, &mut lines) != *answer || lines.as_slice() != *all {
+            return false;
+        }
+    }
+    true
+}
+
+const ROWS: [Step; 6] = [
+    (Call::Field(Some(b"a\tb")), Ok(()), b"a\\tb"),
+    (Call::Field(None), Ok(()), b"a\\tb\t\\N"),
+    (Call::End, Ok(()), b"a\\tb\t\\N\n"),
+    (Call::Field(Some(b"")), Ok(()), b"a\\tb\t\\N\n"),
+    (Call::End, Ok(()), b"a\\tb\t\\N\n\n"),
+    (Call::End, Err(RowFault::Width(0)), b"a\\tb\t\\N\n\n"),
+];
+
+#[test]
+fn a_row_is_written_field_by_field(rt: HostRuntime) {
+    let mut writer = TextRowWriter::new();
+    assert!(rt; writes(rt.alloc(), &mut writer, &ROWS));
+}
+
+const LIKE_NULL: [Step; 5] = [
+    (Call::Field(Some(b"a,b")), Ok(()), b"a\\,b"),
+    (
+        Call::Field(Some(b"-")),
+        Err(RowFault::LikeNull(1)),
+        b"a\\,b",
+    ),
+    (Call::Field(None), Ok(()), b"a\\,b,-"),
+    (Call::GiveUp, Ok(()), b"a\\,b,-"),
+    (Call::End, Err(RowFault::Width(0)), b"a\\,b,-"),
+];
+
+/// Whether a writer whose fields are parted by commas, and whose null is a dash, answers and writes so.
+fn writes_with_dash(alloc: Global, steps: &[Step]) -> bool {
+    match TextOptions::new(alloc, b',', b"-") {
+        Ok(options) => {
+            let mut writer = TextRowWriter::with_options(options);
+            writes(alloc, &mut writer, steps)
+        }
+        Err(_) => false,
+    }
+}
+
+#[test]
+fn a_field_like_null_is_refused(rt: HostRuntime) {
+    assert!(rt; writes_with_dash(rt.alloc(), &LIKE_NULL));
 }

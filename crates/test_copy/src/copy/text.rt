@@ -1,191 +1,223 @@
 //! Text files.
 
-ghost use Rattle.std.specs.Prelude.{◌<◌, ◌≤◌};
+use super::Answer::{Is, Nothing, Row, Taken};
+use super::{Answer, Call, Fault, WrittenRow, answers, write_file, writes};
+use pg_copy::{RowFault, TextFault, TextReader, write_text_field};
+use std::alloc::Global;
 
-use super::{bytes_of, is_row, write_file};
-use pg_copy::{Row, RowFault, Seq, TextFault, TextReader, write_text_field, write_text_row};
-use std::alloc::{AllocError, Global};
-use std::test::Fail;
-
-/// Reads a file of so many columns, as `write_file` does.
-fn write_columns(
-    alloc: Global,
-    columns: u16,
-    file: &[u8],
-    first: usize,
-    size: usize,
-    lines: &mut Vec<u8>,
-) -> Result<Option<TextFault>, Fail>
-    requires { (0 < columns) × (columns ≤ 32767) }
-{
-    let mut reader = TextReader::new(alloc, Some(columns));
-    write_file(&mut reader, file, first, size, lines)
+/// A reader of so many columns.
+fn reader(alloc: Global, columns: u16) -> TextReader {
+    TextReader::new(alloc, Some(columns.clamp(1, 32_767)))
 }
 
-/// Whether a file of so many columns gives rows with these canonical lines, and then this fault, however it is cut.
-fn gives(
-    alloc: Global,
-    columns: u16,
-    file: &[u8],
-    lines: &[u8],
-    fault: Option<TextFault>,
-) -> Result<bool, Fail>
-    requires { (0 < columns) × (columns ≤ 32767) }
-{
-    for first in 0..=file.len() {
-        for size in 1..=file.len() {
-            let mut written = Vec::new(alloc);
-            let found = write_columns(alloc, columns, file, first, size, &mut written)?;
-            if found != fault || written.as_slice() != lines {
-                return Ok(false);
+// ---- files, however they are cut
+
+/// How many columns a file has, its bytes, the canonical lines of its rows, and the fault after them.
+type File = (u16, &'static [u8], &'static [u8], Option<TextFault>);
+
+fn wanted(fault: Option<TextFault>) -> Option<Fault> {
+    match fault {
+        Some(fault) => Some(Fault::Text(fault)),
+        None => None,
+    }
+}
+
+/// Whether the file gives its lines and its fault, where the first piece has so many bytes, and each other one so many.
+fn gives_cut(alloc: Global, file: File, first: usize, size: usize) -> bool {
+    let (columns, bytes, lines, fault) = file;
+    let mut reader = reader(alloc, columns);
+    let mut written = Vec::new(alloc);
+    let found = write_file(&mut reader, bytes, first, size, &mut written);
+    found == wanted(fault) && written.as_slice() == lines
+}
+
+/// Whether the file gives its lines and its fault, however it is cut.
+fn gives(alloc: Global, file: File) -> bool {
+    for first in 0..=file.1.len() {
+        for size in 1..=file.1.len() {
+            if !gives_cut(alloc, file, first, size) {
+                return false;
             }
         }
     }
-    Ok(true)
+    true
 }
+
+fn all_give(alloc: Global, files: &[File]) -> bool {
+    for file in files {
+        if !gives(alloc, *file) {
+            return false;
+        }
+    }
+    true
+}
+
+const LINES: [File; 4] = [
+    (4, b"a\\tb\t\\N\t\t\\\\N\n", b"a\\tb\t\\N\t\t\\\\N\n", None),
+    (1, b"\n", b"\n", None),
+    (1, b"a\nb", b"a\nb\n", None),
+    (1, b"\\\n\n", b"\\n\n", None),
+];
 
 #[test]
-fn lines_have_their_fields(rt: HostRuntime) -> Result<(), Fail> {
-    let alloc = rt.alloc();
-    let file = b"a\\tb\t\\N\t\t\\\\N\n";
-    assert!(rt; gives(alloc, 4, file, file, None)?);
-    assert!(rt; gives(alloc, 1, b"\n", b"\n", None)?);
-    assert!(rt; gives(alloc, 1, b"a\nb", b"a\nb\n", None)?);
-    assert!(rt; gives(alloc, 1, b"\\\n\n", b"\\n\n", None)?);
-    Ok(())
+fn lines_have_their_fields(rt: HostRuntime) {
+    assert!(rt; all_give(rt.alloc(), &LINES));
 }
+
+const MARKS: [File; 2] = [(1, b"\\.\na\n", b"", None), (1, b"\\.", b"", None)];
 
 #[test]
-fn the_end_mark_ends_the_rows(rt: HostRuntime) -> Result<(), Fail> {
-    assert!(rt; gives(rt.alloc(), 1, b"\\.\na\n", b"", None)?);
-    assert!(rt; gives(rt.alloc(), 1, b"\\.", b"", None)?);
-    Ok(())
+fn the_end_mark_ends_the_rows(rt: HostRuntime) {
+    assert!(rt; all_give(rt.alloc(), &MARKS));
 }
+
+const ESCAPES: [File; 4] = [
+    (1, b"\\b\\v\\f\\r\\.\n", b"\\b\\v\\f\\r.\n", None),
+    (4, b"\\1011\t\\x41\t\\x\t\\8", b"A1\tA\tx\t8\n", None),
+    (1, b"\\777\n\\400\n", b"\xFF\n\0\n", None),
+    (1, b"\\x4G\n", b"\x04G\n", None),
+];
 
 #[test]
-fn escapes_spell_their_bytes(rt: HostRuntime) -> Result<(), Fail> {
-    let alloc = rt.alloc();
-    let letters = b"\\b\\v\\f\\r\\.\n";
-    assert!(rt; gives(alloc, 1, letters, b"\\b\\v\\f\\r.\n", None)?);
-    assert!(rt; gives(alloc, 4, b"\\1011\t\\x41\t\\x\t\\8", b"A1\tA\tx\t8\n", None)?);
-    assert!(rt; gives(alloc, 1, b"\\777\n\\400\n", b"\xFF\n\0\n", None)?);
-    assert!(rt; gives(alloc, 1, b"\\x4G\n", b"\x04G\n", None)?);
-    Ok(())
+fn escapes_spell_their_bytes(rt: HostRuntime) {
+    assert!(rt; all_give(rt.alloc(), &ESCAPES));
 }
+
+const FAULTS: [File; 4] = [
+    (1, b"a\nb\r\n", b"a\n", Some(TextFault::RawReturn)),
+    (1, b"a\\", b"", Some(TextFault::LoneBackslash)),
+    (2, b"\n", b"", Some(TextFault::Columns(1))),
+    (1, b"a\nb\tc\n", b"a\n", Some(TextFault::Columns(2))),
+];
 
 #[test]
-fn faults_stand_in_the_place_of_rows(rt: HostRuntime) -> Result<(), Fail> {
-    let alloc = rt.alloc();
-    let returned = Some(TextFault::RawReturn);
-    assert!(rt; gives(alloc, 1, b"a\nb\r\n", b"a\n", returned)?);
-    let lone = Some(TextFault::LoneBackslash);
-    assert!(rt; gives(alloc, 1, b"a\\", b"", lone)?);
-    let one = Some(TextFault::Columns(1));
-    assert!(rt; gives(alloc, 2, b"\n", b"", one)?);
-    let two = Some(TextFault::Columns(2));
-    assert!(rt; gives(alloc, 1, b"a\nb\tc\n", b"a\n", two)?);
-    Ok(())
+fn faults_stand_in_the_place_of_rows(rt: HostRuntime) {
+    assert!(rt; all_give(rt.alloc(), &FAULTS));
 }
 
-/// Whether two rows come at the end of the input, and then none.
-fn gives_what_is_left(alloc: Global) -> bool {
-    let mut reader = TextReader::new(alloc, Some(1));
-    let pushed = reader.push(b"a\nb");
-    let first = reader.finish();
-    let second = reader.finish();
-    let third = reader.finish();
-    pushed == Ok(()) && is_row(&first) && is_row(&second) && third == Ok(None)
+// ---- a reader's calls, one by one
+
+/// Whether a new reader of one column answers each call so.
+fn of_one(alloc: Global, steps: &[(Call, Answer)]) -> bool {
+    let mut reader = reader(alloc, 1);
+    answers(&mut reader, steps)
 }
+
+/// Whether a new reader of any number of columns answers each call so.
+fn of_any(alloc: Global, steps: &[(Call, Answer)]) -> bool {
+    let mut reader = TextReader::new(alloc, None);
+    answers(&mut reader, steps)
+}
+
+const LEFT: [(Call, Answer); 4] = [
+    (Call::Push(b"a\nb"), Taken),
+    (Call::Finish, Row),
+    (Call::Finish, Row),
+    (Call::Finish, Nothing),
+];
 
 #[test]
 fn rows_are_left_at_the_end(rt: HostRuntime) {
-    assert!(rt; gives_what_is_left(rt.alloc()));
+    assert!(rt; of_one(rt.alloc(), &LEFT));
 }
 
-/// Whether each call after a line with a fault answers it.
-fn fails_for_good(alloc: Global) -> bool {
-    let mut reader = TextReader::new(alloc, Some(1));
-    let pushed = reader.push(b"a\tb\nb\n");
-    let rows = [reader.next(), reader.next()];
-    let refused = reader.push(b"c\n");
-    let last = reader.finish();
-    let fault = TextFault::Columns(2);
-    pushed == Ok(())
-        && rows == [Err(fault), Err(fault)]
-        && refused == Err(fault)
-        && last == Err(fault)
-        && !reader.done()
-}
+const TWO_COLUMNS: Answer = Answer::Fault(Fault::Text(TextFault::Columns(2)));
+
+const FAILED: [(Call, Answer); 6] = [
+    (Call::Push(b"a\tb\nb\n"), Taken),
+    (Call::Next, TWO_COLUMNS),
+    (Call::Next, TWO_COLUMNS),
+    (Call::Push(b"c\n"), TWO_COLUMNS),
+    (Call::Finish, TWO_COLUMNS),
+    (Call::Done, Is(false)),
+];
 
 #[test]
 fn a_fault_is_answered_for_good(rt: HostRuntime) {
-    assert!(rt; fails_for_good(rt.alloc()));
+    assert!(rt; of_one(rt.alloc(), &FAILED));
 }
 
-/// Whether the reader is done after the end mark, and takes what comes then.
-fn stops_at_the_mark(alloc: Global) -> bool {
-    let mut reader = TextReader::new(alloc, None);
-    let pushed = reader.push(b"a\tb\n\\.\nc");
-    let row = reader.next();
-    let before = reader.done();
-    let mark = reader.next();
-    let after = reader.done();
-    let dropped = reader.push(b"d\n");
-    let none = reader.next();
-    pushed == Ok(())
-        && is_row(&row)
-        && !before
-        && mark == Ok(None)
-        && after
-        && dropped == Ok(())
-        && none == Ok(None)
-}
+const MARKED: [(Call, Answer); 7] = [
+    (Call::Push(b"a\tb\n\\.\nc"), Taken),
+    (Call::Next, Row),
+    (Call::Done, Is(false)),
+    (Call::Next, Nothing),
+    (Call::Done, Is(true)),
+    (Call::Push(b"d\n"), Taken),
+    (Call::Next, Nothing),
+];
 
 #[test]
 fn a_reader_is_done_after_the_mark(rt: HostRuntime) {
-    assert!(rt; stops_at_the_mark(rt.alloc()));
+    assert!(rt; of_any(rt.alloc(), &MARKED));
 }
 
-/// Whether the reader has ended once `finish` was called.
-fn ends(alloc: Global) -> bool {
-    let mut reader = TextReader::new(alloc, None);
-    let before = reader.ended();
-    let none = reader.finish();
-    !before && none == Ok(None) && reader.ended() && !reader.done()
-}
+const ENDED: [(Call, Answer); 4] = [
+    (Call::Ended, Is(false)),
+    (Call::Finish, Nothing),
+    (Call::Ended, Is(true)),
+    (Call::Done, Is(false)),
+];
 
 #[test]
 fn a_reader_ends(rt: HostRuntime) {
-    assert!(rt; ends(rt.alloc()));
+    assert!(rt; of_any(rt.alloc(), &ENDED));
 }
 
-/// A row of a tab between letters, a null, an empty value and the value `\N`.
-fn row(alloc: Global) -> Result<Row, AllocError> {
-    let values = vec![in alloc;
-        Some(bytes_of(alloc, b"a\tb")?),
-        None,
-        Some(bytes_of(alloc, b"")?),
-        Some(bytes_of(alloc, b"\\N")?),
-    ]?;
-    Ok(Seq::new(values))
+const PLACE_OF_A_FAULT: [(Call, Answer); 6] = [
+    (Call::Push(b"a\r\n\\\n\r\nd\te\r\n"), Taken),
+    (Call::Next, Row),
+    (Call::Next, Row),
+    (Call::Next, TWO_COLUMNS),
+    (Call::RowsGiven, Answer::Count(2)),
+    (Call::Offset, Answer::Count(7)),
+];
+
+// the last line is open
+const END: [(Call, Answer); 7] = [
+    (Call::Push(b"a\rbc"), Taken),
+    (Call::Finish, Row),
+    (Call::Offset, Answer::Count(2)),
+    (Call::Finish, Row),
+    (Call::Finish, Nothing),
+    (Call::RowsGiven, Answer::Count(2)),
+    (Call::Offset, Answer::Count(4)),
+];
+
+#[test]
+fn a_reader_of_text_tells_places(rt: HostRuntime) {
+    assert!(rt; of_one(rt.alloc(), &PLACE_OF_A_FAULT));
+    assert!(rt; of_one(rt.alloc(), &END));
+}
+
+// ---- what is written
+
+const ROWS: [WrittenRow; 2] = [
+    (
+        &[Some(b"a\tb"), None, Some(b""), Some(b"\\N")],
+        Ok(()),
+        b"a\\tb\t\\N\t\t\\\\N\n",
+    ),
+    (&[], Err(RowFault::Width(0)), b"a\\tb\t\\N\t\t\\\\N\n"),
+];
+
+#[test]
+fn rows_are_written(rt: HostRuntime) {
+    assert!(rt; writes(rt.alloc(), None, &ROWS) == Ok(true));
+}
+
+/// Whether these fields are written so, one after the other.
+fn write_fields(alloc: Global, fields: &[Option<&[u8]>], wanted: &[u8]) -> bool {
+    let mut line = Vec::new(alloc);
+    for field in fields {
+        if write_text_field(*field, &mut line) != Ok(()) {
+            return false;
+        }
+    }
+    line.as_slice() == wanted
 }
 
 #[test]
-fn rows_are_written(rt: HostRuntime) -> Result<(), Fail> {
-    let alloc = rt.alloc();
-    let mut lines = Vec::new(alloc);
-    write_text_row(&row(alloc)?, &mut lines)?;
-    assert_eq!(rt; lines.as_slice(), b"a\\tb\t\\N\t\t\\\\N\n".as_slice());
-    let none: Row = Seq::new(Vec::new(alloc));
-    assert_eq!(rt; write_text_row(&none, &mut lines), Err(RowFault::Width(0)));
-    Ok(())
-}
-
-#[test]
-fn fields_are_written_one_by_one(rt: HostRuntime) -> Result<(), Fail> {
-    let mut line = Vec::new(rt.alloc());
-    write_text_field(None, &mut line)?;
-    write_text_field(Some(b"a\tb\\"), &mut line)?;
-    assert_eq!(rt; line.as_slice(), b"\\Na\\tb\\\\".as_slice());
-    Ok(())
+fn fields_are_written_one_by_one(rt: HostRuntime) {
+    assert!(rt; write_fields(rt.alloc(), &[None, Some(b"a\tb\\")], b"\\Na\\tb\\\\"));
 }

@@ -1,112 +1,85 @@
-//! Backends, by what they answer.
+//! Pairs, by how their backends ask for a password and what they answer.
 
 ghost use Rattle.std.specs.Prelude.{◌≡◌, IfOk};
 ghost use Rattle.pg_backend.specs.Check.{IsChecked};
 ghost use Rattle.pg_wire.specs.Direction.{IsLimit};
 
+use super::events::{text, values};
 use pg_backend::{Answer, Auth, Load, Script, ScriptPart};
 use pg_client::Settings;
 use pg_pair::{Carry, Pair};
-use pg_wire::{
-    Aside, Column, CopyHead, ExecEnd, Fields, Request, Seq, Status, Step, Target, Values,
-};
+use pg_wire::{Aside, Column, CopyHead, ExecEnd, Fields, Seq, Status, Values};
 use std::alloc::{AllocError, Global};
-use std::test::Fail;
 
-// What a backend answers to one request.
+/// The password that is right.
+pub const SECRET: &[u8] = b"secret";
+
+/// How a backend asks for it.
+#[derive(Clone, Copy)]
+pub enum Question {
+    /// It doesn't.
+    Trust,
+    Cleartext,
+    Md5,
+}
+
+/// What a backend answers to one request.
 #[derive(Clone, Copy)]
 pub enum Reply {
-    // A row of one value, under a column `n`.
+    /// A row of one value, under a column `n`.
     Row,
-    // Two commands and an error.
+    /// Two commands and an error.
     Failing,
-    // A command with a notice before it.
+    /// A command with a notice before it.
     Told,
-    // A command.
+    /// A command.
     Command,
-    // A command within a transaction.
+    /// A command within a transaction.
     InBlock,
-    // A command whose tag is longer than the client takes.
+    /// A command whose tag is longer than the client takes.
     Long,
-    // A copy from the client that is taken.
+    /// A copy from the client that is taken.
     Accepting,
-    // A copy from the client that is refused with the chunk of this number.
+    /// A copy from the client that is refused with the chunk of this number.
     Refusing(u32),
-    // An answer to each step of a group.
+    /// An answer to each step of a group.
     Steps,
-    // An answer to the first step of a group, and an error, in this status.
+    /// An answer to the first step of a group, and an error, in this status.
     FailingStep(Status),
 }
 
-pub fn text(alloc: Global, bytes: &[u8]) -> Result<Seq<u8>, AllocError> {
-    Seq::from_slice(alloc, bytes)
+/// The two ends of a pair.
+#[derive(Clone, Copy)]
+pub struct Ends<'a> {
+    pub question: Question,
+    /// What the client has, if it has one.
+    pub password: Option<&'static [u8]>,
+    /// Whether the client's further pairs name another user.
+    pub other_user: bool,
+    pub replies: &'a [Reply],
 }
 
-pub fn query(alloc: Global, bytes: &[u8]) -> Result<Request, AllocError> {
-    Ok(Request::Query(text(alloc, bytes)?))
+/// A backend that asks for no password, and answers so.
+pub fn answering<'a>(replies: &'a [Reply]) -> Ends<'a> {
+    Ends {
+        question: Question::Trust,
+        password: None,
+        other_user: false,
+        replies,
+    }
 }
 
-fn parse(alloc: Global) -> Result<Step, AllocError> {
-    Ok(Step::Parse {
-        name: text(alloc, b"s")?,
-        text: text(alloc, b"SELECT $1")?,
-        types: Seq::new(vec![in alloc; 25]?),
-    })
+/// A backend that asks so, and answers a row, and a client with this password.
+pub fn asking(question: Question, password: Option<&'static [u8]>) -> Ends<'static> {
+    Ends {
+        question,
+        password,
+        other_user: false,
+        replies: &[Reply::Row],
+    }
 }
 
-fn bind(alloc: Global) -> Result<Step, AllocError> {
-    Ok(Step::Bind {
-        portal: text(alloc, b"p")?,
-        statement: text(alloc, b"s")?,
-        formats: Seq::new(Vec::new(alloc)),
-        values: row_values(alloc)?,
-        result_formats: Seq::new(Vec::new(alloc)),
-    })
-}
-
-fn describe(alloc: Global) -> Result<Step, AllocError> {
-    Ok(Step::Describe {
-        target: Target::Portal,
-        name: text(alloc, b"p")?,
-    })
-}
-
-fn execute(alloc: Global) -> Result<Step, AllocError> {
-    Ok(Step::Execute {
-        portal: text(alloc, b"p")?,
-        max_rows: 0,
-    })
-}
-
-// A query without parameters is prepared, bound and run, and nothing has a name.
-pub fn unnamed_group(alloc: Global) -> Result<Request, AllocError> {
-    let parse = Step::Parse {
-        name: text(alloc, b"")?,
-        text: text(alloc, b"SELECT")?,
-        types: Seq::new(Vec::new(alloc)),
-    };
-    let bind = Step::Bind {
-        portal: text(alloc, b"")?,
-        statement: text(alloc, b"")?,
-        formats: Seq::new(Vec::new(alloc)),
-        values: Values::new(alloc),
-        result_formats: Seq::new(Vec::new(alloc)),
-    };
-    let execute = Step::Execute {
-        portal: text(alloc, b"")?,
-        max_rows: 0,
-    };
-    Ok(Request::Group(Seq::new(vec![in alloc; parse, bind, execute]?)))
-}
-
-// A query with one parameter is prepared, bound, described and run.
-pub fn group(alloc: Global) -> Result<Request, AllocError> {
-    let mut steps = vec![in alloc; parse(alloc)?]?;
-    steps.push(bind(alloc)?)?;
-    steps.push(describe(alloc)?)?;
-    steps.push(execute(alloc)?)?;
-    Ok(Request::Group(Seq::new(steps)))
-}
+// ---- what answers are made of
 
 fn column(alloc: Global, name: &[u8]) -> Result<Column, AllocError> {
     Ok(Column {
@@ -124,12 +97,8 @@ pub fn columns(alloc: Global) -> Result<Seq<Column>, AllocError> {
     Ok(Seq::new(vec![in alloc; column(alloc, b"n")?]?))
 }
 
-fn row_values(alloc: Global) -> Result<Values, AllocError> {
-    Values::from_slice(alloc, &[Some(b"1")]).map_err(|_| AllocError)
-}
-
 pub fn rows(alloc: Global) -> Result<Seq<Values>, AllocError> {
-    Ok(Seq::new(vec![in alloc; row_values(alloc)?]?))
+    Ok(Seq::new(vec![in alloc; values(alloc, &[Some(b"1")])?]?))
 }
 
 fn row(alloc: Global) -> Result<ScriptPart, AllocError> {
@@ -148,7 +117,7 @@ fn long(alloc: Global) -> Result<ScriptPart, AllocError> {
     Ok(ScriptPart::Command(Seq::new(vec![in alloc; b'A'; 70_000]?)))
 }
 
-// One column, in text.
+/// One column, in text.
 pub fn head(alloc: Global) -> Result<CopyHead, AllocError> {
     Ok(CopyHead {
         binary: false,
@@ -156,26 +125,24 @@ pub fn head(alloc: Global) -> Result<CopyHead, AllocError> {
     })
 }
 
-// Fields, each given by its code and its text.
+/// Fields, each given by its code and its text.
 pub fn all_fields(alloc: Global, list: &[(u8, &[u8])]) -> Result<Fields, AllocError> {
     Fields::from_slice(alloc, list).map_err(|_| AllocError)
 }
 
-// Fields of one message.
+/// Fields of one message.
 pub fn fields(alloc: Global, message: &[u8]) -> Result<Fields, AllocError> {
     all_fields(alloc, &[(b'M', message)])
 }
 
-// Fields of an error.
-pub fn failure(alloc: Global) -> Result<Fields, AllocError> {
-    all_fields(alloc, &[(b'C', b"XX000"), (b'M', b"bad")])
-}
+/// The fields of each error that a backend answers.
+pub const FAILURE: &[(u8, &[u8])] = &[(b'C', b"XX000"), (b'M', b"bad")];
 
 fn load(alloc: Global, reply: Reply) -> Result<Load, AllocError> {
     match reply {
         Reply::Refusing(after) => Ok(Load::Refuse {
             after,
-            fields: failure(alloc)?,
+            fields: all_fields(alloc, FAILURE)?,
         }),
         _ => Ok(Load::Accept(text(alloc, b"COPY 2")?)),
     }
@@ -214,21 +181,22 @@ fn executed(alloc: Global) -> Result<ScriptPart, AllocError> {
     })
 }
 
-// The answers to all steps of a group.
-fn step_parts(alloc: Global, first: ScriptPart) -> Result<Vec<ScriptPart>, AllocError> {
-    let mut parts = vec![in alloc; first, ScriptPart::Bound]?;
+/// Appends the answers to the other steps of a group.
+fn push_steps(alloc: Global, parts: &mut Vec<ScriptPart>) -> Result<(), AllocError> {
+    parts.push(ScriptPart::Bound)?;
     parts.push(described(alloc)?)?;
     parts.push(executed(alloc)?)?;
-    Ok(parts)
+    Ok(())
 }
 
 fn parts(alloc: Global, reply: Reply) -> Result<Vec<ScriptPart>, AllocError> {
-    let first = first_part(alloc, reply)?;
-    Ok(match reply {
-        Reply::Failing => vec![in alloc; first, command(alloc, b"B")?]?,
-        Reply::Steps => step_parts(alloc, first)?,
-        _ => vec![in alloc; first]?,
-    })
+    let mut parts = vec![in alloc; first_part(alloc, reply)?]?;
+    match reply {
+        Reply::Failing => parts.push(command(alloc, b"B")?)?,
+        Reply::Steps => push_steps(alloc, &mut parts)?,
+        _ => {}
+    }
+    Ok(parts)
 }
 
 fn before(alloc: Global, reply: Reply) -> Result<Seq<Aside>, AllocError> {
@@ -240,7 +208,7 @@ fn before(alloc: Global, reply: Reply) -> Result<Seq<Aside>, AllocError> {
 
 fn error(alloc: Global, reply: Reply) -> Result<Option<Fields>, AllocError> {
     match reply {
-        Reply::Failing | Reply::FailingStep(_) => Ok(Some(failure(alloc)?)),
+        Reply::Failing | Reply::FailingStep(_) => Ok(Some(all_fields(alloc, FAILURE)?)),
         _ => Ok(None),
     }
 }
@@ -271,23 +239,38 @@ fn answers(alloc: Global, replies: &[Reply]) -> Result<Vec<Answer>, AllocError> 
     Ok(answers)
 }
 
-// A script that asks so, and whose answers are these, in their order.
-fn script(alloc: Global, auth: Auth, replies: &[Reply]) -> Result<Script, AllocError> {
+// ---- pairs
+
+fn auth(alloc: Global, question: Question) -> Result<Auth, AllocError> {
+    match question {
+        Question::Trust => Ok(Auth::Trust),
+        Question::Cleartext => Ok(Auth::Cleartext(text(alloc, SECRET)?)),
+        Question::Md5 => Ok(Auth::Md5 {
+            password: text(alloc, SECRET)?,
+            salt: [7, 0, 91, 200],
+        }),
+    }
+}
+
+/// A script that asks so, and whose answers are these, in their order.
+fn script(alloc: Global, question: Question, replies: &[Reply]) -> Result<Script, AllocError> {
     Ok(Script {
-        auth,
+        auth: auth(alloc, question)?,
         pairs: Seq::new(Vec::new(alloc)),
         key: None,
         answers: Seq::new(answers(alloc, replies)?),
     })
 }
 
-// Such a script, which can be played.
-pub fn checked(alloc: Global, auth: Auth, replies: &[Reply]) -> Result<Script, Fail>
+/// Such a script, which can be played.
+pub fn checked(alloc: Global, question: Question, replies: &[Reply]) -> Result<Script, AllocError>
     ensures { IfOk result IsChecked }
 {
-    let script = script(alloc, auth, replies)?;
-    script.check(alloc)?;
-    Ok(script)
+    let script = script(alloc, question, replies)?;
+    match script.check(alloc) {
+        Ok(()) => Ok(script),
+        Err(_) => Err(AllocError),
+    }
 }
 
 fn optional(alloc: Global, bytes: Option<&[u8]>) -> Result<Option<Seq<u8>>, AllocError> {
@@ -297,34 +280,33 @@ fn optional(alloc: Global, bytes: Option<&[u8]>) -> Result<Option<Seq<u8>>, Allo
     }
 }
 
-// A client of the user `u` that has this password, or none.
-pub fn settings(alloc: Global, password: Option<&[u8]>) -> Result<Settings, AllocError>
+fn further_pairs(alloc: Global, other_user: bool) -> Result<Vec<(Seq<u8>, Seq<u8>)>, AllocError> {
+    if !other_user {
+        return Ok(Vec::new(alloc));
+    }
+    Ok(vec![in alloc; (text(alloc, b"user")?, text(alloc, b"v")?)]?)
+}
+
+/// A client of the user `u` that has this password, or none.
+pub fn settings(
+    alloc: Global,
+    password: Option<&[u8]>,
+    other_user: bool,
+) -> Result<Settings, AllocError>
     ensures { IfOk result (λ s. s.limit ≡ 65536) }
 {
     Ok(Settings {
         user: text(alloc, b"u")?,
         database: None,
-        pairs: Seq::new(Vec::new(alloc)),
+        pairs: Seq::new(further_pairs(alloc, other_user)?),
         password: optional(alloc, password)?,
         limit: 65_536,
     })
 }
 
-// A pair of that client, without a password, and a backend with these answers that asks for none.
-pub fn pair<C: Carry>(alloc: Global, replies: &[Reply], carrier: C) -> Result<Pair<C>, Fail> {
-    let script = checked(alloc, Auth::Trust, replies)?;
-    Ok(Pair::new(alloc, settings(alloc, None)?, script, carrier))
-}
-
-// A pair of a client with these settings and a backend that asks so and answers a row.
-pub fn asking_pair<C: Carry>(
-    alloc: Global,
-    auth: Auth,
-    settings: Settings,
-    carrier: C,
-) -> Result<Pair<C>, Fail>
-    requires { IsLimit settings.limit }
-{
-    let script = checked(alloc, auth, &[Reply::Row])?;
+/// A pair of these ends.
+pub fn pair<C: Carry>(alloc: Global, ends: Ends<'_>, carrier: C) -> Result<Pair<C>, AllocError> {
+    let script = checked(alloc, ends.question, ends.replies)?;
+    let settings = settings(alloc, ends.password, ends.other_user)?;
     Ok(Pair::new(alloc, settings, script, carrier))
 }

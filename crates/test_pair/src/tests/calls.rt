@@ -1,166 +1,155 @@
 //! What is answered to events.
 
-use super::answers::{Reply, pair, query};
+use super::answers::{Reply, answering};
 use super::claims::Claim;
-use super::{ASKED, Plan, asks, chunk, fail, happened, judge, start, started};
+use super::events::{ASKS, TableEvent, TableRequest};
+use super::wanted::TableAnswer;
+use super::{Plan, happened, judge, started};
 use pg_backend::BackPhase;
-use pg_client::{CallFault, Cause, FeedFault, Phase};
-use pg_pair::{Applied, Call, Direct, Event};
-use pg_wire::{EncodeFault, Request, WireFault};
+use pg_client::{CallFault, Cause, Phase};
+use pg_pair::Direct;
+use pg_wire::{EncodeFault, WireFault};
 use std::alloc::Global;
-use std::test::Fail;
 
-// Whether each of the events is answered so, by a pair that is new.
-fn all_come_to(
-    alloc: Global,
-    reply: Reply,
-    events: &[Event],
-    wanted: &Applied,
-) -> Result<bool, Fail> {
+const ASKS_B: TableEvent = TableEvent::Request(TableRequest::Query(b"B"));
+
+const CHUNK: TableEvent = TableEvent::Chunk(b"1\n");
+
+/// Whether each of the events is answered so, by a pair that is new.
+fn all_come_to(alloc: Global, reply: Reply, list: &[TableEvent], answer: TableAnswer) -> bool {
     judge(
         alloc,
-        pair(alloc, &[reply], Direct)?,
+        answering(&[reply]),
+        Direct,
         happened(&[]),
-        &[Claim::Answer(events, wanted)],
+        &[Claim::Answer(list, answer)],
     )
 }
 
-#[test]
-fn a_session_goes_on_event_by_event(rt: HostRuntime) -> Result<(), Fail> {
-    let events = [
-        start(),
-        Event::ToBackend(16),
-        Event::Step,
-        Event::ToClient(15),
-        asks(rt.alloc(), ASKED)?,
-        Event::ToBackend(14),
-        Event::Step,
-        Event::ToClient(4_096),
-        chunk(rt.alloc(), b"1\n")?,
-        Event::Call(Call::Done),
-        Event::Call(Call::Terminate),
-        Event::BreakToBackend,
-    ];
-    assert!(rt; all_come_to(rt.alloc(), Reply::Accepting, &events, &Applied::Done)?);
-    Ok(())
-}
+const SESSION: [TableEvent; 12] = [
+    TableEvent::Start,
+    TableEvent::ToBackend(16),
+    TableEvent::Step,
+    TableEvent::ToClient(15),
+    ASKS,
+    TableEvent::ToBackend(14),
+    TableEvent::Step,
+    TableEvent::ToClient(4_096),
+    CHUNK,
+    TableEvent::Done,
+    TableEvent::Terminate,
+    TableEvent::BreakToBackend,
+];
 
 #[test]
-fn without_bytes_nothing_is_done(rt: HostRuntime) -> Result<(), Fail> {
-    let events = [Event::Step, Event::ToBackend(4_096), Event::ToClient(4_096)];
-    assert!(rt; all_come_to(rt.alloc(), Reply::Row, &events, &Applied::Nothing)?);
-    Ok(())
+fn a_session_goes_on_event_by_event(rt: HostRuntime) {
+    assert!(rt; all_come_to(rt.alloc(), Reply::Accepting, &SESSION, TableAnswer::Done));
 }
 
-// The request that is handed back.
-fn handed_back(call: &Event) -> Result<Option<Request>, Fail> {
-    match call {
-        Event::Call(Call::Request(request)) => Ok(Some(request.clone()?)),
-        _ => Ok(None),
+const WITHOUT_BYTES: [TableEvent; 3] = [
+    TableEvent::Step,
+    TableEvent::ToBackend(4_096),
+    TableEvent::ToClient(4_096),
+];
+
+#[test]
+fn without_bytes_nothing_is_done(rt: HostRuntime) {
+    assert!(rt; all_come_to(rt.alloc(), Reply::Row, &WITHOUT_BYTES, TableAnswer::Nothing));
+}
+
+/// Whether the call is refused so after what the plan says, and a second time.
+fn refuses(alloc: Global, plan: Plan<'_>, call: TableEvent, fault: CallFault) -> bool {
+    let twice = [call, call];
+    let claims = [Claim::Answer(&twice, TableAnswer::Refused(fault))];
+    judge(alloc, answering(&[Reply::Row]), Direct, plan, &claims)
+}
+
+/// Whether each of these calls is refused with its fault after what the plan says, each by a pair of its own.
+fn all_refused(alloc: Global, plan: Plan<'_>, calls: &[(TableEvent, CallFault)]) -> bool {
+    for (call, fault) in calls {
+        if !refuses(alloc, plan, *call, *fault) {
+            return false;
+        }
     }
+    true
 }
 
-// Whether the call is refused so after what the plan says, and a second time.
-fn refuses(alloc: Global, plan: Plan<'_>, call: Event, fault: CallFault) -> Result<bool, Fail> {
-    let request = handed_back(&call)?;
-    let wanted = Applied::Refused { request, fault };
-    let twice = [call.clone()?, call];
-    judge(
-        alloc,
-        pair(alloc, &[Reply::Row], Direct)?,
-        plan,
-        &[Claim::Answer(&twice, &wanted)],
-    )
+const NEW: CallFault = CallFault::NotReady(Phase::New);
+
+const REQUESTS: [(TableEvent, CallFault); 2] = [(ASKS_B, NEW), (TableEvent::Terminate, NEW)];
+
+#[test]
+fn without_a_start_requests_are_refused(rt: HostRuntime) {
+    assert!(rt; all_refused(rt.alloc(), happened(&[]), &REQUESTS));
+}
+
+const NO_COPY: CallFault = CallFault::NotCopying(Phase::New);
+
+const COPY_CALLS: [(TableEvent, CallFault); 3] = [
+    (CHUNK, NO_COPY),
+    (TableEvent::Done, NO_COPY),
+    (TableEvent::Fail(b"why"), NO_COPY),
+];
+
+#[test]
+fn without_a_start_copy_calls_are_refused(rt: HostRuntime) {
+    assert!(rt; all_refused(rt.alloc(), happened(&[]), &COPY_CALLS));
+}
+
+const BUSY: CallFault = CallFault::NotReady(Phase::Busy);
+
+const BEFORE_THE_ANSWER: [(TableEvent, CallFault); 3] = [
+    (TableEvent::Start, BUSY),
+    (ASKS_B, BUSY),
+    (CHUNK, CallFault::NotCopying(Phase::Busy)),
+];
+
+#[test]
+fn before_the_answer_calls_are_refused(rt: HostRuntime) {
+    assert!(rt; all_refused(rt.alloc(), started(&[ASKS]), &BEFORE_THE_ANSWER));
 }
 
 #[test]
-fn without_a_start_requests_are_refused(rt: HostRuntime) -> Result<(), Fail> {
-    let fault = CallFault::NotReady(Phase::New);
-    let asked = asks(rt.alloc(), b"B")?;
-    assert!(rt; refuses(rt.alloc(), happened(&[]), asked, fault)?);
-    let end = Event::Call(Call::Terminate);
-    assert!(rt; refuses(rt.alloc(), happened(&[]), end, fault)?);
-    Ok(())
-}
-
-#[test]
-fn without_a_start_copy_calls_are_refused(rt: HostRuntime) -> Result<(), Fail> {
-    let fault = CallFault::NotCopying(Phase::New);
-    let handed = chunk(rt.alloc(), b"1\n")?;
-    assert!(rt; refuses(rt.alloc(), happened(&[]), handed, fault)?);
-    let done = Event::Call(Call::Done);
-    assert!(rt; refuses(rt.alloc(), happened(&[]), done, fault)?);
-    let failed = fail(rt.alloc(), b"why")?;
-    assert!(rt; refuses(rt.alloc(), happened(&[]), failed, fault)?);
-    Ok(())
-}
-
-#[test]
-fn before_the_answer_calls_are_refused(rt: HostRuntime) -> Result<(), Fail> {
-    let asked = [asks(rt.alloc(), ASKED)?];
-    let fault = CallFault::NotReady(Phase::Busy);
-    assert!(rt; refuses(rt.alloc(), started(&asked), start(), fault)?);
-    let next = asks(rt.alloc(), b"B")?;
-    assert!(rt; refuses(rt.alloc(), started(&asked), next, fault)?);
-    let handed = chunk(rt.alloc(), b"1\n")?;
-    let fault = CallFault::NotCopying(Phase::Busy);
-    assert!(rt; refuses(rt.alloc(), started(&asked), handed, fault)?);
-    Ok(())
-}
-
-#[test]
-fn what_has_no_spelling_is_refused(rt: HostRuntime) -> Result<(), Fail> {
+fn what_has_no_spelling_is_refused(rt: HostRuntime) {
+    let asks = TableEvent::Request(TableRequest::Query(b"\0"));
     let fault = CallFault::Encode(EncodeFault::HasZero);
-    let asked = asks(rt.alloc(), b"\0")?;
-    assert!(rt; refuses(rt.alloc(), started(&[]), asked, fault)?);
-    Ok(())
+    assert!(rt; refuses(rt.alloc(), started(&[]), asks, fault));
 }
 
-// Whether this holds after these events, where the client was let in.
-fn holds(
-    alloc: Global,
-    reply: Reply,
-    events: &[Event],
-    claims: &[Claim<'_, '_>],
-) -> Result<bool, Fail> {
-    judge(
-        alloc,
-        pair(alloc, &[reply], Direct)?,
-        started(events),
-        claims,
-    )
+/// Whether this holds after these events, where the client was let in.
+fn comes_to(alloc: Global, reply: Reply, list: &[TableEvent], claims: &[Claim<'_, '_>]) -> bool {
+    judge(alloc, answering(&[reply]), Direct, started(list), claims)
 }
 
-#[test]
-fn after_a_refusal_the_answer_settles(rt: HostRuntime) -> Result<(), Fail> {
-    let events = [
-        asks(rt.alloc(), ASKED)?,
-        asks(rt.alloc(), b"B")?,
-        Event::ToBackend(4_096),
-        Event::Step,
-        Event::ToClient(4_096),
-    ];
-    let claims = [
-        Claim::Settled(1),
-        Claim::Stand(Phase::Ready, BackPhase::Ready),
-    ];
-    assert!(rt; holds(rt.alloc(), Reply::Row, &events, &claims)?);
-    Ok(())
-}
+const REFUSED_BETWEEN: [TableEvent; 5] = [
+    ASKS,
+    ASKS_B,
+    TableEvent::ToBackend(4_096),
+    TableEvent::Step,
+    TableEvent::ToClient(4_096),
+];
+
+const ONE_SETTLED: [Claim<'static, 'static>; 2] = [
+    Claim::Settled(1),
+    Claim::Stand(Phase::Ready, BackPhase::Ready),
+];
 
 #[test]
-fn a_fault_of_the_client_is_answered(rt: HostRuntime) -> Result<(), Fail> {
-    let events = [
-        asks(rt.alloc(), ASKED)?,
-        Event::ToBackend(4_096),
-        Event::Step,
-    ];
-    let delivery = [Event::ToClient(4_096)];
-    let wanted = Applied::Client(FeedFault::Wire(WireFault::LongLength(70_005)));
-    let claims = [
-        Claim::Answer(&delivery, &wanted),
-        Claim::Stand(Phase::Closed(Cause::Wire), BackPhase::Ready),
-    ];
-    assert!(rt; holds(rt.alloc(), Reply::Long, &events, &claims)?);
-    Ok(())
+fn after_a_refusal_the_answer_settles(rt: HostRuntime) {
+    assert!(rt; comes_to(rt.alloc(), Reply::Row, &REFUSED_BETWEEN, &ONE_SETTLED));
+}
+
+const UP_TO_THE_ANSWER: [TableEvent; 3] = [ASKS, TableEvent::ToBackend(4_096), TableEvent::Step];
+
+const TOO_LONG: [Claim<'static, 'static>; 2] = [
+    Claim::Answer(
+        &[TableEvent::ToClient(4_096)],
+        TableAnswer::Wire(WireFault::LongLength(70_005)),
+    ),
+    Claim::Stand(Phase::Closed(Cause::Wire), BackPhase::Ready),
+];
+
+#[test]
+fn a_fault_of_the_client_is_answered(rt: HostRuntime) {
+    assert!(rt; comes_to(rt.alloc(), Reply::Long, &UP_TO_THE_ANSWER, &TOO_LONG));
 }

@@ -1,24 +1,25 @@
 //! Carriers with a flaw.
 
-use super::answers::{Reply, pair};
+use super::answers::{Reply, answering};
 use super::claims::Claim;
-use super::{ASKED, asks, carried_out, happened, judge, start};
-use pg_pair::{Applied, Carry, CarryFault, Event, Way};
+use super::events::{ASKS, TableEvent};
+use super::wanted::TableAnswer;
+use super::{carried_out, happened, judge};
+use pg_pair::{Carry, CarryFault, Way};
 use std::alloc::Global;
-use std::test::Fail;
 
-// What becomes of a carrier's call.
+/// What becomes of a carrier's call.
 #[derive(Clone, Copy, PartialEq, Eq)]
 enum Flaw {
-    // The last byte is another one.
+    /// The last byte is another one.
     Differs,
-    // Half of the bytes arrive.
+    /// Half of the bytes arrive.
     Fewer,
-    // None arrives, and the carrier says so.
+    /// None arrives, and the carrier says so.
     Fails,
 }
 
-// Carries whole pieces, but for one call.
+/// Carries whole pieces, but for one call.
 #[derive(Drop)]
 struct Flawed {
     flaw: Flaw,
@@ -53,7 +54,7 @@ impl Carry for Flawed {
     }
 }
 
-// A carrier with a flaw in this call.
+/// A carrier with a flaw in this call.
 fn with_flaw(flaw: Flaw, at: u64) -> Flawed {
     Flawed {
         flaw,
@@ -63,69 +64,65 @@ fn with_flaw(flaw: Flaw, at: u64) -> Flawed {
     }
 }
 
-// Whether this holds where the client asks, and all that waits goes to and fro.
-fn holds(alloc: Global, carrier: Flawed, claims: &[Claim<'_, '_>]) -> Result<bool, Fail> {
-    let events = [start(), asks(alloc, ASKED)?];
+/// Whether this holds where the client asks, and all that waits goes to and fro, if this call of the carrier has a flaw.
+fn comes_to(alloc: Global, flaw: Flaw, at: u64, claims: &[Claim<'_, '_>]) -> bool {
     judge(
         alloc,
-        pair(alloc, &[Reply::Row], carrier)?,
-        carried_out(&events, 4_096),
+        answering(&[Reply::Row]),
+        with_flaw(flaw, at),
+        carried_out(&[TableEvent::Start, ASKS], 4_096),
         claims,
     )
 }
 
+const UNBROKEN: [Claim<'static, 'static>; 2] = [Claim::Broken(false, false), Claim::Settled(1)];
+
 #[test]
-fn fewer_bytes_break_nothing(rt: HostRuntime) -> Result<(), Fail> {
-    let claims = [Claim::Broken(false, false), Claim::Settled(1)];
+fn fewer_bytes_break_nothing(rt: HostRuntime) {
     for at in 1..=4 {
-        assert!(rt; holds(rt.alloc(), with_flaw(Flaw::Fewer, at), &claims)?);
+        assert!(rt; comes_to(rt.alloc(), Flaw::Fewer, at, &UNBROKEN));
     }
-    Ok(())
 }
 
-// The way that breaks at this call of the four that carry the row: the calls go to the backend and to the client in turn.
+/// The way that breaks at this call of the four that carry the row: the calls go to the backend and to the client in turn.
 fn broken_at(at: u64) -> [Claim<'static, 'static>; 2] {
     let to_backend = at % 2 == 1;
     [Claim::Broken(to_backend, !to_backend), Claim::Settled(0)]
 }
 
 #[test]
-fn other_bytes_break_a_way(rt: HostRuntime) -> Result<(), Fail> {
+fn other_bytes_break_a_way(rt: HostRuntime) {
     for at in 1..=4 {
-        assert!(rt; holds(rt.alloc(), with_flaw(Flaw::Differs, at), &broken_at(at))?);
+        assert!(rt; comes_to(rt.alloc(), Flaw::Differs, at, &broken_at(at)));
     }
-    Ok(())
 }
 
 #[test]
-fn a_failure_breaks_a_way(rt: HostRuntime) -> Result<(), Fail> {
+fn a_failure_breaks_a_way(rt: HostRuntime) {
     for at in 1..=4 {
-        assert!(rt; holds(rt.alloc(), with_flaw(Flaw::Fails, at), &broken_at(at))?);
+        assert!(rt; comes_to(rt.alloc(), Flaw::Fails, at, &broken_at(at)));
     }
-    Ok(())
 }
 
-// Whether the delivery of the startup packet of 16 bytes is answered so with that flaw, and so many bytes of it come.
-fn answers(alloc: Global, flaw: Flaw, wanted: &Applied, reached: usize) -> Result<bool, Fail> {
-    let first = [start()];
-    let delivery = [Event::ToBackend(100)];
+/// Whether the delivery of the startup packet of 16 bytes is answered so with that flaw, and so many bytes of it come.
+fn answers(alloc: Global, flaw: Flaw, answer: TableAnswer, reached: usize) -> bool {
     let claims = [
-        Claim::Answer(&delivery, wanted),
+        Claim::Answer(&[TableEvent::ToBackend(100)], answer),
         Claim::Reached(Way::ToBackend, reached),
     ];
     judge(
         alloc,
-        pair(alloc, &[Reply::Row], with_flaw(flaw, 1))?,
-        happened(&first),
+        answering(&[Reply::Row]),
+        with_flaw(flaw, 1),
+        happened(&[TableEvent::Start]),
         &claims,
     )
 }
 
 #[test]
-fn a_flaw_is_answered(rt: HostRuntime) -> Result<(), Fail> {
+fn a_flaw_is_answered(rt: HostRuntime) {
     let alloc = rt.alloc();
-    assert!(rt; answers(alloc, Flaw::Differs, &Applied::Carrier, 15)?);
-    assert!(rt; answers(alloc, Flaw::Fewer, &Applied::Done, 8)?);
-    assert!(rt; answers(alloc, Flaw::Fails, &Applied::Carrier, 0)?);
-    Ok(())
+    assert!(rt; answers(alloc, Flaw::Differs, TableAnswer::Carrier, 15));
+    assert!(rt; answers(alloc, Flaw::Fewer, TableAnswer::Done, 8));
+    assert!(rt; answers(alloc, Flaw::Fails, TableAnswer::Carrier, 0));
 }

@@ -1,105 +1,69 @@
 //! Groups of steps.
 
-use super::answers::{Reply, columns, failure, group, pair, rows, text};
+use super::answers::{FAILURE, Reply, answering};
 use super::claims::Claim;
-use super::{carried_out, judge, start};
+use super::events::{GROUP, TableEvent, TableRequest};
+use super::wanted::{TableGroup, TablePart};
+use super::{carried_out, judge};
 use pg_backend::BackPhase;
-use pg_client::{Phase, Settled};
-use pg_pair::{Call, Direct, Event};
-use pg_wire::{ExecEnd, Fields, Outcome, Part, Seq, Status};
-use std::alloc::{AllocError, Global};
-use std::test::Fail;
+use pg_client::Phase;
+use pg_pair::Direct;
+use pg_wire::Status;
+use std::alloc::Global;
 
-fn described(alloc: Global) -> Result<Part, AllocError> {
-    Ok(Part::Described {
-        parameters: None,
-        columns: Some(columns(alloc)?),
-    })
-}
+const ASKED: TableRequest = TableRequest::Group(&GROUP);
 
-fn executed(alloc: Global) -> Result<Part, AllocError> {
-    Ok(Part::Executed {
-        rows: rows(alloc)?,
-        end: ExecEnd::Complete(text(alloc, b"SELECT 1")?),
-    })
-}
+const CALLS: [TableEvent; 2] = [TableEvent::Start, TableEvent::Request(ASKED)];
 
-// What each step came to.
-fn all_parts(alloc: Global) -> Result<Vec<Part>, AllocError> {
-    let mut parts = vec![in alloc; Part::Parsed, Part::Bound]?;
-    parts.push(described(alloc)?)?;
-    parts.push(executed(alloc)?)?;
-    Ok(parts)
-}
+/// What each step came to.
+const WHOLE: [TableGroup; 1] = [TableGroup {
+    request: ASKED,
+    parts: &[
+        TablePart::Parsed,
+        TablePart::Bound,
+        TablePart::Described,
+        TablePart::Executed,
+    ],
+    error: None,
+    status: Status::Idle,
+    notice: None,
+}];
 
-fn settled(
-    alloc: Global,
-    parts: Vec<Part>,
-    error: Option<Fields>,
-    status: Status,
-) -> Result<Settled, AllocError> {
-    Ok(Settled {
-        request: group(alloc)?,
-        outcome: Outcome {
-            parts: Seq::new(parts),
-            error,
-            status,
-            asides: Seq::new(Vec::new(alloc)),
-        },
-    })
-}
+/// A group whose second step fails.
+const BROKEN_OFF: [TableGroup; 1] = [TableGroup {
+    request: ASKED,
+    parts: &[TablePart::Parsed],
+    error: Some(FAILURE),
+    status: Status::Failed,
+    notice: None,
+}];
 
-fn whole(alloc: Global) -> Result<Settled, AllocError> {
-    settled(alloc, all_parts(alloc)?, None, Status::Idle)
-}
-
-// A group whose second step fails.
-fn broken_off(alloc: Global) -> Result<Settled, AllocError> {
-    let parts = vec![in alloc; Part::Parsed]?;
-    let error = failure(alloc)?;
-    settled(alloc, parts, Some(error), Status::Failed)
-}
-
-fn asks_group(alloc: Global) -> Result<Event, AllocError> {
-    Ok(Event::Call(Call::Request(group(alloc)?)))
-}
-
-// Whether this alone is settled where the client asks for the group and is answered so, in deliveries of at most so many bytes; and a
-// client outside the pair settles it, too.
-fn settles(alloc: Global, reply: Reply, cut: u32, wanted: &[Settled]) -> Result<bool, Fail> {
-    let asks = [start(), asks_group(alloc)?];
+/// Whether this alone is settled where the client asks for the group and is answered so, in deliveries of at most so many bytes; and a
+/// client outside the pair settles it, too.
+fn settles(alloc: Global, reply: Reply, cut: u32, wanted: &[TableGroup]) -> bool {
     let claims = [
         Claim::Groups(wanted),
-        Claim::Alike(&asks),
+        Claim::Alike(&CALLS),
         Claim::Stand(Phase::Ready, BackPhase::Ready),
     ];
     judge(
         alloc,
-        pair(alloc, &[reply], Direct)?,
-        carried_out(&asks, cut),
+        answering(&[reply]),
+        Direct,
+        carried_out(&CALLS, cut),
         &claims,
     )
 }
 
 #[test]
-fn a_group_settles_with_the_answers_to_its_steps(rt: HostRuntime) -> Result<(), Fail> {
-    let wanted = [whole(rt.alloc())?];
+fn a_group_settles_with_the_answers_to_its_steps(rt: HostRuntime) {
     for cut in [4_096, 1] {
-        assert!(rt; settles(rt.alloc(), Reply::Steps, cut, &wanted)?);
+        assert!(rt; settles(rt.alloc(), Reply::Steps, cut, &WHOLE));
     }
-    Ok(())
 }
 
 #[test]
-fn a_group_settles_with_the_error_of_a_step(rt: HostRuntime) -> Result<(), Fail> {
-    let wanted = [broken_off(rt.alloc())?];
-    assert!(rt;
-        settles(
-            rt.alloc(),
-            Reply::FailingStep(Status::Failed),
-            4_096,
-            &wanted
-        )?
-    );
-    Ok(())
+fn a_group_settles_with_the_error_of_a_step(rt: HostRuntime) {
+    let reply = Reply::FailingStep(Status::Failed);
+    assert!(rt; settles(rt.alloc(), reply, 4_096, &BROKEN_OFF));
 }

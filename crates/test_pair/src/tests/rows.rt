@@ -1,184 +1,139 @@
 //! What is settled.
 
-use super::answers::{Reply, columns, failure, fields, pair, rows, text};
+use super::answers::{FAILURE, Reply, answering};
 use super::claims::Claim;
-use super::{ASKED, asks, carried_out, happened, judge, query, start};
+use super::events::{ASKED, ASKS, TableEvent, TableRequest};
+use super::wanted::{TableGroup, TablePart};
+use super::{carried_out, happened, judge};
 use pg_backend::BackPhase;
-use pg_client::{Phase, Settled};
-use pg_pair::{Direct, Event};
-use pg_wire::{Aside, Outcome, Part, Seq, Status};
-use std::alloc::{AllocError, Global};
-use std::test::Fail;
+use pg_client::Phase;
+use pg_pair::Direct;
+use pg_wire::Status;
+use std::alloc::Global;
 
 const READY: Claim<'static, 'static> = Claim::Stand(Phase::Ready, BackPhase::Ready);
 
-fn command(alloc: Global, tag: &[u8]) -> Result<Part, AllocError> {
-    Ok(Part::Command(text(alloc, tag)?))
-}
-
-fn row(alloc: Global) -> Result<Part, AllocError> {
-    Ok(Part::Rows {
-        columns: columns(alloc)?,
-        rows: rows(alloc)?,
-        tag: text(alloc, b"SELECT 1")?,
-    })
-}
-
-// One part, without an error.
-fn outcome(
+/// Whether these groups alone are settled where the calls are made and answered so, in deliveries of at most so many bytes; and a client
+/// outside the pair settles them, too.
+fn settles(
     alloc: Global,
-    part: Part,
-    status: Status,
-    asides: Vec<Aside>,
-) -> Result<Outcome, AllocError> {
-    Ok(Outcome {
-        parts: Seq::new(vec![in alloc; part]?),
-        error: None,
-        status,
-        asides: Seq::new(asides),
-    })
-}
-
-fn row_group(alloc: Global) -> Result<Settled, AllocError> {
-    Ok(Settled {
-        request: query(alloc, ASKED)?,
-        outcome: outcome(alloc, row(alloc)?, Status::Idle, Vec::new(alloc))?,
-    })
-}
-
-// Whether this alone is settled where the client asks and is answered so, in deliveries of at most so many bytes; and a client outside
-// the pair settles it, too.
-fn settles(alloc: Global, reply: Reply, cut: u32, wanted: &[Settled]) -> Result<bool, Fail> {
-    let asked = [start(), asks(alloc, ASKED)?];
-    let claims = [Claim::Groups(wanted), Claim::Alike(&asked), READY];
+    calls: &[TableEvent],
+    replies: &[Reply],
+    cut: u32,
+    wanted: &[TableGroup],
+) -> bool {
     judge(
         alloc,
-        pair(alloc, &[reply], Direct)?,
-        carried_out(&asked, cut),
-        &claims,
+        answering(replies),
+        Direct,
+        carried_out(calls, cut),
+        &[Claim::Groups(wanted), Claim::Alike(calls), READY],
     )
 }
 
+const CALLS: [TableEvent; 2] = [TableEvent::Start, ASKS];
+
+const ROW: [TableGroup; 1] = [TableGroup {
+    request: ASKED,
+    parts: &[TablePart::Row],
+    error: None,
+    status: Status::Idle,
+    notice: None,
+}];
+
 #[test]
-fn a_row_settles(rt: HostRuntime) -> Result<(), Fail> {
-    let wanted = [row_group(rt.alloc())?];
+fn a_row_settles(rt: HostRuntime) {
     for cut in [4_096, 1, 3] {
-        assert!(rt; settles(rt.alloc(), Reply::Row, cut, &wanted)?);
+        assert!(rt; settles(rt.alloc(), &CALLS, &[Reply::Row], cut, &ROW));
     }
-    Ok(())
 }
 
-fn commands(alloc: Global) -> Result<Seq<Part>, AllocError> {
-    let first = command(alloc, b"A")?;
-    Ok(Seq::new(vec![in alloc; first, command(alloc, b"B")?]?))
-}
-
-fn failed(alloc: Global) -> Result<Outcome, AllocError> {
-    Ok(Outcome {
-        parts: commands(alloc)?,
-        error: Some(failure(alloc)?),
-        status: Status::Failed,
-        asides: Seq::new(Vec::new(alloc)),
-    })
-}
-
-fn failed_group(alloc: Global) -> Result<Settled, AllocError> {
-    Ok(Settled {
-        request: query(alloc, ASKED)?,
-        outcome: failed(alloc)?,
-    })
-}
+const FAILED: [TableGroup; 1] = [TableGroup {
+    request: ASKED,
+    parts: &[TablePart::Command(b"A"), TablePart::Command(b"B")],
+    error: Some(FAILURE),
+    status: Status::Failed,
+    notice: None,
+}];
 
 #[test]
-fn an_error_settles(rt: HostRuntime) -> Result<(), Fail> {
-    let wanted = [failed_group(rt.alloc())?];
-    assert!(rt; settles(rt.alloc(), Reply::Failing, 4_096, &wanted)?);
-    Ok(())
+fn an_error_settles(rt: HostRuntime) {
+    assert!(rt; settles(rt.alloc(), &CALLS, &[Reply::Failing], 4_096, &FAILED));
 }
 
-// A command with a notice.
-fn told(alloc: Global) -> Result<Settled, AllocError> {
-    let asides = vec![in alloc; Aside::Notice(fields(alloc, b"hi")?)]?;
-    Ok(Settled {
-        outcome: outcome(alloc, command(alloc, b"A")?, Status::Idle, asides)?,
-        request: query(alloc, b"Q1")?,
-    })
-}
+const FIRST: TableRequest = TableRequest::Query(b"Q1");
 
-// A command within a transaction.
-fn in_block(alloc: Global) -> Result<Settled, AllocError> {
-    let part = command(alloc, b"B")?;
-    Ok(Settled {
-        outcome: outcome(alloc, part, Status::InBlock, Vec::new(alloc))?,
-        request: query(alloc, b"Q2")?,
-    })
-}
+const SECOND: TableRequest = TableRequest::Query(b"Q2");
 
-fn told_and_in_block(alloc: Global) -> Result<Vec<Settled>, AllocError> {
-    let first = told(alloc)?;
-    Ok(vec![in alloc; first, in_block(alloc)?]?)
-}
+const TWO_CALLS: [TableEvent; 3] = [
+    TableEvent::Start,
+    TableEvent::Request(FIRST),
+    TableEvent::Request(SECOND),
+];
 
-// Whether these are settled, where the client asks twice.
-fn settles_both(alloc: Global, wanted: &[Settled]) -> Result<bool, Fail> {
-    let asked = [start(), asks(alloc, b"Q1")?, asks(alloc, b"Q2")?];
-    judge(
-        alloc,
-        pair(alloc, &[Reply::Told, Reply::InBlock], Direct)?,
-        carried_out(&asked, 4_096),
-        &[Claim::Groups(wanted), Claim::Alike(&asked), READY],
-    )
-}
+/// A command with a notice, and one within a transaction.
+const TOLD_AND_IN_BLOCK: [TableGroup; 2] = [
+    TableGroup {
+        request: FIRST,
+        parts: &[TablePart::Command(b"A")],
+        error: None,
+        status: Status::Idle,
+        notice: Some(b"hi"),
+    },
+    TableGroup {
+        request: SECOND,
+        parts: &[TablePart::Command(b"B")],
+        error: None,
+        status: Status::InBlock,
+        notice: None,
+    },
+];
 
 #[test]
-fn asides_settle_with_their_request(rt: HostRuntime) -> Result<(), Fail> {
-    let wanted = told_and_in_block(rt.alloc())?;
-    assert!(rt; settles_both(rt.alloc(), wanted.as_slice())?);
-    Ok(())
+fn asides_settle_with_their_request(rt: HostRuntime) {
+    let replies = [Reply::Told, Reply::InBlock];
+    assert!(rt; settles(rt.alloc(), &TWO_CALLS, &replies, 4_096, &TOLD_AND_IN_BLOCK));
 }
 
-// All that waits goes to the backend, twice, with steps up to the one that does nothing, and then to the client.
-fn push_flow(events: &mut Vec<Event>) -> Result<(), AllocError> {
-    events.push(Event::ToBackend(u32::MAX))?;
-    events.push(Event::Step)?;
-    events.push(Event::Step)?;
-    events.push(Event::ToClient(u32::MAX))?;
-    events.push(Event::ToBackend(u32::MAX))?;
-    events.push(Event::Step)?;
-    events.push(Event::ToClient(u32::MAX))?;
-    Ok(())
-}
+/// Start and a query. After each all that waits goes to the backend, twice, with steps up to the one that does nothing, and then to the
+/// client.
+const ROW_EVENTS: [TableEvent; 16] = [
+    TableEvent::Start,
+    TableEvent::ToBackend(u32::MAX),
+    TableEvent::Step,
+    TableEvent::Step,
+    TableEvent::ToClient(u32::MAX),
+    TableEvent::ToBackend(u32::MAX),
+    TableEvent::Step,
+    TableEvent::ToClient(u32::MAX),
+    ASKS,
+    TableEvent::ToBackend(u32::MAX),
+    TableEvent::Step,
+    TableEvent::Step,
+    TableEvent::ToClient(u32::MAX),
+    TableEvent::ToBackend(u32::MAX),
+    TableEvent::Step,
+    TableEvent::ToClient(u32::MAX),
+];
 
-// Start and a query, with a flow after each.
-fn row_events(alloc: Global) -> Result<Vec<Event>, AllocError> {
-    let mut events = vec![in alloc; start()]?;
-    push_flow(&mut events)?;
-    events.push(asks(alloc, ASKED)?)?;
-    push_flow(&mut events)?;
-    Ok(events)
-}
-
-// Whether the list of the row's events runs and settles these groups, and a list of none no more.
-fn runs(alloc: Global, wanted: &[Settled]) -> Result<bool, Fail> {
-    let events = row_events(alloc)?;
-    let claims = [
-        Claim::Runs(events.as_slice()),
-        Claim::Groups(wanted),
-        Claim::Runs(&[]),
-        Claim::Settled(1),
-        READY,
-    ];
-    judge(
-        alloc,
-        pair(alloc, &[Reply::Row], Direct)?,
-        happened(&[]),
-        &claims,
-    )
-}
+/// The list of the row's events runs and settles its group, and a list of none no more.
+const RUNS: [Claim<'static, 'static>; 5] = [
+    Claim::Runs(&ROW_EVENTS),
+    Claim::Groups(&ROW),
+    Claim::Runs(&[]),
+    Claim::Settled(1),
+    READY,
+];
 
 #[test]
-fn a_list_of_events_runs(rt: HostRuntime) -> Result<(), Fail> {
-    let wanted = [row_group(rt.alloc())?];
-    assert!(rt; runs(rt.alloc(), &wanted)?);
-    Ok(())
+fn a_list_of_events_runs(rt: HostRuntime) {
+    assert!(rt;
+        judge(
+            rt.alloc(),
+            answering(&[Reply::Row]),
+            Direct,
+            happened(&[]),
+            &RUNS
+        )
+    );
 }

@@ -1,196 +1,197 @@
 //! Copies and a group that fail, in deliveries of 4,096 bytes and of one byte.
 
-use super::answers::{Reply, all_fields, failure, head, pair, query, text, unnamed_group};
+use super::answers::{FAILURE, Reply, answering};
 use super::claims::Claim;
-use super::{Plan, asks, carried_out, chunk, fail, judge, start};
+use super::events::{TableEvent, TableRequest, UNNAMED};
+use super::wanted::{TableGroup, TablePart};
+use super::{Plan, carried_out, judge};
 use pg_backend::BackPhase;
-use pg_client::{Phase, Settled};
-use pg_pair::{Call, Direct, Event};
-use pg_wire::{Fields, Outcome, Part, Request, Seq, Status};
-use std::alloc::{AllocError, Global};
-use std::test::Fail;
+use pg_client::Phase;
+use pg_pair::Direct;
+use pg_wire::Status;
+use std::alloc::Global;
 
 const READY: Claim<'static, 'static> = Claim::Stand(Phase::Ready, BackPhase::Ready);
 
-// Outside a transaction, with nothing said beside it.
-fn settled(alloc: Global, request: Request, parts: Vec<Part>, error: Option<Fields>) -> Settled {
-    Settled {
-        request,
-        outcome: Outcome {
-            parts: Seq::new(parts),
-            error,
-            status: Status::Idle,
-            asides: Seq::new(Vec::new(alloc)),
-        },
-    }
-}
+const COPY: TableRequest = TableRequest::Query(b"COPY");
 
-// A copy that failed so.
-fn failed_copy(alloc: Global, error: Fields) -> Result<Settled, AllocError> {
-    let request = query(alloc, b"COPY")?;
-    Ok(settled(alloc, request, Vec::new(alloc), Some(error)))
-}
+const ASKS_COPY: TableEvent = TableEvent::Request(COPY);
 
-// Whether the claims hold after what is done with a pair that answers so.
-fn holds(
-    alloc: Global,
-    replies: &[Reply],
-    plan: Plan<'_>,
-    claims: &[Claim<'_, '_>],
-) -> Result<bool, Fail> {
-    judge(alloc, pair(alloc, replies, Direct)?, plan, claims)
-}
+const NEXT: TableRequest = TableRequest::Query(b"NEXT");
 
 // ---- a refused copy, whose other chunks are dropped before the next request
 
-// Two chunks reach the backend, which refuses the second, and three more and the end don't.
-pub fn refused(alloc: Global) -> Result<Vec<Event>, AllocError> {
-    let mut events = vec![in alloc; chunk(alloc, b"a")?, chunk(alloc, b"b")?]?;
-    events.push(Event::ToBackend(100))?;
-    events.push(Event::Step)?;
-    events.push(Event::Step)?;
-    for byte in b"cde" {
-        events.push(chunk(alloc, &[*byte])?)?;
-    }
-    events.push(Event::Call(Call::Done))?;
-    events.push(Event::ToClient(1_000))?;
-    Ok(events)
-}
+/// The client asks for a copy. Two chunks reach the backend, which refuses the second, and three more and the end don't. Then the client
+/// asks for something else.
+pub const REFUSED_COPY: Plan<'static> = Plan {
+    lets_in: true,
+    cut: 4_096,
+    whole: &[ASKS_COPY],
+    single: &[
+        TableEvent::Chunk(b"a"),
+        TableEvent::Chunk(b"b"),
+        TableEvent::ToBackend(100),
+        TableEvent::Step,
+        TableEvent::Step,
+        TableEvent::Chunk(b"c"),
+        TableEvent::Chunk(b"d"),
+        TableEvent::Chunk(b"e"),
+        TableEvent::Done,
+        TableEvent::ToClient(1_000),
+    ],
+    last: &[TableEvent::Request(NEXT)],
+};
 
-fn refused_calls(alloc: Global) -> Result<Vec<Event>, AllocError> {
-    let mut calls = vec![in alloc; start(), asks(alloc, b"COPY")?]?;
-    for byte in b"abcde" {
-        calls.push(chunk(alloc, &[*byte])?)?;
-    }
-    calls.push(Event::Call(Call::Done))?;
-    calls.push(asks(alloc, b"NEXT")?)?;
-    Ok(calls)
-}
+const REFUSED_CALLS: [TableEvent; 9] = [
+    TableEvent::Start,
+    ASKS_COPY,
+    TableEvent::Chunk(b"a"),
+    TableEvent::Chunk(b"b"),
+    TableEvent::Chunk(b"c"),
+    TableEvent::Chunk(b"d"),
+    TableEvent::Chunk(b"e"),
+    TableEvent::Done,
+    TableEvent::Request(NEXT),
+];
 
-fn next(alloc: Global) -> Result<Settled, AllocError> {
-    let parts = vec![in alloc; Part::Command(text(alloc, b"OK")?)]?;
-    Ok(settled(alloc, query(alloc, b"NEXT")?, parts, None))
-}
+const REFUSED_AND_NEXT: [TableGroup; 2] = [
+    TableGroup {
+        request: COPY,
+        parts: &[],
+        error: Some(FAILURE),
+        status: Status::Idle,
+        notice: None,
+    },
+    TableGroup {
+        request: NEXT,
+        parts: &[TablePart::Command(b"OK")],
+        error: None,
+        status: Status::Idle,
+        notice: None,
+    },
+];
 
-fn refused_and_next(alloc: Global) -> Result<Vec<Settled>, AllocError> {
-    let copy = failed_copy(alloc, failure(alloc)?)?;
-    Ok(vec![in alloc; copy, next(alloc)?]?)
-}
-
-fn refuses(alloc: Global, cut: u32, wanted: &[Settled]) -> Result<bool, Fail> {
-    let whole = [asks(alloc, b"COPY")?];
-    let single = refused(alloc)?;
-    let last = [asks(alloc, b"NEXT")?];
-    let calls = refused_calls(alloc)?;
-    let plan = Plan {
-        lets_in: true,
-        cut,
-        whole: &whole,
-        single: single.as_slice(),
-        last: &last,
-    };
-    let claims = [
-        Claim::Groups(wanted),
-        Claim::Loaded(&[b"a", b"b", b"c", b"d", b"e"], &[b"a", b"b"]),
-        Claim::Alike(calls.as_slice()),
-        READY,
-    ];
-    holds(alloc, &[Reply::Refusing(2), Reply::Command], plan, &claims)
-}
+const REFUSED: [Claim<'static, 'static>; 4] = [
+    Claim::Groups(&REFUSED_AND_NEXT),
+    Claim::Loaded(&[b"a", b"b", b"c", b"d", b"e"], &[b"a", b"b"]),
+    Claim::Alike(&REFUSED_CALLS),
+    READY,
+];
 
 #[test]
-fn after_a_refused_copy_chunks_are_dropped(rt: HostRuntime) -> Result<(), Fail> {
-    let wanted = refused_and_next(rt.alloc())?;
+fn after_a_refused_copy_chunks_are_dropped(rt: HostRuntime) {
+    let ends = answering(&[Reply::Refusing(2), Reply::Command]);
     for cut in [4_096, 1] {
-        assert!(rt; refuses(rt.alloc(), cut, wanted.as_slice())?);
+        let plan = Plan {
+            cut,
+            ..REFUSED_COPY
+        };
+        assert!(rt; judge(rt.alloc(), ends, Direct, plan, &REFUSED));
     }
-    Ok(())
 }
 
 // ---- an accepted copy, which fails or is done
 
-fn canceled(alloc: Global) -> Result<Fields, AllocError> {
-    all_fields(
-        alloc,
-        &[
-            (b'S', b"ERROR"),
-            (b'V', b"ERROR"),
-            (b'C', b"57014"),
-            (b'M', b"COPY failed: no"),
-        ],
-    )
-}
+/// A copy of one chunk, which the client gives up.
+pub const FAILED_COPY: [TableEvent; 4] = [
+    TableEvent::Start,
+    ASKS_COPY,
+    TableEvent::Chunk(b"a"),
+    TableEvent::Fail(b"no"),
+];
 
-fn done(alloc: Global) -> Result<Settled, AllocError> {
-    let part = Part::CopyIn {
-        head: head(alloc)?,
-        tag: text(alloc, b"COPY 2")?,
-    };
-    let parts = vec![in alloc; part]?;
-    Ok(settled(alloc, query(alloc, b"COPY")?, parts, None))
-}
+/// A copy of one chunk, which the client ends.
+pub const DONE_COPY: [TableEvent; 4] = [
+    TableEvent::Start,
+    ASKS_COPY,
+    TableEvent::Chunk(b"a"),
+    TableEvent::Done,
+];
 
-// A copy of one chunk, which the client ends so.
-pub fn copied(alloc: Global, end: Event) -> Result<[Event; 4], AllocError> {
-    Ok([start(), asks(alloc, b"COPY")?, chunk(alloc, b"a")?, end])
-}
-
-// Whether such a copy of one chunk settles so.
-fn copies(alloc: Global, events: &[Event], cut: u32, wanted: &[Settled]) -> Result<bool, Fail> {
+/// Whether such a copy of one chunk settles so.
+fn copies(alloc: Global, list: &[TableEvent], cut: u32, wanted: &[TableGroup]) -> bool {
     let claims = [
         Claim::Groups(wanted),
         Claim::Loaded(&[b"a"], &[b"a"]),
-        Claim::Alike(events),
+        Claim::Alike(list),
         READY,
     ];
-    holds(
+    judge(
         alloc,
-        &[Reply::Accepting],
-        carried_out(events, cut),
+        answering(&[Reply::Accepting]),
+        Direct,
+        carried_out(list, cut),
         &claims,
     )
 }
 
-#[test]
-fn a_copy_fails(rt: HostRuntime) -> Result<(), Fail> {
-    let wanted = [failed_copy(rt.alloc(), canceled(rt.alloc())?)?];
-    let events = copied(rt.alloc(), fail(rt.alloc(), b"no")?)?;
-    for cut in [4_096, 1] {
-        assert!(rt; copies(rt.alloc(), &events, cut, &wanted)?);
-    }
-    Ok(())
-}
+const CANCELED: [TableGroup; 1] = [TableGroup {
+    request: COPY,
+    parts: &[],
+    error: Some(&[
+        (b'S', b"ERROR"),
+        (b'V', b"ERROR"),
+        (b'C', b"57014"),
+        (b'M', b"COPY failed: no"),
+    ]),
+    status: Status::Idle,
+    notice: None,
+}];
 
 #[test]
-fn a_copy_is_done(rt: HostRuntime) -> Result<(), Fail> {
-    let wanted = [done(rt.alloc())?];
-    let events = copied(rt.alloc(), Event::Call(Call::Done))?;
+fn a_copy_fails(rt: HostRuntime) {
     for cut in [4_096, 1] {
-        assert!(rt; copies(rt.alloc(), &events, cut, &wanted)?);
+        assert!(rt; copies(rt.alloc(), &FAILED_COPY, cut, &CANCELED));
     }
-    Ok(())
+}
+
+const DONE: [TableGroup; 1] = [TableGroup {
+    request: COPY,
+    parts: &[TablePart::CopyIn(b"COPY 2")],
+    error: None,
+    status: Status::Idle,
+    notice: None,
+}];
+
+#[test]
+fn a_copy_is_done(rt: HostRuntime) {
+    for cut in [4_096, 1] {
+        assert!(rt; copies(rt.alloc(), &DONE_COPY, cut, &DONE));
+    }
 }
 
 // ---- a group of three steps, of which one is answered
 
-fn broken_off(alloc: Global) -> Result<Settled, AllocError> {
-    let parts = vec![in alloc; Part::Parsed]?;
-    let error = Some(failure(alloc)?);
-    Ok(settled(alloc, unnamed_group(alloc)?, parts, error))
-}
+const ASKED: TableRequest = TableRequest::Group(&UNNAMED);
 
-fn breaks_off(alloc: Global, cut: u32, wanted: &[Settled]) -> Result<bool, Fail> {
-    let asked = [start(), Event::Call(Call::Request(unnamed_group(alloc)?))];
-    let claims = [Claim::Groups(wanted), Claim::Alike(&asked), READY];
-    let replies = [Reply::FailingStep(Status::Idle)];
-    holds(alloc, &replies, carried_out(&asked, cut), &claims)
-}
+pub const UNNAMED_GROUP: [TableEvent; 2] = [TableEvent::Start, TableEvent::Request(ASKED)];
+
+const BROKEN_OFF: [TableGroup; 1] = [TableGroup {
+    request: ASKED,
+    parts: &[TablePart::Parsed],
+    error: Some(FAILURE),
+    status: Status::Idle,
+    notice: None,
+}];
+
+const BREAKS_OFF: [Claim<'static, 'static>; 3] = [
+    Claim::Groups(&BROKEN_OFF),
+    Claim::Alike(&UNNAMED_GROUP),
+    READY,
+];
 
 #[test]
-fn a_group_breaks_off(rt: HostRuntime) -> Result<(), Fail> {
-    let wanted = [broken_off(rt.alloc())?];
+fn a_group_breaks_off(rt: HostRuntime) {
+    let ends = answering(&[Reply::FailingStep(Status::Idle)]);
     for cut in [4_096, 1] {
-        assert!(rt; breaks_off(rt.alloc(), cut, &wanted)?);
+        assert!(rt;
+            judge(
+                rt.alloc(),
+                ends,
+                Direct,
+                carried_out(&UNNAMED_GROUP, cut),
+                &BREAKS_OFF
+            )
+        );
     }
-    Ok(())
 }

@@ -14,15 +14,6 @@ fn first_of(alloc: Global, bytes: &[u8]) -> Result<Option<First>, WireFault> {
     pushed(alloc, bytes)?.next()
 }
 
-/// The decoder that goes on, with the limit 64, where one was called three times after these bytes.
-fn passed_on(alloc: Global, bytes: &[u8]) -> Result<FrontDecoder, WireFault> {
-    let mut first = pushed(alloc, bytes)?;
-    for _ in 0..3u8 {
-        let _ = first.next();
-    }
-    Ok(first.into_front(64))
-}
-
 #[test]
 fn packets_are_judged(rt: HostRuntime) {
     let alloc = rt.alloc();
@@ -87,31 +78,53 @@ const OPENING: [u8; 22] = [
     0, 0, 0, 8, 0x04, 0xD2, 0x16, 0x30, 0, 0, 0, 9, 0, 3, 0, 0, 0, b'S', 0, 0, 0, 4,
 ];
 
+/// Whether it gives both packets, then nothing, and keeps the Sync once that is whole.
+fn gives_opening(first: &mut FirstDecoder) -> bool {
+    next(first) == Came::Gss
+        && next(first) == Came::Startup(0)
+        && next(first) == Came::Nothing
+        && first.push(&OPENING[19..]).is_ok()
+        && first.kept() == 5
+}
+
+/// The decoder that goes on after the opening, with the limit 64.
+fn after_opening(alloc: Global) -> Option<FrontDecoder> {
+    let mut first = pushed(alloc, &OPENING[..19]).ok()?;
+    if gives_opening(&mut first) {
+        Some(first.into_front(64))
+    } else {
+        None
+    }
+}
+
 #[test]
 fn what_comes_after_the_startup_is_passed_on(rt: HostRuntime) {
-    let held = holds(pushed(rt.alloc(), &OPENING[..19]).ok(), |first| {
-        next(first) == Came::Gss
-            && next(first) == Came::Startup(0)
-            && next(first) == Came::Nothing
-            && first.push(&OPENING[19..]).is_ok()
-            && first.kept() == 5
-    });
-    assert!(rt; held);
     let held = holds(
-        passed_on(rt.alloc(), &OPENING).ok(),
+        after_opening(rt.alloc()),
         |front| matches!(front.next(), Ok(Some(FrontMessage::Sync))),
     );
     assert!(rt; held);
 }
 
+/// Whether it has this fault, and takes no more.
+fn has_fault(first: &mut FirstDecoder, fault: WireFault) -> bool {
+    next(first) == Came::Fault(fault) && first.push(&[1]) == Err(fault)
+}
+
+/// The decoder that goes on after this fault, with the limit 64.
+fn after_fault(alloc: Global, bytes: &[u8], fault: WireFault) -> Option<FrontDecoder> {
+    let mut first = pushed(alloc, bytes).ok()?;
+    if has_fault(&mut first, fault) {
+        Some(first.into_front(64))
+    } else {
+        None
+    }
+}
+
 #[test]
 fn a_fault_is_passed_on(rt: HostRuntime) {
     let fault = WireFault::ShortLength(7);
-    let held = holds(pushed(rt.alloc(), &[0, 0, 0, 7]).ok(), |first| {
-        next(first) == Came::Fault(fault) && first.push(&[1]) == Err(fault)
-    });
-    assert!(rt; held);
-    let held = holds(passed_on(rt.alloc(), &[0, 0, 0, 7]).ok(), |front| {
+    let held = holds(after_fault(rt.alloc(), &[0, 0, 0, 7], fault), |front| {
         matches!(front.next(), Err(given) if given == fault) && front.push(&[1]) == Err(fault)
     });
     assert!(rt; held);

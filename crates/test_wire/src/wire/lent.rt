@@ -1,7 +1,7 @@
 //! Rows, errors and notices that a decoder lends.
 
 use super::{Came, gives_ready, next, pushed};
-use pg_wire::{BackDecoder, BackMessage, Cut, Lent, WireFault};
+use pg_wire::{BackDecoder, BackMessage, Cut, Lent, Status, WireFault};
 use test_base::holds;
 
 const ROW: [u8; 15] = [
@@ -19,7 +19,7 @@ fn next_lent(decoder: &mut BackDecoder) -> Came {
     match decoder.next_lent() {
         Ok(Cut::Nothing) => Came::Nothing,
         Ok(Cut::Held) => Came::Held,
-        Ok(Cut::Other(message)) => Came::Message(message.tag()),
+        Ok(Cut::Other(_)) => Came::Message,
         Err(fault) => Came::Fault(fault),
     }
 }
@@ -108,10 +108,18 @@ fn a_notice_without_fields_is_lent(rt: HostRuntime) {
     assert!(rt; held);
 }
 
+/// Whether it gives a ReadyForQuery in the status Idle, which isn't lent.
+fn gives_ready_as_other(decoder: &mut BackDecoder) -> bool {
+    matches!(
+        decoder.next_lent(),
+        Ok(Cut::Other(BackMessage::Ready(Status::Idle)))
+    )
+}
+
 #[test]
 fn another_message_is_given(rt: HostRuntime) {
     let held = holds(pushed(rt.alloc(), &READY).ok(), |decoder| {
-        next_lent(decoder) == Came::Message(b'Z')
+        gives_ready_as_other(decoder)
             && decoder.held().is_none()
             && next_lent(decoder) == Came::Nothing
     });
