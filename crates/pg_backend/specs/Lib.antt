@@ -21,6 +21,7 @@ pub use Rattle.pg_script.specs.Input
 pub use Rattle.pg_script.specs.Check
 pub use Rattle.pg_script.specs.Turns
 pub use Rattle.pg_script.specs.Laws
+pub use Rattle.pg_script.specs.Shown
 -- Its types.
 pub use Rattle.pg_script.specs.declared.script
 pub use Rattle.pg_script.specs.declared.meaning

@@ -2,12 +2,15 @@
 
 ghost use Rattle.std.specs.Prelude.{◌≡◌, [], None};
 ghost use Rattle.pg_wire.specs.Direction.{IsLimit};
+ghost use Rattle.pg_client.specs.Shown.{shown_password, shown_settings};
 
 use pg_wire::Seq;
 use std::alloc::Global;
+use std::fmt;
 
 /// Whom a client connects as, and what it takes ("Start-up").
-#[derive(Clone, Debug, PartialEq, Eq, Drop)]
+/// `{:?}` says of the password only whether there is one.
+#[derive(Clone, PartialEq, Eq, Drop)]
 pub struct Settings {
     /// The user's name.
     pub user: Seq<u8>,
@@ -37,5 +40,32 @@ impl Settings {
             password: None,
             limit: 1_073_741_823,
         }
+    }
+}
+
+// What is written in a password's place.
+fn shown_password(password: &Option<Seq<u8>>) -> &'static str
+    ensures { result.now ≡ shown_password password.now }
+{
+    match password {
+        None => "None",
+        Some(_) => "Some(Password(..))",
+    }
+}
+
+/// `{:?}` writes the fields as a derived form does, and `Some(Password(..))` for a password. `{:#?}` writes the same line.
+impl fmt::Debug for Settings {
+    ghost debug_output = { shown_settings };
+
+    fn fmt<W: fmt::Write>(&self, f: &mut fmt::Formatter<W>) -> fmt::Result {
+        let user = &self.user;
+        let database = &self.database;
+        let pairs = &self.pairs;
+        let password = shown_password(&self.password);
+        let limit = self.limit;
+        write!(
+            f,
+            "Settings {{ user: {user:?}, database: {database:?}, pairs: {pairs:?}, password: {password}, limit: {limit} }}"
+        )
     }
 }

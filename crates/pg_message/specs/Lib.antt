@@ -1,4 +1,5 @@
--- What a reader must believe: how messages and first packets are spelled, which have a spelling, and what encoding one does.
+-- What a reader must believe: how messages and first packets are spelled, which have a spelling, what encoding one does, and what
+-- `{:?}` doesn't write.
 pub mod Direction
 pub mod Backend
 pub mod Frontend
@@ -6,5 +7,6 @@ pub mod Message
 pub mod Lent
 pub mod First
 pub mod Encoder
+pub mod Shown
 -- Words of how bodies are read.
 pub mod Private

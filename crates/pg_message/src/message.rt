@@ -1,5 +1,7 @@
 //! The messages of both directions, and first packets.
 
+mod shown;
+
 use pg_layout::{Column, CopyHead, Status, Target};
 use pg_seq::Seq;
 use pg_values::{Fields, Values};
@@ -81,8 +83,8 @@ pub enum BackMessage {
 }
 
 /// A message of the frontend ("Message Formats", those marked F). What is said of the backend's strings and lists holds of
-/// these too.
-#[derive(Clone, Debug, PartialEq, Eq, Drop)]
+/// these too. `{:?}` doesn't write a password.
+#[derive(Clone, PartialEq, Eq, Drop)]
 pub enum FrontMessage {
     /// `Q`: a simple query.
     Query(Seq<u8>),

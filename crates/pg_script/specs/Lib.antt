@@ -14,5 +14,7 @@ pub mod Input
 pub mod Check
 pub mod Turns
 pub mod Laws
+-- What `{:?}` writes of a script.
+pub mod Shown
 -- Words of how messages are written.
 pub mod Telling

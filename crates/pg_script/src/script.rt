@@ -1,5 +1,7 @@
 //! What a backend is told to answer, and what it says of the requests that it answered.
 
+mod shown;
+
 use pg_seq::{ByElement, DebugElement};
 use pg_wire::{Aside, Column, CopyHead, ExecEnd, Fields, Outcome, Request, Seq, Status, Values};
 
@@ -12,8 +14,8 @@ pub struct Key {
     pub secret: i32,
 }
 
-/// How a client is authenticated ("Start-up").
-#[derive(Clone, Debug, PartialEq, Eq, Drop)]
+/// How a client is authenticated ("Start-up"). `{:?}` doesn't write a password.
+#[derive(Clone, PartialEq, Eq, Drop)]
 pub enum Auth {
     /// Each user is let in.
     Trust,
@@ -120,8 +122,8 @@ impl DebugElement for Answer {
     type Form = ByElement;
 }
 
-/// What a backend answers: request number k gets answer number k.
-#[derive(Clone, Debug, PartialEq, Eq, Drop)]
+/// What a backend answers: request number k gets answer number k. `{:?}` doesn't write a password.
+#[derive(Clone, PartialEq, Eq, Drop)]
 pub struct Script {
     /// How a client is authenticated.
     pub auth: Auth,

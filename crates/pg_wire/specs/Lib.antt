@@ -22,6 +22,7 @@ pub use Rattle.pg_message.specs.Frontend
 pub use Rattle.pg_message.specs.Message
 pub use Rattle.pg_message.specs.Lent
 pub use Rattle.pg_message.specs.Encoder
+pub use Rattle.pg_message.specs.Shown
 pub use Rattle.pg_link.specs.Link
 -- Their types.
 pub use Rattle.pg_layout.specs.declared.fault

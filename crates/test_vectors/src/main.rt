@@ -9,10 +9,9 @@ mod vector;
 use anyhow::{Context, bail};
 use pg_wire::{BackDecoder, BackMessage, FirstDecoder, FrontDecoder};
 use std::alloc::Global;
-use std::fmt::Debug;
 use std::io;
 use std::io::{BufRead, BufReader, BufWriter, Write};
-use subject::Lending;
+use subject::{Lending, Shown};
 use trial::{Decoded, Flaw, judge};
 use vector::{Side, Vector};
 
@@ -37,7 +36,7 @@ fn judge_back(alloc: Global, bytes: &[u8]) -> Result<Decoded<BackMessage>, Flaw>
 }
 
 /// Writes what came of the bytes. Memory that was refused says nothing of them, and ends the run.
-fn write_verdict<M: Debug + Drop>(
+fn write_verdict<M: Shown + Drop>(
     out: &mut impl Write,
     reading: Result<Decoded<M>, Flaw>,
 ) -> anyhow::Result<()> {

@@ -2,13 +2,43 @@
 
 use pg_wire::{
     BackDecoder, BackMessage, Cut, Decoder, EncodeFault, Fields, FieldsView, First, FirstDecoder,
-    Lent, Message, RowView, Values, WireFault, backend, frontend,
+    FrontMessage, Lent, Message, RowView, Values, WireFault, backend, frontend,
 };
 use std::alloc::{AllocError, Global};
+use std::fmt;
 use std::fmt::Debug;
 
 /// The greatest length field that the decoders of messages take.
 const LIMIT: u32 = 65_536;
+
+/// A message as the output has it.
+pub trait Shown {
+    /// Writes it as `{:?}` does, but for a password: of a vector it is written too.
+    fn show<W: fmt::Write>(&self, f: &mut fmt::Formatter<W>) -> fmt::Result
+    where
+        Self: Sized;
+}
+
+impl Shown for BackMessage {
+    fn show<W: fmt::Write>(&self, f: &mut fmt::Formatter<W>) -> fmt::Result {
+        fmt::Debug::fmt(self, f)
+    }
+}
+
+impl Shown for FrontMessage {
+    fn show<W: fmt::Write>(&self, f: &mut fmt::Formatter<W>) -> fmt::Result {
+        match self {
+            FrontMessage::Password(text) => f.debug_tuple("Password").field(text).finish(),
+            _ => fmt::Debug::fmt(self, f),
+        }
+    }
+}
+
+impl Shown for First {
+    fn show<W: fmt::Write>(&self, f: &mut fmt::Formatter<W>) -> fmt::Result {
+        fmt::Debug::fmt(self, f)
+    }
+}
 
 /// A decoder, and the encoder of what it gives.
 pub trait Subject: Drop {

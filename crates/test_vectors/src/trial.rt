@@ -1,10 +1,9 @@
 //! What a decoder makes of the bytes of a vector, however they are cut, and an encoder of the message.
 
-use crate::subject::Subject;
+use crate::subject::{Shown, Subject};
 use pg_wire::{EncodeFault, WireFault};
 use std::alloc::Global;
 use std::fmt;
-use std::fmt::Debug;
 use thiserror::Error;
 
 /// What a decoder answers for the bytes of a vector.
@@ -16,11 +15,14 @@ pub enum Decoded<M> {
     Refused(WireFault),
 }
 
-impl<M: Debug> fmt::Display for Decoded<M> {
+impl<M: Shown> fmt::Display for Decoded<M> {
     fn fmt<W: fmt::Write>(&self, f: &mut fmt::Formatter<W>) -> fmt::Result {
         match self {
             Decoded::Open => write!(f, "open"),
-            Decoded::Message(message) => write!(f, "ok {message:?}"),
+            Decoded::Message(message) => {
+                f.write_str("ok ")?;
+                message.show(f)
+            }
             Decoded::Refused(fault) => write!(f, "bad {fault}"),
         }
     }
