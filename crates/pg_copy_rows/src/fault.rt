@@ -1,5 +1,12 @@
 //! Why a file was refused, or a row (PostgreSQL documentation, page COPY, "Text Format" and "Binary Format").
 
+ghost use Rattle.std.specs.Prelude.{◌≡◌};
+ghost use Rattle.pg_copy_rows.specs.declared.fault.TextFault.TheVariants as text;
+ghost use Rattle.pg_copy_rows.specs.declared.fault.OptionFault.TheVariants as option;
+ghost use Rattle.pg_copy_rows.specs.declared.fault.BinaryFault.TheVariants as binary;
+ghost use Rattle.pg_copy_rows.specs.declared.fault.RowFault.TheVariants as row;
+
+use std::alloc::AllocError;
 use thiserror::Error;
 
 /// What stands in the place of a row of a text file: the first of these that holds. After any of them but Memory the reader
@@ -23,6 +30,14 @@ pub enum TextFault {
     Memory,
 }
 
+impl From<AllocError> for TextFault {
+    ghost from_gives = { λ _ e. e ≡ text.Memory };
+
+    fn from(_e: AllocError) -> TextFault {
+        TextFault::Memory
+    }
+}
+
 /// Why there are no such options of a text file: the first of these that holds (PostgreSQL documentation, page COPY, DELIMITER
 /// and NULL).
 #[derive(Clone, Copy, Debug, Drop, PartialEq, Eq, Error)]
@@ -37,6 +52,14 @@ pub enum OptionFault {
     /// Memory was refused.
     #[error("O3 Memory")]
     Memory,
+}
+
+impl From<AllocError> for OptionFault {
+    ghost from_gives = { λ _ e. e ≡ option.Memory };
+
+    fn from(_e: AllocError) -> OptionFault {
+        OptionFault::Memory
+    }
 }
 
 /// What stands in the place of a part of a binary file: the first of these that holds. After any of them but Memory the
@@ -69,6 +92,14 @@ pub enum BinaryFault {
     Memory,
 }
 
+impl From<AllocError> for BinaryFault {
+    ghost from_gives = { λ _ e. e ≡ binary.Memory };
+
+    fn from(_e: AllocError) -> BinaryFault {
+        BinaryFault::Memory
+    }
+}
+
 /// Why a row was not written: the first of these that holds. The buffer is then as it was (PostgreSQL documentation, page
 /// COPY, "Text Format" and "Binary Format").
 #[derive(Clone, Copy, Debug, Drop, PartialEq, Eq, Error)]
@@ -85,4 +116,12 @@ pub enum RowFault {
     /// The buffer could not grow.
     #[error("R3 Memory")]
     Memory,
+}
+
+impl From<AllocError> for RowFault {
+    ghost from_gives = { λ _ e. e ≡ row.Memory };
+
+    fn from(_e: AllocError) -> RowFault {
+        RowFault::Memory
+    }
 }

@@ -1,8 +1,12 @@
 //! What may happen to a pair, and what comes of it.
 
+ghost use Rattle.std.specs.Prelude.{◌≡◌};
+ghost use Rattle.pg_pair.specs.declared.event.PairFault.TheVariants.{Memory};
+
 use pg_backend::BackendFault;
 use pg_client::{Call, CallFault, FeedFault};
 use pg_wire::Request;
+use std::alloc::AllocError;
 use thiserror::Error;
 
 /// What may happen to a pair.
@@ -56,4 +60,12 @@ pub enum PairFault {
     /// stays.
     #[error("P1 Memory")]
     Memory,
+}
+
+impl From<AllocError> for PairFault {
+    ghost from_gives = { λ _ e. e ≡ Memory };
+
+    fn from(_e: AllocError) -> PairFault {
+        PairFault::Memory
+    }
 }

@@ -1,5 +1,9 @@
 //! Why a script is refused.
 
+ghost use Rattle.std.specs.Prelude.{◌≡◌};
+ghost use Rattle.pg_script.specs.declared.fault.ScriptFault.TheVariants.{Memory};
+
+use std::alloc::AllocError;
 use thiserror::Error;
 
 /// Why a script can't be played: the first of these that holds.
@@ -14,4 +18,12 @@ pub enum ScriptFault {
     /// Memory was refused, and neither of the others holds.
     #[error("S3 Memory")]
     Memory,
+}
+
+impl From<AllocError> for ScriptFault {
+    ghost from_gives = { λ _ e. e ≡ Memory };
+
+    fn from(_e: AllocError) -> ScriptFault {
+        ScriptFault::Memory
+    }
 }

@@ -1,6 +1,7 @@
 //! Why a file of a loop isn't read.
 
 ghost use Rattle.std.specs.Prelude.{◌≡◌};
+ghost use Rattle.pgpipe_lines.specs.declared.fault.LineFault.TheVariants as line;
 ghost use Rattle.pgpipe_lines.specs.declared.fault.Refusal.TheVariants.{Memory};
 ghost use Rattle.pgpipe_lines.specs.Reads.{fault_at};
 
@@ -17,6 +18,14 @@ pub enum LineFault {
     /// Memory was refused.
     #[error("memory")]
     Memory,
+}
+
+impl From<AllocError> for LineFault {
+    ghost from_gives = { λ _ e. e ≡ line.Memory };
+
+    fn from(_e: AllocError) -> LineFault {
+        LineFault::Memory
+    }
 }
 
 /// Why a line isn't taken.
