@@ -34,8 +34,9 @@ fn put_counted_text(field: &[u8], texts: &mut Vec<u8>) -> Result<(), AllocError>
     ensures { OnOk result (texts.new.items
         ≡ texts.old.items ++ counted (text_after 0 field.now)) }
 {
-    // its text is no longer than it is
-    texts.reserve(field.len().saturating_add(LENGTH))?;
+    // its text is no longer than it is; with an eighth more the block needn't double for a short text after a long one
+    let room = field.len().saturating_add(field.len() / 8);
+    texts.reserve(room.saturating_add(LENGTH))?;
     let at = texts.len();
     texts.extend_from_slice(&[0; LENGTH])?;
     let start = texts.len();
