@@ -98,12 +98,17 @@ class Backend:
     def __init__(self, script):
         self.script, self.phase, self.data, self.asked, self.steps = script, "first", b"", 0, []
         self.log = []  # requests, outcomes, chunks
+        self.fault = None  # K1 or K4, as the words of a line
 
     def step(self):
         """What a step sends, or None where nothing is whole."""
         if self.phase == "closed":
             return None
-        found = stream.next_packet(self.data, 0) if self.phase == "first" else stream.next_message(stream.FRONT, self.data, 0)
+        try:
+            found = stream.next_packet(self.data, 0) if self.phase == "first" else stream.next_message(stream.FRONT, self.data, 0)
+        except stream.Fault as fault:
+            self.fault = f"K1 Wire {fault}"
+            return self.close((b"08P01", b"bad message"))
         if found is None:
             return None
         kind, _, held, end = found
@@ -114,8 +119,13 @@ class Backend:
         self.phase = "closed"
         return message(b"E", fields_body(own_error(b"FATAL", *severity_code_words))) if severity_code_words else b""
 
+    def unexpected(self, tag):
+        self.fault = f"K4 Unexpected {tag[0]}"
+        return self.close((b"08P01", b"unexpected message"))
+
     def in_first(self, kind, held):
-        assert kind == "startup"
+        if kind != "startup":
+            return self.close() if kind == "cancel" else b"N"
         users = [value for name, value in held if name == b"user"]
         if not users or not users[-1]:
             return self.close((b"28000", b"no user in startup"))
@@ -139,7 +149,7 @@ class Backend:
         if tag == b"X":
             return self.close()
         if tag != b"p":
-            return self.close((b"08P01", b"unexpected message"))
+            return self.unexpected(tag)
         return self.welcome() if held == self.awaited else self.close((b"28P01", b"password authentication failed"))
 
     def in_ready(self, tag, held):
@@ -154,13 +164,13 @@ class Backend:
             return self.answer(["group", steps])
         step = {
             b"P": lambda: ["parse", held[0], held[1], held[2]],
-            b"B": lambda: ["bind", held[0], held[1], held[3]],
+            b"B": lambda: ["bind", held[0], held[1], held[3], held[2], held[4]],
             b"D": lambda: ["describe", held[0].decode(), held[1]],
             b"C": lambda: ["close", held[0].decode(), held[1]],
             b"E": lambda: ["execute", held[0], held[1]],
         }.get(tag)
         if step is None:
-            return self.close((b"08P01", b"unexpected message"))
+            return self.unexpected(tag)
         self.steps.append(step())
         self.phase = "grouping"
         return b""
@@ -261,7 +271,7 @@ class Client:
             if step[0] == "parse":
                 sent += message(b"P", text(step[1]) + text(step[2]) + many(">I", step[3]))
             elif step[0] == "bind":
-                sent += message(b"B", text(step[1]) + text(step[2]) + many(">h", []) + values_of(step[3]) + many(">h", []))
+                sent += message(b"B", text(step[1]) + text(step[2]) + many(">h", step[4]) + values_of(step[3]) + many(">h", step[5]))
             elif step[0] == "execute":
                 sent += message(b"E", text(step[1]) + struct.pack(">i", step[2]))
             else:

@@ -256,7 +256,7 @@ class Calls:
         elif verb == "parse":
             steps.append([verb, fields.text(), fields.text(), fields.all(fields.number)])
         elif verb == "bind":
-            steps.append([verb, fields.text(), fields.text(), fields.all(fields.value)])
+            steps.append([verb, fields.text(), fields.text(), fields.all(fields.value), [], []])
         elif verb in ("describe", "close"):
             steps.append([verb, fields.word(b"S", b"P"), fields.text()])
         else:

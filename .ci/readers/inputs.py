@@ -100,6 +100,20 @@ def spoiled_messages(chance, messages):
     return data
 
 
+def moved_messages(chance, messages):
+    """The messages in one stream: as they are, or spoiled, or one is missing, doubled or in another place."""
+    way = chance.random()
+    if way < 0.4 or not messages:
+        return b"".join(messages)
+    if way < 0.7:
+        return spoiled_messages(chance, messages)
+    messages = list(messages)
+    message = messages.pop(chance.randrange(len(messages)))
+    for _ in range(chance.choice((0, 1, 1, 2))):
+        messages.insert(chance.randint(0, len(messages)), message)
+    return b"".join(messages)
+
+
 def spoiled_message(chance, message):
     head = 0 if message[:1] == b"\0" else 1
     if len(message) < head + 4:

@@ -155,7 +155,7 @@ class Fault(Exception):
     """What stands in the place of a message, as W1 to W5 name it."""
 
 
-def next_message(layouts, data, at):
+def next_message(layouts, data, at, limit=GREATEST):
     """The tag, the body, what the body holds, and where the next message begins; None where none is whole."""
     if len(data) < at + 5:
         return None
@@ -165,7 +165,7 @@ def next_message(layouts, data, at):
     size = struct.unpack_from(">i", data, at + 1)[0]
     if size < 4:
         raise Fault(f"W2 ShortLength {size}")
-    if size > GREATEST:
+    if size > limit:
         raise Fault(f"W3 LongLength {size}")
     end = at + 1 + size
     if len(data) < end:

@@ -6,7 +6,7 @@ use crate::line::Line;
 use anyhow::{Result, bail};
 use pg_client::{Call, Client, EarlyClient, FeedFault, Item, Settings, Settled};
 use pg_drive::{DriveFault, DrivenEarly, drive_early};
-use pg_wire::{Request, Status};
+use pg_wire::{BackMessage, Request, Status, backend};
 use std::alloc::Global;
 
 /// An early client.
@@ -17,6 +17,8 @@ pub struct Early<'a> {
     line: Line<'a>,
     /// The group that was settled since the client was last compared.
     settled: Option<(Request, Status)>,
+    /// The messages that it gave since they were last compared.
+    told: Vec<u8>,
 }
 
 impl<'a> Early<'a> {
@@ -28,6 +30,7 @@ impl<'a> Early<'a> {
             out: Vec::new(alloc),
             line: Line::new(alloc, most),
             settled: None,
+            told: Vec::new(alloc),
         }
     }
 
@@ -58,11 +61,16 @@ impl<'a> Early<'a> {
         self.client.feed(piece, &mut self.out) == *fed
     }
 
-    // Keeps what is settled.
+    // Keeps the item's message, and what is settled. A message that had no spelling would be missing where they are compared.
     fn keep(&mut self, item: Item) {
-        if let Item::Settled { request, status } = item {
-            self.settled = Some((request, status));
-        }
+        let message = match item {
+            Item::Early(message) => message,
+            Item::Settled { request, status } => {
+                self.settled = Some((request, status));
+                BackMessage::Ready(status)
+            }
+        };
+        let _ = backend::encode(&message, &mut self.told);
     }
 
     // Drives it, with so many pieces at most.
@@ -93,6 +101,14 @@ impl<'a> Early<'a> {
     pub fn has_sent(&mut self, bytes: &[u8]) -> bool {
         self.take_items();
         self.drive(0).is_ok() && self.line.has_taken(bytes)
+    }
+
+    /// Whether it has given just these messages since the last time.
+    pub fn has_told(&mut self, bytes: &[u8]) -> bool {
+        self.take_items();
+        let is_same = self.told.as_slice() == bytes;
+        self.told.clear();
+        is_same
     }
 
     // Takes the items that wait.

@@ -10,7 +10,7 @@ use std::alloc::{AllocError, AllocFailed, Global};
 use thiserror::Error;
 
 /// A call, a step of the next group, or bytes.
-#[derive(Debug, Drop)]
+#[derive(Drop)]
 pub enum Entry {
     /// The call of start, with the parameters of the startup packet, the user first.
     Start(Seq<(Seq<u8>, Seq<u8>)>),
@@ -25,6 +25,8 @@ pub enum Entry {
     Sent(Vec<u8>),
     /// What the server has sent.
     Bytes(Vec<u8>),
+    /// Where both clients stand, and which messages the early client has given since the last time.
+    Told { phase: String, messages: Vec<u8> },
 }
 
 /// Why a line is no entry.
@@ -182,6 +184,14 @@ fn query_of(alloc: Global, text: &str) -> Result<Call, EntryFault> {
     Ok(Call::Request(Request::Query(text_of(alloc, text)?)))
 }
 
+fn told_of(alloc: Global, text: &str) -> Result<Entry, EntryFault> {
+    let (phase, digits) = word(text);
+    Ok(Entry::Told {
+        phase: String::from_str(alloc, phase)?,
+        messages: bytes_of(alloc, digits)?,
+    })
+}
+
 impl Entry {
     /// The entry of a line: its name, a space, and its fields, parted by spaces. Bytes are in hexadecimal.
     pub fn of_line(alloc: Global, line: &str) -> Result<Entry, EntryFault> {
@@ -202,6 +212,7 @@ impl Entry {
             "terminate" => Ok(Entry::Call(Call::Terminate)),
             "sent" => Ok(Entry::Sent(bytes_of(alloc, rest)?)),
             "bytes" => Ok(Entry::Bytes(bytes_of(alloc, rest)?)),
+            "told" => told_of(alloc, rest),
             _ => Err(EntryFault::NoEntry),
         }
     }

@@ -6,7 +6,7 @@ ghost use Rattle.test_sessions.specs.Entry.{password_of};
 use crate::early::Early;
 use crate::entry::Entry;
 use crate::line::Line;
-use anyhow::{Result, bail};
+use anyhow::{Result, bail, ensure};
 use pg_client::{Call, Cause, Client, FeedFault, Loss, Phase, Settings, Settled};
 use pg_drive::{DriveFault, Driven, drive};
 use pg_wire::{Part, Request, Seq, Step};
@@ -34,7 +34,7 @@ const PIECE: usize = 4_096;
 pub struct SessionEnd {
     pub settled: Vec<Settled>,
     pub loss: Loss,
-    /// Why the client wasn't let in.
+    /// The fault in the server's bytes that closed the client.
     pub refusal: Option<FeedFault>,
 }
 
@@ -93,6 +93,18 @@ fn call(client: &mut Client, made: &Call, out: &mut Vec<u8>) -> Result<()> {
     Ok(())
 }
 
+// The name of a phase in a line of a session.
+fn phase_name(phase: Phase) -> &'static str {
+    match phase {
+        Phase::New => "new",
+        Phase::Starting => "starting",
+        Phase::Ready => "ready",
+        Phase::Busy => "busy",
+        Phase::CopyingIn => "copying",
+        Phase::Closed(_) => "closed",
+    }
+}
+
 // What a driven client answered to its piece.
 fn fed_of(driven: Result<Driven, DriveFault>) -> Result<Result<(), FeedFault>> {
     match driven {
@@ -126,15 +138,12 @@ impl<'a> Running<'a> {
         matches!(self.client.phase(), Phase::Closed(_))
     }
 
-    // Notes why the client isn't let in. Bytes that come after that, or after a Terminate, are refused.
+    // Keeps the fault that closes the client. Bytes that come after that, or after a Terminate, are refused.
     fn note(&mut self, was_closed: bool, fed: Result<(), FeedFault>) -> Result<()> {
-        match fed {
-            Err(FeedFault::Closed) if was_closed => {}
-            Ok(()) if was_closed => bail!("a closed client takes bytes"),
-            Err(fault @ (FeedFault::StartupError(_) | FeedFault::UnsupportedAuth(_))) => {
-                self.refusal = Some(fault);
-            }
-            other => other?,
+        if was_closed {
+            ensure!(fed == Err(FeedFault::Closed), "a closed client takes bytes");
+        } else if let Err(fault) = fed {
+            self.refusal = Some(fault);
         }
         Ok(())
     }
@@ -159,11 +168,22 @@ impl<'a> Running<'a> {
         self.note(was_closed, fed)
     }
 
-    // Drives until these bytes have come.
+    // Feeds both clients what their links have left to give.
+    fn feed_rest(&mut self) -> Result<()> {
+        let rest = self.line.gives;
+        self.line.gives = &[];
+        self.early.give(&[]);
+        self.feed_piece(rest)
+    }
+
+    // Drives until these bytes have come. While the client copies to the server `drive` receives nothing, so what comes then is fed.
     fn drive_through(&mut self, bytes: &'a [u8]) -> Result<()> {
         self.line.gives = bytes;
         self.early.give(bytes);
         for _ in 0..bytes.len() {
+            if self.client.phase() == Phase::CopyingIn {
+                return self.feed_rest();
+            }
             if !self.line.gives.is_empty() {
                 self.drive_piece()?;
             }
@@ -207,6 +227,17 @@ impl<'a> Running<'a> {
         self.call(&Call::Request(Request::Group(Seq::new(steps))))
     }
 
+    // The client has to be in this phase, and the early client to have given just these messages. `settle` compares the phases of both.
+    fn check_told(&mut self, phase: &str, messages: &[u8]) -> Result<()> {
+        let found = phase_name(self.client.phase());
+        ensure!(found == phase, "the client is {found}");
+        ensure!(
+            self.early.has_told(messages),
+            "the early client gives other messages than {messages:?}"
+        );
+        Ok(())
+    }
+
     fn make(&mut self, alloc: Global, entry: &'a Entry, cut: StreamCut) -> Result<()> {
         match entry {
             Entry::Start(_) => self.call(&Call::Start)?,
@@ -220,6 +251,9 @@ impl<'a> Running<'a> {
                 }
             }
             Entry::Bytes(bytes) => self.feed(bytes.as_slice(), cut)?,
+            Entry::Told { phase, messages } => {
+                self.check_told(phase.as_str(), messages.as_slice())?;
+            }
         }
         Ok(())
     }
@@ -257,7 +291,7 @@ impl<'a> Running<'a> {
         Ok(())
     }
 
-    // The session has to end by its Terminate, or where the client isn't let in, and leave nothing over.
+    // The session has to end by its Terminate, or by a fault in the server's bytes, and leave nothing over.
     fn check_end(&self) -> Result<()> {
         if self.refusal.is_none() && self.client.phase() != Phase::Closed(Cause::Terminated) {
             bail!("the session ends in {:?}", self.client.phase());

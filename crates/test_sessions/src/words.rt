@@ -196,7 +196,7 @@ pub fn write_words(settled: &Settled, out: &mut impl Write) -> io::Result<()> {
     })
 }
 
-/// Writes why the client wasn't let in, if so, and whether a request was left unsettled.
+/// Writes the fault that closed the client, if one did, and whether a request was left unsettled.
 pub fn write_ending(ending: &SessionEnd, out: &mut impl Write) -> io::Result<()> {
     match &ending.refusal {
         Some(FeedFault::StartupError(fields)) => write_fields(b"refused", fields, out)?,
