@@ -1,11 +1,12 @@
-//! Early clients that are driven over a link, and what driving one came to, in few words.
+//! Early clients that are driven over a link, and what driving one came to, in few words. Each test is a table of steps: what is done with
+//! a client and its link, and what must come of it. One function makes them, and lends them to those that judge a step.
 
 use crate::line::WELCOME;
-use pg_client::{EarlyClient, Item, Loss, Phase, Settings};
+use pg_client::{Cause, EarlyClient, Item, Loss, Phase, Settings};
 use pg_drive::{DriveFault, DrivenEarly, drive_early};
 use pg_wire::{Request, Seq};
 use std::alloc::{AllocError, Global};
-use test_base::Line;
+use test_base::{Line, holds, line_of};
 
 /// What driving an early client came to, without what its messages hold.
 #[derive(Clone, Copy, Debug, PartialEq, Eq)]
@@ -40,6 +41,12 @@ pub(crate) const REQUEST: Lost = Lost {
     error: false,
 };
 
+/// A request is lost, and an error came for it.
+pub(crate) const REQUEST_WITH_ERROR: Lost = Lost {
+    request: true,
+    error: true,
+};
+
 fn lost_told(loss: Loss) -> Lost {
     Lost {
         request: loss.unsettled.is_some(),
@@ -72,9 +79,47 @@ fn fault_told(fault: DriveFault) -> Told {
     }
 }
 
-/// An early client in phase New, over a link.
-fn fresh(alloc: Global, link: Line<'_>) -> Result<Driving<'_>, AllocError> {
-    let settings = Settings::new(alloc, Seq::from_slice(alloc, b"u")?);
+/// What is done with a client and its link, or what must come of it.
+#[derive(Clone, Copy)]
+pub(crate) enum Step {
+    /// The receive of this number fails.
+    FailReceive(u64),
+    /// The send of this number fails.
+    FailSend(u64),
+    /// These bytes are taken, and not by the link.
+    Feed(&'static [u8]),
+    /// The end of a copy is put out.
+    EndCopy,
+    /// Driven with at most so many receives, it comes to this.
+    Gives(u32, Told),
+    /// Driven so, once for each, it comes to these.
+    GivesAll(u32, &'static [Told]),
+    /// Driven, it ends as the link fails, once. This is lost, the client is closed, and no item waits.
+    Fails(Lost),
+    /// Without the link, it gives an item that comes to this, or none.
+    HasItem(Option<Told>),
+    /// The client stands in this phase.
+    Stands(Phase),
+    /// Just these bytes were sent.
+    HasSent(&'static [u8]),
+    /// Just the first so many of these bytes were sent, and just the others wait to be sent.
+    HasSentOf(&'static [u8], usize),
+    /// Something waits to be sent, or nothing.
+    HasToSend(bool),
+    /// So many bytes are left to be received.
+    IsLeft(usize),
+    /// So many calls of the link have failed.
+    Failures(u64),
+}
+
+/// An early client of the user `u` and of this password, in phase New, over a link.
+fn fresh(
+    alloc: Global,
+    password: Option<Seq<u8>>,
+    link: Line<'_>,
+) -> Result<Driving<'_>, AllocError> {
+    let mut settings = Settings::new(alloc, Seq::from_slice(alloc, b"u")?);
+    settings.password = password;
     Ok(Driving {
         client: EarlyClient::new(alloc, settings),
         out: Vec::new(alloc),
@@ -84,23 +129,23 @@ fn fresh(alloc: Global, link: Line<'_>) -> Result<Driving<'_>, AllocError> {
 
 /// An early client, what it has put out, and the link that it is driven over. What a test asks of it answers whether it was so.
 #[derive(Drop)]
-pub(crate) struct Driving<'a> {
+struct Driving<'a> {
     client: EarlyClient,
     out: Vec<u8>,
-    pub(crate) link: Line<'a>,
+    link: Line<'a>,
 }
 
 impl<'a> Driving<'a> {
-    /// A client that was started, and whose startup packet waits to be sent.
-    pub(crate) fn started(alloc: Global, link: Line<'a>) -> Option<Driving<'a>> {
-        let mut it = fresh(alloc, link).ok()?;
+    /// A client of this password that was started, and whose startup packet waits to be sent.
+    fn started(alloc: Global, password: Option<Seq<u8>>, link: Line<'a>) -> Option<Driving<'a>> {
+        let mut it = fresh(alloc, password, link).ok()?;
         if it.starts() { Some(it) } else { None }
     }
 
     /// A client that has made a query, whose message waits to be sent.
-    pub(crate) fn asked(alloc: Global, link: Line<'a>) -> Option<Driving<'a>> {
+    fn asked(alloc: Global, link: Line<'a>) -> Option<Driving<'a>> {
         let query = Request::Query(Seq::from_slice(alloc, b"SELECT 1").ok()?);
-        let mut it = Driving::started(alloc, link)?;
+        let mut it = Driving::started(alloc, None, link)?;
         if it.asks(query) { Some(it) } else { None }
     }
 
@@ -114,13 +159,21 @@ impl<'a> Driving<'a> {
         welcomed && self.client.request(query, &mut self.out).is_ok()
     }
 
-    /// Takes these bytes, and not by the link.
-    pub(crate) fn feeds(&mut self, bytes: &[u8]) -> bool {
+    fn fails_at_receive(&mut self, number: u64) -> bool {
+        self.link.fails_at_receive = number;
+        true
+    }
+
+    fn fails_at_send(&mut self, number: u64) -> bool {
+        self.link.fails_at_send = number;
+        true
+    }
+
+    fn feeds(&mut self, bytes: &[u8]) -> bool {
         self.client.feed(bytes, &mut self.out).is_ok()
     }
 
-    /// Puts out the end of a copy.
-    pub(crate) fn ends_copy(&mut self) -> bool {
+    fn ends_copy(&mut self) -> bool {
         self.client.copy_done(&mut self.out).is_ok()
     }
 
@@ -131,50 +184,102 @@ impl<'a> Driving<'a> {
         }
     }
 
-    /// Driven with at most so many receives, it comes to this.
-    pub(crate) fn gives(&mut self, turns: u32, told: Told) -> bool {
-        self.drive(turns) == told
-    }
-
-    /// Driven so, once for each, it comes to these.
-    pub(crate) fn gives_all(&mut self, turns: u32, tolds: &[Told]) -> bool {
-        let mut same = true;
+    fn gives_all(&mut self, turns: u32, tolds: &[Told]) -> bool {
         for told in tolds {
-            same = self.gives(turns, *told) && same;
+            if self.drive(turns) != *told {
+                return false;
+            }
         }
-        same
+        true
     }
 
-    /// Without the link, it gives an item with this tag.
-    pub(crate) fn has_item(&mut self, tag: u8) -> bool {
+    /// Driven, it ends as the link fails, once, and gives no item.
+    fn fails(&mut self, lost: Lost) -> bool {
+        self.drive(100) == Told::Failed(lost)
+            && self.link.failures == 1
+            && self.client.phase() == Phase::Closed(Cause::Lost)
+            && self.take_item().is_none()
+    }
+
+    /// What the item that is given without the link comes to.
+    fn take_item(&mut self) -> Option<Told> {
         match self.client.take_item() {
-            Some(item) => item_told(item) == Told::Early(tag),
-            None => false,
+            Some(item) => Some(item_told(item)),
+            None => None,
         }
     }
 
-    /// Gives no item.
-    pub(crate) fn has_none(&mut self) -> bool {
-        self.client.take_item().is_none()
-    }
-
-    /// The client stands in this phase.
-    pub(crate) fn stands(&self, phase: Phase) -> bool {
-        self.client.phase() == phase
-    }
-
-    /// Just these bytes were sent.
-    pub(crate) fn has_sent(&self, bytes: &[u8]) -> bool {
+    fn has_sent(&self, bytes: &[u8]) -> bool {
         self.link.taken.as_slice() == bytes
     }
 
-    /// Something waits to be sent.
-    pub(crate) fn has_to_send(&self) -> bool {
-        !self.out.is_empty()
+    fn has_sent_of(&self, bytes: &[u8], sent: usize) -> bool {
+        match bytes.split_at_checked(sent) {
+            Some((sent, waiting)) => self.has_sent(sent) && self.out.as_slice() == waiting,
+            None => false,
+        }
     }
+}
 
-    /// So many bytes are left to be received.
-    pub(crate) fn is_left(&self, count: usize) -> bool {
-        self.link.gives.len() == count
+/// Whether what a step says has come of the client and its link.
+fn has_come(it: &Driving<'_>, step: Step) -> bool {
+    match step {
+        Step::Stands(phase) => it.client.phase() == phase,
+        Step::HasSent(bytes) => it.has_sent(bytes),
+        Step::HasSentOf(bytes, sent) => it.has_sent_of(bytes, sent),
+        Step::HasToSend(waits) => it.out.is_empty() != waits,
+        Step::IsLeft(count) => it.link.gives.len() == count,
+        Step::Failures(count) => it.link.failures == count,
+        _ => false,
     }
+}
+
+/// Does what a step says, and whether it was so.
+fn is_so(it: &mut Driving<'_>, step: Step) -> bool {
+    match step {
+        Step::FailReceive(number) => it.fails_at_receive(number),
+        Step::FailSend(number) => it.fails_at_send(number),
+        Step::Feed(bytes) => it.feeds(bytes),
+        Step::EndCopy => it.ends_copy(),
+        Step::Gives(turns, told) => it.drive(turns) == told,
+        Step::GivesAll(turns, tolds) => it.gives_all(turns, tolds),
+        Step::Fails(lost) => it.fails(lost),
+        Step::HasItem(told) => it.take_item() == told,
+        _ => has_come(it, step),
+    }
+}
+
+fn are_so(it: &mut Driving<'_>, steps: &[Step]) -> bool {
+    for step in steps {
+        if !is_so(it, *step) {
+            return false;
+        }
+    }
+    true
+}
+
+/// Whether a client that was started, over a link that gives these bytes, so many at a time, does what these steps say.
+pub(crate) fn started_does(alloc: Global, gives: &[u8], most: usize, steps: &[Step]) -> bool {
+    let link = line_of(alloc, gives, most);
+    holds(Driving::started(alloc, None, link), |it| are_so(it, steps))
+}
+
+/// A client with the password `p` that was started, over a link that gives these bytes, so many at a time.
+fn over_with_password(alloc: Global, gives: &[u8], most: usize) -> Option<Driving<'_>> {
+    let password = Seq::from_slice(alloc, b"p").ok()?;
+    Driving::started(alloc, Some(password), line_of(alloc, gives, most))
+}
+
+/// Whether a client with the password `p` that was started, over such a link, does what these steps say.
+pub(crate) fn password_does(alloc: Global, gives: &[u8], most: usize, steps: &[Step]) -> bool {
+    holds(
+        over_with_password(alloc, gives, most),
+        |it| are_so(it, steps),
+    )
+}
+
+/// Whether a client that has made a query, over a link that gives these bytes, so many at a time, does what these steps say.
+pub(crate) fn asked_does(alloc: Global, gives: &[u8], most: usize, steps: &[Step]) -> bool {
+    let link = line_of(alloc, gives, most);
+    holds(Driving::asked(alloc, link), |it| are_so(it, steps))
 }

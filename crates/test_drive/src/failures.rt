@@ -3,25 +3,25 @@
 use crate::line::{Driving, STARTUP};
 use pg_client::{Cause, Phase};
 use pg_drive::{DriveFault, Driven};
-use pg_wire::{Request, Seq};
+use pg_wire::Seq;
 use std::alloc::Global;
 use test_base::{Line, holds, line_of};
 
 /// AuthenticationCleartextPassword and then the welcome.
-const GIVEN: [u8; 24] = [
+pub(crate) const GIVEN: [u8; 24] = [
     0x52, 0, 0, 0, 8, 0, 0, 0, 3, 0x52, 0, 0, 0, 8, 0, 0, 0, 0, 0x5A, 0, 0, 0, 5, 0x49,
 ];
 
 /// The startup packet, and a PasswordMessage with the password `p`.
-const SENT: [u8; 23] = [
+pub(crate) const SENT: [u8; 23] = [
     0, 0, 0, 16, 0, 3, 0, 0, b'u', b's', b'e', b'r', 0, b'u', 0, 0, 0x70, 0, 0, 0, 6, b'p', 0,
 ];
 
 /// ErrorResponse without fields, and ReadyForQuery.
-const ANSWER: &[u8] = b"E\0\0\0\x05\0Z\0\0\0\x05I";
+pub(crate) const ERROR: &[u8] = b"E\0\0\0\x05\0Z\0\0\0\x05I";
 
 /// The message of the query `SELECT 1`.
-const QUERY: &[u8] = b"Q\0\0\0\x0dSELECT 1\0";
+pub(crate) const QUERY: &[u8] = b"Q\0\0\0\x0dSELECT 1\0";
 
 /// A link that gives these bytes, one at a time, and fails at this send and this receive, or at none where that is 0.
 fn failing(alloc: Global, gives: &[u8], send: u64, receive: u64) -> Line<'_> {
@@ -38,8 +38,7 @@ fn startup(alloc: Global, send: u64, receive: u64) -> Option<Driving<'static>> {
 }
 
 fn query(alloc: Global, send: u64, receive: u64) -> Option<Driving<'static>> {
-    let request = Request::Query(Seq::from_slice(alloc, b"SELECT 1").ok()?);
-    Driving::asked(alloc, request, failing(alloc, ANSWER, send, receive))
+    Driving::asked(alloc, failing(alloc, ERROR, send, receive))
 }
 
 /// Whether a drive ended by D2 Link, and then whether a request was lost, and whether an error for it was seen.
@@ -80,22 +79,51 @@ impl Driving<'_> {
         self.out.len() == waiting && all.ends_with(self.out.as_slice())
     }
 
-    /// So many bytes are left to be received.
-    fn is_left(&self, count: usize) -> bool {
-        self.link.gives.len() == count
+    /// Driven, it ends as the link fails, and leaves this of the bytes that are to be sent.
+    fn leaves(&mut self, all: &[u8], left: Left) -> bool {
+        self.is_failed(left.lost, left.error)
+            && self.has_sent_of(all, left.sent)
+            && self.has_to_send_of(all, left.waiting)
+            && self.is_left(left.given)
     }
+}
+
+/// What is left where a link has failed.
+#[derive(Clone, Copy)]
+struct Left {
+    /// Whether a request is lost.
+    lost: bool,
+    /// Whether an error came for it.
+    error: bool,
+    /// How many bytes were sent.
+    sent: usize,
+    /// How many bytes wait to be sent.
+    waiting: usize,
+    /// How many bytes are left to be received.
+    given: usize,
+}
+
+/// Whether a startup that fails at this send or this receive leaves this of the bytes that are to be sent.
+fn startup_leaves(alloc: Global, send: u64, receive: u64, all: &[u8], left: Left) -> bool {
+    holds(startup(alloc, send, receive), |it| it.leaves(all, left))
+}
+
+/// Whether a query that fails so leaves this of its message.
+fn query_leaves(alloc: Global, send: u64, receive: u64, left: Left) -> bool {
+    holds(query(alloc, send, receive), |it| it.leaves(QUERY, left))
 }
 
 #[test]
 fn each_send_of_a_startup(rt: HostRuntime) {
-    let alloc = rt.alloc();
     for sent in 0..16usize {
-        let held = holds(startup(alloc, sent as u64 + 1, 0), |it| {
-            it.is_failed(false, false)
-                && it.has_sent_of(&STARTUP, sent)
-                && it.has_to_send_of(&STARTUP, 16 - sent)
-                && it.is_left(24)
-        });
+        let left = Left {
+            lost: false,
+            error: false,
+            sent,
+            waiting: 16 - sent,
+            given: 24,
+        };
+        let held = startup_leaves(rt.alloc(), sent as u64 + 1, 0, &STARTUP, left);
         assert!(rt; held, "{sent}");
     }
 }
@@ -103,71 +131,76 @@ fn each_send_of_a_startup(rt: HostRuntime) {
 #[test]
 fn each_send_of_a_password(rt: HostRuntime) {
     // it waits only once it was asked for
-    let alloc = rt.alloc();
     for sent in 16..23usize {
-        let held = holds(startup(alloc, sent as u64 + 1, 0), |it| {
-            it.is_failed(false, false)
-                && it.has_sent_of(&SENT, sent)
-                && it.has_to_send_of(&SENT, 23 - sent)
-                && it.is_left(15)
-        });
+        let left = Left {
+            lost: false,
+            error: false,
+            sent,
+            waiting: 23 - sent,
+            given: 15,
+        };
+        let held = startup_leaves(rt.alloc(), sent as u64 + 1, 0, &SENT, left);
         assert!(rt; held, "{sent}");
     }
 }
 
 #[test]
 fn each_receive_of_a_question(rt: HostRuntime) {
-    let alloc = rt.alloc();
     for received in 0..9usize {
-        let held = holds(startup(alloc, 0, received as u64 + 1), |it| {
-            it.is_failed(false, false)
-                && it.has_sent_of(&SENT, 16)
-                && it.has_to_send(b"")
-                && it.is_left(24 - received)
-        });
+        let left = Left {
+            lost: false,
+            error: false,
+            sent: 16,
+            waiting: 0,
+            given: 24 - received,
+        };
+        let held = startup_leaves(rt.alloc(), 0, received as u64 + 1, &SENT, left);
         assert!(rt; held, "{received}");
     }
 }
 
 #[test]
 fn each_receive_of_a_welcome(rt: HostRuntime) {
-    let alloc = rt.alloc();
     for received in 9..24usize {
-        let held = holds(startup(alloc, 0, received as u64 + 1), |it| {
-            it.is_failed(false, false)
-                && it.has_sent_of(&SENT, 23)
-                && it.has_to_send(b"")
-                && it.is_left(24 - received)
-        });
+        let left = Left {
+            lost: false,
+            error: false,
+            sent: 23,
+            waiting: 0,
+            given: 24 - received,
+        };
+        let held = startup_leaves(rt.alloc(), 0, received as u64 + 1, &SENT, left);
         assert!(rt; held, "{received}");
     }
 }
 
 #[test]
 fn each_send_of_a_query(rt: HostRuntime) {
-    let alloc = rt.alloc();
     for sent in 0..14usize {
-        let held = holds(query(alloc, sent as u64 + 1, 0), |it| {
-            it.is_failed(true, false)
-                && it.has_sent_of(QUERY, sent)
-                && it.has_to_send_of(QUERY, 14 - sent)
-                && it.is_left(12)
-        });
+        let left = Left {
+            lost: true,
+            error: false,
+            sent,
+            waiting: 14 - sent,
+            given: 12,
+        };
+        let held = query_leaves(rt.alloc(), sent as u64 + 1, 0, left);
         assert!(rt; held, "{sent}");
     }
 }
 
 #[test]
 fn each_receive_of_a_query(rt: HostRuntime) {
-    let alloc = rt.alloc();
     for received in 0..12usize {
-        let held = holds(query(alloc, 0, received as u64 + 1), |it| {
-            // the error is seen once its six bytes are there
-            it.is_failed(true, received >= 6)
-                && it.has_sent_of(QUERY, 14)
-                && it.has_to_send(b"")
-                && it.is_left(12 - received)
-        });
+        let left = Left {
+            lost: true,
+            // it is seen once its six bytes are there
+            error: received >= 6,
+            sent: 14,
+            waiting: 0,
+            given: 12 - received,
+        };
+        let held = query_leaves(rt.alloc(), 0, received as u64 + 1, left);
         assert!(rt; held, "{received}");
     }
 }

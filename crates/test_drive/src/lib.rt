@@ -6,6 +6,8 @@
 #[cfg(test)]
 mod early;
 #[cfg(test)]
+mod early_failures;
+#[cfg(test)]
 mod early_line;
 #[cfg(test)]
 mod failures;

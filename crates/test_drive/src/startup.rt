@@ -1,118 +1,111 @@
-use crate::line::{Driving, STARTUP, WELCOME, nothing_lost};
+use crate::line::{
+    Driving, Lost, STARTUP, Step, Told, WELCOME, nothing_lost, over, password_does, started_does,
+};
 use pg_client::{Cause, FeedFault, Phase};
-use pg_drive::{DriveFault, Driven};
-use pg_wire::Seq;
+use pg_drive::DriveFault;
 use std::alloc::Global;
 use std::test::Fail;
-use test_base::{holds, is_told, line_of};
+use test_base::{holds, is_told};
+
+const ENDED: [Step; 5] = [
+    Step::Gives(15, Told::Ready),
+    Step::Stands(Phase::Ready),
+    Step::HasSent(&STARTUP),
+    Step::HasToSend(b""),
+    Step::Failures(0),
+];
 
 #[test]
 fn it_ends_at_its_last_byte(rt: HostRuntime) {
-    let alloc = rt.alloc();
-    let held = holds(
-        Driving::started(alloc, None, line_of(alloc, &WELCOME, 1)),
-        |it| {
-            it.gives(15, Ok(Driven::Ready))
-                && it.stands(Phase::Ready)
-                && it.has_sent(&STARTUP)
-                && it.has_to_send(b"")
-                && it.link.failures == 0
-        },
-    );
-    assert!(rt; held);
+    assert!(rt; started_does(rt.alloc(), &WELCOME, 1, &ENDED));
 }
+
+const USED: [Step; 5] = [
+    Step::Gives(14, Told::TurnsUsed),
+    Step::Stands(Phase::Starting),
+    Step::IsLeft(1),
+    // it goes on by the next call
+    Step::Gives(1, Told::Ready),
+    // and Ready isn't answered once more
+    Step::Gives(0, Told::TurnsUsed),
+];
 
 #[test]
 fn the_turns_are_used_before(rt: HostRuntime) {
-    let alloc = rt.alloc();
-    let held = holds(
-        Driving::started(alloc, None, line_of(alloc, &WELCOME, 1)),
-        |it| {
-            it.gives(14, Ok(Driven::TurnsUsed))
-                && it.stands(Phase::Starting)
-                && it.link.gives.len() == 1
-                // it goes on by the next call
-                && it.gives(1, Ok(Driven::Ready))
-                // and Ready isn't answered once more
-                && it.gives(0, Ok(Driven::TurnsUsed))
-        },
-    );
-    assert!(rt; held);
+    assert!(rt; started_does(rt.alloc(), &WELCOME, 1, &USED));
 }
+
+const SENT_ALONE: [Step; 3] = [
+    Step::Gives(0, Told::TurnsUsed),
+    Step::HasSent(&STARTUP),
+    Step::HasToReceive(&WELCOME),
+];
 
 #[test]
 fn without_turns_it_is_sent_alone(rt: HostRuntime) {
-    let alloc = rt.alloc();
-    let held = holds(
-        Driving::started(alloc, None, line_of(alloc, &WELCOME, 3)),
-        |it| {
-            it.gives(0, Ok(Driven::TurnsUsed))
-                && it.has_sent(&STARTUP)
-                && it.has_to_receive(&WELCOME)
-        },
-    );
-    assert!(rt; held);
+    assert!(rt; started_does(rt.alloc(), &WELCOME, 3, &SENT_ALONE));
 }
+
+const BY_PIECES: [Step; 3] = [
+    Step::Gives(15, Told::Ready),
+    Step::HasSent(&STARTUP),
+    Step::HasToSend(b""),
+];
 
 #[test]
 fn however_many_bytes_are_taken_at_once(rt: HostRuntime) {
-    let alloc = rt.alloc();
     for most in 1..20 {
-        let held = holds(
-            Driving::started(alloc, None, line_of(alloc, &WELCOME, most)),
-            |it| {
-                it.gives(15, Ok(Driven::Ready)) && it.has_sent(&STARTUP) && it.has_to_send(b"")
-            },
+        assert!(rt;
+            started_does(rt.alloc(), &WELCOME, most, &BY_PIECES),
+            "{most}"
         );
-        assert!(rt; held, "{most}");
     }
 }
 
+const CUT_OFF: [Step; 3] = [
+    Step::Gives(20, Told::Lost(Lost::Nothing)),
+    Step::Stands(Phase::Closed(Cause::Lost)),
+    Step::Failures(0),
+];
+
 #[test]
 fn the_bytes_end_before(rt: HostRuntime) {
-    let alloc = rt.alloc();
-    let held = holds(
-        Driving::started(alloc, None, line_of(alloc, &WELCOME[..14], 1)),
-        |it| {
-            it.loses(20, nothing_lost())
-                && it.stands(Phase::Closed(Cause::Lost))
-                && it.link.failures == 0
-        },
-    );
-    assert!(rt; held);
+    assert!(rt; started_does(rt.alloc(), &WELCOME[..14], 1, &CUT_OFF));
 }
+
+const RECEIVE_FAILS: [Step; 4] = [
+    Step::FailReceive(15),
+    Step::Gives(20, Told::Failed(Lost::Nothing)),
+    Step::Stands(Phase::Closed(Cause::Lost)),
+    Step::Failures(1),
+];
 
 #[test]
 fn a_receive_fails_before(rt: HostRuntime) {
-    let alloc = rt.alloc();
-    let held = holds(
-        Driving::started(alloc, None, line_of(alloc, &WELCOME, 1)),
-        |it| {
-            it.link.fails_at_receive = 15;
-            it.fails(20, nothing_lost())
-                && it.stands(Phase::Closed(Cause::Lost))
-                && it.link.failures == 1
-        },
-    );
-    assert!(rt; held);
+    assert!(rt; started_does(rt.alloc(), &WELCOME, 1, &RECEIVE_FAILS));
+}
+
+impl Driving<'_> {
+    /// The send after so many bytes of the startup packet fails: these were sent, the others wait, and nothing was received.
+    fn fails_after(&mut self, alloc: Global, sent: usize) -> bool {
+        let (before, after) = STARTUP.as_slice().split_at(sent.min(STARTUP.len()));
+        self.link.fails_at_send = (sent as u64).saturating_add(1);
+        self.gives(alloc, 20, Told::Failed(Lost::Nothing))
+            && self.stands(Phase::Closed(Cause::Lost))
+            && self.has_sent(before)
+            && self.has_to_send(after)
+            && self.has_to_receive(&WELCOME)
+    }
+}
+
+fn send_fails_after(alloc: Global, sent: usize) -> bool {
+    holds(over(alloc, &WELCOME, 1), |it| it.fails_after(alloc, sent))
 }
 
 #[test]
 fn a_send_fails(rt: HostRuntime) {
-    let alloc = rt.alloc();
     for sent in 0..16usize {
-        let held = holds(
-            Driving::started(alloc, None, line_of(alloc, &WELCOME, 1)),
-            |it| {
-                it.link.fails_at_send = sent as u64 + 1;
-                it.fails(20, nothing_lost())
-                    && it.stands(Phase::Closed(Cause::Lost))
-                    && it.has_sent(&STARTUP[..sent])
-                    && it.has_to_send(&STARTUP[sent..])
-                    && it.has_to_receive(&WELCOME)
-            },
-        );
-        assert!(rt; held, "{sent}");
+        assert!(rt; send_fails_after(rt.alloc(), sent), "{sent}");
     }
 }
 
@@ -122,58 +115,49 @@ const QUESTION: [u8; 9] = [0x52, 0, 0, 0, 8, 0, 0, 0, 3];
 /// PasswordMessage with the password `p`.
 const PASSWORD: [u8; 7] = [0x70, 0, 0, 0, 6, b'p', 0];
 
-/// A client that has the password and is asked for it, over a link that takes so many bytes at once.
-fn questioned(alloc: Global, most: usize) -> Option<Driving<'static>> {
-    let password = Seq::from_slice(alloc, b"p").ok()?;
-    Driving::started(alloc, Some(password), line_of(alloc, &QUESTION, most))
-}
+const ASKED: [Step; 3] = [
+    Step::Gives(5, Told::TurnsUsed),
+    Step::HasSentFromTo(&STARTUP, &PASSWORD),
+    Step::HasToSend(b""),
+];
 
 #[test]
 fn a_password_is_sent(rt: HostRuntime) {
-    let held = holds(questioned(rt.alloc(), 2), |it| {
-        it.gives(5, Ok(Driven::TurnsUsed))
-            && it.link.taken.starts_with(&STARTUP)
-            && it.link.taken.ends_with(&PASSWORD)
-            && it.has_to_send(b"")
-    });
-    assert!(rt; held);
+    assert!(rt; password_does(rt.alloc(), &QUESTION, 2, &ASKED));
 }
+
+const HALF_SENT: [Step; 3] = [
+    Step::FailSend(6),
+    Step::Gives(9, Told::Failed(Lost::Nothing)),
+    // the last three bytes of the PasswordMessage
+    Step::HasToSend(&[6, b'p', 0]),
+];
 
 #[test]
 fn a_password_is_sent_in_part(rt: HostRuntime) {
-    let held = holds(questioned(rt.alloc(), 4), |it| {
-        it.link.fails_at_send = 6;
-        it.fails(9, nothing_lost()) && it.has_to_send(&PASSWORD[4..])
-    });
-    assert!(rt; held);
+    assert!(rt; password_does(rt.alloc(), &QUESTION, 4, &HALF_SENT));
 }
+
+const CLOSED: [Step; 4] = [
+    Step::Lose,
+    Step::Gives(2, Told::Closed),
+    Step::HasSent(&STARTUP),
+    Step::HasToReceive(b""),
+];
 
 #[test]
 fn a_closed_client_sends_and_takes_nothing(rt: HostRuntime) {
-    let alloc = rt.alloc();
-    let held = holds(
-        Driving::started(alloc, None, line_of(alloc, &WELCOME, 40)),
-        |it| {
-            let _ = it.client.lost();
-            it.gives(2, Err(DriveFault::Feed(FeedFault::Closed)))
-                && it.has_sent(&STARTUP)
-                && it.has_to_receive(b"")
-        },
-    );
-    assert!(rt; held);
+    assert!(rt; started_does(rt.alloc(), &WELCOME, 40, &CLOSED));
 }
+
+const TOO_EARLY: [Step; 2] = [
+    Step::Gives(2, Told::Unexpected(b'Z')),
+    Step::Stands(Phase::Closed(Cause::Unexpected)),
+];
 
 #[test]
 fn nothing_may_come_before_it(rt: HostRuntime) {
-    let alloc = rt.alloc();
-    let held = holds(
-        Driving::started(alloc, None, line_of(alloc, &WELCOME[9..], 40)),
-        |it| {
-            it.gives(2, Err(DriveFault::Feed(FeedFault::Unexpected(b'Z'))))
-                && it.stands(Phase::Closed(Cause::Unexpected))
-        },
-    );
-    assert!(rt; held);
+    assert!(rt; started_does(rt.alloc(), &WELCOME[9..], 40, &TOO_EARLY));
 }
 
 #[test]

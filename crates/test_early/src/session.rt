@@ -1,8 +1,10 @@
-//! The sessions that are tested, and the items that come of them.
+//! The sessions that are tested, and the items that come of them. Each test is a table of steps: what is done with a client, and what
+//! must come of it. One function makes the client, and lends it to those that judge a step.
 
 use pg_client::{Cause, EarlyClient, Item, Loss, Next, Phase, Settings};
 use pg_wire::{Request, Seq, Status};
 use std::alloc::{AllocError, Global};
+use test_base::holds;
 
 /// AuthenticationOk and ReadyForQuery.
 pub(crate) const WELCOME: &[u8] = b"R\0\0\0\x08\0\0\0\0Z\0\0\0\x05I";
@@ -27,6 +29,39 @@ fn fresh(alloc: Global) -> Result<EarlyClient, AllocError> {
     Ok(EarlyClient::new(alloc, settings))
 }
 
+/// What is done with a session, or what must come of it.
+#[derive(Clone, Copy)]
+pub(crate) enum Step {
+    /// It starts, and is let in.
+    Start,
+    /// It starts, is let in and makes a query.
+    Ask,
+    /// These bytes are taken.
+    Feed(&'static [u8]),
+    /// These bytes are kept.
+    Push(&'static [u8]),
+    /// A chunk of a copy is put out, and its end.
+    Copy(&'static [u8]),
+    /// It gives items of just these tags.
+    Gives(&'static [u8]),
+    /// The next items have just these tags.
+    GivesFirst(&'static [u8]),
+    /// It gives the query, as settled.
+    GivesSettledQuery,
+    /// It gives no item.
+    GivesNone,
+    /// What comes next has just these tags: `*` is a row that is lent, `.` no whole message, `!` a fault.
+    Comes(&'static [u8]),
+    /// The row that is lent has so many values; with None, none is lent.
+    LendsValues(Option<usize>),
+    /// The row that is lent begins with this text.
+    Lends(&'static [u8]),
+    /// It loses its connection, and with it the query, after an error or not.
+    LosesQuery(bool),
+    /// It stands in this phase.
+    Stands(Phase),
+}
+
 /// An early client, and its output. What it is asked for answers whether it was so.
 #[derive(Drop)]
 pub(crate) struct Session {
@@ -35,7 +70,7 @@ pub(crate) struct Session {
 }
 
 /// An early client in phase New, and no output.
-pub(crate) fn new_session(alloc: Global) -> Result<Session, AllocError> {
+fn new_session(alloc: Global) -> Result<Session, AllocError> {
     Ok(Session {
         client: fresh(alloc)?,
         out: Vec::new(alloc),
@@ -44,7 +79,7 @@ pub(crate) fn new_session(alloc: Global) -> Result<Session, AllocError> {
 
 impl Session {
     /// Starts, and is let in.
-    pub(crate) fn starts(&mut self) -> bool {
+    fn starts(&mut self) -> bool {
         self.client.start(&mut self.out).is_ok() && self.feeds(WELCOME)
     }
 
@@ -54,7 +89,7 @@ impl Session {
     }
 
     /// Starts, is let in and makes a query.
-    pub(crate) fn asks(&mut self, alloc: Global) -> bool {
+    fn asks(&mut self, alloc: Global) -> bool {
         match query(alloc) {
             Ok(request) => self.starts() && self.makes(request),
             Err(_) => false,
@@ -62,17 +97,17 @@ impl Session {
     }
 
     /// Takes these bytes.
-    pub(crate) fn feeds(&mut self, bytes: &[u8]) -> bool {
+    fn feeds(&mut self, bytes: &[u8]) -> bool {
         self.client.feed(bytes, &mut self.out).is_ok()
     }
 
     /// Keeps these bytes.
-    pub(crate) fn pushes(&mut self, bytes: &[u8]) -> bool {
+    fn pushes(&mut self, bytes: &[u8]) -> bool {
         self.client.push(bytes).is_ok()
     }
 
     /// The tag of the item that comes next, `*` of a row that is lent, `.` where no message is whole, and `!` of a fault.
-    pub(crate) fn comes_next(&mut self) -> u8 {
+    fn comes_next(&mut self) -> u8 {
         match self.client.next_lent(&mut self.out) {
             Ok(Next::Nothing) => b'.',
             Ok(Next::Held) => b'*',
@@ -82,7 +117,7 @@ impl Session {
     }
 
     /// What comes next has just these tags.
-    pub(crate) fn comes(&mut self, tags: &[u8]) -> bool {
+    fn comes(&mut self, tags: &[u8]) -> bool {
         let mut same = true;
         for tag in tags {
             same = self.comes_next() == *tag && same;
@@ -91,15 +126,15 @@ impl Session {
     }
 
     /// How many values the row that is lent has; None where none is lent.
-    pub(crate) fn width_lent(&self) -> Option<usize> {
+    fn width_lent(&self) -> Option<usize> {
         match self.client.held() {
             Some(row) => Some(row.values().count()),
             None => None,
         }
     }
 
-    /// The row that is lent has just this text.
-    pub(crate) fn lends(&self, text: &[u8]) -> bool {
+    /// The row that is lent begins with this text.
+    fn lends(&self, text: &[u8]) -> bool {
         let Some(row) = self.client.held() else {
             return false;
         };
@@ -116,18 +151,18 @@ impl Session {
     }
 
     /// Puts out a chunk of a copy, and its end.
-    pub(crate) fn copies(&mut self, chunk: &[u8]) -> bool {
+    fn copies(&mut self, chunk: &[u8]) -> bool {
         self.client.copy_chunk(chunk, &mut self.out).is_ok()
             && self.client.copy_done(&mut self.out).is_ok()
     }
 
     /// Whether an item waits.
-    pub(crate) fn has_item(&self) -> bool {
+    fn has_item(&self) -> bool {
         self.client.has_item()
     }
 
     /// The tag of the next item, which is taken.
-    pub(crate) fn next_tag(&mut self) -> u8 {
+    fn next_tag(&mut self) -> u8 {
         tag_of(self.client.take_item())
     }
 
@@ -141,7 +176,7 @@ impl Session {
     }
 
     /// The next items have just these tags.
-    pub(crate) fn gives_first(&mut self, tags: &[u8]) -> bool {
+    fn gives_first(&mut self, tags: &[u8]) -> bool {
         let mut same = true;
         for tag in tags {
             same = self.next_tag() == *tag && same;
@@ -150,7 +185,7 @@ impl Session {
     }
 
     /// Gives the query, as settled.
-    pub(crate) fn gives_settled_query(&mut self, alloc: Global) -> bool {
+    fn gives_settled_query(&mut self, alloc: Global) -> bool {
         match query(alloc) {
             Ok(request) => self.gives_item(Item::Settled {
                 request,
@@ -166,12 +201,12 @@ impl Session {
     }
 
     /// Gives no item.
-    pub(crate) fn gives_none(&mut self) -> bool {
+    fn gives_none(&mut self) -> bool {
         self.client.take_item().is_none()
     }
 
     /// Loses its connection, and with it the query, after an error or not.
-    pub(crate) fn loses_query(&mut self, alloc: Global, seen_error: bool) -> bool {
+    fn loses_query(&mut self, alloc: Global, seen_error: bool) -> bool {
         match query(alloc) {
             Ok(request) => self.loses(Loss {
                 unsettled: Some(request),
@@ -184,21 +219,6 @@ impl Session {
     fn loses(&mut self, loss: Loss) -> bool {
         self.client.lost() == loss
     }
-
-    /// Stands in phase Ready.
-    pub(crate) fn is_ready(&self) -> bool {
-        self.client.phase() == Phase::Ready
-    }
-
-    /// Stands in phase CopyingIn.
-    pub(crate) fn is_copying_in(&self) -> bool {
-        self.client.phase() == Phase::CopyingIn
-    }
-
-    /// Is closed, since the connection was lost.
-    pub(crate) fn is_lost(&self) -> bool {
-        self.client.phase() == Phase::Closed(Cause::Lost)
-    }
 }
 
 /// The tag of an early item, `=` of a settled one and `.` of none.
@@ -208,4 +228,61 @@ fn tag_of(item: Option<Item>) -> u8 {
         Some(Item::Settled { .. }) => b'=',
         None => b'.',
     }
+}
+
+/// A session that has made a query.
+pub(crate) fn asked(alloc: Global) -> Option<Session> {
+    let mut session = new_session(alloc).ok()?;
+    if session.asks(alloc) {
+        Some(session)
+    } else {
+        None
+    }
+}
+
+// ---- steps
+
+/// Whether what a step says has come of the session.
+fn has_come(alloc: Global, session: &mut Session, step: Step) -> bool {
+    match step {
+        Step::Gives(tags) => session.gives(tags),
+        Step::GivesFirst(tags) => session.gives_first(tags),
+        Step::GivesSettledQuery => session.gives_settled_query(alloc),
+        Step::GivesNone => session.gives_none(),
+        Step::Comes(tags) => session.comes(tags),
+        Step::LendsValues(count) => session.width_lent() == count,
+        Step::Lends(text) => session.lends(text),
+        Step::LosesQuery(seen_error) => session.loses_query(alloc, seen_error),
+        Step::Stands(phase) => session.client.phase() == phase,
+        _ => false,
+    }
+}
+
+/// Does what a step says, and whether it was so.
+fn is_so(alloc: Global, session: &mut Session, step: Step) -> bool {
+    match step {
+        Step::Start => session.starts(),
+        Step::Ask => session.asks(alloc),
+        Step::Feed(bytes) => session.feeds(bytes),
+        Step::Push(bytes) => session.pushes(bytes),
+        Step::Copy(chunk) => session.copies(chunk),
+        _ => has_come(alloc, session, step),
+    }
+}
+
+fn are_so(alloc: Global, session: &mut Session, steps: &[Step]) -> bool {
+    for step in steps {
+        if !is_so(alloc, session, *step) {
+            return false;
+        }
+    }
+    true
+}
+
+/// Whether a new session does what these steps say.
+pub(crate) fn does(alloc: Global, steps: &[Step]) -> bool {
+    holds(
+        new_session(alloc).ok(),
+        |session| are_so(alloc, session, steps),
+    )
 }

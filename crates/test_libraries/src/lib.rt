@@ -7,4 +7,6 @@
 mod backend;
 #[cfg(test)]
 mod client;
+#[cfg(test)]
+mod shown;
 pub mod values;

@@ -1,66 +1,37 @@
-use crate::reading::{calls_refused, happens, has_parts, script_refused};
-use pg_backend::{Load, ScriptPart};
-use pg_pair::{Call, Event};
-use pg_wire::{CopyHead, Fields, Seq};
-use pgpipe_files::{CallLine, Calls, read_calls, read_script};
+//! Copies, and files that are handed over in them.
+
+use crate::calls::{CallsClaim, TableLine, asks, crosses};
+use crate::refusals::{calls_refused, script_refused};
+use crate::scripts::{ScriptClaim, TableHead, TableLoad, TablePart, says};
 use std::alloc::{AllocError, Global};
-use std::test::Fail;
-use test_libraries::values::{bad, head, none, query, text};
 
 const SCRIPT: &[u8] =
     b"answer\tI\ncopyout\tCOPY 2\ttext\t2\nchunk\ta\\nb\nnotice\tM\thi\nchunk\t\ncopyin\tbinary\t1\taccept\tCOPY 1\n\
     copyout\tCOPY 0\tbinary\t0\ncopyin\ttext\t65535\trefuse\t2\tC\tXX000\tM\tbad\ncopyin\ttext\t0\trefuse\t4294967295\n";
 
-fn copy_out(
-    alloc: Global,
-    head: CopyHead,
-    chunks: Vec<Seq<u8>>,
-    tag: &[u8],
-) -> Result<ScriptPart, AllocError> {
-    Ok(ScriptPart::CopyOut {
-        head,
-        chunks: Seq::new(chunks),
-        tag: text(alloc, tag)?,
-    })
-}
-
-fn copy_in(head: CopyHead, load: Load) -> ScriptPart {
-    ScriptPart::CopyIn { head, load }
-}
-
-/// The head of a binary copy with so many columns.
-fn binary(alloc: Global, columns: usize) -> Result<CopyHead, AllocError> {
-    Ok(CopyHead {
-        binary: true,
-        formats: Seq::new(vec![in alloc; 1; columns]?),
-    })
-}
-
-fn refuse(after: u32, fields: Fields) -> Load {
-    Load::Refuse { after, fields }
-}
-
-/// The parts of the answer that `SCRIPT` has.
-fn parts(alloc: Global) -> Result<Vec<ScriptPart>, AllocError> {
-    let chunks = vec![in alloc; text(alloc, b"a\nb")?, none(alloc)]?;
-    let mut parts = Vec::new(alloc);
-    parts.push(copy_out(alloc, head(alloc, false, 2)?, chunks, b"COPY 2")?)?;
-    parts.push(copy_in(binary(alloc, 1)?, Load::Accept(text(alloc, b"COPY 1")?)))?;
-    parts.push(copy_out(alloc, binary(alloc, 0)?, Vec::new(alloc), b"COPY 0")?)?;
-    parts.push(copy_in(head(alloc, false, 65_535)?, refuse(2, bad(alloc)?)))?;
-    parts.push(copy_in(
-        head(alloc, false, 0)?,
-        refuse(4_294_967_295, Fields::new(alloc)),
-    ))?;
-    Ok(parts)
-}
+// The parts of the answer that `SCRIPT` has.
+const PARTS: &[TablePart] = &[
+    TablePart::CopyOut {
+        head: TableHead::Text(2),
+        chunks: &[b"a\nb", b""],
+        tag: b"COPY 2",
+    },
+    TablePart::CopyIn(TableHead::Binary(1), TableLoad::Accept(b"COPY 1")),
+    TablePart::CopyOut {
+        head: TableHead::Binary(0),
+        chunks: &[],
+        tag: b"COPY 0",
+    },
+    TablePart::CopyIn(
+        TableHead::Text(65_535),
+        TableLoad::Refuse(2, &[(b'C', b"XX000"), (b'M', b"bad")]),
+    ),
+    TablePart::CopyIn(TableHead::Text(0), TableLoad::Refuse(4_294_967_295, &[])),
+];
 
 #[test]
-fn copies_of_a_script(rt: HostRuntime) -> Result<(), Fail> {
-    let alloc = rt.alloc();
-    let script = read_script(alloc, SCRIPT)?;
-    assert!(rt; has_parts(&script, &parts(alloc)?));
-    Ok(())
+fn copies_of_a_script(rt: HostRuntime) {
+    assert!(rt; says(rt.alloc(), SCRIPT, &[ScriptClaim::Parts(PARTS)]));
 }
 
 #[test]
@@ -108,93 +79,57 @@ const REFUSED_SCRIPTS: [(&[u8], usize); 32] = [
 
 const CALLS: &[u8] = b"start\nchunk\ta\\tb\nfile\tone\nchunk\t\nfile\tt\xC3\xB6\ndone\nfail\tno\n";
 
-fn call(call: Call) -> CallLine {
-    CallLine::Event(Event::Call(call))
+// The lines that `CALLS` has, with its files.
+const LINES: &[TableLine] = &[
+    TableLine::Start,
+    TableLine::Chunk(b"a\tb"),
+    TableLine::File("one"),
+    TableLine::Chunk(b""),
+    TableLine::File("tö"),
+    TableLine::Done,
+    TableLine::Fail(b"no"),
+];
+
+#[test]
+fn copies_of_calls(rt: HostRuntime) {
+    assert!(rt; asks(rt.alloc(), CALLS, &[CallsClaim::Lines(LINES)]));
 }
 
-fn chunk(alloc: Global, bytes: &[u8]) -> Result<CallLine, AllocError> {
-    Ok(call(Call::Chunk(text(alloc, bytes)?)))
+// The first file of `CALLS` holds `xy`, and the second nothing.
+const FILLED: [CallsClaim<'static>; 4] = [
+    CallsClaim::Fills("one", b"xy"),
+    CallsClaim::Fills("tö", b""),
+    CallsClaim::NoFile,
+    CallsClaim::Lines(&[
+        TableLine::Start,
+        TableLine::Chunk(b"a\tb"),
+        TableLine::Chunk(b"xy"),
+        TableLine::Chunk(b""),
+        TableLine::Done,
+        TableLine::Fail(b"no"),
+    ]),
+];
+
+#[test]
+fn files_are_filled_in_one_by_one(rt: HostRuntime) {
+    assert!(rt; asks(rt.alloc(), CALLS, &FILLED));
 }
 
-fn file(alloc: Global, path: &str) -> Result<CallLine, AllocError> {
-    Ok(CallLine::File(String::from_str(alloc, path)?))
-}
-
-/// The lines that `CALLS` has, with its files.
-fn lines(alloc: Global) -> Result<Vec<CallLine>, AllocError> {
-    let mut lines = vec![in alloc; call(Call::Start)]?;
-    lines.push(chunk(alloc, b"a\tb")?)?;
-    lines.push(file(alloc, "one")?)?;
-    lines.push(chunk(alloc, b"")?)?;
-    lines.push(file(alloc, "tö")?)?;
-    lines.push(call(Call::Done))?;
-    lines.push(call(Call::Fail(text(alloc, b"no")?)))?;
-    Ok(lines)
+/// Whether a file of so many crosses is handed over in chunks of these sizes.
+fn is_cut(alloc: Global, count: usize, sizes: &'static [usize]) -> Result<bool, AllocError> {
+    let bytes = crosses(alloc, count)?;
+    let claims = [
+        CallsClaim::Fills("p", bytes.as_slice()),
+        CallsClaim::Crosses(sizes),
+    ];
+    Ok(asks(alloc, b"file\tp\n", &claims))
 }
 
 #[test]
-fn copies_of_calls(rt: HostRuntime) -> Result<(), Fail> {
-    let alloc = rt.alloc();
-    let calls = read_calls(alloc, CALLS)?;
-    assert!(rt; happens(&calls, &lines(alloc)?));
-    Ok(())
-}
-
-/// Fills in the first file, if this is its path; otherwise nothing is changed.
-fn fill(alloc: Global, calls: &mut Calls, path: &str, bytes: &[u8]) -> Result<bool, AllocError> {
-    match calls.next_file() {
-        None => return Ok(false),
-        Some(next) if next != path => return Ok(false),
-        Some(_) => {}
-    }
-    calls.fill(alloc, bytes)?;
-    Ok(true)
-}
-
-/// The lines that `CALLS` has where the first file holds `xy` and the second nothing.
-fn filled_lines(alloc: Global) -> Result<Vec<CallLine>, AllocError> {
-    let mut lines = vec![in alloc; call(Call::Start)]?;
-    lines.push(chunk(alloc, b"a\tb")?)?;
-    lines.push(chunk(alloc, b"xy")?)?;
-    lines.push(chunk(alloc, b"")?)?;
-    lines.push(call(Call::Done))?;
-    lines.push(call(Call::Fail(text(alloc, b"no")?)))?;
-    Ok(lines)
-}
-
-#[test]
-fn files_are_filled_in_one_by_one(rt: HostRuntime) -> Result<(), Fail> {
-    let alloc = rt.alloc();
-    let mut calls = read_calls(alloc, CALLS)?;
-    assert!(rt; fill(alloc, &mut calls, "one", b"xy")?);
-    assert!(rt; fill(alloc, &mut calls, "tö", b"")?);
-    assert!(rt; calls.next_file().is_none());
-    assert!(rt; happens(&calls, &filled_lines(alloc)?));
-    Ok(())
-}
-
-#[test]
-fn a_long_file_is_cut(rt: HostRuntime) -> Result<(), Fail> {
-    let alloc = rt.alloc();
+fn a_long_file_is_cut(rt: HostRuntime) {
     for (count, sizes) in CUTS {
-        let mut calls = read_calls(alloc, b"file\tp\n")?;
-        assert!(rt; fill(alloc, &mut calls, "p", &crosses(alloc, count)?)?);
-        assert!(rt; happens(&calls, &chunks(alloc, sizes)?), "{count}");
+        assert!(rt; is_cut(rt.alloc(), count, sizes) == Ok(true), "{count}");
     }
-    Ok(())
-}
-
-fn crosses(alloc: Global, count: usize) -> Result<Vec<u8>, AllocError> {
-    vec![in alloc; b'x'; count]
-}
-
-/// A chunk of crosses for each of these sizes.
-fn chunks(alloc: Global, sizes: &[usize]) -> Result<Vec<CallLine>, AllocError> {
-    let mut lines = Vec::new(alloc);
-    for size in sizes {
-        lines.push(chunk(alloc, &crosses(alloc, *size)?)?)?;
-    }
-    Ok(lines)
 }
 
 // How many bytes a file has, and how many its chunks have.
@@ -206,14 +141,15 @@ const CUTS: [(usize, &[usize]); 5] = [
     (8_192, &[4_096, 4_096]),
 ];
 
+const AFTER_THE_END: [CallsClaim<'static>; 2] = [
+    CallsClaim::NoFile,
+    CallsClaim::Lines(&[TableLine::Query(b"file"), TableLine::Flow]),
+];
+
 #[test]
-fn no_file_is_named_after_the_end(rt: HostRuntime) -> Result<(), Fail> {
-    let alloc = rt.alloc();
-    let calls = read_calls(alloc, b"query\tfile\nflow\n\\.\nfile\tp\n")?;
-    assert!(rt; calls.next_file().is_none());
-    let lines = vec![in alloc; call(Call::Request(query(alloc, b"file")?)), CallLine::Flow]?;
-    assert!(rt; happens(&calls, &lines));
-    Ok(())
+fn no_file_is_named_after_the_end(rt: HostRuntime) {
+    let file = b"query\tfile\nflow\n\\.\nfile\tp\n";
+    assert!(rt; asks(rt.alloc(), file, &AFTER_THE_END));
 }
 
 #[test]

@@ -1,76 +1,57 @@
-use crate::reading::{calls_refused, happens, has_parts, script_refused};
-use pg_backend::ScriptPart;
-use pg_pair::{Call, Event};
-use pg_wire::{ExecEnd, Request, Seq, Step, Target, Values};
-use pgpipe_files::{CallLine, read_calls, read_script};
-use std::alloc::{AllocError, Global};
-use std::test::Fail;
-use test_libraries::values::{columns, none, row, row_and_null, text};
+//! Groups of steps.
 
-const RUNS: &[u8] =
-    b"answer\tI\nexecuted\tcomplete\tT\nrow\t1\nrow\t1\t\\N\nexecuted\tempty\nexecuted\tsuspended\nrow\t1\nshut\n";
+use crate::calls::{CallsClaim, TableLine, TableStep, asks};
+use crate::refusals::{calls_refused, script_refused};
+use crate::scripts::{ScriptClaim, TableEnd, TablePart, says};
+use pg_wire::Target;
 
 const DESCRIPTIONS: &[u8] =
     b"answer\tI\nparsed\nbound\nparamtypes\t25\t4294967295\n\ndescribed\tn\nparamtypes\ndescribed\ndescribed\tn\ndescribed\n";
 
-/// What a Describe of a statement with these parameters answers, or of a portal, where rows have a column or there are none.
-fn described(
-    alloc: Global,
-    parameters: Option<Seq<u32>>,
-    has_rows: bool,
-) -> Result<ScriptPart, AllocError> {
-    let columns = if has_rows {
-        Some(columns(alloc, b"n")?)
-    } else {
-        None
-    };
-    Ok(ScriptPart::Described {
-        parameters,
-        columns,
-    })
-}
-
-/// The parts of the answer that `DESCRIPTIONS` has.
-fn descriptions(alloc: Global) -> Result<Vec<ScriptPart>, AllocError> {
-    let types = Seq::from_slice(alloc, &[25, 4_294_967_295])?;
-    let mut parts = vec![in alloc; ScriptPart::Parsed, ScriptPart::Bound]?;
-    parts.push(described(alloc, Some(types), true)?)?;
-    parts.push(described(alloc, Some(none(alloc)), false)?)?;
-    parts.push(described(alloc, None, true)?)?;
-    parts.push(described(alloc, None, false)?)?;
-    Ok(parts)
-}
+// The parts of the answer that `DESCRIPTIONS` has.
+const DESCRIBED: &[TablePart] = &[
+    TablePart::Parsed,
+    TablePart::Bound,
+    TablePart::Described {
+        parameters: Some(&[25, 4_294_967_295]),
+        columns: Some(&[b"n"]),
+    },
+    TablePart::Described {
+        parameters: Some(&[]),
+        columns: None,
+    },
+    TablePart::Described {
+        parameters: None,
+        columns: Some(&[b"n"]),
+    },
+    TablePart::Described {
+        parameters: None,
+        columns: None,
+    },
+];
 
 #[test]
-fn descriptions_of_a_script(rt: HostRuntime) -> Result<(), Fail> {
-    let alloc = rt.alloc();
-    let script = read_script(alloc, DESCRIPTIONS)?;
-    assert!(rt; has_parts(&script, &descriptions(alloc)?));
-    Ok(())
+fn descriptions_of_a_script(rt: HostRuntime) {
+    assert!(rt; says(rt.alloc(), DESCRIPTIONS, &[ScriptClaim::Parts(DESCRIBED)]));
 }
 
-fn executed(rows: Vec<Values>, end: ExecEnd) -> ScriptPart {
-    let rows = Seq::new(rows);
-    ScriptPart::Executed { rows, end }
-}
+const RUNS: &[u8] =
+    b"answer\tI\nexecuted\tcomplete\tT\nrow\t1\nrow\t1\t\\N\nexecuted\tempty\nexecuted\tsuspended\nrow\t1\nshut\n";
 
-/// The parts of the answer that `RUNS` has.
-fn runs(alloc: Global) -> Result<Vec<ScriptPart>, AllocError> {
-    let rows = vec![in alloc; row(alloc, b"1")?, row_and_null(alloc, b"1")?]?;
-    let mut parts = Vec::new(alloc);
-    parts.push(executed(rows, ExecEnd::Complete(text(alloc, b"T")?)))?;
-    parts.push(executed(Vec::new(alloc), ExecEnd::Empty))?;
-    parts.push(executed(vec![in alloc; row(alloc, b"1")?]?, ExecEnd::Suspended))?;
-    parts.push(ScriptPart::Shut)?;
-    Ok(parts)
-}
+// The parts of the answer that `RUNS` has.
+const EXECUTED: &[TablePart] = &[
+    TablePart::Executed(
+        &[&[Some(b"1")], &[Some(b"1"), None]],
+        TableEnd::Complete(b"T"),
+    ),
+    TablePart::Executed(&[], TableEnd::Empty),
+    TablePart::Executed(&[&[Some(b"1")]], TableEnd::Suspended),
+    TablePart::Shut,
+];
 
 #[test]
-fn runs_of_a_script(rt: HostRuntime) -> Result<(), Fail> {
-    let alloc = rt.alloc();
-    let script = read_script(alloc, RUNS)?;
-    assert!(rt; has_parts(&script, &runs(alloc)?));
-    Ok(())
+fn runs_of_a_script(rt: HostRuntime) {
+    assert!(rt; says(rt.alloc(), RUNS, &[ScriptClaim::Parts(EXECUTED)]));
 }
 
 #[test]
@@ -112,60 +93,31 @@ const CALLS: &[u8] =
     b"group\nparse\ts\tSELECT $1\t25\t0\nbind\tp\ts\t1\t\\N\n\ndescribe\tS\ts\ndescribe\tP\tp\n\
     execute\tp\t-1\nclose\tS\ts\nclose\tP\t\nsync\ngroup\nsync\n";
 
-fn bind(alloc: Global) -> Result<Step, AllocError> {
-    Ok(Step::Bind {
-        portal: text(alloc, b"p")?,
-        statement: text(alloc, b"s")?,
-        formats: none(alloc),
-        values: row_and_null(alloc, b"1")?,
-        result_formats: none(alloc),
-    })
-}
-
-fn parse(alloc: Global) -> Result<Step, AllocError> {
-    Ok(Step::Parse {
-        name: text(alloc, b"s")?,
-        text: text(alloc, b"SELECT $1")?,
-        types: Seq::new(vec![in alloc; 25, 0]?),
-    })
-}
-
-fn describe(target: Target, name: Seq<u8>) -> Step {
-    Step::Describe { target, name }
-}
-
-fn close(target: Target, name: Seq<u8>) -> Step {
-    Step::Close { target, name }
-}
-
-fn execute(alloc: Global) -> Result<Step, AllocError> {
-    Ok(Step::Execute {
-        portal: text(alloc, b"p")?,
-        max_rows: -1,
-    })
-}
-
-/// The steps of the first group of `CALLS`.
-fn steps(alloc: Global) -> Result<Vec<Step>, AllocError> {
-    let mut steps = vec![in alloc; parse(alloc)?, bind(alloc)?]?;
-    steps.push(describe(Target::Statement, text(alloc, b"s")?))?;
-    steps.push(describe(Target::Portal, text(alloc, b"p")?))?;
-    steps.push(execute(alloc)?)?;
-    steps.push(close(Target::Statement, text(alloc, b"s")?))?;
-    steps.push(close(Target::Portal, none(alloc)))?;
-    Ok(steps)
-}
-
-fn asks(steps: Vec<Step>) -> CallLine {
-    CallLine::Event(Event::Call(Call::Request(Request::Group(Seq::new(steps)))))
-}
+// The lines that `CALLS` has.
+const LINES: &[TableLine] = &[
+    TableLine::Group(&[
+        TableStep::Parse {
+            name: b"s",
+            query: b"SELECT $1",
+            types: &[25, 0],
+        },
+        TableStep::Bind {
+            portal: b"p",
+            statement: b"s",
+            values: &[Some(b"1"), None],
+        },
+        TableStep::Describe(Target::Statement, b"s"),
+        TableStep::Describe(Target::Portal, b"p"),
+        TableStep::Execute(b"p", -1),
+        TableStep::Close(Target::Statement, b"s"),
+        TableStep::Close(Target::Portal, b""),
+    ]),
+    TableLine::Group(&[]),
+];
 
 #[test]
-fn groups_of_calls(rt: HostRuntime) -> Result<(), Fail> {
-    let alloc = rt.alloc();
-    let lines = vec![in alloc; asks(steps(alloc)?), asks(Vec::new(alloc))]?;
-    assert!(rt; happens(&read_calls(alloc, CALLS)?, &lines));
-    Ok(())
+fn groups_of_calls(rt: HostRuntime) {
+    assert!(rt; asks(rt.alloc(), CALLS, &[CallsClaim::Lines(LINES)]));
 }
 
 #[test]

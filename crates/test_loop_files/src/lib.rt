@@ -1,6 +1,11 @@
 //! Tests of what a loop's two files, SCRIPT and CALLS, are read as, by the public interface alone.
+//!
+//! Each is a table: a file, and what is so of what it is read as. What was read costs the prover much in each function that owns it, so
+//! one function for each kind of file reads it, by `holds`, and lends it to the others.
 #![tactic(auto)]
 
+#[cfg(test)]
+mod calls;
 #[cfg(test)]
 mod copies;
 #[cfg(test)]
@@ -8,4 +13,8 @@ mod groups;
 #[cfg(test)]
 mod queries;
 #[cfg(test)]
-mod reading;
+mod refusals;
+#[cfg(test)]
+mod scripts;
+#[cfg(test)]
+mod values;

@@ -1,134 +1,124 @@
-use crate::reading::{calls_refused, happens, script_refused};
-use pg_backend::{Answer, Auth, Key, Script, ScriptPart};
-use pg_client::Settings;
-use pg_pair::{Call, Event};
-use pg_wire::{Aside, Fields, Seq, Status, Values};
-use pgpipe_files::{CallLine, Calls, LineFault, read_calls, read_script};
-use std::alloc::{AllocError, Global};
-use std::test::Fail;
-use test_libraries::values::{asides, bad, column, none, pair, query, row_and_null, text};
+//! Queries, and how a session begins.
+
+use crate::calls::{CallsClaim, TableLine, TableSettings, asks};
+use crate::refusals::{calls_refused, script_refused};
+use crate::scripts::{ScriptClaim, TableAuth, TablePart, says};
+use pg_backend::Key;
+use pg_wire::Status;
+use pgpipe_files::LineFault;
+use test_base::is_told;
 
 const SCRIPT: &[u8] =
     b"auth\ttrust\n\npair\tTimeZone\tUTC\nkey\t7\t-9\nanswer\tI\nrows\tSELECT 2\tn\trow\n\
     row\t1\t\\N\nrow\nnotice\tM\thi\ncommand\tOK\nset\tn\tv\nempty\nnotify\t-1\tc\tp\nanswer\tE\nerror\tC\tXX000\tM\tbad\n\
     answer\tT";
 
-/// Whether a script lets each user in, and tells these parameters and this key.
-fn tells(script: Script, pairs: Seq<(Seq<u8>, Seq<u8>)>, key: Option<Key>) -> bool {
-    script.auth == Auth::Trust && script.pairs == pairs && script.key == key
-}
-
-#[test]
-fn what_a_script_tells_at_the_start(rt: HostRuntime) -> Result<(), Fail> {
-    let alloc = rt.alloc();
-    let pairs = Seq::new(vec![in alloc; pair(alloc, b"TimeZone", b"UTC")?]?);
-    let key = Some(Key {
+const TOLD: [ScriptClaim; 3] = [
+    ScriptClaim::LetsIn(TableAuth::Trust),
+    ScriptClaim::Pairs(&[(b"TimeZone", b"UTC")]),
+    ScriptClaim::Key(Some(Key {
         process: 7,
         secret: -9,
-    });
-    assert!(rt; tells(read_script(alloc, SCRIPT)?, pairs, key));
-    Ok(())
-}
-
-/// Whether a script has a client let in so.
-fn lets_in(script: Script, auth: Auth) -> bool {
-    script.auth == auth
-}
+    })),
+];
 
 #[test]
-fn how_a_client_is_let_in(rt: HostRuntime) -> Result<(), Fail> {
-    let alloc = rt.alloc();
-    let password = text(alloc, b"a b")?;
-    let cleartext = read_script(alloc, b"auth\tcleartext\ta b\npair\ta\tb\n")?;
-    assert!(rt; lets_in(cleartext, Auth::Cleartext(password)));
-    let empty = read_script(alloc, b"key\t1\t2\nauth\tcleartext\t\n")?;
-    assert!(rt; lets_in(empty, Auth::Cleartext(none(alloc))));
-    Ok(())
+fn what_a_script_tells_at_the_start(rt: HostRuntime) {
+    assert!(rt; says(rt.alloc(), SCRIPT, &TOLD));
 }
+
+// A script, and how a client is let in.
+const PASSWORDS: [(&[u8], TableAuth); 2] = [
+    (
+        b"auth\tcleartext\ta b\npair\ta\tb\n",
+        TableAuth::Cleartext(b"a b"),
+    ),
+    (b"key\t1\t2\nauth\tcleartext\t\n", TableAuth::Cleartext(b"")),
+];
 
 #[test]
-fn a_salt_in_digits(rt: HostRuntime) -> Result<(), Fail> {
-    let alloc = rt.alloc();
-    let salts: [(&[u8], [u8; 4]); 3] = [
-        (b"auth\tmd5\tab\t01020304\n", [1, 2, 3, 4]),
-        (b"auth\tmd5\tab\tfEdC00a9\n", [0xFE, 0xDC, 0, 0xA9]),
-        (b"auth\tmd5\tab\tFFFFFFFF\n", [0xFF; 4]),
-    ];
-    for (file, salt) in salts {
-        let password = text(alloc, b"ab")?;
-        assert!(rt; lets_in(read_script(alloc, file)?, Auth::Md5 { password, salt }));
-    }
-    Ok(())
-}
-
-/// Whether a script has so many answers, and tells nothing at the start.
-fn only_answers(script: Script, alloc: Global, count: usize) -> bool {
-    script.answers.len() == count && tells(script, none(alloc), None)
-}
-
-#[test]
-fn an_empty_script(rt: HostRuntime) -> Result<(), Fail> {
-    let alloc = rt.alloc();
-    assert!(rt; only_answers(read_script(alloc, b"")?, alloc, 0));
-    assert!(rt; only_answers(read_script(alloc, b"answer\tI\nanswer\tI\n")?, alloc, 2));
-    Ok(())
-}
-
-/// Whether the first answer says this before and has these parts.
-fn answers(script: Script, before: Seq<Aside>, parts: Seq<ScriptPart>) -> bool {
-    match script.answers.get(0) {
-        Some(answer) => answer.before == before && answer.parts == parts,
-        None => false,
+fn how_a_client_is_let_in(rt: HostRuntime) {
+    for (file, auth) in PASSWORDS {
+        assert!(rt;
+            says(rt.alloc(), file, &[ScriptClaim::LetsIn(auth)]),
+            "{file:?}"
+        );
     }
 }
 
-fn two_rows(alloc: Global) -> Result<ScriptPart, AllocError> {
-    let columns = vec![in alloc; column(alloc, b"n")?, column(alloc, b"row")?]?;
-    let rows = vec![in alloc; row_and_null(alloc, b"1")?, Values::new(alloc)]?;
-    Ok(ScriptPart::Rows {
-        columns: Seq::new(columns),
-        rows: Seq::new(rows),
-        tag: text(alloc, b"SELECT 2")?,
-    })
-}
-
-fn first_parts(alloc: Global) -> Result<Seq<ScriptPart>, AllocError> {
-    let command = ScriptPart::Command(text(alloc, b"OK")?);
-    let parts = vec![in alloc; two_rows(alloc)?, command, ScriptPart::Empty]?;
-    Ok(Seq::new(parts))
-}
+// The same where a salt is given in digits.
+const SALTS: [(&[u8], TableAuth); 3] = [
+    (
+        b"auth\tmd5\tab\t01020304\n",
+        TableAuth::Md5(b"ab", [1, 2, 3, 4]),
+    ),
+    (
+        b"auth\tmd5\tab\tfEdC00a9\n",
+        TableAuth::Md5(b"ab", [0xFE, 0xDC, 0, 0xA9]),
+    ),
+    (
+        b"auth\tmd5\tab\tFFFFFFFF\n",
+        TableAuth::Md5(b"ab", [0xFF; 4]),
+    ),
+];
 
 #[test]
-fn the_parts_of_an_answer(rt: HostRuntime) -> Result<(), Fail> {
-    let alloc = rt.alloc();
-    let before = asides(alloc)?;
-    let parts = first_parts(alloc)?;
-    assert!(rt; answers(read_script(alloc, SCRIPT)?, before, parts));
-    Ok(())
-}
-
-fn has_end(answer: Option<&Answer>, error: &Option<Fields>, status: Status) -> bool {
-    match answer {
-        Some(answer) => &answer.error == error && answer.status == status,
-        None => false,
+fn a_salt_in_digits(rt: HostRuntime) {
+    for (file, auth) in SALTS {
+        assert!(rt;
+            says(rt.alloc(), file, &[ScriptClaim::LetsIn(auth)]),
+            "{file:?}"
+        );
     }
 }
 
-/// Whether three answers end so: without an error, with this one, and without.
-fn ends(script: Script, error: Fields) -> bool {
-    let (none, some) = (None, Some(error));
-    script.answers.len() == 3
-        && has_end(script.answers.get(0), &none, Status::Idle)
-        && has_end(script.answers.get(1), &some, Status::Failed)
-        && has_end(script.answers.get(2), &none, Status::InBlock)
+// A script that tells nothing at the start, and how many answers it has.
+const SILENT: [(&[u8], usize); 2] = [(b"", 0), (b"answer\tI\nanswer\tI\n", 2)];
+
+fn only_answers(count: usize) -> [ScriptClaim; 4] {
+    [
+        ScriptClaim::Answers(count),
+        ScriptClaim::LetsIn(TableAuth::Trust),
+        ScriptClaim::Pairs(&[]),
+        ScriptClaim::Key(None),
+    ]
 }
 
 #[test]
-fn the_ends_of_answers(rt: HostRuntime) -> Result<(), Fail> {
-    let alloc = rt.alloc();
-    let error = bad(alloc)?;
-    assert!(rt; ends(read_script(alloc, SCRIPT)?, error));
-    Ok(())
+fn an_empty_script(rt: HostRuntime) {
+    for (file, count) in SILENT {
+        assert!(rt; says(rt.alloc(), file, &only_answers(count)), "{file:?}");
+    }
+}
+
+const ANSWERED: [ScriptClaim; 2] = [
+    ScriptClaim::HasAsides,
+    ScriptClaim::Parts(&[
+        TablePart::Rows {
+            columns: &[b"n", b"row"],
+            rows: &[&[Some(b"1"), None], &[]],
+            tag: b"SELECT 2",
+        },
+        TablePart::Command(b"OK"),
+        TablePart::Empty,
+    ]),
+];
+
+#[test]
+fn the_parts_of_an_answer(rt: HostRuntime) {
+    assert!(rt; says(rt.alloc(), SCRIPT, &ANSWERED));
+}
+
+const ENDS: [ScriptClaim; 4] = [
+    ScriptClaim::Answers(3),
+    ScriptClaim::End(0, None, Status::Idle),
+    ScriptClaim::End(1, Some(&[(b'C', b"XX000"), (b'M', b"bad")]), Status::Failed),
+    ScriptClaim::End(2, None, Status::InBlock),
+];
+
+#[test]
+fn the_ends_of_answers(rt: HostRuntime) {
+    assert!(rt; says(rt.alloc(), SCRIPT, &ENDS));
 }
 
 #[test]
@@ -206,80 +196,81 @@ const CALLS: &[u8] =
     b"user\tu\n\ndatabase\td\noption\ta\tb\npassword\tp\nstart\nquery\tSELECT 1\nterminate\n\
     toback\t100\ntoclient\t4294967295\nstep\nbreakback\nbreakclient\nflow\n\\.\nnonsense\n";
 
-/// Whether a client is made so.
-fn makes(calls: Calls, settings: Settings) -> bool {
-    calls.settings == settings
+// Calls, and what a client is made with.
+const SETTINGS: [(&[u8], TableSettings); 2] = [
+    (
+        CALLS,
+        TableSettings {
+            user: b"u",
+            database: Some(b"d"),
+            pairs: &[(b"a", b"b")],
+            password: Some(b"p"),
+            limit: 1_073_741_823,
+        },
+    ),
+    (
+        b"\n",
+        TableSettings {
+            user: b"",
+            database: None,
+            pairs: &[],
+            password: None,
+            limit: 1_073_741_823,
+        },
+    ),
+];
+
+#[test]
+fn settings(rt: HostRuntime) {
+    for (file, settings) in SETTINGS {
+        assert!(rt;
+            asks(rt.alloc(), file, &[CallsClaim::Makes(settings)]),
+            "{file:?}"
+        );
+    }
 }
 
-fn full_settings(alloc: Global) -> Result<Settings, AllocError> {
-    Ok(Settings {
-        user: text(alloc, b"u")?,
-        database: Some(text(alloc, b"d")?),
-        pairs: Seq::new(vec![in alloc; pair(alloc, b"a", b"b")?]?),
-        password: Some(text(alloc, b"p")?),
-        limit: 1_073_741_823,
-    })
-}
+// The same of a user and of a password.
+const TWO_PASSWORDS: [(&[u8], &[u8], &[u8]); 2] = [
+    (b"password\ta\nuser\tu\npassword\tb\n", b"u", b"b"),
+    (b"password\t\n", b"", b""),
+];
 
-fn no_settings(alloc: Global) -> Settings {
-    Settings {
-        user: none(alloc),
+fn only_password(user: &'static [u8], password: &'static [u8]) -> TableSettings {
+    TableSettings {
+        user,
         database: None,
-        pairs: none(alloc),
-        password: None,
+        pairs: &[],
+        password: Some(password),
         limit: 1_073_741_823,
     }
 }
 
 #[test]
-fn settings(rt: HostRuntime) -> Result<(), Fail> {
-    let alloc = rt.alloc();
-    let full = full_settings(alloc)?;
-    assert!(rt; makes(read_calls(alloc, CALLS)?, full));
-    assert!(rt; makes(read_calls(alloc, b"\n")?, no_settings(alloc)));
-    Ok(())
+fn the_last_password_counts(rt: HostRuntime) {
+    for (file, user, password) in TWO_PASSWORDS {
+        let claims = [CallsClaim::Makes(only_password(user, password))];
+        assert!(rt; asks(rt.alloc(), file, &claims), "{file:?}");
+    }
 }
 
-/// Whether a client is made with this user and this password.
-fn is_told(calls: Calls, user: &[u8], password: &[u8]) -> bool {
-    let told = match &calls.settings.password {
-        Some(told) => told.as_slice() == password,
-        None => false,
-    };
-    told && calls.settings.user.as_slice() == user
-}
-
-#[test]
-fn the_last_password_counts(rt: HostRuntime) -> Result<(), Fail> {
-    let alloc = rt.alloc();
-    let two = read_calls(alloc, b"password\ta\nuser\tu\npassword\tb\n")?;
-    assert!(rt; is_told(two, b"u", b"b"));
-    assert!(rt; is_told(read_calls(alloc, b"password\t\n")?, b"", b""));
-    Ok(())
-}
-
-/// The lines that `CALLS` has.
-fn lines(alloc: Global) -> Result<Vec<CallLine>, AllocError> {
-    let mut lines = vec![in alloc; CallLine::Event(Event::Call(Call::Start))]?;
-    let request = Call::Request(query(alloc, b"SELECT 1")?);
-    lines.push(CallLine::Event(Event::Call(request)))?;
-    lines.push(CallLine::Event(Event::Call(Call::Terminate)))?;
-    lines.push(CallLine::Event(Event::ToBackend(100)))?;
-    lines.push(CallLine::Event(Event::ToClient(4_294_967_295)))?;
-    lines.push(CallLine::Event(Event::Step))?;
-    lines.push(CallLine::Event(Event::BreakToBackend))?;
-    lines.push(CallLine::Event(Event::BreakToClient))?;
-    lines.push(CallLine::Flow)?;
-    Ok(lines)
-}
+// The lines that `CALLS` has.
+const LINES: &[TableLine] = &[
+    TableLine::Start,
+    TableLine::Query(b"SELECT 1"),
+    TableLine::Terminate,
+    TableLine::ToBackend(100),
+    TableLine::ToClient(4_294_967_295),
+    TableLine::Step,
+    TableLine::BreakToBackend,
+    TableLine::BreakToClient,
+    TableLine::Flow,
+];
 
 #[test]
-fn what_happens(rt: HostRuntime) -> Result<(), Fail> {
-    let alloc = rt.alloc();
-    let calls = read_calls(alloc, CALLS)?;
-    assert!(rt; happens(&calls, &lines(alloc)?));
-    assert!(rt; happens(&read_calls(alloc, b"\n")?, &[]));
-    Ok(())
+fn what_happens(rt: HostRuntime) {
+    assert!(rt; asks(rt.alloc(), CALLS, &[CallsClaim::Lines(LINES)]));
+    assert!(rt; asks(rt.alloc(), b"\n", &[CallsClaim::Lines(&[])]));
 }
 
 #[test]
@@ -325,10 +316,7 @@ const REFUSED_CALLS: [(&[u8], usize); 31] = [
 ];
 
 #[test]
-fn faults_are_told(rt: HostRuntime) -> Result<(), Fail> {
-    let line = format!(in rt.alloc(); "{}", LineFault::Line(3))?;
-    assert_eq!(rt; line.as_str(), "line 3");
-    let memory = format!(in rt.alloc(); "{}", LineFault::Memory)?;
-    assert_eq!(rt; memory.as_str(), "memory");
-    Ok(())
+fn faults_are_told(rt: HostRuntime) {
+    assert!(rt; is_told(rt.alloc(), LineFault::Line(3), "line 3") == Ok(true));
+    assert!(rt; is_told(rt.alloc(), LineFault::Memory, "memory") == Ok(true));
 }

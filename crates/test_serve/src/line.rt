@@ -1,10 +1,11 @@
-//! Backends that answer over a link in memory.
+//! Backends that answer over a link in memory. Each test is a table of steps: what is done with a backend, and what must come of it. One
+//! function makes the backend and its link, and lends them to those that judge a step.
 
 use pg_backend::{Answer, Auth, BackPhase, Backend, Script, ScriptPart};
 use pg_serve::{AnswerFault, Answered, answer};
 use pg_wire::{Seq, Status};
 use std::alloc::{AllocError, Global};
-use test_base::{Line, line_of};
+use test_base::{Line, holds, line_of};
 
 // Each client is let in, and its first request is answered by the tag `OK`.
 fn script(alloc: Global) -> Result<Script, AllocError> {
@@ -33,56 +34,101 @@ fn done(alloc: Global) -> Result<Answer, AllocError> {
     })
 }
 
-/// A backend, and the link that it answers over. What a test asks of it answers whether it was so.
-#[derive(Drop)]
-pub(crate) struct Serving<'a> {
-    alloc: Global,
-    backend: Backend,
-    pub(crate) link: Line<'a>,
+/// What is done with a backend and its link, or what must come of it.
+#[derive(Clone, Copy)]
+pub(crate) enum Step {
+    /// The receive of this number fails.
+    FailReceive(u64),
+    /// The send of this number fails.
+    FailSend(u64),
+    /// In at most so many turns it answers so.
+    Gives(u32, Answered),
+    /// In at most so many turns it fails so.
+    Fails(u32, AnswerFault),
+    /// The backend stands in this phase.
+    Stands(BackPhase),
+    /// So many requests are decided.
+    HasLogged(usize),
+    /// Just these bytes were sent.
+    HasSent(&'static [u8]),
+    /// What was sent begins so.
+    HasSentFirst(&'static [u8]),
+    /// So many bytes are left to be received.
+    IsLeft(usize),
 }
 
-impl<'a> Serving<'a> {
-    /// A new backend, over a link that gives these bytes and doesn't fail.
-    pub(crate) fn of(alloc: Global, gives: &'a [u8], most: usize) -> Option<Serving<'a>> {
-        Some(Serving {
-            alloc,
-            backend: backend(alloc)?,
-            link: line_of(alloc, gives, most),
-        })
+/// A backend, and the link that it answers over. What a test asks of it answers whether it was so.
+#[derive(Drop)]
+struct Serving<'a> {
+    backend: Backend,
+    link: Line<'a>,
+}
+
+/// A new backend, over a link that gives these bytes, so many at a time, and doesn't fail.
+fn over_link(alloc: Global, gives: &[u8], most: usize) -> Option<Serving<'_>> {
+    Some(Serving {
+        backend: backend(alloc)?,
+        link: line_of(alloc, gives, most),
+    })
+}
+
+impl Serving<'_> {
+    fn answers(&mut self, alloc: Global, turns: u32) -> Result<Answered, AnswerFault> {
+        answer(alloc, &mut self.backend, &mut self.link, turns)
     }
 
-    /// In at most so many turns it answers so.
-    pub(crate) fn gives(&mut self, turns: u32, answered: Answered) -> bool {
-        answer(self.alloc, &mut self.backend, &mut self.link, turns) == Ok(answered)
+    fn fails_at_receive(&mut self, number: u64) -> bool {
+        self.link.fails_at_receive = number;
+        true
     }
 
-    /// In at most so many turns it fails so.
-    pub(crate) fn fails(&mut self, turns: u32, fault: AnswerFault) -> bool {
-        answer(self.alloc, &mut self.backend, &mut self.link, turns) == Err(fault)
+    fn fails_at_send(&mut self, number: u64) -> bool {
+        self.link.fails_at_send = number;
+        true
     }
 
-    /// The backend stands in this phase.
-    pub(crate) fn stands(&self, phase: BackPhase) -> bool {
-        self.backend.phase() == phase
-    }
-
-    /// So many requests are decided.
-    pub(crate) fn has_logged(&self, count: usize) -> bool {
-        self.backend.log().len() == count
-    }
-
-    /// Just these bytes were sent.
-    pub(crate) fn has_sent(&self, bytes: &[u8]) -> bool {
+    fn has_sent(&self, bytes: &[u8]) -> bool {
         self.link.taken.as_slice() == bytes
     }
 
-    /// What was sent begins so.
-    pub(crate) fn has_sent_first(&self, bytes: &[u8]) -> bool {
+    fn has_sent_first(&self, bytes: &[u8]) -> bool {
         self.link.taken.as_slice().starts_with(bytes)
     }
+}
 
-    /// So many bytes are left to be received.
-    pub(crate) fn is_left(&self, count: usize) -> bool {
-        self.link.gives.len() == count
+/// Whether what a step says has come of the link.
+fn has_come(it: &Serving<'_>, step: Step) -> bool {
+    match step {
+        Step::Stands(phase) => it.backend.phase() == phase,
+        Step::HasLogged(count) => it.backend.log().len() == count,
+        Step::HasSent(bytes) => it.has_sent(bytes),
+        Step::HasSentFirst(bytes) => it.has_sent_first(bytes),
+        Step::IsLeft(count) => it.link.gives.len() == count,
+        _ => false,
     }
+}
+
+/// Does what a step says, and whether it was so.
+fn is_so(alloc: Global, it: &mut Serving<'_>, step: Step) -> bool {
+    match step {
+        Step::FailReceive(number) => it.fails_at_receive(number),
+        Step::FailSend(number) => it.fails_at_send(number),
+        Step::Gives(turns, answered) => it.answers(alloc, turns) == Ok(answered),
+        Step::Fails(turns, fault) => it.answers(alloc, turns) == Err(fault),
+        _ => has_come(it, step),
+    }
+}
+
+fn are_so(alloc: Global, it: &mut Serving<'_>, steps: &[Step]) -> bool {
+    for step in steps {
+        if !is_so(alloc, it, *step) {
+            return false;
+        }
+    }
+    true
+}
+
+/// Whether a new backend, over a link that gives these bytes, so many at a time, does what these steps say.
+pub(crate) fn does(alloc: Global, gives: &[u8], most: usize, steps: &[Step]) -> bool {
+    holds(over_link(alloc, gives, most), |it| are_so(alloc, it, steps))
 }

@@ -5,6 +5,7 @@ use pg_pair::{Carry, CarryFault, Way};
 use pg_wire::{LinkFault, Sink, Source};
 use pgpipe_loop::Across;
 use std::alloc::Global;
+use test_base::holds;
 
 /// An end that gives certain bytes, whatever it was sent.
 #[derive(Drop)]
@@ -95,30 +96,80 @@ fn went(carrier: &Across<End<'_>, End<'_>>, way: Way, sent: (usize, u64), receiv
     has_sent(first, count, sends) && has_received(last, receives)
 }
 
+/// Whether the piece comes whole, by so many receives.
+fn comes_whole(carrier: &mut Across<End<'_>, End<'_>>, way: Way, receives: u64) -> bool {
+    let (answer, into) = carry(carrier, way);
+    let whole = answer == Ok(20) && into.as_slice() == OTHER;
+    whole && carrier.failures() == 0 && went(carrier, way, (20, 3), receives)
+}
+
+/// Whether a first call fails, when so many bytes were sent, in so many sends, and so many receives were made.
+fn fails(
+    carrier: &mut Across<End<'_>, End<'_>>,
+    way: Way,
+    sent: (usize, u64),
+    receives: u64,
+) -> bool {
+    let failed = carry(carrier, way).0 == Err(CarryFault);
+    failed && carrier.failures() == 1 && went(carrier, way, sent, receives)
+}
+
+/// Whether a first call fails as an end has no more bytes, after so many receives; neither end has failed, and the next call fails as well.
+fn ends(carrier: &mut Across<End<'_>, End<'_>>, way: Way, receives: u64) -> bool {
+    let ended = fails(carrier, way, (20, 3), receives)
+        && carrier.client().gives.failures == 0
+        && carrier.backend().gives.failures == 0;
+    ended && carry(carrier, way).0 == Err(CarryFault) && carrier.failures() == 2
+}
+
+/// Whether the piece comes whole where an end gives so many bytes at a time.
+fn is_whole(alloc: Global, way: Way, most: usize, receives: u64) -> bool {
+    holds(
+        Some(between(alloc, OTHER, most, (0, 0))),
+        |it| comes_whole(it, way, receives),
+    )
+}
+
+/// Whether the call fails where this send of an end fails, or this receive.
+fn is_failed(alloc: Global, way: Way, at: (u64, u64), sent: (usize, u64), receives: u64) -> bool {
+    holds(
+        Some(between(alloc, OTHER, 3, at)),
+        |it| fails(it, way, sent, receives),
+    )
+}
+
+/// Whether the call fails where an end gives only so many bytes, after so many receives.
+fn is_ended(alloc: Global, way: Way, count: usize, receives: u64) -> bool {
+    let (gives, _) = OTHER.split_at(count.min(OTHER.len()));
+    holds(
+        Some(between(alloc, gives, 1, (0, 0))),
+        |it| ends(it, way, receives),
+    )
+}
+
 const WAYS: [Way; 2] = [Way::ToBackend, Way::ToClient];
+
+// How many bytes an end gives at a time, and how many receives that takes.
+const RECEIVES: [(usize, u64); 5] = [(1, 20), (3, 7), (19, 2), (20, 1), (4_096, 1)];
 
 #[test]
 fn a_piece_comes_whole(rt: HostRuntime) {
     for way in WAYS {
-        for (most, receives) in [(1, 20), (3, 7), (19, 2), (20, 1), (4_096, 1)] {
-            let mut carrier = between(rt.alloc(), OTHER, most, (0, 0));
-            let (answer, into) = carry(&mut carrier, way);
-            assert_eq!(rt; answer, Ok(20));
-            assert_eq!(rt; into.as_slice(), OTHER);
-            assert_eq!(rt; carrier.failures(), 0);
-            assert!(rt; went(&carrier, way, (20, 3), receives));
+        for (most, receives) in RECEIVES {
+            assert!(rt; is_whole(rt.alloc(), way, most, receives), "{most}");
         }
     }
 }
 
+// The send that fails, and how many bytes were sent before.
+const SENDS: [(u64, usize); 3] = [(1, 0), (2, 7), (3, 14)];
+
 #[test]
 fn an_end_that_fails_to_send(rt: HostRuntime) {
     for way in WAYS {
-        for (sends, sent) in [(1, 0), (2, 7), (3, 14)] {
-            let mut carrier = between(rt.alloc(), OTHER, 3, (sends, 0));
-            assert_eq!(rt; carry(&mut carrier, way).0, Err(CarryFault));
-            assert_eq!(rt; carrier.failures(), 1);
-            assert!(rt; went(&carrier, way, (sent, sends), 0));
+        for (sends, sent) in SENDS {
+            let (at, sent) = ((sends, 0), (sent, sends));
+            assert!(rt; is_failed(rt.alloc(), way, at, sent, 0), "{sends}");
         }
     }
 }
@@ -127,10 +178,11 @@ fn an_end_that_fails_to_send(rt: HostRuntime) {
 fn an_end_that_fails_to_receive(rt: HostRuntime) {
     for way in WAYS {
         for receives in 1..=7 {
-            let mut carrier = between(rt.alloc(), OTHER, 3, (0, receives));
-            assert_eq!(rt; carry(&mut carrier, way).0, Err(CarryFault));
-            assert_eq!(rt; carrier.failures(), 1);
-            assert!(rt; went(&carrier, way, (20, 3), receives));
+            let (at, sent) = ((0, receives), (20, 3));
+            assert!(rt;
+                is_failed(rt.alloc(), way, at, sent, receives),
+                "{receives}"
+            );
         }
     }
 }
@@ -139,18 +191,9 @@ fn an_end_that_fails_to_receive(rt: HostRuntime) {
 fn an_end_that_ends(rt: HostRuntime) {
     for way in WAYS {
         for count in 0..20 {
-            let (gives, _) = OTHER.split_at(count);
-            let mut carrier = between(rt.alloc(), gives, 1, (0, 0));
-            assert_eq!(rt; carry(&mut carrier, way).0, Err(CarryFault));
-            assert_eq!(rt; carrier.failures(), 1);
             // a byte a receive, and one that finds the end
             let receives = count as u64 + 1;
-            assert!(rt; went(&carrier, way, (20, 3), receives));
-            // neither end has failed, and the next call fails as well
-            assert_eq!(rt; carrier.client().gives.failures, 0);
-            assert_eq!(rt; carrier.backend().gives.failures, 0);
-            assert_eq!(rt; carry(&mut carrier, way).0, Err(CarryFault));
-            assert_eq!(rt; carrier.failures(), 2);
+            assert!(rt; is_ended(rt.alloc(), way, count, receives), "{count}");
         }
     }
 }

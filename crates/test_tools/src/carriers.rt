@@ -2,13 +2,14 @@
 
 ghost use Rattle.std.specs.Prelude.{◌≡◌};
 
-use crate::links::Paper;
-use crate::runs::run_whole;
+use crate::links::{Paper, sheet};
+use crate::runs::{
+    FAILED_GROUP, Files, GIVEN_UP_LOAD, LOAD, REFUSED_LOAD, ROW, WRONG_PASSWORD, run,
+};
 use pg_pair::{Carry, CarryFault, Direct, Way};
 use pgpipe_base::ToolFault;
 use pgpipe_loop::run_loop::Ran;
 use std::alloc::Global;
-use std::test::Fail;
 
 /// What a carrier does at one place.
 #[derive(Clone, Copy)]
@@ -85,15 +86,8 @@ impl Carry for Flawed {
     }
 }
 
-/// The lines of SCRIPT and of CALLS.
-type Files = (&'static [u8], &'static [u8]);
-
-/// How a loop of these files ends, and what it prints, where the carrier has this flaw.
-fn run_flawed(
-    alloc: Global,
-    files: Files,
-    flaw: Flaw,
-) -> Result<(Result<Ran, ToolFault>, Paper), Fail> {
+/// How a loop of these files ends, where the carrier has this flaw; what it prints is sent to the sink.
+fn run_flawed(alloc: Global, files: Files, flaw: Flaw, sink: &mut Paper) -> Result<Ran, ToolFault> {
     let carrier = Flawed {
         flaw,
         calls: 0,
@@ -101,7 +95,7 @@ fn run_flawed(
         to_client: 0,
         failures: 0,
     };
-    run_whole(alloc, files, 4_096, carrier, 0)
+    run(alloc, files, 4_096, carrier, sink)
 }
 
 /// What is printed before the line that tells of the carrier, if one does.
@@ -140,14 +134,15 @@ fn begins(text: &[u8], whole: &[u8]) -> bool {
 }
 
 /// Whether the carrier's flaw is told at this place; where it has none there, the loop is whole. None: it is neither.
-fn is_told(alloc: Global, files: Files, flaw: Flaw, whole: &[u8]) -> Result<Option<bool>, Fail> {
-    let (ran, paper) = run_flawed(alloc, files, flaw)?;
-    let text = paper.text.as_slice();
-    Ok(match ran {
+fn is_told(alloc: Global, files: Files, flaw: Flaw, whole: &[u8]) -> Option<bool> {
+    let mut sink = sheet(alloc, 0);
+    let ran = run_flawed(alloc, files, flaw, &mut sink);
+    let text = sink.text.as_slice();
+    match ran {
         Ok(Ran::CarrierFailed) if begins(text, whole) => Some(true),
         Ok(Ran::Whole) if text == whole => Some(false),
         _ => None,
-    })
+    }
 }
 
 /// The flaw at this place, of one kind.
@@ -164,93 +159,77 @@ fn flaw_at(kind: Kind, place: usize) -> Flaw {
     }
 }
 
-/// At how many places, one after the other, the carrier's flaw is told, before one where the loop is whole.
-fn places(alloc: Global, files: Files, kind: Kind) -> Result<Option<usize>, Fail> {
-    let (_, paper) = run_whole(alloc, files, 4_096, Direct, 0)?;
+/// At how many places, one after the other, the carrier's flaw is told, before one where the loop prints all of this.
+fn places_before(alloc: Global, files: Files, kind: Kind, whole: &[u8]) -> Option<usize> {
     for place in 0..1_000 {
-        match is_told(alloc, files, flaw_at(kind, place), paper.text.as_slice())? {
+        match is_told(alloc, files, flaw_at(kind, place), whole) {
             Some(true) => {}
-            Some(false) => return Ok(Some(place)),
-            None => return Ok(None),
+            Some(false) => return Some(place),
+            None => return None,
         }
     }
-    Ok(None)
+    None
 }
 
-// A query with a row; a copy that is refused, and a query after it; a copy that fails and one that is taken; a group of steps; and a
-// wrong password.
-const ROWS: [Files; 6] = [
-    (
-        b"auth\ttrust\nanswer\tI\nrows\tSELECT 1\tn\nrow\t1\n",
-        b"user\tu\nstart\nflow\nquery\tSELECT 1\nflow\n",
-    ),
-    (
-        b"auth\ttrust\nanswer\tI\ncopyin\ttext\t1\trefuse\t2\tC\tXX000\tM\tbad\nanswer\tI\ncommand\tOK\n",
-        b"user\tu\nstart\nflow\nquery\tCOPY\nflow\nchunk\ta\nchunk\tb\ntoback\t100\nstep\nstep\nchunk\tc\nchunk\td\nchunk\te\ndone\ntoclient\t1000\nquery\tNEXT\nflow\n",
-    ),
-    (
-        b"auth\ttrust\nanswer\tI\ncopyin\ttext\t1\taccept\tCOPY 2\n",
-        b"user\tu\nstart\nflow\nquery\tCOPY\nflow\nchunk\ta\nfail\tno\nflow\n",
-    ),
-    (
-        b"auth\ttrust\nanswer\tI\ncopyin\ttext\t1\taccept\tCOPY 2\n",
-        b"user\tu\nstart\nflow\nquery\tCOPY\nflow\nchunk\ta\ndone\nflow\n",
-    ),
-    (
-        b"auth\ttrust\nanswer\tI\nparsed\nerror\tC\tXX000\tM\tbad\n",
-        b"user\tu\nstart\nflow\ngroup\nparse\t\tSELECT\nbind\t\t\nexecute\t\t0\nsync\nflow\n",
-    ),
-    (
-        b"auth\tmd5\tab\t01020304\n",
-        b"user\tc\npassword\twrong\nstart\nflow\n",
-    ),
-];
+/// At how many places, one after the other, the carrier's flaw is told, before one where the loop is whole.
+fn places(alloc: Global, files: Files, kind: Kind) -> Option<usize> {
+    let mut whole = sheet(alloc, 0);
+    match run(alloc, files, 4_096, Direct, &mut whole) {
+        Ok(Ran::Whole) => places_before(alloc, files, kind, whole.text.as_slice()),
+        _ => None,
+    }
+}
 
-// Of each of these the calls of the carrier, and the bytes that go to the backend and to the client.
-const PLACES: [[usize; 3]; 6] = [
-    [4, 30, 74],
-    [8, 71, 63],
-    [6, 40, 75],
-    [6, 37, 43],
-    [4, 59, 44],
-    [4, 57, 72],
+// A script and calls; and of these the calls of the carrier, and the bytes that go to the backend and to the client.
+const PLACES: [(Files, usize, usize, usize); 6] = [
+    (ROW, 4, 30, 74),
+    (REFUSED_LOAD, 8, 71, 63),
+    (GIVEN_UP_LOAD, 6, 40, 75),
+    (LOAD, 6, 37, 43),
+    (FAILED_GROUP, 4, 59, 44),
+    (WRONG_PASSWORD, 4, 57, 72),
 ];
 
 #[test]
-fn a_call_that_fails(rt: HostRuntime) -> Result<(), Fail> {
-    for (files, count) in ROWS.iter().zip(&PLACES) {
-        assert_eq!(rt; places(rt.alloc(), *files, Kind::Fails)?, Some(count[0]));
+fn a_call_that_fails(rt: HostRuntime) {
+    for (files, calls, _, _) in PLACES {
+        assert_eq!(rt; places(rt.alloc(), files, Kind::Fails), Some(calls));
     }
-    Ok(())
 }
 
 #[test]
-fn a_byte_that_is_inverted(rt: HostRuntime) -> Result<(), Fail> {
-    for (files, count) in ROWS.iter().zip(&PLACES) {
-        let to_backend = places(rt.alloc(), *files, Kind::Inverts(Way::ToBackend))?;
-        let to_client = places(rt.alloc(), *files, Kind::Inverts(Way::ToClient))?;
-        assert_eq!(rt; (to_backend, to_client), (Some(count[1]), Some(count[2])));
+fn a_byte_that_is_inverted(rt: HostRuntime) {
+    for (files, _, to_backend, to_client) in PLACES {
+        let backend = places(rt.alloc(), files, Kind::Inverts(Way::ToBackend));
+        assert_eq!(rt; backend, Some(to_backend));
+        let client = places(rt.alloc(), files, Kind::Inverts(Way::ToClient));
+        assert_eq!(rt; client, Some(to_client));
     }
-    Ok(())
+}
+
+/// Whether a loop of a query with a row, where the carrier has this flaw, ends so and prints this.
+fn prints(alloc: Global, flaw: Flaw, ran: Ran, text: &[u8]) -> bool {
+    let mut sink = sheet(alloc, 0);
+    run_flawed(alloc, ROW, flaw, &mut sink) == Ok(ran) && sink.text.as_slice() == text
 }
 
 #[test]
-fn the_first_byte_of_an_answer_is_inverted(rt: HostRuntime) -> Result<(), Fail> {
-    let (ran, paper) = run_flawed(rt.alloc(), ROWS[0], Flaw::Inverts(Way::ToClient, 15))?;
-    assert_eq!(rt; ran, Ok(Ran::CarrierFailed));
-    let lines: &[u8] =
+fn the_first_byte_of_an_answer_is_inverted(rt: HostRuntime) {
+    let flaw = Flaw::Inverts(Way::ToClient, 15);
+    let text: &[u8] =
         b"fault\tcarry\nlost\tclear\tquery\tSELECT 1\nclient\tclosed\nbackend\tready\n";
-    assert_eq!(rt; paper.text.as_slice(), lines);
-    Ok(())
+    assert!(rt; prints(rt.alloc(), flaw, Ran::CarrierFailed, text));
 }
 
 #[test]
-fn fewer_bytes_of_a_call(rt: HostRuntime) -> Result<(), Fail> {
-    let (_, whole) = run_whole(rt.alloc(), ROWS[0], 4_096, Direct, 0)?;
+fn fewer_bytes_of_a_call(rt: HostRuntime) {
+    let alloc = rt.alloc();
+    let mut whole = sheet(alloc, 0);
+    assert!(rt; run(alloc, ROW, 4_096, Direct, &mut whole) == Ok(Ran::Whole));
     for call in 1..=8 {
-        let (ran, paper) = run_flawed(rt.alloc(), ROWS[0], Flaw::Fewer(call))?;
-        assert_eq!(rt; ran, Ok(Ran::Whole));
-        assert_eq!(rt; paper.text.as_slice(), whole.text.as_slice());
+        assert!(rt;
+            prints(alloc, Flaw::Fewer(call), Ran::Whole, whole.text.as_slice()),
+            "{call}"
+        );
     }
-    Ok(())
 }

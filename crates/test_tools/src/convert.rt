@@ -1,10 +1,14 @@
-use crate::links::{Paper, sheet, source_of, took};
-use pg_copy::{BinaryFault, RowFault, TextFault, TextOptions};
-use pgpipe_base::ToolFault;
-use pgpipe_convert::convert::{Converted, convert};
-use pgpipe_convert::{Format, convert_with};
+//! Files that are converted.
+
+use crate::work::{
+    Answer, BINARY_TO_BINARY, BINARY_TO_TEXT, Conversion, TEXT_TO_BINARY, TEXT_TO_TEXT, Work,
+    failing_receive, failing_send, gives, perform, stops_at_receive, stops_at_send, whole,
+};
+use pg_copy::{BinaryFault, RowFault, TextFault};
+use pgpipe_convert::Format;
+use pgpipe_convert::convert::Converted;
 use std::alloc::{AllocError, Global};
-use std::test::Fail;
+use test_base::holds;
 
 /// Two columns: 1 and null.
 const TEXT_ROW: &[u8] = b"1\t\\N\n";
@@ -15,153 +19,159 @@ const BINARY_ROW: &[u8] =
 /// The head, and a row of one column.
 const ONE_ROW: &[u8] = b"PGCOPY\n\xFF\r\n\0\0\0\0\0\0\0\0\0\0\x01\0\0\0\x01a";
 
-/// What stands in a file: its format, its columns and its bytes.
-#[derive(Clone, Copy)]
-struct File<'a> {
-    format: Format,
-    columns: u16,
-    bytes: &'a [u8],
-}
-
-fn text(columns: u16, bytes: &[u8]) -> File<'_> {
-    File {
-        format: Format::Text,
-        columns: columns.clamp(1, 32_767),
-        bytes,
-    }
-}
-
-fn binary(columns: u16, bytes: &[u8]) -> File<'_> {
-    File {
-        format: Format::Binary,
-        columns: columns.clamp(1, 32_767),
-        bytes,
-    }
-}
-
-/// What comes of a file in pieces of so many bytes: the answer, and what is written.
-fn converted(
-    alloc: Global,
-    file: File<'_>,
-    to: Format,
-    most: usize,
-) -> (Result<Converted, ToolFault>, Paper) {
-    let mut source = source_of(file.bytes, most, 0);
-    let mut sink = sheet(alloc, 0);
-    let columns = file.columns.clamp(1, 32_767);
-    let answer = convert(alloc, file.format, to, columns, &mut source, &mut sink);
-    (answer, sink)
-}
-
-/// Whether this answer and these bytes come of a file, in pieces of each size up to 39.
-fn becomes(alloc: Global, file: File<'_>, to: Format, answer: Converted, bytes: &[u8]) -> bool {
-    for most in 1..40 {
-        let (given, sink) = converted(alloc, file, to, most);
-        if given != Ok(answer) || sink.text.as_slice() != bytes {
-            return false;
-        }
-    }
-    true
-}
-
-#[test]
-fn rows_converted(rt: HostRuntime) {
-    let (alloc, whole) = (rt.alloc(), Converted::Whole);
-    let (from_text, from_binary) = (text(2, TEXT_ROW), binary(2, BINARY_ROW));
-    assert!(rt; becomes(alloc, from_text, Format::Binary, whole, BINARY_ROW));
-    assert!(rt; becomes(alloc, from_binary, Format::Text, whole, TEXT_ROW));
-    assert!(rt; becomes(alloc, from_binary, Format::Binary, whole, BINARY_ROW));
-}
-
-/// Whether they come of it with these options.
-fn becomes_with(
-    alloc: Global,
-    file: File<'_>,
-    to: Format,
-    options: &TextOptions,
-    answer: Converted,
-    bytes: &[u8],
-) -> bool {
-    let columns = file.columns.clamp(1, 32_767);
-    for most in 1..40 {
-        let mut source = source_of(file.bytes, most, 0);
-        let mut sink = sheet(alloc, 0);
-        let (from, into) = (&mut source, &mut sink);
-        let given = convert_with(alloc, file.format, to, columns, options, from, into);
-        if given != Ok(answer) || sink.text.as_slice() != bytes {
-            return false;
-        }
-    }
-    true
-}
-
-#[test]
-fn rows_converted_with_options(rt: HostRuntime) -> Result<(), Fail> {
-    let (alloc, whole) = (rt.alloc(), Converted::Whole);
-    let options = TextOptions::new(alloc, b',', b"x")?;
-    let (from_text, from_binary) = (text(2, b"1,x\n"), binary(2, BINARY_ROW));
-    assert!(rt;
-        becomes_with(
-            alloc,
-            from_text,
-            Format::Binary,
-            &options,
-            whole,
-            BINARY_ROW
-        )
-    );
-    assert!(rt; becomes_with(alloc, from_binary, Format::Text, &options, whole, b"1,x\n"));
-    // both sides have them, or none
-    let spelled = text(2, b"\\x31,x");
-    assert!(rt; becomes_with(alloc, spelled, Format::Text, &options, whole, b"1,x\n"));
-    assert!(rt;
-        becomes_with(
-            alloc,
-            from_binary,
-            Format::Binary,
-            &options,
-            whole,
-            BINARY_ROW
-        )
-    );
-    Ok(())
-}
-
-#[test]
-fn a_row_like_null(rt: HostRuntime) -> Result<(), Fail> {
-    let options = TextOptions::new(rt.alloc(), b',', b"x")?;
-    let file = text(2, b"1,x\n1,\\x78\n");
-    let fault = Converted::Row(RowFault::LikeNull(1));
-    assert!(rt; becomes_with(rt.alloc(), file, Format::Text, &options, fault, b"1,x\n"));
-    Ok(())
-}
-
 /// The head, and two rows of two columns: 1 and null, and x and y.
 const TWO_ROWS: &[u8] = b"PGCOPY\n\xFF\r\n\0\0\0\0\0\0\0\0\0\0\x02\0\0\0\x011\xFF\xFF\xFF\xFF\
     \0\x02\0\0\0\x01x\0\0\0\x01y\xFF\xFF";
 
+// Conversions of a file of one column.
+const ONE_TEXT_TO_TEXT: Conversion = Conversion {
+    from: Format::Text,
+    to: Format::Text,
+    columns: 1,
+};
+
+const ONE_TEXT_TO_BINARY: Conversion = Conversion {
+    from: Format::Text,
+    to: Format::Binary,
+    columns: 1,
+};
+
+const ONE_BINARY_TO_TEXT: Conversion = Conversion {
+    from: Format::Binary,
+    to: Format::Text,
+    columns: 1,
+};
+
+/// What is done with which bytes, what comes of it, and what is written.
+type Row = (Work, &'static [u8], Converted, &'static [u8]);
+
+/// Whether this comes of these bytes, in pieces of each size up to 39.
+fn becomes(alloc: Global, work: Work, bytes: &[u8], converted: Converted, written: &[u8]) -> bool {
+    for most in 1..40 {
+        let task = whole(work, bytes, most);
+        if !gives(alloc, task, Answer::Converted(converted), written) {
+            return false;
+        }
+    }
+    true
+}
+
+fn all_become(alloc: Global, rows: &[Row]) -> bool {
+    for (work, bytes, converted, written) in rows {
+        if !becomes(alloc, *work, *bytes, *converted, *written) {
+            return false;
+        }
+    }
+    true
+}
+
+const CONVERTED: [Row; 3] = [
+    (
+        Work::Convert(TEXT_TO_BINARY),
+        TEXT_ROW,
+        Converted::Whole,
+        BINARY_ROW,
+    ),
+    (
+        Work::Convert(BINARY_TO_TEXT),
+        BINARY_ROW,
+        Converted::Whole,
+        TEXT_ROW,
+    ),
+    (
+        Work::Convert(BINARY_TO_BINARY),
+        BINARY_ROW,
+        Converted::Whole,
+        BINARY_ROW,
+    ),
+];
+
 #[test]
-fn a_binary_row_like_null(rt: HostRuntime) -> Result<(), Fail> {
-    let (alloc, file) = (rt.alloc(), binary(2, TWO_ROWS));
-    let (first, second) = (
-        TextOptions::new(alloc, b',', b"x")?,
-        TextOptions::new(alloc, b',', b"y")?,
-    );
-    let fault = Converted::Row(RowFault::LikeNull(0));
-    assert!(rt; becomes_with(alloc, file, Format::Text, &first, fault, b"1,x\n"));
-    let fault = Converted::Row(RowFault::LikeNull(1));
-    assert!(rt; becomes_with(alloc, file, Format::Text, &second, fault, b"1,y\n"));
+fn rows_converted(rt: HostRuntime) {
+    assert!(rt; all_become(rt.alloc(), &CONVERTED));
+}
+
+const WITH_OPTIONS: [Row; 4] = [
+    (
+        Work::ConvertWith(TEXT_TO_BINARY, b"x"),
+        b"1,x\n",
+        Converted::Whole,
+        BINARY_ROW,
+    ),
+    (
+        Work::ConvertWith(BINARY_TO_TEXT, b"x"),
+        BINARY_ROW,
+        Converted::Whole,
+        b"1,x\n",
+    ),
+    // both sides have them, or none
+    (
+        Work::ConvertWith(TEXT_TO_TEXT, b"x"),
+        b"\\x31,x",
+        Converted::Whole,
+        b"1,x\n",
+    ),
+    (
+        Work::ConvertWith(BINARY_TO_BINARY, b"x"),
+        BINARY_ROW,
+        Converted::Whole,
+        BINARY_ROW,
+    ),
+];
+
+#[test]
+fn rows_converted_with_options(rt: HostRuntime) {
+    assert!(rt; all_become(rt.alloc(), &WITH_OPTIONS));
+}
+
+const LIKE_NULL: [Row; 1] = [(
+    Work::ConvertWith(TEXT_TO_TEXT, b"x"),
+    b"1,x\n1,\\x78\n",
+    Converted::Row(RowFault::LikeNull(1)),
+    b"1,x\n",
+)];
+
+#[test]
+fn a_row_like_null(rt: HostRuntime) {
+    assert!(rt; all_become(rt.alloc(), &LIKE_NULL));
+}
+
+const BINARY_LIKE_NULL: [Row; 3] = [
+    (
+        Work::ConvertWith(BINARY_TO_TEXT, b"x"),
+        TWO_ROWS,
+        Converted::Row(RowFault::LikeNull(0)),
+        b"1,x\n",
+    ),
+    (
+        Work::ConvertWith(BINARY_TO_TEXT, b"y"),
+        TWO_ROWS,
+        Converted::Row(RowFault::LikeNull(1)),
+        b"1,y\n",
+    ),
     // as a binary file it can be written
-    let whole = Converted::Whole;
-    assert!(rt; becomes_with(alloc, file, Format::Binary, &first, whole, TWO_ROWS));
-    Ok(())
+    (
+        Work::ConvertWith(BINARY_TO_BINARY, b"x"),
+        TWO_ROWS,
+        Converted::Whole,
+        TWO_ROWS,
+    ),
+];
+
+#[test]
+fn a_binary_row_like_null(rt: HostRuntime) {
+    assert!(rt; all_become(rt.alloc(), &BINARY_LIKE_NULL));
 }
 
 /// How many bytes the long text of a large row has: more than a row that is written without a look at all of it.
 const LONG_TEXT: usize = 1_100_000;
 
+/// What stands before a long text, and what stands after it.
+type Large = (&'static [u8], &'static [u8]);
+
 /// What stands before a long text, the text, and what stands after it.
-fn around_a_long_text(alloc: Global, before: &[u8], after: &[u8]) -> Result<Vec<u8>, AllocError> {
+fn around_a_long_text(alloc: Global, ends: Large) -> Result<Vec<u8>, AllocError> {
+    let (before, after) = ends;
     let mut bytes = Vec::new(alloc);
     bytes.extend_from_slice(before)?;
     for _ in 0..LONG_TEXT {
@@ -171,84 +181,159 @@ fn around_a_long_text(alloc: Global, before: &[u8], after: &[u8]) -> Result<Vec<
     Ok(bytes)
 }
 
-/// Whether this answer and these bytes come of a text file of two columns with these options, in large pieces.
-fn becomes_large(
+/// Whether this comes of these bytes, and these are written, in large pieces.
+fn gives_large(
     alloc: Global,
+    conversion: Conversion,
     bytes: &[u8],
-    to: Format,
-    options: &TextOptions,
-    answer: Converted,
+    converted: Converted,
     written: &[u8],
 ) -> bool {
-    let mut source = source_of(bytes, 50_000, 0);
-    let mut sink = sheet(alloc, 0);
-    let given = convert_with(alloc, Format::Text, to, 2, options, &mut source, &mut sink);
-    given == Ok(answer) && sink.text.as_slice() == written
+    let task = whole(Work::ConvertWith(conversion, b"x"), bytes, 50_000);
+    gives(alloc, task, Answer::Converted(converted), written)
 }
 
-#[test]
-fn large_rows(rt: HostRuntime) -> Result<(), Fail> {
-    let (alloc, whole) = (rt.alloc(), Converted::Whole);
-    let options = TextOptions::new(alloc, b',', b"x")?;
-    let first = around_a_long_text(alloc, b"1,x\n", b"\\x41,2\n3,4\n")?;
-    let written = around_a_long_text(alloc, b"1,x\n", b"A,2\n3,4\n")?;
-    let (bytes, text) = (first.as_slice(), written.as_slice());
-    assert!(rt; becomes_large(alloc, bytes, Format::Text, &options, whole, text));
-    let head =
-        b"PGCOPY\n\xFF\r\n\0\0\0\0\0\0\0\0\0\0\x02\0\0\0\x011\xFF\xFF\xFF\xFF\0\x02\0\x10\xC8\xE1";
-    let rest = b"A\0\0\0\x012\0\x02\0\0\0\x013\0\0\0\x014\xFF\xFF";
-    let written = around_a_long_text(alloc, head, rest)?;
-    let file = written.as_slice();
-    assert!(rt; becomes_large(alloc, bytes, Format::Binary, &options, whole, file));
-    Ok(())
+/// Whether these bytes become this large text, whole.
+fn becomes_this(alloc: Global, conversion: Conversion, bytes: &[u8], written: Large) -> bool {
+    holds(
+        around_a_long_text(alloc, written).ok(),
+        |it| gives_large(alloc, conversion, bytes, Converted::Whole, it.as_slice()),
+    )
 }
 
-#[test]
-fn a_large_row_like_null(rt: HostRuntime) -> Result<(), Fail> {
-    let alloc = rt.alloc();
-    let options = TextOptions::new(alloc, b',', b"x")?;
-    let to = Format::Text;
-    let late = around_a_long_text(alloc, b"1,x\n", b"\\x41,\\x78\n")?;
-    let fault = Converted::Row(RowFault::LikeNull(1));
-    assert!(rt; becomes_large(alloc, late.as_slice(), to, &options, fault, b"1,x\n"));
-    let early = around_a_long_text(alloc, b"1,x\n\\x78,", b"\\x41\n")?;
-    let fault = Converted::Row(RowFault::LikeNull(0));
-    assert!(rt; becomes_large(alloc, early.as_slice(), to, &options, fault, b"1,x\n"));
-    Ok(())
+/// Whether large text becomes this, whole.
+fn becomes_large(alloc: Global, conversion: Conversion, text: Large, written: Large) -> bool {
+    holds(
+        around_a_long_text(alloc, text).ok(),
+        |it| becomes_this(alloc, conversion, it.as_slice(), written),
+    )
 }
+
+// A conversion, the text, and what is written.
+const LARGE: [(Conversion, Large, Large); 2] = [
+    (
+        TEXT_TO_TEXT,
+        (b"1,x\n", b"\\x41,2\n3,4\n"),
+        (b"1,x\n", b"A,2\n3,4\n"),
+    ),
+    (
+        TEXT_TO_BINARY,
+        (b"1,x\n", b"\\x41,2\n3,4\n"),
+        (
+            b"PGCOPY\n\xFF\r\n\0\0\0\0\0\0\0\0\0\0\x02\0\0\0\x011\xFF\xFF\xFF\xFF\0\x02\0\x10\xC8\xE1",
+            b"A\0\0\0\x012\0\x02\0\0\0\x013\0\0\0\x014\xFF\xFF",
+        ),
+    ),
+];
+
+#[test]
+fn large_rows(rt: HostRuntime) {
+    for (conversion, text, written) in LARGE {
+        assert!(rt;
+            becomes_large(rt.alloc(), conversion, text, written),
+            "{text:?}"
+        );
+    }
+}
+
+/// Whether the row before a large text is written, and that one has a field like null at this place.
+fn is_large_like_null(alloc: Global, text: Large, place: usize) -> bool {
+    let fault = Converted::Row(RowFault::LikeNull(place));
+    holds(
+        around_a_long_text(alloc, text).ok(),
+        |it| gives_large(alloc, TEXT_TO_TEXT, it.as_slice(), fault, b"1,x\n"),
+    )
+}
+
+// Large text, and the place of the field like null.
+const LARGE_LIKE_NULL: [(Large, usize); 2] = [
+    ((b"1,x\n", b"\\x41,\\x78\n"), 1),
+    ((b"1,x\n\\x78,", b"\\x41\n"), 0),
+];
+
+#[test]
+fn a_large_row_like_null(rt: HostRuntime) {
+    for (text, place) in LARGE_LIKE_NULL {
+        assert!(rt; is_large_like_null(rt.alloc(), text, place), "{text:?}");
+    }
+}
+
+const OTHER_ENDS: [Row; 2] = [
+    (
+        Work::Convert(TEXT_TO_BINARY),
+        b"1\t\\N\r\n",
+        Converted::Whole,
+        BINARY_ROW,
+    ),
+    (
+        Work::Convert(TEXT_TO_BINARY),
+        b"1\t\\N\r",
+        Converted::Whole,
+        BINARY_ROW,
+    ),
+];
 
 #[test]
 fn lines_that_end_otherwise(rt: HostRuntime) {
-    let (alloc, to, whole) = (rt.alloc(), Format::Binary, Converted::Whole);
-    assert!(rt; becomes(alloc, text(2, b"1\t\\N\r\n"), to, whole, BINARY_ROW));
-    assert!(rt; becomes(alloc, text(2, b"1\t\\N\r"), to, whole, BINARY_ROW));
+    assert!(rt; all_become(rt.alloc(), &OTHER_ENDS));
 }
+
+const BEFORE_A_FAULT: [Row; 2] = [
+    (
+        Work::Convert(ONE_TEXT_TO_TEXT),
+        b"a\nb\tc\n",
+        Converted::Text(TextFault::Columns(2)),
+        b"a\n",
+    ),
+    (
+        Work::Convert(ONE_TEXT_TO_BINARY),
+        b"a\nb\tc\n",
+        Converted::Text(TextFault::Columns(2)),
+        ONE_ROW,
+    ),
+];
 
 #[test]
 fn rows_before_a_fault(rt: HostRuntime) {
-    let file = text(1, b"a\nb\tc\n");
-    let fault = Converted::Text(TextFault::Columns(2));
-    assert!(rt; becomes(rt.alloc(), file, Format::Text, fault, b"a\n"));
-    assert!(rt; becomes(rt.alloc(), file, Format::Binary, fault, ONE_ROW));
+    assert!(rt; all_become(rt.alloc(), &BEFORE_A_FAULT));
 }
+
+const WITHOUT_ITS_END: [Row; 1] = [(
+    Work::Convert(ONE_BINARY_TO_TEXT),
+    ONE_ROW,
+    Converted::Binary(BinaryFault::Truncated),
+    b"a\n",
+)];
 
 #[test]
 fn rows_of_a_file_without_its_end(rt: HostRuntime) {
-    let fault = Converted::Binary(BinaryFault::Truncated);
-    assert!(rt; becomes(rt.alloc(), binary(1, ONE_ROW), Format::Text, fault, b"a\n"));
+    assert!(rt; all_become(rt.alloc(), &WITHOUT_ITS_END));
 }
+
+// The last line is open, and what follows the end mark is dropped.
+const TEXT_ENDS: [Row; 3] = [
+    (
+        Work::Convert(ONE_TEXT_TO_TEXT),
+        b"a\nb",
+        Converted::Whole,
+        b"a\nb\n",
+    ),
+    (
+        Work::Convert(ONE_TEXT_TO_TEXT),
+        b"a\n\\.\n\r\n",
+        Converted::Whole,
+        b"a\n",
+    ),
+    (Work::Convert(ONE_TEXT_TO_TEXT), b"", Converted::Whole, b""),
+];
 
 #[test]
 fn ends_of_a_text_file(rt: HostRuntime) {
-    let (alloc, to, whole) = (rt.alloc(), Format::Text, Converted::Whole);
-    // the last line is open, and what follows the end mark is dropped
-    assert!(rt; becomes(alloc, text(1, b"a\nb"), to, whole, b"a\nb\n"));
-    assert!(rt; becomes(alloc, text(1, b"a\n\\.\n\r\n"), to, whole, b"a\n"));
-    assert!(rt; becomes(alloc, text(1, b""), to, whole, b""));
+    assert!(rt; all_become(rt.alloc(), &TEXT_ENDS));
 }
 
 /// A line of 100,000 bytes, and 20,000 short ones.
-fn long_file(alloc: Global) -> Result<Vec<u8>, Fail> {
+fn long_file(alloc: Global) -> Result<Vec<u8>, AllocError> {
     let mut bytes = Vec::new(alloc);
     for _ in 0..100_000 {
         bytes.push(b'a')?;
@@ -260,68 +345,62 @@ fn long_file(alloc: Global) -> Result<Vec<u8>, Fail> {
     Ok(bytes)
 }
 
-/// Whether that file becomes a binary one of this length, and that one this file again.
-fn goes_and_comes(alloc: Global, file: Vec<u8>, length: usize) -> bool {
-    let bytes = file.as_slice();
-    let (gone, there) = converted(alloc, text(1, bytes), Format::Binary, 100_000);
-    let back = binary(1, there.text.as_slice());
-    let (come, here) = converted(alloc, back, Format::Text, 5);
-    let whole = gone == Ok(Converted::Whole) && come == Ok(Converted::Whole);
-    whole && there.text.len() == length && here.text.as_slice() == bytes
+/// Whether this text becomes a binary file of this length, and that one this text again.
+fn goes_and_comes(alloc: Global, text: &[u8], length: usize) -> bool {
+    let gone = perform(
+        alloc,
+        whole(Work::Convert(ONE_TEXT_TO_BINARY), text, 100_000),
+    );
+    let there = gone.sink.text.as_slice();
+    let back = whole(Work::Convert(ONE_BINARY_TO_TEXT), there, 5);
+    let answer = Answer::Converted(Converted::Whole);
+    gone.answer == answer && there.len() == length && gives(alloc, back, answer, text)
 }
 
 // A row that is longer than what is collected at once, and rows that together are.
 #[test]
-fn a_long_file(rt: HostRuntime) -> Result<(), Fail> {
-    let file = long_file(rt.alloc())?;
+fn a_long_file(rt: HostRuntime) {
+    let alloc = rt.alloc();
     // the head, six bytes and the value for each row, and the trailer
     let length = 19 + 100_006 + 20_000 * 8 + 2;
-    assert!(rt; goes_and_comes(rt.alloc(), file, length));
-    Ok(())
+    let held = holds(
+        long_file(alloc).ok(),
+        |it| goes_and_comes(alloc, it.as_slice(), length),
+    );
+    assert!(rt; held);
 }
 
-/// Whether so many bytes are written of two rows in pieces of five bytes, where this receive fails.
-fn converts_before(alloc: Global, call: u64, size: usize) -> bool {
-    let mut source = source_of(b"1\t\\N\n2\t\\N\n", 5, call);
-    let mut sink = sheet(alloc, 0);
-    let answer = convert(
-        alloc,
-        Format::Text,
-        Format::Binary,
-        2,
-        &mut source,
-        &mut sink,
-    );
-    answer == Err(ToolFault::Device) && sink.text.len() == size
-}
+const TWO_LINES: &[u8] = b"1\t\\N\n2\t\\N\n";
+
+/// What becomes of them.
+const TWO_NULLS: &[u8] = b"PGCOPY\n\xFF\r\n\0\0\0\0\0\0\0\0\0\0\x02\0\0\0\x011\xFF\xFF\xFF\xFF\
+    \0\x02\0\0\0\x012\xFF\xFF\xFF\xFF\xFF\xFF";
+
+// The receive that fails, and how many bytes are written before: the head, and eleven bytes a row.
+const RECEIVES: [(u64, usize); 3] = [(1, 19), (2, 30), (3, 41)];
 
 #[test]
 fn a_source_that_fails(rt: HostRuntime) {
-    // the head, and eleven bytes a row
-    for (call, size) in [(1, 19), (2, 30), (3, 41)] {
-        assert!(rt; converts_before(rt.alloc(), call, size), "at {call}");
+    for (call, size) in RECEIVES {
+        let task = failing_receive(Work::Convert(TEXT_TO_BINARY), TWO_LINES, call);
+        assert!(rt;
+            stops_at_receive(rt.alloc(), task, size, TWO_NULLS),
+            "at {call}"
+        );
     }
 }
 
-/// Whether so many bytes of the row's file are written, where this send fails.
-fn converts_to(alloc: Global, call: u64, size: usize) -> bool {
-    let mut source = source_of(TEXT_ROW, 5, 0);
-    let mut sink = sheet(alloc, call);
-    let answer = convert(
-        alloc,
-        Format::Text,
-        Format::Binary,
-        2,
-        &mut source,
-        &mut sink,
-    );
-    answer == Err(ToolFault::Device) && took(&sink, size, BINARY_ROW)
-}
+// The send that fails, and how many bytes are written before: the head and the row, 30 bytes, are sent before the end is found, and the
+// trailer after it.
+const SENDS: [(u64, usize); 4] = [(1, 0), (2, 7), (5, 28), (6, 30)];
 
 #[test]
 fn a_sink_that_fails(rt: HostRuntime) {
-    // the head and the row, 30 bytes, are sent before the end is found, and the trailer after it
-    for (call, size) in [(1, 0), (2, 7), (5, 28), (6, 30)] {
-        assert!(rt; converts_to(rt.alloc(), call, size), "at {call}");
+    for (call, size) in SENDS {
+        let task = failing_send(Work::Convert(TEXT_TO_BINARY), TEXT_ROW, call);
+        assert!(rt;
+            stops_at_send(rt.alloc(), task, size, BINARY_ROW),
+            "at {call}"
+        );
     }
 }

@@ -59,6 +59,13 @@ impl Sink for Paper {
     }
 }
 
+impl Paper {
+    /// Whether just so many bytes of this text were taken.
+    pub(crate) fn took(&self, size: usize, text: &[u8]) -> bool {
+        self.text.len() == size && text.starts_with(self.text.as_slice())
+    }
+}
+
 /// Bytes that come so many at a time, of which this receive fails, or none where that is 0.
 pub(crate) fn source_of(bytes: &[u8], most: usize, fails_at: u64) -> Pieces<'_> {
     Pieces {
@@ -78,9 +85,4 @@ pub(crate) fn sheet(alloc: Global, fails_at: u64) -> Paper {
         fails_at,
         failures: 0,
     }
-}
-
-/// Whether just so many bytes of this text were taken.
-pub(crate) fn took(paper: &Paper, size: usize, text: &[u8]) -> bool {
-    paper.text.len() == size && text.starts_with(paper.text.as_slice())
 }

@@ -1,20 +1,25 @@
-use crate::links::{sheet, source_of, took};
+//! Streams that are shown.
+
+use crate::work::{
+    Answer, Work, failing_receive, failing_send, gives, perform, stops_at_receive, stops_at_send,
+    whole,
+};
 use pg_wire::WireFault;
 use pgpipe_base::ToolFault;
-use pgpipe_show::show::{Shown, show};
-use std::alloc::Global;
-use std::test::Fail;
+use pgpipe_show::show::Shown;
+use std::alloc::{AllocError, Global};
+use test_base::{holds, is_told};
 
 /// ReadyForQuery, CopyData of two bytes, CopyDone.
-const STREAM: &[u8] = b"Z\0\0\0\x05Id\0\0\0\x06\x0f\xffc\0\0\0\x04";
+pub(crate) const STREAM: &[u8] = b"Z\0\0\0\x05Id\0\0\0\x06\x0f\xffc\0\0\0\x04";
 
-const LINES: &[u8] = b"Z 5 49\nd 6 0fff\nc 4 -\n";
+pub(crate) const LINES: &[u8] = b"Z 5 49\nd 6 0fff\nc 4 -\n";
 
 /// What a client begins with: SSLRequest, StartupMessage with user=u, Query.
-const CLIENT: &[u8] =
+pub(crate) const CLIENT: &[u8] =
     b"\0\0\0\x08\x04\xd2\x16\x2f\0\0\0\x10\0\x03\0\0user\0u\0\0Q\0\0\0\x0dSELECT 1\0";
 
-const CLIENT_LINES: &[u8] =
+pub(crate) const CLIENT_LINES: &[u8] =
     b"ssl 8 04d2162f\nstartup 16 000300007573657200750000\nQ 13 53454c454354203100\n";
 
 /// CancelRequest, and a byte.
@@ -22,10 +27,8 @@ const CANCEL: &[u8] = b"\0\0\0\x10\x04\xd2\x16\x2e\0\0\0\x01\0\0\0\x02\0";
 
 /// Whether these bytes, five at a time, are shown as these lines, with this answer.
 fn shows(alloc: Global, front: bool, bytes: &[u8], answer: Shown, lines: &[u8]) -> bool {
-    let mut source = source_of(bytes, 5, 0);
-    let mut sink = sheet(alloc, 0);
-    let shown = show(alloc, front, &mut source, &mut sink);
-    shown == Ok(answer) && sink.text.as_slice() == lines
+    let task = whole(Work::Show(front), bytes, 5);
+    gives(alloc, task, Answer::Shown(answer), lines)
 }
 
 #[test]
@@ -78,82 +81,68 @@ fn a_message_of_a_backend_at_a_client(rt: HostRuntime) {
     assert!(rt; shows(rt.alloc(), true, bytes, fault, b"startup 9 0003000000\n"));
 }
 
-/// Whether these lines are sent of these bytes, five at a time, where this receive fails.
-fn shows_before(alloc: Global, front: bool, bytes: &[u8], call: u64, lines: &[u8]) -> bool {
-    let mut source = source_of(bytes, 5, call);
-    let mut sink = sheet(alloc, 0);
-    let shown = show(alloc, front, &mut source, &mut sink);
-    shown == Err(ToolFault::Device) && sink.text.as_slice() == lines && source.failures == 1
-}
+// The receive that fails, and how much text the pieces before it make.
+const RECEIVES: [(u64, usize); 5] = [(1, 0), (2, 0), (3, 7), (4, 16), (5, 22)];
 
 #[test]
 fn a_source_that_fails(rt: HostRuntime) {
-    // the failing receive, and how much text the pieces before it make
-    for (call, size) in [(1, 0), (2, 0), (3, 7), (4, 16), (5, 22)] {
+    for (call, size) in RECEIVES {
+        let task = failing_receive(Work::Show(false), STREAM, call);
         assert!(rt;
-            shows_before(rt.alloc(), false, STREAM, call, &LINES[..size]),
+            stops_at_receive(rt.alloc(), task, size, LINES),
             "at {call}"
         );
     }
 }
+
+// The same of a client.
+const CLIENT_RECEIVES: [(u64, usize); 9] = [
+    (1, 0),
+    (2, 0),
+    (3, 15),
+    (4, 15),
+    (5, 15),
+    (6, 51),
+    (7, 51),
+    (8, 51),
+    (9, 75),
+];
 
 #[test]
 fn a_client_that_fails(rt: HostRuntime) {
-    let sizes = [
-        (1, 0),
-        (2, 0),
-        (3, 15),
-        (4, 15),
-        (5, 15),
-        (6, 51),
-        (7, 51),
-        (8, 51),
-        (9, 75),
-    ];
-    for (call, size) in sizes {
-        let lines = &CLIENT_LINES[..size];
+    for (call, size) in CLIENT_RECEIVES {
+        let task = failing_receive(Work::Show(true), CLIENT, call);
         assert!(rt;
-            shows_before(rt.alloc(), true, CLIENT, call, lines),
+            stops_at_receive(rt.alloc(), task, size, CLIENT_LINES),
             "at {call}"
         );
     }
 }
 
-/// Whether so many bytes of these lines are sent of these bytes, five at a time, where this send fails.
-fn shows_to(
-    alloc: Global,
-    front: bool,
-    bytes: &[u8],
-    call: u64,
-    size: usize,
-    lines: &[u8],
-) -> bool {
-    let mut source = source_of(bytes, 5, 0);
-    let mut sink = sheet(alloc, call);
-    let shown = show(alloc, front, &mut source, &mut sink);
-    shown == Err(ToolFault::Device) && took(&sink, size, lines)
-}
+// The send that fails, and how much text is sent before: the lines of a piece, of 7, 9 and 6 bytes, are sent before the next comes, at most
+// seven bytes a send.
+const SENDS: [(u64, usize); 4] = [(1, 0), (2, 7), (3, 14), (4, 16)];
+
+// So are those of a client, of 15, 36 and 24 bytes.
+const CLIENT_SENDS: [(u64, usize); 6] = [(1, 0), (3, 14), (4, 15), (9, 50), (10, 51), (13, 72)];
 
 #[test]
 fn a_sink_that_fails(rt: HostRuntime) {
-    // the lines of a piece, of 7, 9 and 6 bytes, are sent before the next comes, at most seven bytes a send
-    for (call, size) in [(1, 0), (2, 7), (3, 14), (4, 16)] {
-        assert!(rt;
-            shows_to(rt.alloc(), false, STREAM, call, size, LINES),
-            "at {call}"
-        );
+    for (call, size) in SENDS {
+        let task = failing_send(Work::Show(false), STREAM, call);
+        assert!(rt; stops_at_send(rt.alloc(), task, size, LINES), "at {call}");
     }
-    // so are these, of 15, 36 and 24 bytes
-    for (call, size) in [(1, 0), (3, 14), (4, 15), (9, 50), (10, 51), (13, 72)] {
+    for (call, size) in CLIENT_SENDS {
+        let task = failing_send(Work::Show(true), CLIENT, call);
         assert!(rt;
-            shows_to(rt.alloc(), true, CLIENT, call, size, CLIENT_LINES),
+            stops_at_send(rt.alloc(), task, size, CLIENT_LINES),
             "at {call}"
         );
     }
 }
 
 /// CopyData of 100,000 bytes.
-fn long_message(alloc: Global) -> Result<Vec<u8>, Fail> {
+fn long_message(alloc: Global) -> Result<Vec<u8>, AllocError> {
     let mut bytes = Vec::from_slice(alloc, b"d\0\x01\x86\xa4")?;
     for _ in 0..100_000 {
         bytes.push(0xa7)?;
@@ -162,28 +151,26 @@ fn long_message(alloc: Global) -> Result<Vec<u8>, Fail> {
 }
 
 /// Whether the line of that message is sent.
-fn shows_whole(alloc: Global, message: Vec<u8>) -> bool {
-    let mut source = source_of(message.as_slice(), 5, 0);
-    let mut sink = sheet(alloc, 0);
-    let shown = show(alloc, false, &mut source, &mut sink);
-    let text = sink.text.as_slice();
+fn shows_whole(alloc: Global, message: &[u8]) -> bool {
+    let done = perform(alloc, whole(Work::Show(false), message, 5));
+    let text = done.sink.text.as_slice();
     let ends = text.starts_with(b"d 100004 a7a7") && text.ends_with(b"a7\n");
-    shown == Ok(Shown::Whole) && text.len() == 200_010 && ends
+    done.answer == Answer::Shown(Shown::Whole) && text.len() == 200_010 && ends
 }
 
 // A line that is longer than what is collected at once.
 #[test]
-fn a_long_message(rt: HostRuntime) -> Result<(), Fail> {
-    let message = long_message(rt.alloc())?;
-    assert!(rt; shows_whole(rt.alloc(), message));
-    Ok(())
+fn a_long_message(rt: HostRuntime) {
+    let alloc = rt.alloc();
+    let held = holds(
+        long_message(alloc).ok(),
+        |it| shows_whole(alloc, it.as_slice()),
+    );
+    assert!(rt; held);
 }
 
 #[test]
-fn faults_are_told(rt: HostRuntime) -> Result<(), Fail> {
-    let device = format!(in rt.alloc(); "{}", ToolFault::Device)?;
-    assert_eq!(rt; device.as_str(), "device");
-    let memory = format!(in rt.alloc(); "{}", ToolFault::Memory)?;
-    assert_eq!(rt; memory.as_str(), "memory");
-    Ok(())
+fn faults_are_told(rt: HostRuntime) {
+    assert!(rt; is_told(rt.alloc(), ToolFault::Device, "device") == Ok(true));
+    assert!(rt; is_told(rt.alloc(), ToolFault::Memory, "memory") == Ok(true));
 }

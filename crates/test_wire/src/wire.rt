@@ -1,3 +1,6 @@
+//! Messages of a stream. Most tests are tables of steps: what is done with a decoder, and what must come of it. What a decoder gives
+//! costs the prover much in each function that owns it, so one function of each kind takes a message, and says in a word what it was.
+
 mod first;
 mod frontend;
 mod great;
@@ -5,24 +8,20 @@ mod lent;
 mod link;
 mod password;
 
+use lent::{Loan, lends, next_lent};
 use pg_wire::{
-    BackDecoder, BackMessage, Column, EncodeFault, FrontMessage, Seq, Status, WireFault, backend,
-    laws,
+    BackDecoder, BackMessage, Column, EncodeFault, FrontMessage, Seq, Status, Values, WireFault,
+    backend, laws,
 };
-use std::alloc::Global;
+use std::alloc::{AllocError, Global};
 use std::test::Fail;
 use test_base::{holds, is_told};
 
 /// A decoder with the limit 64, to which these bytes were pushed.
-fn pushed(alloc: Global, bytes: &[u8]) -> Result<BackDecoder, WireFault> {
+pub(crate) fn pushed(alloc: Global, bytes: &[u8]) -> Result<BackDecoder, WireFault> {
     let mut decoder = BackDecoder::new(alloc, 64);
     decoder.push(bytes)?;
     Ok(decoder)
-}
-
-/// What a new decoder with the limit 64 answers for these bytes.
-fn first_of(alloc: Global, bytes: &[u8]) -> Result<Option<BackMessage>, WireFault> {
-    pushed(alloc, bytes)?.next()
 }
 
 /// What a decoder gave.
@@ -31,175 +30,307 @@ enum Came {
     Nothing,
     /// A message that is held and lent.
     Held,
-    /// A message that is handed out.
-    Message,
     Fault(WireFault),
+    /// A ReadyForQuery in the status Idle.
+    Ready,
+    EmptyQuery,
+    /// A row of a null and an empty text.
+    NullAndEmpty,
+    /// An error of two fields.
+    Error,
+    /// Another message.
+    Other,
+}
+
+/// What is done with a decoder, and what must come of it.
+#[derive(Clone, Copy)]
+enum Step {
+    /// A piece is taken.
+    Push(&'static [u8]),
+    /// The bytes are taken one by one, and before each `next` gives nothing.
+    PushEach(&'static [u8]),
+    /// The bytes are taken one by one, and before each `next_lent` gives nothing.
+    PushEachLent(&'static [u8]),
+    /// A piece is refused.
+    Refuse(&'static [u8], WireFault),
+    Next(Came),
+    NextLent(Came),
+    Lends(Loan),
+    /// So many bytes are kept.
+    Kept(usize),
+}
+
+fn is_null_and_empty(row: &Values) -> bool {
+    row.len() == 2
+        && matches!(row.get(0), Some(None))
+        && matches!(row.get(1), Some(Some(text)) if text.is_empty())
+}
+
+fn row_came(row: &Values) -> Came {
+    if is_null_and_empty(row) {
+        Came::NullAndEmpty
+    } else {
+        Came::Other
+    }
+}
+
+fn error_came(fields: usize) -> Came {
+    if fields == 2 {
+        Came::Error
+    } else {
+        Came::Other
+    }
+}
+
+fn message_came(message: &BackMessage) -> Came {
+    match message {
+        BackMessage::Ready(Status::Idle) => Came::Ready,
+        BackMessage::EmptyQuery => Came::EmptyQuery,
+        BackMessage::DataRow(row) => row_came(row),
+        BackMessage::ErrorResponse(fields) => error_came(fields.len()),
+        _ => Came::Other,
+    }
 }
 
 /// What the decoder gives by `next`.
 fn next(decoder: &mut BackDecoder) -> Came {
     match decoder.next() {
         Ok(None) => Came::Nothing,
-        Ok(Some(_)) => Came::Message,
+        Ok(Some(message)) => message_came(&message),
         Err(fault) => Came::Fault(fault),
     }
 }
 
-/// Whether nothing comes before each of these bytes, which are pushed one by one.
-fn waits_for_each(decoder: &mut BackDecoder, bytes: &[u8]) -> bool {
-    let mut waits = true;
-    for byte in bytes {
-        waits = waits && next(decoder) == Came::Nothing && decoder.push(&[*byte]).is_ok();
-    }
-    waits
+/// Whether a byte is taken, and before it nothing comes, by `next_lent` or by `next`.
+fn waits(decoder: &mut BackDecoder, by_lent: bool, byte: u8) -> bool {
+    let came = if by_lent {
+        next_lent(decoder)
+    } else {
+        next(decoder)
+    };
+    came == Came::Nothing && decoder.push(&[byte]).is_ok()
 }
 
-/// Whether it gives a ReadyForQuery in the status Idle.
-fn gives_ready(decoder: &mut BackDecoder) -> bool {
-    matches!(decoder.next(), Ok(Some(BackMessage::Ready(Status::Idle))))
+fn waits_for_each(decoder: &mut BackDecoder, by_lent: bool, bytes: &[u8]) -> bool {
+    for byte in bytes {
+        if !waits(decoder, by_lent, *byte) {
+            return false;
+        }
+    }
+    true
 }
+
+fn is_so(decoder: &mut BackDecoder, step: Step) -> bool {
+    match step {
+        Step::Push(piece) => decoder.push(piece).is_ok(),
+        Step::PushEach(bytes) => waits_for_each(decoder, false, bytes),
+        Step::PushEachLent(bytes) => waits_for_each(decoder, true, bytes),
+        Step::Refuse(piece, fault) => decoder.push(piece) == Err(fault),
+        Step::Next(came) => next(decoder) == came,
+        Step::NextLent(came) => next_lent(decoder) == came,
+        Step::Lends(loan) => lends(decoder, loan),
+        Step::Kept(count) => decoder.kept() == count,
+    }
+}
+
+fn are_so(decoder: &mut BackDecoder, steps: &[Step]) -> bool {
+    for step in steps {
+        if !is_so(decoder, *step) {
+            return false;
+        }
+    }
+    true
+}
+
+/// Whether a new decoder with the limit 64 does what these steps say.
+fn does(alloc: Global, steps: &[Step]) -> bool {
+    holds(
+        Some(BackDecoder::new(alloc, 64)),
+        |decoder| are_so(decoder, steps),
+    )
+}
+
+/// Whether a new decoder gives this first of these bytes.
+fn comes_first(alloc: Global, bytes: &[u8], came: Came) -> bool {
+    holds(pushed(alloc, bytes).ok(), |decoder| next(decoder) == came)
+}
+
+fn all_come_first(alloc: Global, rows: &[(&[u8], Came)]) -> bool {
+    for (bytes, came) in rows {
+        if !comes_first(alloc, bytes, *came) {
+            return false;
+        }
+    }
+    true
+}
+
+// ---- tables
+
+const LAST_BYTE: [Step; 4] = [
+    Step::PushEach(&[0x5A, 0, 0, 0, 5, 0x49]),
+    Step::Kept(6),
+    Step::Next(Came::Ready),
+    Step::Kept(0),
+];
 
 #[test]
 fn a_message_comes_with_its_last_byte(rt: HostRuntime) {
-    let held = holds(pushed(rt.alloc(), b"").ok(), |decoder| {
-        waits_for_each(decoder, &[0x5A, 0, 0, 0, 5, 0x49])
-            && decoder.kept() == 6
-            && gives_ready(decoder)
-            && decoder.kept() == 0
-    });
-    assert!(rt; held);
+    assert!(rt; does(rt.alloc(), &LAST_BYTE));
 }
+
+const HEADS: [(&[u8], Came); 4] = [
+    (&[0x21, 0, 0, 0], Came::Nothing),
+    (&[0x21, 0, 0, 0, 4], Came::Fault(WireFault::UnknownTag(33))),
+    (&[0x5A, 0, 0, 0, 3], Came::Fault(WireFault::ShortLength(3))),
+    (&[0x44, 0, 0, 0, 65], Came::Fault(WireFault::LongLength(65))),
+];
 
 #[test]
 fn heads_are_judged(rt: HostRuntime) {
-    let alloc = rt.alloc();
-    assert!(rt; matches!(first_of(alloc, &[0x21, 0, 0, 0]), Ok(None)));
-    assert!(rt;
-        matches!(
-            first_of(alloc, &[0x21, 0, 0, 0, 4]),
-            Err(WireFault::UnknownTag(33))
-        )
-    );
-    assert!(rt;
-        matches!(
-            first_of(alloc, &[0x5A, 0, 0, 0, 3]),
-            Err(WireFault::ShortLength(3))
-        )
-    );
-    assert!(rt;
-        matches!(
-            first_of(alloc, &[0x44, 0, 0, 0, 65]),
-            Err(WireFault::LongLength(65))
-        )
-    );
+    assert!(rt; all_come_first(rt.alloc(), &HEADS));
 }
+
+/// An unknown status, a byte after the body, a text without its zero byte, and a length below that of null.
+const BODIES: [(&[u8], Came); 4] = [
+    (
+        &[0x5A, 0, 0, 0, 5, 0x58],
+        Came::Fault(WireFault::BadBody(90)),
+    ),
+    (
+        &[0x5A, 0, 0, 0, 6, 0x49, 0x49],
+        Came::Fault(WireFault::BadBody(90)),
+    ),
+    (
+        &[0x43, 0, 0, 0, 6, 0x4F, 0x4B],
+        Came::Fault(WireFault::BadBody(67)),
+    ),
+    (
+        &[0x44, 0, 0, 0, 10, 0, 1, 0xFF, 0xFF, 0xFF, 0xFE],
+        Came::Fault(WireFault::BadBody(68)),
+    ),
+];
 
 #[test]
 fn bodies_are_judged(rt: HostRuntime) {
-    let alloc = rt.alloc();
-    let unknown_status = [0x5A, 0, 0, 0, 5, 0x58];
-    let byte_after = [0x5A, 0, 0, 0, 6, 0x49, 0x49];
-    let no_zero_byte = [0x43, 0, 0, 0, 6, 0x4F, 0x4B];
-    let below_null = [0x44, 0, 0, 0, 10, 0, 1, 0xFF, 0xFF, 0xFF, 0xFE];
-    assert!(rt;
-        matches!(
-            first_of(alloc, &unknown_status),
-            Err(WireFault::BadBody(90))
-        )
-    );
-    assert!(rt; matches!(first_of(alloc, &byte_after), Err(WireFault::BadBody(90))));
-    assert!(rt; matches!(first_of(alloc, &no_zero_byte), Err(WireFault::BadBody(67))));
-    assert!(rt; matches!(first_of(alloc, &below_null), Err(WireFault::BadBody(68))));
+    assert!(rt; all_come_first(rt.alloc(), &BODIES));
 }
 
-/// Whether it gives an EmptyQueryResponse.
-fn gives_empty_query(decoder: &mut BackDecoder) -> bool {
-    matches!(decoder.next(), Ok(Some(BackMessage::EmptyQuery)))
-}
+const SHORT: Came = Came::Fault(WireFault::ShortLength(3));
+
+const FAULTY: [Step; 6] = [
+    Step::Push(&[0x49, 0, 0, 0, 4, 0x5A, 0, 0, 0, 3]),
+    Step::Next(Came::EmptyQuery),
+    Step::Next(SHORT),
+    Step::Refuse(&[1], WireFault::ShortLength(3)),
+    Step::Next(SHORT),
+    Step::Kept(5),
+];
 
 #[test]
 fn a_fault_stays(rt: HostRuntime) {
-    let fault = WireFault::ShortLength(3);
-    let bytes = [0x49, 0, 0, 0, 4, 0x5A, 0, 0, 0, 3];
-    let held = holds(pushed(rt.alloc(), &bytes).ok(), |decoder| {
-        gives_empty_query(decoder)
-            && next(decoder) == Came::Fault(fault)
-            && decoder.push(&[1]) == Err(fault)
-            && next(decoder) == Came::Fault(fault)
-            && decoder.kept() == 5
-    });
-    assert!(rt; held);
+    assert!(rt; does(rt.alloc(), &FAULTY));
 }
 
-/// Whether it gives a row of a null and an empty text.
-fn gives_null_and_empty(decoder: &mut BackDecoder) -> bool {
-    match decoder.next() {
-        Ok(Some(BackMessage::DataRow(values))) => {
-            values.len() == 2
-                && matches!(values.get(0), Some(None))
-                && matches!(values.get(1), Some(Some(text)) if text.is_empty())
-        }
-        _ => false,
-    }
-}
+const ROW: &[u8] = &[
+    0x44, 0, 0, 0, 0x0E, 0, 2, 0xFF, 0xFF, 0xFF, 0xFF, 0, 0, 0, 0,
+];
 
 #[test]
 fn null_is_not_the_empty_text(rt: HostRuntime) {
-    let row = [
-        0x44, 0, 0, 0, 0x0E, 0, 2, 0xFF, 0xFF, 0xFF, 0xFF, 0, 0, 0, 0,
-    ];
-    let held = holds(
-        pushed(rt.alloc(), &row).ok(),
-        |decoder| gives_null_and_empty(decoder),
-    );
-    assert!(rt; held);
+    assert!(rt; comes_first(rt.alloc(), ROW, Came::NullAndEmpty));
 }
 
-#[test]
-fn a_column_is_read_and_written(rt: HostRuntime) -> Result<(), Fail> {
-    let bytes = [
-        0x54, 0, 0, 0, 0x1A, 0, 1, 0x6E, 0, 0, 0, 0, 0, 0, 0, 0, 0, 0, 0x17, 0, 4, 0xFF, 0xFF,
-        0xFF, 0xFF, 0, 0,
-    ];
-    let Some(message) = first_of(rt.alloc(), &bytes)? else {
-        assert!(rt; false, "no message");
-        return Ok(());
-    };
-    let mut written = Vec::new(rt.alloc());
-    backend::encode(&message, &mut written)?;
-    assert_eq!(rt; written.as_slice(), bytes.as_slice());
-    let name = Seq::from_slice(rt.alloc(), b"n")?;
-    let column = Column {
-        name,
+// ---- encoders
+
+/// A RowDescription of one column.
+const COLUMN: &[u8] = &[
+    0x54, 0, 0, 0, 0x1A, 0, 1, 0x6E, 0, 0, 0, 0, 0, 0, 0, 0, 0, 0, 0x17, 0, 4, 0xFF, 0xFF, 0xFF,
+    0xFF, 0, 0,
+];
+
+fn column(alloc: Global) -> Result<Column, AllocError> {
+    Ok(Column {
+        name: Seq::from_slice(alloc, b"n")?,
         table_oid: 0,
         attribute: 0,
         type_oid: 23,
         size: 4,
         modifier: -1,
         format: 0,
-    };
-    let mut columns = Seq::new(Vec::new(rt.alloc()));
-    columns.push(column)?;
-    assert_eq!(rt; message, BackMessage::RowDescription(columns));
-    Ok(())
+    })
+}
+
+fn description(alloc: Global) -> Result<BackMessage, AllocError> {
+    let mut columns = Seq::new(Vec::new(alloc));
+    columns.push(column(alloc)?)?;
+    Ok(BackMessage::RowDescription(columns))
+}
+
+fn is_spelled(alloc: Global, message: &BackMessage, bytes: &[u8]) -> Result<bool, EncodeFault> {
+    let mut written = Vec::new(alloc);
+    backend::encode(message, &mut written)?;
+    Ok(written.as_slice() == bytes)
+}
+
+/// Whether the decoder gives this message, which is spelled so.
+fn gives(alloc: Global, decoder: &mut BackDecoder, wanted: &BackMessage, bytes: &[u8]) -> bool {
+    match decoder.next() {
+        Ok(Some(message)) => {
+            message == *wanted && is_spelled(alloc, &message, bytes) == Ok(true)
+        }
+        Ok(None) | Err(_) => false,
+    }
+}
+
+/// Whether these bytes are read as this message, and it is written as they are.
+fn is_read_and_written(alloc: Global, bytes: &[u8], wanted: &BackMessage) -> bool {
+    holds(
+        pushed(alloc, bytes).ok(),
+        |decoder| gives(alloc, decoder, wanted, bytes),
+    )
 }
 
 #[test]
-fn a_refused_message_leaves_the_buffer(rt: HostRuntime) -> Result<(), Fail> {
-    let mut buf = Vec::new(rt.alloc());
-    buf.push(7)?;
-    let tag = BackMessage::CommandComplete(Seq::from_slice(rt.alloc(), b"a\0")?);
-    assert!(rt; matches!(backend::encode(&tag, &mut buf), Err(EncodeFault::HasZero)));
-    let rest = Seq::new(Vec::new(rt.alloc()));
-    let request = BackMessage::AuthOther { code: 3, rest };
-    assert!(rt;
-        matches!(
-            backend::encode(&request, &mut buf),
-            Err(EncodeFault::ReservedCode)
-        )
-    );
-    assert_eq!(rt; buf.as_slice(), [7].as_slice());
-    Ok(())
+fn a_column_is_read_and_written(rt: HostRuntime) {
+    let alloc = rt.alloc();
+    let held = holds(description(alloc).ok(), |wanted| {
+        is_read_and_written(alloc, COLUMN, wanted)
+    });
+    assert!(rt; held);
+}
+
+fn zero_in_a_tag(alloc: Global) -> Result<BackMessage, AllocError> {
+    Ok(BackMessage::CommandComplete(Seq::from_slice(alloc, b"a\0")?))
+}
+
+fn reserved_code(alloc: Global) -> BackMessage {
+    let rest = Seq::new(Vec::new(alloc));
+    BackMessage::AuthOther { code: 3, rest }
+}
+
+/// Whether the message is refused so, and leaves what stands in the buffer.
+fn is_refused(message: &BackMessage, fault: EncodeFault, buf: &mut Vec<u8>) -> bool {
+    backend::encode(message, buf) == Err(fault) && buf.as_slice() == [7].as_slice()
+}
+
+fn leaves_the_buffer(alloc: Global, message: &BackMessage, fault: EncodeFault) -> bool {
+    holds(
+        Vec::from_slice(alloc, &[7]).ok(),
+        |buf| is_refused(message, fault, buf),
+    )
+}
+
+#[test]
+fn a_refused_message_leaves_the_buffer(rt: HostRuntime) {
+    let alloc = rt.alloc();
+    let held = holds(zero_in_a_tag(alloc).ok(), |tag| {
+        leaves_the_buffer(alloc, tag, EncodeFault::HasZero)
+    });
+    assert!(rt; held);
+    let held = holds(Some(reserved_code(alloc)), |request| {
+        leaves_the_buffer(alloc, request, EncodeFault::ReservedCode)
+    });
+    assert!(rt; held);
 }
 
 #[test]

@@ -9,38 +9,6 @@ fn pushed(alloc: Global, bytes: &[u8]) -> Result<FirstDecoder, WireFault> {
     Ok(decoder)
 }
 
-/// What a new decoder answers for these bytes.
-fn first_of(alloc: Global, bytes: &[u8]) -> Result<Option<First>, WireFault> {
-    pushed(alloc, bytes)?.next()
-}
-
-#[test]
-fn packets_are_judged(rt: HostRuntime) {
-    let alloc = rt.alloc();
-    let no_version = [0, 0, 0, 8, 0, 2, 0, 0];
-    let byte_after = [0, 0, 0, 9, 0x04, 0xD2, 0x16, 0x2F, 0];
-    assert!(rt;
-        matches!(
-            first_of(alloc, &[0, 0, 0, 7]),
-            Err(WireFault::ShortLength(7))
-        )
-    );
-    assert!(rt;
-        matches!(
-            first_of(alloc, &[0, 0, 0x27, 0x11]),
-            Err(WireFault::LongLength(10_001))
-        )
-    );
-    assert!(rt;
-        matches!(
-            first_of(alloc, &no_version),
-            Err(WireFault::BadFirst(131_072))
-        )
-    );
-    assert!(rt; matches!(first_of(alloc, &byte_after), Err(WireFault::BadBody(0))));
-    assert!(rt; matches!(first_of(alloc, &byte_after[..7]), Ok(None)));
-}
-
 /// What a decoder gave: of a Startup the number of its parameters.
 #[derive(Clone, Copy, PartialEq, Eq)]
 enum Came {
@@ -63,14 +31,47 @@ fn next(decoder: &mut FirstDecoder) -> Came {
     }
 }
 
+/// Whether a new decoder gives this first of these bytes.
+fn comes_first(alloc: Global, bytes: &[u8], came: Came) -> bool {
+    holds(pushed(alloc, bytes).ok(), |first| next(first) == came)
+}
+
+fn all_come_first(alloc: Global, rows: &[(&[u8], Came)]) -> bool {
+    for (bytes, came) in rows {
+        if !comes_first(alloc, bytes, *came) {
+            return false;
+        }
+    }
+    true
+}
+
+/// Two lengths that are none, a code that is none, an SSLRequest with a byte after it, and its first seven bytes.
+const PACKETS: [(&[u8], Came); 5] = [
+    (&[0, 0, 0, 7], Came::Fault(WireFault::ShortLength(7))),
+    (
+        &[0, 0, 0x27, 0x11],
+        Came::Fault(WireFault::LongLength(10_001)),
+    ),
+    (
+        &[0, 0, 0, 8, 0, 2, 0, 0],
+        Came::Fault(WireFault::BadFirst(131_072)),
+    ),
+    (
+        &[0, 0, 0, 9, 0x04, 0xD2, 0x16, 0x2F, 0],
+        Came::Fault(WireFault::BadBody(0)),
+    ),
+    (&[0, 0, 0, 9, 0x04, 0xD2, 0x16], Came::Nothing),
+];
+
+#[test]
+fn packets_are_judged(rt: HostRuntime) {
+    assert!(rt; all_come_first(rt.alloc(), &PACKETS));
+}
+
 #[test]
 fn a_startup_may_have_no_parameter(rt: HostRuntime) {
     let startup = [0, 0, 0, 9, 0, 3, 0, 0, 0];
-    let held = holds(
-        pushed(rt.alloc(), &startup).ok(),
-        |first| next(first) == Came::Startup(0),
-    );
-    assert!(rt; held);
+    assert!(rt; comes_first(rt.alloc(), &startup, Came::Startup(0)));
 }
 
 /// GSSENCRequest, a Startup without parameters, and a Sync.

@@ -1,42 +1,27 @@
 //! Rows, errors and notices that a decoder lends.
 
-use super::{Came, gives_ready, next, pushed};
-use pg_wire::{BackDecoder, BackMessage, Cut, Lent, Status, WireFault};
-use test_base::holds;
+use super::{Came, Step, does, message_came};
+use pg_wire::{BackDecoder, Cut, Lent, WireFault};
 
-const ROW: [u8; 15] = [
-    0x44, 0, 0, 0, 0x0E, 0, 2, 0xFF, 0xFF, 0xFF, 0xFF, 0, 0, 0, 0,
-];
-
-const ERROR: [u8; 17] = [
-    0x45, 0, 0, 0, 0x10, 0x43, 0x35, 0x37, 0x30, 0x31, 0x34, 0, 0x4D, 0x6E, 0x6F, 0, 0,
-];
-
-const READY: [u8; 6] = [0x5A, 0, 0, 0, 5, 0x49];
+/// What a decoder lends.
+#[derive(Clone, Copy)]
+pub enum Loan {
+    Nothing,
+    /// A row of a null and an empty text.
+    NullAndEmpty,
+    /// The error of `ERROR`.
+    Error,
+    /// A notice without fields.
+    BareNotice,
+}
 
 /// What the decoder gives by `next_lent`.
-fn next_lent(decoder: &mut BackDecoder) -> Came {
+pub fn next_lent(decoder: &mut BackDecoder) -> Came {
     match decoder.next_lent() {
         Ok(Cut::Nothing) => Came::Nothing,
         Ok(Cut::Held) => Came::Held,
-        Ok(Cut::Other(_)) => Came::Message,
+        Ok(Cut::Other(message)) => message_came(&message),
         Err(fault) => Came::Fault(fault),
-    }
-}
-
-/// Whether this is an error of two fields.
-fn is_error(message: &BackMessage) -> bool {
-    match message {
-        BackMessage::ErrorResponse(fields) => fields.len() == 2,
-        _ => false,
-    }
-}
-
-/// Whether it gives an error of two fields.
-fn gives_error(decoder: &mut BackDecoder) -> bool {
-    match decoder.next() {
-        Ok(Some(message)) => is_error(&message),
-        Ok(None) | Err(_) => false,
     }
 }
 
@@ -72,119 +57,128 @@ fn lends_bare_notice(decoder: &BackDecoder) -> bool {
     }
 }
 
-/// Whether nothing whole is found before each of these bytes, which are pushed one by one.
-fn waits_for_each(decoder: &mut BackDecoder, bytes: &[u8]) -> bool {
-    let mut waits = true;
-    for byte in bytes {
-        waits = waits && next_lent(decoder) == Came::Nothing && decoder.push(&[*byte]).is_ok();
+/// Whether the decoder lends this now.
+pub fn lends(decoder: &BackDecoder, loan: Loan) -> bool {
+    match loan {
+        Loan::Nothing => decoder.held().is_none(),
+        Loan::NullAndEmpty => lends_null_and_empty(decoder),
+        Loan::Error => lends_error(decoder),
+        Loan::BareNotice => lends_bare_notice(decoder),
     }
-    waits
 }
+
+// ---- tables
+
+const ROW: &[u8] = &[
+    0x44, 0, 0, 0, 0x0E, 0, 2, 0xFF, 0xFF, 0xFF, 0xFF, 0, 0, 0, 0,
+];
+
+const ERROR: &[u8] = &[
+    0x45, 0, 0, 0, 0x10, 0x43, 0x35, 0x37, 0x30, 0x31, 0x34, 0, 0x4D, 0x6E, 0x6F, 0, 0,
+];
+
+const A_ROW: [Step; 5] = [
+    Step::Push(ROW),
+    Step::Lends(Loan::Nothing),
+    Step::NextLent(Came::Held),
+    Step::Kept(0),
+    Step::Lends(Loan::NullAndEmpty),
+];
 
 #[test]
 fn a_row_is_lent(rt: HostRuntime) {
-    let held = holds(pushed(rt.alloc(), &ROW).ok(), |decoder| {
-        decoder.held().is_none()
-            && next_lent(decoder) == Came::Held
-            && decoder.kept() == 0
-            && lends_null_and_empty(decoder)
-    });
-    assert!(rt; held);
+    assert!(rt; does(rt.alloc(), &A_ROW));
 }
+
+const AN_ERROR: [Step; 3] = [
+    Step::Push(ERROR),
+    Step::NextLent(Came::Held),
+    Step::Lends(Loan::Error),
+];
 
 #[test]
 fn an_error_is_lent(rt: HostRuntime) {
-    let held = holds(pushed(rt.alloc(), &ERROR).ok(), |decoder| {
-        next_lent(decoder) == Came::Held && lends_error(decoder)
-    });
-    assert!(rt; held);
+    assert!(rt; does(rt.alloc(), &AN_ERROR));
 }
+
+const A_NOTICE: [Step; 3] = [
+    Step::Push(&[0x4E, 0, 0, 0, 5, 0]),
+    Step::NextLent(Came::Held),
+    Step::Lends(Loan::BareNotice),
+];
 
 #[test]
 fn a_notice_without_fields_is_lent(rt: HostRuntime) {
-    let held = holds(pushed(rt.alloc(), &[0x4E, 0, 0, 0, 5, 0]).ok(), |decoder| {
-        next_lent(decoder) == Came::Held && lends_bare_notice(decoder)
-    });
-    assert!(rt; held);
+    assert!(rt; does(rt.alloc(), &A_NOTICE));
 }
 
-/// Whether it gives a ReadyForQuery in the status Idle, which isn't lent.
-fn gives_ready_as_other(decoder: &mut BackDecoder) -> bool {
-    matches!(
-        decoder.next_lent(),
-        Ok(Cut::Other(BackMessage::Ready(Status::Idle)))
-    )
-}
+const ANOTHER: [Step; 4] = [
+    Step::Push(&[0x5A, 0, 0, 0, 5, 0x49]),
+    Step::NextLent(Came::Ready),
+    Step::Lends(Loan::Nothing),
+    Step::NextLent(Came::Nothing),
+];
 
 #[test]
 fn another_message_is_given(rt: HostRuntime) {
-    let held = holds(pushed(rt.alloc(), &READY).ok(), |decoder| {
-        gives_ready_as_other(decoder)
-            && decoder.held().is_none()
-            && next_lent(decoder) == Came::Nothing
-    });
-    assert!(rt; held);
+    assert!(rt; does(rt.alloc(), &ANOTHER));
 }
+
+const BYTE_BY_BYTE: [Step; 3] = [
+    Step::PushEachLent(ROW),
+    Step::NextLent(Came::Held),
+    Step::Lends(Loan::NullAndEmpty),
+];
 
 #[test]
 fn a_row_comes_byte_by_byte(rt: HostRuntime) {
-    let held = holds(pushed(rt.alloc(), b"").ok(), |decoder| {
-        waits_for_each(decoder, &ROW)
-            && next_lent(decoder) == Came::Held
-            && lends_null_and_empty(decoder)
-    });
-    assert!(rt; held);
+    assert!(rt; does(rt.alloc(), &BYTE_BY_BYTE));
 }
 
-/// Whether all of these are pushed.
-fn takes_all(decoder: &mut BackDecoder, pieces: &[&[u8]]) -> bool {
-    let mut taken = true;
-    for piece in pieces {
-        taken = taken && decoder.push(piece).is_ok();
-    }
-    taken
-}
+/// Two rows with an error between them, a third row, and a ReadyForQuery that comes in two pieces.
+const EACH_CALL: [Step; 21] = [
+    Step::Push(ROW),
+    Step::Push(ERROR),
+    Step::Push(ROW),
+    Step::Push(ROW),
+    Step::Push(&[0x5A, 0, 0]),
+    Step::NextLent(Came::Held),
+    Step::Lends(Loan::NullAndEmpty),
+    Step::Kept(50),
+    Step::Next(Came::Error),
+    Step::Lends(Loan::Nothing),
+    Step::NextLent(Came::Held),
+    Step::Push(&[]),
+    Step::Lends(Loan::Nothing),
+    Step::NextLent(Came::Held),
+    Step::Lends(Loan::NullAndEmpty),
+    Step::NextLent(Came::Nothing),
+    Step::Lends(Loan::Nothing),
+    Step::Push(&[0, 5, 0x49]),
+    Step::Next(Came::Ready),
+    Step::Kept(0),
+    Step::Lends(Loan::Nothing),
+];
 
 #[test]
 fn each_call_ends_the_lending(rt: HostRuntime) {
-    let pieces = [
-        ERROR.as_slice(),
-        ROW.as_slice(),
-        ROW.as_slice(),
-        &READY[..3],
-    ];
-    let held = holds(pushed(rt.alloc(), &ROW).ok(), |decoder| {
-        takes_all(decoder, &pieces)
-            && next_lent(decoder) == Came::Held
-            && lends_null_and_empty(decoder)
-            && decoder.kept() == 50
-            && gives_error(decoder)
-            && decoder.held().is_none()
-            && next_lent(decoder) == Came::Held
-            && decoder.push(&[]).is_ok()
-            && decoder.held().is_none()
-            && next_lent(decoder) == Came::Held
-            && lends_null_and_empty(decoder)
-            && next_lent(decoder) == Came::Nothing
-            && decoder.held().is_none()
-            && decoder.push(&READY[3..]).is_ok()
-            && gives_ready(decoder)
-            && decoder.kept() == 0
-    });
-    assert!(rt; held);
+    assert!(rt; does(rt.alloc(), &EACH_CALL));
 }
+
+const BAD: WireFault = WireFault::BadBody(68);
+
+const NO_ROW: [Step; 8] = [
+    Step::Push(ROW),
+    Step::Push(&[0x44, 0, 0, 0, 7, 0, 0, 0]),
+    Step::NextLent(Came::Held),
+    Step::NextLent(Came::Fault(BAD)),
+    Step::Lends(Loan::Nothing),
+    Step::Next(Came::Fault(BAD)),
+    Step::Refuse(&[], BAD),
+    Step::Kept(8),
+];
 
 #[test]
 fn a_row_that_is_none_is_a_fault(rt: HostRuntime) {
-    let fault = WireFault::BadBody(68);
-    let held = holds(pushed(rt.alloc(), &ROW).ok(), |decoder| {
-        decoder.push(&[0x44, 0, 0, 0, 7, 0, 0, 0]).is_ok()
-            && next_lent(decoder) == Came::Held
-            && next_lent(decoder) == Came::Fault(fault)
-            && decoder.held().is_none()
-            && next(decoder) == Came::Fault(fault)
-            && decoder.push(&[]) == Err(fault)
-            && decoder.kept() == 8
-    });
-    assert!(rt; held);
+    assert!(rt; does(rt.alloc(), &NO_ROW));
 }

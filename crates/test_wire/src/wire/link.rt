@@ -1,8 +1,10 @@
+//! Links over devices that fail. Each test is a table of steps: what is done with a link, and what must come of it.
+
 use pg_wire::{LinkFault, Over, PATIENCE, Patient, Sink, Source};
 use std::io;
 use std::io::{ErrorKind, Read, Write};
 use std::test::Fail;
-use test_base::is_told;
+use test_base::{holds, is_told};
 
 // Gives or takes a byte a call, and fails at some calls in a row, by errors of one kind.
 #[derive(Drop)]
@@ -87,141 +89,271 @@ fn said<T>(link: &Over<T>) -> Option<ErrorKind> {
     }
 }
 
+/// The device of a link, which counts its calls.
+trait Device: Read + Write + Sized + Drop {
+    fn calls(&self) -> u32;
+
+    /// The same, of a device that is taken apart.
+    fn into_calls(self) -> u32;
+}
+
+impl Device for Flaky {
+    fn calls(&self) -> u32 {
+        u32::from(self.calls)
+    }
+
+    fn into_calls(self) -> u32 {
+        u32::from(self.calls)
+    }
+}
+
+impl Device for Patient<Flaky> {
+    fn calls(&self) -> u32 {
+        self.get_ref().calls()
+    }
+
+    fn into_calls(self) -> u32 {
+        self.into_inner().into_calls()
+    }
+}
+
+/// What is done with a link, and what must come of it.
+#[derive(Clone, Copy)]
+enum Step {
+    /// This byte is received, where there is room for four.
+    Receive(u8),
+    /// A receive fails.
+    ReceiveFails,
+    /// So many bytes of a piece are sent.
+    Send(&'static [u8], usize),
+    /// The send of a piece fails.
+    SendFails(&'static [u8]),
+    /// So many calls have failed.
+    Failures(u64),
+    /// The device said this last.
+    Said(Option<ErrorKind>),
+    /// So many calls of the device were made.
+    Calls(u32),
+}
+
+fn receives<D: Device>(link: &mut Over<D>, byte: u8) -> bool {
+    let mut into = [0u8; 4];
+    link.receive(&mut into) == Ok(1) && into[0] == byte
+}
+
+fn fails_to_receive<D: Device>(link: &mut Over<D>) -> bool {
+    let mut into = [0u8; 4];
+    link.receive(&mut into) == Err(LinkFault)
+}
+
+fn is_so<D: Device>(link: &mut Over<D>, step: Step) -> bool {
+    match step {
+        Step::Receive(byte) => receives(link, byte),
+        Step::ReceiveFails => fails_to_receive(link),
+        Step::Send(piece, count) => link.send(piece) == Ok(count),
+        Step::SendFails(piece) => link.send(piece) == Err(LinkFault),
+        Step::Failures(count) => link.failures() == count,
+        Step::Said(kind) => said(link) == kind,
+        Step::Calls(count) => link.get_ref().calls() == count,
+    }
+}
+
+fn are_so<D: Device>(link: &mut Over<D>, steps: &[Step]) -> bool {
+    for step in steps {
+        if !is_so(link, *step) {
+            return false;
+        }
+    }
+    true
+}
+
+/// Whether a link does what these steps say, and has made so many calls then.
+fn does<D: Device>(mut link: Over<D>, steps: &[Step], calls: u32) -> bool {
+    let done = are_so(&mut link, steps) && link.get_ref().calls() == calls;
+    done & (link.into_inner().into_calls() == calls)
+}
+
+const READ_FAILS: [Step; 7] = [
+    Step::Receive(1),
+    Step::Said(None),
+    Step::ReceiveFails,
+    Step::Failures(1),
+    Step::Receive(3),
+    Step::Failures(1),
+    // what was said stays until another call fails
+    Step::Said(Some(ErrorKind::BrokenPipe)),
+];
+
 #[test]
 fn a_read_fails_in_the_middle(rt: HostRuntime) {
-    let mut source = failing_at(2);
-    let mut into = [0u8; 4];
-    assert_eq!(rt; source.receive(&mut into), Ok(1));
-    assert_eq!(rt; said(&source), None);
-    assert_eq!(rt; source.receive(&mut into), Err(LinkFault));
-    assert_eq!(rt; source.failures(), 1);
-    assert_eq!(rt; source.receive(&mut into), Ok(1));
-    assert_eq!(rt; into[0], 3);
-    assert_eq!(rt; source.failures(), 1);
-    // what was said stays until another call fails
-    assert_eq!(rt; said(&source), Some(ErrorKind::BrokenPipe));
-    assert_eq!(rt; source.into_inner().calls, 3);
+    assert!(rt; does(failing_at(2), &READ_FAILS, 3));
 }
+
+const WRITE_FAILS: [Step; 8] = [
+    Step::Send(b"ab", 1),
+    Step::SendFails(b"b"),
+    Step::Said(Some(ErrorKind::BrokenPipe)),
+    Step::Send(b"b", 1),
+    // a write that takes nothing is a failure, but of an empty piece
+    Step::Send(b"", 0),
+    Step::SendFails(b"c"),
+    Step::Failures(2),
+    Step::Said(Some(ErrorKind::WriteZero)),
+];
 
 #[test]
 fn a_write_fails_in_the_middle(rt: HostRuntime) {
-    let mut sink = failing_at(2);
-    assert_eq!(rt; sink.send(b"ab"), Ok(1));
-    assert_eq!(rt; sink.send(b"b"), Err(LinkFault));
-    assert_eq!(rt; said(&sink), Some(ErrorKind::BrokenPipe));
-    assert_eq!(rt; sink.send(b"b"), Ok(1));
-    // a write that takes nothing is a failure, but of an empty piece
-    assert_eq!(rt; sink.send(b""), Ok(0));
-    assert_eq!(rt; sink.send(b"c"), Err(LinkFault));
-    assert_eq!(rt; sink.failures(), 2);
-    assert_eq!(rt; said(&sink), Some(ErrorKind::WriteZero));
-    assert_eq!(rt; sink.get_ref().calls, 5);
+    assert!(rt; does(failing_at(2), &WRITE_FAILS, 5));
 }
+
+const WITHOUT_PATIENCE: [Step; 3] = [
+    Step::Receive(1),
+    Step::ReceiveFails,
+    Step::Said(Some(ErrorKind::Interrupted)),
+];
 
 #[test]
 fn an_interrupted_read_is_a_failure_without_patience(rt: HostRuntime) {
-    let mut source = Over::new(interrupted(2, 2).into_inner());
-    let mut into = [0u8; 4];
-    assert_eq!(rt; source.receive(&mut into), Ok(1));
-    assert_eq!(rt; source.receive(&mut into), Err(LinkFault));
-    assert_eq!(rt; said(&source), Some(ErrorKind::Interrupted));
-    assert_eq!(rt; source.get_ref().calls, 2);
+    let source = Over::new(interrupted(2, 2).into_inner());
+    assert!(rt; does(source, &WITHOUT_PATIENCE, 2));
 }
+
+const READ_AGAIN: [Step; 4] = [
+    Step::Receive(1),
+    Step::Receive(3),
+    Step::Failures(0),
+    Step::Said(None),
+];
 
 #[test]
 fn an_interrupted_read_is_made_again(rt: HostRuntime) {
-    let mut source = Over::new(interrupted(2, 2));
-    let mut into = [0u8; 4];
-    assert_eq!(rt; source.receive(&mut into), Ok(1));
-    assert_eq!(rt; source.receive(&mut into), Ok(1));
-    assert_eq!(rt; into[0], 3);
-    assert_eq!(rt; source.failures(), 0);
-    assert_eq!(rt; said(&source), None);
-    assert_eq!(rt; source.get_ref().get_ref().calls, 3);
+    assert!(rt; does(Over::new(interrupted(2, 2)), &READ_AGAIN, 3));
+}
+
+/// The call that is interrupted, and what comes of three receives.
+const EACH_CALL: [(u8, [Step; 4]); 3] = [
+    (
+        1,
+        [
+            Step::Receive(2),
+            Step::Receive(3),
+            Step::Receive(4),
+            Step::Failures(0),
+        ],
+    ),
+    (
+        2,
+        [
+            Step::Receive(1),
+            Step::Receive(3),
+            Step::Receive(4),
+            Step::Failures(0),
+        ],
+    ),
+    (
+        3,
+        [
+            Step::Receive(1),
+            Step::Receive(2),
+            Step::Receive(4),
+            Step::Failures(0),
+        ],
+    ),
+];
+
+fn each_is_made_again(rows: &[(u8, [Step; 4])]) -> bool {
+    for (call, steps) in rows {
+        if !does(Over::new(interrupted(*call, *call)), steps, 4) {
+            return false;
+        }
+    }
+    true
 }
 
 #[test]
 fn an_interruption_at_each_call(rt: HostRuntime) {
-    for call in 1..=3 {
-        let mut source = Over::new(interrupted(call, call));
-        let mut into = [0u8; 4];
-        for _ in 0..3 {
-            assert_eq!(rt; source.receive(&mut into), Ok(1));
-        }
-        assert_eq!(rt; source.failures(), 0);
-        assert_eq!(rt; source.get_ref().get_ref().calls, 4);
-    }
+    assert!(rt; each_is_made_again(&EACH_CALL));
 }
+
+const WRITE_AGAIN: [Step; 3] = [Step::Send(b"ab", 1), Step::Failures(0), Step::Said(None)];
 
 #[test]
 fn an_interrupted_write_is_made_again(rt: HostRuntime) {
-    let mut sink = Over::new(interrupted(1, 2));
-    assert_eq!(rt; sink.send(b"ab"), Ok(1));
-    assert_eq!(rt; sink.failures(), 0);
-    assert_eq!(rt; said(&sink), None);
-    assert_eq!(rt; sink.into_inner().into_inner().calls, 3);
+    assert!(rt; does(Over::new(interrupted(1, 2)), &WRITE_AGAIN, 3));
 }
+
+const PATIENCE_ENDS: [Step; 5] = [
+    Step::ReceiveFails,
+    Step::Calls(65),
+    Step::Said(Some(ErrorKind::Interrupted)),
+    // the next call has as much of it
+    Step::SendFails(b"a"),
+    Step::Failures(2),
+];
 
 #[test]
 fn patience_ends(rt: HostRuntime) {
-    let mut link = Over::new(interrupted(1, u8::MAX));
-    let mut into = [0u8; 4];
-    assert_eq!(rt; link.receive(&mut into), Err(LinkFault));
-    assert_eq!(rt; u32::from(link.get_ref().get_ref().calls), PATIENCE + 1);
-    assert_eq!(rt; said(&link), Some(ErrorKind::Interrupted));
-    // the next call has as much of it
-    assert_eq!(rt; link.send(b"a"), Err(LinkFault));
-    assert_eq!(rt;
-        u32::from(link.get_ref().get_ref().calls),
-        2 * (PATIENCE + 1)
-    );
-    assert_eq!(rt; link.failures(), 2);
+    assert_eq!(rt; PATIENCE + 1, 65);
+    let link = Over::new(interrupted(1, u8::MAX));
+    assert!(rt; does(link, &PATIENCE_ENDS, 2 * (PATIENCE + 1)));
 }
+
+const LAST_TRY: [Step; 2] = [Step::Receive(65), Step::Failures(0)];
 
 #[test]
 fn patience_lasts_until_the_last_try(rt: HostRuntime) {
-    let mut source = Over::new(interrupted(1, 64));
-    let mut into = [0u8; 4];
-    assert_eq!(rt; source.receive(&mut into), Ok(1));
-    assert_eq!(rt; into[0], 65);
-    assert_eq!(rt; source.failures(), 0);
+    assert!(rt; does(Over::new(interrupted(1, 64)), &LAST_TRY, 65));
 }
+
+const ANOTHER_ERROR: [Step; 4] = [
+    Step::ReceiveFails,
+    Step::Said(Some(ErrorKind::BrokenPipe)),
+    Step::Calls(1),
+    Step::Send(b"a", 1),
+];
 
 #[test]
 fn another_error_is_not_tried_again(rt: HostRuntime) {
-    let mut link = Over::new(Patient::new(failing_at(1).into_inner()));
-    let mut into = [0u8; 4];
-    assert_eq!(rt; link.receive(&mut into), Err(LinkFault));
-    assert_eq!(rt; said(&link), Some(ErrorKind::BrokenPipe));
-    assert_eq!(rt; link.get_ref().get_ref().calls, 1);
-    assert_eq!(rt; link.send(b"a"), Ok(1));
+    let link = Over::new(Patient::new(failing_at(1).into_inner()));
+    assert!(rt; does(link, &ANOTHER_ERROR, 2));
 }
+
+const READ_WOULD_BLOCK: [Step; 5] = [
+    Step::ReceiveFails,
+    Step::Failures(1),
+    Step::Said(Some(ErrorKind::WouldBlock)),
+    Step::Calls(1),
+    Step::Receive(2),
+];
+
+const WRITE_WOULD_BLOCK: [Step; 4] = [
+    Step::SendFails(b"a"),
+    Step::Failures(1),
+    Step::Said(Some(ErrorKind::WouldBlock)),
+    Step::Send(b"a", 1),
+];
 
 #[test]
 fn what_would_block_is_a_failure(rt: HostRuntime) {
-    let mut source = Over::new(would_block());
-    let mut into = [0u8; 4];
-    assert_eq!(rt; source.receive(&mut into), Err(LinkFault));
-    assert_eq!(rt; source.failures(), 1);
-    assert_eq!(rt; said(&source), Some(ErrorKind::WouldBlock));
-    assert_eq!(rt; source.get_ref().get_ref().calls, 1);
-    assert_eq!(rt; source.receive(&mut into), Ok(1));
-    let mut sink = Over::new(would_block());
-    assert_eq!(rt; sink.send(b"a"), Err(LinkFault));
-    assert_eq!(rt; sink.failures(), 1);
-    assert_eq!(rt; said(&sink), Some(ErrorKind::WouldBlock));
-    assert_eq!(rt; sink.send(b"a"), Ok(1));
+    assert!(rt; does(Over::new(would_block()), &READ_WOULD_BLOCK, 2));
+    assert!(rt; does(Over::new(would_block()), &WRITE_WOULD_BLOCK, 2));
+}
+
+/// Whether just these bytes are received, where there is room for two.
+fn receives_slice(source: &mut Over<&[u8]>, bytes: &[u8]) -> bool {
+    let mut into = [0u8; 2];
+    source.receive(&mut into) == Ok(bytes.len()) && into.starts_with(bytes)
+}
+
+fn is_received(bytes: &[u8]) -> bool {
+    holds(Some(Over::new(bytes)), |source| {
+        receives_slice(source, b"ab") && receives_slice(source, b"c") && receives_slice(source, b"")
+    })
 }
 
 #[test]
 fn a_slice_is_received_whole(rt: HostRuntime) -> Result<(), Fail> {
-    let bytes: &[u8] = b"abc";
-    let mut source = Over::new(bytes);
-    let mut into = [0u8; 2];
-    assert_eq!(rt; source.receive(&mut into), Ok(2));
-    assert_eq!(rt; &into, b"ab");
-    assert_eq!(rt; source.receive(&mut into), Ok(1));
-    assert_eq!(rt; source.receive(&mut into), Ok(0));
+    assert!(rt; is_received(b"abc"));
     assert!(rt; is_told(rt.alloc(), LinkFault, "the link failed")?);
     Ok(())
 }

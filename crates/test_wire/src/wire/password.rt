@@ -1,5 +1,7 @@
-use pg_wire::{frontend, md5_answer};
+use pg_wire::{FrontMessage, Seq, frontend, md5_answer};
+use std::alloc::Global;
 use std::test::Fail;
+use test_base::holds;
 
 // The answers that are expected here were computed with Python's hashlib.
 
@@ -32,4 +34,39 @@ fn an_answer_is_the_text_of_a_message(rt: HostRuntime) -> Result<(), Fail> {
     let written = b"p\0\0\0\x28md596838e208aad1ff8fc396693d03e488d\0";
     assert_eq!(rt; buf.as_slice(), written.as_slice());
     Ok(())
+}
+
+/// Whether this is what `{:?}` writes of a message.
+fn is_shown_as(alloc: Global, message: &FrontMessage, text: &str) -> bool {
+    match format!(in alloc; "{message:?}") {
+        Ok(shown) => shown.as_str() == text,
+        Err(_) => false,
+    }
+}
+
+fn password(alloc: Global, text: &[u8]) -> Option<FrontMessage> {
+    Some(FrontMessage::Password(Seq::from_slice(alloc, text).ok()?))
+}
+
+fn query(alloc: Global, text: &[u8]) -> Option<FrontMessage> {
+    Some(FrontMessage::Query(Seq::from_slice(alloc, text).ok()?))
+}
+
+#[test]
+fn a_password_is_not_shown(rt: HostRuntime) {
+    let alloc = rt.alloc();
+    for text in [b"ab".as_slice(), &md5_answer(b"c", b"ab", [1, 2, 3, 4])] {
+        assert!(rt;
+            holds(
+                password(alloc, text),
+                |it| is_shown_as(alloc, it, "Password(..)")
+            )
+        );
+    }
+    assert!(rt;
+        holds(
+            query(alloc, b"ab"),
+            |it| is_shown_as(alloc, it, r#"Query(b"ab")"#)
+        )
+    );
 }
