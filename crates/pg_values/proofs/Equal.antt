@@ -10,7 +10,7 @@ use Rattle.pg_values.proofs.Blocks.{count_is}
 abbrev pub equal_values : List (Option (List ℕ)) → List (Option (List ℕ)) → Bool
 equal_values = pointwise (option_eq (pointwise nat_eq))
 
-both : (p q : Bool) → (p && q) ≡ true → (p ≡ true) × (q ≡ true)
+pub both : (p q : Bool) → (p && q) ≡ true → (p ≡ true) × (q ≡ true)
 both true q e = (refl, e)
 both false q e = absurd cc
 
@@ -36,10 +36,10 @@ one_truth false false to from = refl
 refl_values : (xs : List (Option (List ℕ))) → equal_values xs xs ≡ true
 refl_values xs = (lists_equiv (options_equiv nat_list_eq_equiv)).refl xs
 
-refl_bytes : (xs : List ℕ) → pointwise nat_eq xs xs ≡ true
-refl_bytes xs = nat_list_eq_equiv.refl xs
+pub refl_numbers : (xs : List ℕ) → pointwise nat_eq xs xs ≡ true
+refl_numbers xs = nat_list_eq_equiv.refl xs
 
-and_true : (p q : Bool) → p ≡ true → q ≡ true → (p && q) ≡ true
+pub and_true : (p q : Bool) → p ≡ true → q ≡ true → (p && q) ≡ true
 and_true true q e f = f
 and_true false q e f = e
 
@@ -62,7 +62,7 @@ module _ (places block places' block' : List ℕ) (b : IsBlock places block) (b'
       from : equal_values vs ws ≡ true → pointwise nat_eq block block' ≡ true
       from e =
           let same : block ≡ block' = sym b.whole ∙ ap spelled (same_values vs ws e) ∙ b'.whole in
-          ap (pointwise nat_eq block) (sym same) ∙ refl_bytes block
+          ap (pointwise nat_eq block) (sym same) ∙ refl_numbers block
 
   -- those with more or fewer aren't equal
   pub apart : (length places ≡ length places' → ⊥) → false ≡ equal_values vs ws

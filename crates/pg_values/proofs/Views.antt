@@ -4,7 +4,7 @@ use Rattle.std.specs.Prelude.{position, ◌==◌, is_some, IsSome}
 use Rattle.std.specs.Option.{option_map_or}
 use Rattle.std.specs.Int.{w16}
 use Rattle.std.proofs.lemmas.Bool.{eqb-true}
-use Rattle.std.proofs.lemmas.List.{length-drop}
+use Rattle.std.proofs.lemmas.List.{length-drop, length-take}
 use Rattle.pg_layout.specs.declared.fault.BodyFault.{BodyFault}
 use Rattle.pg_layout.specs.declared.fault.BodyFault.TheVariants as faults
 use Rattle.pg_layout.specs.declared.value.ErrorField.{ErrorField}
@@ -42,26 +42,33 @@ fields_are (suc n) (suc b ∷ bytes) fs rest e =
 
 -- ---- a field has a byte at least
 
-string_rest : (bytes text rest : List ℕ) → string_at bytes ≡ Some (text, rest) → length rest ≤ length bytes
-string_rest bytes text rest e =
+string_sizes : (bytes text rest : List ℕ) → string_at bytes ≡ Some (text, rest) → (length rest ≤ length bytes) × (length text ≤ length bytes)
+string_sizes bytes text rest e =
     let x = bind_some (position (λ b. b == 0) bytes) (λ (i : ℕ). Some (take i bytes, drop (i + 1) bytes)) (text, rest) e in
     let made : List ℕ × List ℕ = (take x.0 bytes, drop (x.0 + 1) bytes) in
-    let same : drop (x.0 + 1) bytes ≡ rest = ap (λ (p : List ℕ × List ℕ). p.1) (some_is made (text, rest) x.2) in
-    omega (arith, length-drop (x.0 + 1) bytes, ap length same)
+    let same : made ≡ (text, rest) = some_is made (text, rest) x.2 in
+    let first : take x.0 bytes ≡ text = ap (λ (p : List ℕ × List ℕ). p.0) same in
+    let second : drop (x.0 + 1) bytes ≡ rest = ap (λ (p : List ℕ × List ℕ). p.1) same in
+    (omega (arith, length-drop (x.0 + 1) bytes, ap length second), omega (arith, length-take x.0 bytes, ap length first))
 
-pub field_rest : (bytes : List ℕ) (f : ErrorField) (rest : List ℕ) → error_field_at bytes ≡ Some (f, rest) → length rest < length bytes
+pub field_sizes : (bytes : List ℕ) (f : ErrorField) (rest : List ℕ) → error_field_at bytes ≡ Some (f, rest) → (length rest < length bytes) × (length f.value < length bytes)
 unfolding error_field_at
-field_rest [] f rest e = absurd cc
-field_rest (zero ∷ bytes) f rest e = absurd cc
-field_rest (suc b ∷ bytes) f rest e =
-    let text_of : ℕ × List ℕ → List ℕ × List ℕ → Option ((ℕ × List ℕ) × List ℕ) = λ c t. Some ((c.0, t.0), t.1) in
+field_sizes [] f rest e = absurd cc
+field_sizes (zero ∷ bytes) f rest e = absurd cc
+field_sizes (suc b ∷ bytes) f rest e =
     let x = bind_some (pair_at nonzero_at string_at (suc b ∷ bytes)) (λ (p : (ℕ × List ℕ) × List ℕ). Some (record { code = p.0.0; value = p.0.1 }, p.1)) (f, rest) e in
     let y = bind_some (string_at bytes) (λ (t : List ℕ × List ℕ). Some ((suc b, t.0), t.1)) x.0 x.1 in
     let made : (ℕ × List ℕ) × List ℕ = ((suc b, y.0.0), y.0.1) in
     let field : ErrorField × List ℕ = (record { code = x.0.0.0; value = x.0.0.1 }, x.0.1) in
-    let one : y.0.1 ≡ x.0.1 = ap (λ (p : (ℕ × List ℕ) × List ℕ). p.1) (some_is made x.0 y.2) in
-    let two : x.0.1 ≡ rest = ap (λ (p : ErrorField × List ℕ). p.1) (some_is field (f, rest) x.2) in
-    omega (arith, string_rest bytes y.0.0 y.0.1 y.1, ap length one, ap length two)
+    let one : made ≡ x.0 = some_is made x.0 y.2 in
+    let two : field ≡ (f, rest) = some_is field (f, rest) x.2 in
+    let left : y.0.1 ≡ rest = ap (λ (p : (ℕ × List ℕ) × List ℕ). p.1) one ∙ ap (λ (p : ErrorField × List ℕ). p.1) two in
+    let text : y.0.0 ≡ f.value = ap (λ (p : (ℕ × List ℕ) × List ℕ). p.0.1) one ∙ ap (λ (p : ErrorField × List ℕ). p.0.value) two in
+    let sizes = string_sizes bytes y.0.0 y.0.1 y.1 in
+    (omega (arith, sizes.0, ap length left), omega (arith, sizes.1, ap length text))
+
+pub field_rest : (bytes : List ℕ) (f : ErrorField) (rest : List ℕ) → error_field_at bytes ≡ Some (f, rest) → length rest < length bytes
+field_rest bytes f rest e = (field_sizes bytes f rest e).0
 
 -- enough is enough
 pub same_fields : (n m : ℕ) (bytes : List ℕ) → length bytes ≤ n → length bytes ≤ m → fields_within n bytes ≡ fields_within m bytes
@@ -172,3 +179,14 @@ no_row body values h is = absurd (differ (sym (ap (λ (o : Option (ℕ × List �
 pub fields_is : (body : List ℕ) → IsSome (fields_of body) → fields_of body ≡ Some (fields_left body)
 unfolding terminated_at
 fields_is body is = same_whole (terminated_at error_field_at body) (fields_left body) is (λ fs rest e. fields_are (length body) body fs rest e)
+
+pub whole_body : (body : List ℕ) (fs : List ErrorField) → fields_of body ≡ Some fs → terminated_at error_field_at body ≡ Some (fs, [])
+whole_body body fs e = by (terminated_at error_field_at body) refl e
+  where
+    by : (o : Option (List ErrorField × List ℕ)) → terminated_at error_field_at body ≡ o → whole (λ x. x) o ≡ Some fs → terminated_at error_field_at body ≡ Some (fs, [])
+    by None t e = absurd cc
+    by (Some x) t e = by_end (eqb (length x.1) 0) refl e
+      where
+        by_end : (b : Bool) → eqb (length x.1) 0 ≡ b → cond b (Some x.0) None ≡ Some fs → terminated_at error_field_at body ≡ Some (fs, [])
+        by_end true z e = t ∙ ap (λ (gs : List ErrorField). Some (gs, x.1)) (some_is x.0 fs e) ∙ ap (λ (r : List ℕ). Some (fs, r)) (no_byte x.1 (eqb-true _ _ z))
+        by_end false z e = absurd cc

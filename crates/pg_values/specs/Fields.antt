@@ -1,7 +1,10 @@
--- What is asked of the fields of an error or a notice (Frontend/Backend Protocol, "Error and Notice Message Fields").
+-- What is asked of the fields of an error or a notice, and how they are spelled (Frontend/Backend Protocol, "Error and Notice
+-- Message Fields").
 use Rattle.std.specs.Prelude.{ℕ, ◌==◌, if◌then◌else◌, List, [], ◌∷◌, Option, None, Some}
 use Rattle.std.specs.Option.{option_or}
 use Rattle.pg_layout.specs.declared.value.ErrorField.{ErrorField}
+use Rattle.pg_layout.specs.Field.{listed}
+use Rattle.pg_layout.specs.Value.{error_field}
 
 -- the text of the first field with this code
 abbrev pub field_text : ℕ → List ErrorField → Option (List ℕ)
@@ -19,3 +22,7 @@ severity_text fields = option_or (field_text 86 fields) (field_text 83 fields)  
 -- the primary message
 abbrev pub message_text : List ErrorField → Option (List ℕ)
 message_text fields = field_text 77 fields  -- M
+
+-- the fields as a message spells them, one after the other: of each its code, its text and a zero byte
+abbrev pub fields_spelled : List ErrorField → List ℕ
+fields_spelled fields = (listed error_field fields).bytes

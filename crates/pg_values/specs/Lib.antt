@@ -1,4 +1,4 @@
--- What is asked of the fields of an error or a notice.
+-- What is asked of the fields of an error or a notice, and how they are spelled.
 pub mod Fields
 -- Words of how values and fields are kept and lent.
 pub mod Private

@@ -1,23 +1,23 @@
 //! The fields of an error or a notice, in one block of memory.
 
-ghost use Rattle.std.specs.Prelude.{◌≡◌, ◌↔◌, ◌<◌, ◌^◌, ◌+◌, [], ◌∷◌, ◌++◌, length, map, option_copied, nat_eq, OnOk, OnErr, IfOk, IsTrue, Err, Some};
+ghost use Rattle.std.specs.Prelude.{◌≡◌, ◌↔◌, ◌<◌, ◌≤◌, ◌+◌, [], ◌∷◌, ◌++◌, length, map, option_copied, nat_eq, OnOk, OnErr, IfOk, IfErr, IsTrue, Err, ◌⊎◌};
 ghost use Rattle.std.specs.Cmp.{and_equiv, partial_equiv_from_equiv};
 ghost use Rattle.std.specs.Cmp.Lexicographic.{pointwise, lists_per, lists_equiv, nat_list_eq_equiv};
 ghost use Rattle.std.specs.Iterator.{YieldsFirstBy, item_count};
 ghost use Rattle.std.specs.Ordering.{eq_of_both, on};
 ghost use Rattle.std.proofs.lemmas.Cmp.{on_equiv, nat_eq_equiv};
-ghost use Rattle.pg_layout.specs.Field.{listed, value_bytes};
 ghost use Rattle.pg_layout.specs.Value.{error_field};
-ghost use Rattle.pg_layout.specs.declared.fault.EncodeFault.TheVariants.{TooLong};
+ghost use Rattle.pg_layout.specs.declared.fault.EncodeFault.TheVariants.{TooLong, Memory};
 ghost use Rattle.pg_layout.specs.Private.Lent.{lent_field};
 ghost use Rattle.pg_layout.specs.Private.Reader.{Gives, error_field_at, terminated_at};
-ghost use Rattle.pg_values.specs.Fields.{field_text, code_text, severity_text, message_text};
+ghost use Rattle.pg_values.specs.Fields.{field_text, code_text, severity_text, message_text, fields_spelled};
 ghost use Rattle.pg_values.specs.Private.Block.{longest_block};
-ghost use Rattle.pg_values.specs.Private.Kept.{field_of, fields_spelled};
+ghost use Rattle.pg_values.specs.Private.Kept.{fields_kept, IsKept};
 
-use crate::values::{ByteText, Values};
-use crate::view::{FieldsView, LentValues};
-use pg_layout::{BodyFault, EncodeFault, after_zero, lent_field_at};
+use crate::text_lengths::text_lengths_at;
+use crate::values::ByteText;
+use crate::view::FieldsView;
+use pg_layout::{BodyFault, EncodeFault, LONGEST};
 use pg_seq::{ByElement, DebugElement};
 use std::alloc::{AllocError, Global};
 use std::fmt;
@@ -27,44 +27,61 @@ use std::marker::Model;
 /// one block of memory. A clause sees the list of the fields.
 #[derive(Drop)]
 pub struct Fields {
-    // each is a value: its code, and then its text
-    values: Values,
+    // how long the text of each field is
+    lengths: Vec<u32>,
+    // the fields one after the other, each as it stands in a message: its code, its text, and a zero byte
+    block: Vec<u8>,
 }
 
 impl Model for Fields {
-    ghost use Rattle.std.specs.Prelude.{List, map};
+    ghost use Rattle.std.specs.Prelude.{List};
     ghost use Rattle.pg_layout.specs.declared.value.ErrorField.{ErrorField};
-    ghost use Rattle.pg_values.specs.Private.Kept.{field_of, AreFields};
+    ghost use Rattle.pg_values.specs.Private.Kept.{fields_kept, IsKept};
 
     ghost Value = { List ErrorField };
 
-    ghost view = { λ f. map field_of f.values };
+    ghost view = { λ f. fields_kept f.lengths.items f.block.items };
 
-    ghost invariant = { λ f. AreFields f.values };
+    ghost invariant = { λ f. IsKept f.lengths.items f.block.items };
+}
+
+/// Puts a field at the end of a block, or leaves the block as it was where memory is refused.
+fn put(block: &mut Vec<u8>, code: u8, text: &[u8]) -> Result<(), AllocError>
+    requires { length text.now ≤ longest_block }
+    ensures ok { OnOk result (block.new.items
+        ≡ block.old.items ++ (error_field (record { code = code; value = text.now })).bytes) }
+    ensures err { OnErr result (block.new.items ≡ block.old.items) }
+{
+    // once there is room nothing is refused
+    block.reserve(text.len() + 2)?;
+    block.push(code)?;
+    block.extend_from_slice(text)?;
+    block.push(0)?;
+    Ok(())
 }
 
 /// The fields at the beginning of the bytes, up to the zero byte that closes them, and the bytes after it: they are read once, and
 /// copied at once.
-#[tactic(auto, unfolding(pg_layout::specs::Private::Reader::terminated_at))]
+fn kept_at(alloc: Global, bytes: &[u8]) -> Result<(Fields, &[u8]), BodyFault>
+    requires short { length bytes.now ≤ longest_block + 1 }
+    ensures { Gives (λ x. (x.0, x.1.now)) result (terminated_at error_field_at bytes.now) }
+{
+    let (lengths, rest) = text_lengths_at(alloc, bytes)?;
+    // the zero byte stands between the fields and the rest
+    let (block, _) = bytes.split_at(bytes.len() - rest.len() - 1);
+    let block = Vec::from_slice(alloc, block)?;
+    Ok((Fields { lengths, block }, rest))
+}
+
+/// The fields at the beginning of the bytes, up to the zero byte that closes them, and the bytes after it.
 pub fn fields_at(alloc: Global, bytes: &[u8]) -> Result<(Fields, &[u8]), BodyFault>
     ensures { Gives (λ x. (x.0, x.1.now)) result (terminated_at error_field_at bytes.now) }
 {
-    let mut fields = Fields::new(alloc);
-    let mut rest = bytes;
-    for _ in 0..bytes.len() {
-        if let Some(after) = after_zero(rest) {
-            return Ok((fields, after));
-        }
-        let Some((field, after)) = lent_field_at(rest) else {
-            return Err(BodyFault::Bad);
-        };
-        match fields.push(field.0, field.1) {
-            Ok(()) => rest = after,
-            // there is no memory for fields that no block can hold
-            Err(_) => return Err(BodyFault::Memory),
-        }
+    // no message has a body as long as that
+    if bytes.len() > LONGEST as usize {
+        return Err(BodyFault::Memory);
     }
-    Err(BodyFault::Bad)
+    kept_at(alloc, bytes)
 }
 
 impl Fields {
@@ -73,7 +90,8 @@ impl Fields {
         ensures { result ≡ [] }
     {
         Fields {
-            values: Values::new(alloc),
+            lengths: Vec::new(alloc),
+            block: Vec::new(alloc),
         }
     }
 
@@ -82,6 +100,7 @@ impl Fields {
         ensures ok { IfOk result (λ fields. fields ≡ map lent_field list.now) }
         ensures too_long { result ≡ Err TooLong
             → longest_block < length (fields_spelled (map lent_field list.now)) }
+        ensures faults { IfErr result (λ fault. (fault ≡ TooLong) ⊎ (fault ≡ Memory)) }
     {
         let mut fields = Fields::new(alloc);
         for field in list {
@@ -94,36 +113,40 @@ impl Fields {
     /// Copies fields that are lent. Its faults are TooLong, where no message could hold them, and Memory.
     pub fn of_view(alloc: Global, view: &FieldsView<'_>) -> Result<Fields, EncodeFault>
         ensures ok { IfOk result (λ fields. fields ≡ view.now) }
-        ensures too_long { result ≡ Err TooLong → longest_block < length (fields_spelled view.now) }
+        ensures too_long { (result ≡ Err TooLong) ↔ (longest_block < length (fields_spelled view.now)) }
+        ensures faults { IfErr result (λ fault. (fault ≡ TooLong) ⊎ (fault ≡ Memory)) }
     {
-        let mut fields = Fields::new(alloc);
-        'fields: for field in view.fields() {
-            fields.push(field.0, field.1)?;
+        let body = view.body();
+        // the zero byte that closes the fields is none of theirs
+        if body.len() > LONGEST as usize + 1 {
+            return Err(EncodeFault::TooLong);
         }
-        Ok(fields)
+        match kept_at(alloc, body) {
+            Ok((fields, _)) => Ok(fields),
+            Err(_) => Err(EncodeFault::Memory),
+        }
     }
 
     /// How many fields there are.
     pub fn len(&self) -> usize
         ensures { result ≡ length self.now }
     {
-        self.values.len()
+        self.lengths.len()
     }
 
     /// Whether there is no field.
     pub fn is_empty(&self) -> bool
         ensures { IsTrue result ↔ (self.now ≡ []) }
     {
-        self.values.is_empty()
+        self.lengths.is_empty()
     }
 
-    /// How many bytes the fields have in a message, without the zero byte that closes them.
-    pub(crate) fn size(&self) -> usize
-        ensures size { result ≡ length (listed error_field self.now).bytes }
-        ensures short { result < 2 ^ 32 }
+    /// The fields as a message spells them, one after the other, without the zero byte that closes them.
+    pub(crate) fn spelling(&self) -> &[u8]
+        ensures bytes { result.now ≡ fields_spelled self.now }
+        ensures short { length result.now ≤ longest_block }
     {
-        // in the block each has a length of four bytes before it, and in a message a zero byte after it
-        self.values.spelling().len() - 3 * self.len()
+        self.block.as_slice()
     }
 
     /// The text of the first field with this code.
@@ -168,7 +191,8 @@ impl Fields {
         ensures { result ≡ self.now }
     {
         KeptFields {
-            values: self.values.iter(),
+            lengths: self.lengths.as_slice(),
+            block: self.block.as_slice(),
         }
     }
 
@@ -179,9 +203,17 @@ impl Fields {
             ≡ self.old ++ record { code = code; value = text.now } ∷ []) }
         ensures err { OnErr result (self.new ≡ self.old) }
         ensures too_long { (result ≡ Err TooLong) ↔ (longest_block
-            < length (fields_spelled self.old) + length (value_bytes (Some (code ∷ text.now)))) }
+            < length (fields_spelled (self.old ++ record { code = code; value = text.now } ∷ []))) }
+        ensures faults { IfErr result (λ fault. (fault ≡ TooLong) ⊎ (fault ≡ Memory)) }
     {
-        self.values.push_joined(Some((&[code], text)))
+        let room = LONGEST as usize - self.block.len();
+        if room < 2 || room - 2 < text.len() {
+            return Err(EncodeFault::TooLong);
+        }
+        self.lengths.reserve(1)?;
+        put(&mut self.block, code, text)?;
+        self.lengths.push(text.len() as u32)?;
+        Ok(())
     }
 }
 
@@ -190,8 +222,11 @@ impl Clone for Fields {
     ghost is_clone = { λ fields copy. copy ≡ fields };
 
     fn clone(&self) -> Result<Self, AllocError> {
-        let values = self.values.clone()?;
-        Ok(Fields { values })
+        let alloc = *self.block.allocator();
+        Ok(Fields {
+            lengths: Vec::from_slice(alloc, self.lengths.as_slice())?,
+            block: Vec::from_slice(alloc, self.block.as_slice())?,
+        })
     }
 }
 
@@ -203,7 +238,7 @@ impl PartialEq for Fields {
         (on_equiv (λ f. f.value) nat_list_eq_equiv))) };
 
     fn eq(&self, other: &Self) -> bool {
-        self.values == other.values
+        self.lengths == other.lengths && self.block == other.block
     }
 }
 
@@ -243,17 +278,20 @@ impl DebugElement for Fields {
 /// The fields of an error or a notice that are kept, one after the other. A clause sees the list of those that are still to come.
 #[derive(Drop)]
 pub struct KeptFields<'a> {
-    values: LentValues<'a>,
+    lengths: &'a [u32],
+    block: &'a [u8],
 }
 
 impl<'a> Model for KeptFields<'a> {
-    ghost use Rattle.std.specs.Prelude.{List, map};
+    ghost use Rattle.std.specs.Prelude.{List};
     ghost use Rattle.pg_layout.specs.declared.value.ErrorField.{ErrorField};
-    ghost use Rattle.pg_values.specs.Private.Kept.{field_of};
+    ghost use Rattle.pg_values.specs.Private.Kept.{fields_kept, IsKept};
 
     ghost Value = { List ErrorField };
 
-    ghost view = { λ f. map field_of f.values };
+    ghost view = { λ f. fields_kept f.lengths.now f.block.now };
+
+    ghost invariant = { λ f. IsKept f.lengths.now f.block.now };
 }
 
 impl<'a> Iterator for KeptFields<'a> {
@@ -264,9 +302,16 @@ impl<'a> Iterator for KeptFields<'a> {
     ghost remaining = { item_count (λ left. left) };
 
     fn next(&mut self) -> Option<(u8, &'a [u8])> {
-        match self.values.next()? {
-            Some([code, text @ ..]) => Some((*code, text)),
-            _ => Some((0, &[])),
-        }
+        let [length, lengths @ ..] = self.lengths else {
+            return None;
+        };
+        let [code, rest @ ..] = self.block else {
+            return None;
+        };
+        let (text, rest) = rest.split_at(*length as usize);
+        let (_, rest) = rest.split_at(1);
+        self.lengths = lengths;
+        self.block = rest;
+        Some((*code, text))
     }
 }

@@ -9,6 +9,7 @@ mod parameters;
 mod part;
 mod places;
 mod terminated_fields;
+mod text_lengths;
 mod values;
 mod view;
 

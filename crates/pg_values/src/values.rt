@@ -8,7 +8,7 @@ ghost use Rattle.std.specs.Cmp.{partial_equiv_from_equiv};
 ghost use Rattle.pg_layout.specs.Field.{value_bytes};
 ghost use Rattle.pg_layout.specs.declared.fault.EncodeFault.TheVariants.{TooLong, Memory};
 ghost use Rattle.pg_layout.specs.Private.Reader.{Gives, counted_at, times_at, value_at};
-ghost use Rattle.pg_values.specs.Private.Block.{IsBlock, IsRow, joined, spelled, longest_block};
+ghost use Rattle.pg_values.specs.Private.Block.{IsBlock, IsRow, spelled, longest_block};
 ghost use Rattle.pg_values.specs.Private.View.{values_left};
 
 use crate::part::ValueList;
@@ -42,21 +42,20 @@ impl Model for Values {
     ghost invariant = { λ v. IsBlock v.places.items v.block.items };
 }
 
-/// Puts a value, which stands in two parts, at the end of a block, or leaves the block as it was where memory is refused.
-fn put(block: &mut Vec<u8>, value: Option<(&[u8], &[u8])>) -> Result<(), AllocError>
-    requires { IfSome value (λ parts. length parts.0.now + length parts.1.now ≤ longest_block) }
-    ensures ok { OnOk result (block.new.items ≡ block.old.items ++ value_bytes (joined value.entry)) }
+/// Puts a value at the end of a block, or leaves the block as it was where memory is refused.
+fn put(block: &mut Vec<u8>, value: Option<&[u8]>) -> Result<(), AllocError>
+    requires { IfSome value (λ bytes. length bytes.now ≤ longest_block) }
+    ensures ok { OnOk result (block.new.items
+        ≡ block.old.items ++ value_bytes (option_copied value.entry)) }
     ensures err { OnErr result (block.new.items ≡ block.old.items) }
 {
-    let Some((first, rest)) = value else {
+    let Some(bytes) = value else {
         return block.extend_from_slice(&[255; 4]);
     };
-    let size = first.len() + rest.len();
     // once there is room nothing is refused
-    block.reserve(4 + size)?;
-    block.extend_from_slice(&(size as u32).to_be_bytes())?;
-    block.extend_from_slice(first)?;
-    block.extend_from_slice(rest)
+    block.reserve(4 + bytes.len())?;
+    block.extend_from_slice(&(bytes.len() as u32).to_be_bytes())?;
+    block.extend_from_slice(bytes)
 }
 
 /// How many bytes these values take in a block, or 0 where no block can hold them.
@@ -196,22 +195,9 @@ impl Values {
         ensures too_long { (result ≡ Err TooLong) ↔ (longest_block
             < length (spelled self.old) + length (value_bytes (option_copied value.entry))) }
     {
-        match value {
-            None => self.push_joined(None),
-            Some(bytes) => self.push_joined(Some((&[], bytes))),
-        }
-    }
-
-    /// Adds a value that stands in two parts, with one copy.
-    pub(crate) fn push_joined(&mut self, value: Option<(&[u8], &[u8])>) -> Result<(), EncodeFault>
-        ensures ok { OnOk result (self.new ≡ self.old ++ joined value.entry ∷ []) }
-        ensures err { OnErr result (self.new ≡ self.old) }
-        ensures too_long { (result ≡ Err TooLong) ↔ (longest_block
-            < length (spelled self.old) + length (value_bytes (joined value.entry))) }
-    {
         let size = match value {
             None => 0,
-            Some((first, rest)) => first.len() + rest.len(),
+            Some(bytes) => bytes.len(),
         };
         let room = LONGEST as usize - self.block.len();
         if room < 4 || room - 4 < size {

@@ -6,6 +6,7 @@ ghost use Rattle.pg_layout.specs.Private.Lent.{lent_field};
 ghost use Rattle.pg_values.specs.Fields.{field_text, code_text, severity_text, message_text};
 ghost use Rattle.pg_values.specs.Private.View.{row_of, fields_of, values_left, fields_left};
 ghost use Rattle.pg_values.specs.Private.Block.{IsRow};
+ghost use Rattle.pg_values.specs.Private.Kept.{IsFields};
 
 use pg_layout::{
     ErrorField, after_counted, after_terminated, lent_field_at, lent_value_at, u16_at,
@@ -124,10 +125,13 @@ impl<'a> Model for FieldsView<'a> {
     ghost use Rattle.std.specs.Prelude.{List};
     ghost use Rattle.pg_layout.specs.declared.value.ErrorField.{ErrorField};
     ghost use Rattle.pg_values.specs.Private.View.{fields_left};
+    ghost use Rattle.pg_values.specs.Private.Kept.{IsFields};
 
     ghost Value = { List ErrorField };
 
     ghost view = { λ r. fields_left r.fields.now };
+
+    ghost invariant = { λ r. IsFields r.fields.now };
 }
 
 impl<'a> FieldsView<'a> {
@@ -144,6 +148,14 @@ impl<'a> FieldsView<'a> {
         ensures { fields_of body.now ≡ Some result }
     {
         FieldsView { fields: body }
+    }
+
+    /// The bytes that spell the fields, and the zero byte that closes them.
+    pub(crate) fn body(&self) -> &'a [u8]
+        ensures whole { IsFields result.now }
+        ensures fields { fields_left result.now ≡ self.now }
+    {
+        self.fields
     }
 
     /// The fields in their order: the code of each, and its text.

@@ -96,6 +96,7 @@ impl<K: Collector> Machine<K> {
             Some(Lent::Row(row)) => self.collector.hear_row(self.alloc, &row),
             Some(Lent::Error(fields)) => match Fields::of_view(self.alloc, &fields) {
                 Ok(fields) => self.collector.hear_error(fields),
+                // fields that a decoder lends are never too long
                 Err(_) => Err(FeedFault::Memory),
             },
             Some(Lent::Notice(fields)) => match Fields::of_view(self.alloc, &fields) {

@@ -1,15 +1,9 @@
 -- Values in one block of memory: as a row spells them, one after the other, and where each begins.
-use Rattle.std.specs.Prelude.{ℕ, ◌+◌, ◌≡◌, ◌≤◌, List, [], ◌∷◌, ◌++◌, length, Option, None, Some}
-use Rattle.std.specs.Borrow.{Bor}
+use Rattle.std.specs.Prelude.{ℕ, ◌+◌, ◌≡◌, ◌≤◌, List, [], ◌∷◌, length, Option, Some}
 use Rattle.std.specs.List.{flat_map}
 use Rattle.pg_layout.specs.Field.{value_bytes}
 use Rattle.pg_layout.specs.Private.Reader.{mapped_at, times_at, value_at}
 use Rattle.pg_values.specs.Private.View.{values_left}
-
--- a value that stands in two parts, or null
-abbrev pub joined : Option (Bor (List ℕ) × Bor (List ℕ)) → Option (List ℕ)
-joined None = None
-joined (Some parts) = Some (parts.0.now ++ parts.1.now)
 
 -- the values as a row spells them, one after the other
 abbrev pub spelled : List (Option (List ℕ)) → List ℕ

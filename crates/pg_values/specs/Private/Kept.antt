@@ -1,27 +1,37 @@
--- The fields of an error or a notice as values of one block: each is its code and then its text.
-use Rattle.std.specs.Prelude.{ℕ, List, [], ◌∷◌, map, Option, Some}
-use Rattle.std.specs.List.{AllByRecursion}
+-- The fields of an error or a notice in one block of memory: as a message spells them, one after the other, and how long
+-- the text of each is.
+use Rattle.std.specs.Prelude.{ℕ, ◌+◌, ◌≡◌, ◌≤◌, List, [], ◌∷◌, length, map, take, drop, Option, Some}
 use Rattle.pg_layout.specs.declared.value.ErrorField.{ErrorField}
-use Rattle.pg_values.specs.Private.Block.{spelled}
+use Rattle.pg_layout.specs.Field.{terminated}
+use Rattle.pg_layout.specs.Value.{error_field}
+use Rattle.pg_layout.specs.Private.Reader.{mapped_at, terminated_at, error_field_at}
+use Rattle.pg_values.specs.Fields.{fields_spelled}
+use Rattle.pg_values.specs.Private.View.{fields_left}
+use Rattle.pg_values.specs.Private.Block.{longest_block}
 
--- the field that a value stands for; one without a byte would have the code 0 and no text
-abbrev pub field_of : Option (List ℕ) → ErrorField
-field_of (Some (code ∷ text)) = record { code = code; value = text }
-field_of _ = record { code = 0; value = [] }
+-- These bytes are fields and the zero byte that closes them, and nothing after it.
+pub record IsFields (bytes : List ℕ) : Type 0 where
+  pub read : terminated_at error_field_at bytes ≡ Some (fields_left bytes, [])
+  pub whole : (terminated error_field (fields_left bytes)).bytes ≡ bytes
 
--- the value that stands for a field
-abbrev pub value_of : ErrorField → Option (List ℕ)
-value_of field = Some (field.code ∷ field.value)
+-- the fields whose texts are so long and that these bytes spell, or fewer where the bytes have no more
+unfoldable pub fields_kept : List ℕ → List ℕ → List ErrorField
+fields_kept [] bytes = []
+fields_kept (n ∷ lengths) [] = []
+fields_kept (n ∷ lengths) (code ∷ bytes) = record { code = code; value = take n bytes }
+    ∷ fields_kept lengths (drop (n + 1) bytes)
 
--- The value stands for a field: it isn't null, and has a byte at least.
-abbrev pub IsField : Option (List ℕ) → Type 0
-IsField (Some (code ∷ text)) = Unit {0}
-IsField _ = ⊥
+-- how long the text of each field is
+abbrev pub text_lengths : List ErrorField → List ℕ
+text_lengths fields = map (λ f. length f.value) fields
 
--- Each of the values stands for a field.
-abbrev pub AreFields : List (Option (List ℕ)) → Type 0
-AreFields values = AllByRecursion IsField values
+-- how long the texts of the fields are that the bytes begin with, and the bytes after the zero byte that closes them
+abbrev pub text_lengths_at : List ℕ → Option (List ℕ × List ℕ)
+text_lengths_at bytes = mapped_at text_lengths (terminated_at error_field_at) bytes
 
--- the fields as their block has them, one after the other
-abbrev pub fields_spelled : List ErrorField → List ℕ
-fields_spelled fields = spelled (map value_of fields)
+-- The block is the spelling of just its fields, the lengths are those of their texts, and the
+-- block isn't longer than a message can be.
+pub record IsKept (lengths block : List ℕ) : Type 0 where
+  pub whole : fields_spelled (fields_kept lengths block) ≡ block
+  pub lengths_are : lengths ≡ text_lengths (fields_kept lengths block)
+  pub short : length block ≤ longest_block
