@@ -1,22 +1,22 @@
 //! Rows that an early client lends.
 
-use crate::feed::{COLUMNS, WELCOME, asked, rows_of};
+ghost use Rattle.std.specs.Prelude.{◌<◌};
+
+use crate::feed::{COLUMNS, WELCOME, asked, rows_of, settings};
 use crate::size_of_lent;
 use anyhow::bail;
-use pg_client::{EarlyClient, Next, Settings};
-use pg_wire::Seq;
+use pg_client::{EarlyClient, Next};
 use std::alloc::Global;
 
-/// An early client that has asked for rows, of which the columns have come.
-fn asking(alloc: Global, out: &mut Vec<u8>) -> anyhow::Result<EarlyClient> {
-    let mut client = EarlyClient::new(alloc, Settings::new(alloc, Seq::from_slice(alloc, b"u")?));
+/// An early client asks for rows, and their columns come.
+fn ask(alloc: Global, client: &mut EarlyClient, out: &mut Vec<u8>) -> anyhow::Result<()> {
     client.start(out)?;
     client.feed(&WELCOME, out)?;
     if client.request(asked(alloc)?, out).is_err() {
         bail!("the request is refused");
     }
     client.feed(&COLUMNS, out)?;
-    Ok(client)
+    Ok(())
 }
 
 /// Takes what came of the bytes that were pushed: how many bytes the values of the rows have.
@@ -36,18 +36,31 @@ fn take(client: &mut EarlyClient, out: &mut Vec<u8>) -> anyhow::Result<u64> {
     Ok(size)
 }
 
+/// An early client asks for rows, is given them in pieces of so many bytes, and they are taken lent.
+fn lend_rows(
+    alloc: Global,
+    client: &mut EarlyClient,
+    rows: &[u8],
+    piece: usize,
+) -> anyhow::Result<u64>
+    requires { 0 < piece }
+{
+    let mut out = Vec::new(alloc);
+    ask(alloc, client, &mut out)?;
+    let mut size = 0u64;
+    for bytes in rows.chunks(piece) {
+        client.push(bytes)?;
+        size = size.wrapping_add(take(client, &mut out)?);
+    }
+    Ok(size)
+}
+
 /// Gives the rows of the stream to an early client, in pieces of so many bytes, and takes them lent.
 pub fn lend(alloc: Global, stream: &[u8], piece: usize) -> anyhow::Result<u64> {
     if piece == 0 {
         bail!("a piece has a byte at least");
     }
     let rows = rows_of(stream)?;
-    let mut out = Vec::new(alloc);
-    let mut client = asking(alloc, &mut out)?;
-    let mut size = 0u64;
-    for bytes in rows.chunks(piece) {
-        client.push(bytes)?;
-        size = size.wrapping_add(take(&mut client, &mut out)?);
-    }
-    Ok(size)
+    let mut client = EarlyClient::new(alloc, settings(alloc)?);
+    lend_rows(alloc, &mut client, rows, piece)
 }
