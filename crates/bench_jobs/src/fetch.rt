@@ -1,5 +1,8 @@
 //! Rows that a client is fed, group by group.
 
+ghost use Rattle.std.specs.Prelude.{IfOk};
+ghost use Rattle.pg_wire.specs.Direction.{IsLimit};
+
 use crate::digest::Digest;
 use crate::orders::{Order, columns};
 use anyhow::bail;
@@ -8,7 +11,7 @@ use pg_wire::backend::{command_complete, data_row, encode, row_description};
 use pg_wire::{BackMessage, EncodeFault, Part, Request, Seq, Status};
 use rand_xoshiro::Xoshiro256PlusPlus;
 use rand_xoshiro::rand_core::Rng;
-use std::alloc::Global;
+use std::alloc::{AllocError, Global};
 
 /// The most bytes that come at once.
 const PIECE: usize = 8_192;
@@ -50,17 +53,20 @@ pub fn answer(
     Ok(())
 }
 
-/// A client that is ready.
-fn ready(alloc: Global, out: &mut Vec<u8>) -> anyhow::Result<Client> {
-    let mut client = Client::new(
-        alloc,
-        Settings::new(alloc, Seq::from_slice(alloc, b"clerk")?),
-    );
+/// What a client is made with.
+pub fn settings(alloc: Global) -> Result<Settings, AllocError>
+    ensures { IfOk result (λ settings. IsLimit settings.limit) }
+{
+    Ok(Settings::new(alloc, Seq::from_slice(alloc, b"clerk")?))
+}
+
+/// A client starts, and is let in.
+fn begin(alloc: Global, client: &mut Client, out: &mut Vec<u8>) -> anyhow::Result<()> {
     let mut buf = Vec::new(alloc);
     welcome(&mut buf)?;
     client.start(out)?;
     client.feed(buf.as_slice(), out)?;
-    Ok(client)
+    Ok(())
 }
 
 /// Puts the rows of a group.
@@ -77,12 +83,26 @@ fn put_settled(settled: &Settled, digest: &mut Digest) {
     }
 }
 
-/// A client asks so many queries, is fed the answers, and its groups are taken.
-pub fn fetch(alloc: Global, mut random: Xoshiro256PlusPlus, queries: u32) -> anyhow::Result<u64> {
-    let mut digest = Digest::new();
+/// Takes the group that was settled.
+fn take(client: &mut Client, digest: &mut Digest) -> anyhow::Result<()> {
+    let Some(settled) = client.take_settled() else {
+        bail!("no group is settled");
+    };
+    put_settled(&settled, digest);
+    Ok(())
+}
+
+/// A client starts, asks so many queries, is fed the answers, and its groups are taken.
+fn ask_all(
+    alloc: Global,
+    client: &mut Client,
+    random: &mut Xoshiro256PlusPlus,
+    queries: u32,
+    digest: &mut Digest,
+) -> anyhow::Result<()> {
     let mut order = Order::new();
     let mut out = Vec::new(alloc);
-    let mut client = ready(alloc, &mut out)?;
+    begin(alloc, client, &mut out)?;
     let mut stream = Vec::new(alloc);
     for _ in 0..queries {
         out.clear();
@@ -90,14 +110,19 @@ pub fn fetch(alloc: Global, mut random: Xoshiro256PlusPlus, queries: u32) -> any
             bail!("the request is refused");
         }
         stream.clear();
-        answer(alloc, &mut order, &mut random, &mut stream)?;
+        answer(alloc, &mut order, random, &mut stream)?;
         for piece in stream.chunks(PIECE) {
             client.feed(piece, &mut out)?;
         }
-        let Some(settled) = client.take_settled() else {
-            bail!("no group is settled");
-        };
-        put_settled(&settled, &mut digest);
+        take(client, digest)?;
     }
+    Ok(())
+}
+
+/// A client asks so many queries.
+pub fn fetch(alloc: Global, mut random: Xoshiro256PlusPlus, queries: u32) -> anyhow::Result<u64> {
+    let mut digest = Digest::new();
+    let mut client = Client::new(alloc, settings(alloc)?);
+    ask_all(alloc, &mut client, &mut random, queries, &mut digest)?;
     Ok(digest.finish())
 }

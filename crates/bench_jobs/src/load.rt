@@ -7,12 +7,12 @@ use crate::convert::write_rows;
 use crate::digest::Digest;
 use crate::fetch::query;
 use crate::orders::{Order, WIDTH};
-use crate::session::Session;
-use pg_backend::{Answer, Auth, Load, Logged, Script, ScriptPart};
+use crate::session::{Session, checked};
+use pg_backend::{Answer, Load, Logged, Script, ScriptPart};
 use pg_copy::TextReader;
 use pg_wire::{CopyHead, Seq, Status};
 use rand_xoshiro::Xoshiro256PlusPlus;
-use std::alloc::Global;
+use std::alloc::{AllocError, Global};
 
 /// How many rows a copy has.
 const ROWS: u32 = 10_000;
@@ -20,30 +20,34 @@ const ROWS: u32 = 10_000;
 /// How many bytes the client hands over at once.
 const CHUNK: usize = 8_192;
 
+/// A copy from the client that is accepted.
+fn copy_in(alloc: Global) -> Result<ScriptPart, AllocError> {
+    let formats = Seq::new(vec![in alloc; 0i16; WIDTH]?);
+    let tag = Seq::from_slice(alloc, b"COPY 10000")?;
+    Ok(ScriptPart::CopyIn {
+        head: CopyHead {
+            binary: false,
+            formats,
+        },
+        load: Load::Accept(tag),
+    })
+}
+
+/// An answer that takes one copy from the client.
+fn answer(alloc: Global) -> Result<Answer, AllocError> {
+    Ok(Answer {
+        before: Seq::new(Vec::new(alloc)),
+        parts: Seq::new(vec![in alloc; copy_in(alloc)?]?),
+        error: None,
+        status: Status::Idle,
+    })
+}
+
 /// A script that takes one copy from the client.
 fn script(alloc: Global) -> anyhow::Result<Script>
     ensures { IfOk result (λ script. IsChecked script) }
 {
-    let formats = Seq::new(vec![in alloc; 0i16; WIDTH]?);
-    let head = CopyHead {
-        binary: false,
-        formats,
-    };
-    let load = Load::Accept(Seq::from_slice(alloc, b"COPY 10000")?);
-    let answer = Answer {
-        before: Seq::new(Vec::new(alloc)),
-        parts: Seq::new(vec![in alloc; ScriptPart::CopyIn { head, load }]?),
-        error: None,
-        status: Status::Idle,
-    };
-    let script = Script {
-        auth: Auth::Trust,
-        pairs: Seq::new(Vec::new(alloc)),
-        key: None,
-        answers: Seq::new(vec![in alloc; answer]?),
-    };
-    script.check(alloc)?;
-    Ok(script)
+    checked(alloc, vec![in alloc; answer(alloc)?]?)
 }
 
 /// Puts the rows that wait.
@@ -75,9 +79,13 @@ fn put_loaded(alloc: Global, logged: &Logged, digest: &mut Digest) -> anyhow::Re
     Ok(())
 }
 
-/// A text is copied in a session of its own.
-fn load_text(alloc: Global, text: &[u8], digest: &mut Digest) -> anyhow::Result<()> {
-    let mut session = Session::new(alloc, script(alloc)?)?;
+/// A session is started, and a text is copied in it.
+fn copy_text(
+    alloc: Global,
+    session: &mut Session,
+    text: &[u8],
+    digest: &mut Digest,
+) -> anyhow::Result<()> {
     session.start()?;
     session.ask(query(alloc)?)?;
     session.exchange()?;
@@ -87,6 +95,12 @@ fn load_text(alloc: Global, text: &[u8], digest: &mut Digest) -> anyhow::Result<
     }
     digest.put(session.settled()?.outcome.parts.len() as u64);
     Ok(())
+}
+
+/// A text is copied in a session of its own.
+fn load_text(alloc: Global, text: &[u8], digest: &mut Digest) -> anyhow::Result<()> {
+    let mut session = Session::new(alloc, script(alloc)?)?;
+    copy_text(alloc, &mut session, text, digest)
 }
 
 /// So many copies are made, each in a session of its own.

@@ -1,10 +1,12 @@
 //! A client and the scripted backend that it is connected to.
 
+ghost use Rattle.std.specs.Prelude.{IfOk};
 ghost use Rattle.pg_backend.specs.Check.{IsChecked};
 
+use crate::fetch::settings;
 use anyhow::bail;
-use pg_backend::{Backend, Script};
-use pg_client::{Client, Settings, Settled};
+use pg_backend::{Answer, Auth, Backend, Script};
+use pg_client::{Client, Settled};
 use pg_wire::{LONGEST, Request, Seq};
 use rand_xoshiro::Xoshiro256PlusPlus;
 use rand_xoshiro::rand_core::Rng;
@@ -17,6 +19,20 @@ pub struct Session {
     backend: Backend,
     to_backend: Vec<u8>,
     to_client: Vec<u8>,
+}
+
+/// A script of these answers, which wants no password.
+pub fn checked(alloc: Global, answers: Vec<Answer>) -> anyhow::Result<Script>
+    ensures { IfOk result (λ script. IsChecked script) }
+{
+    let script = Script {
+        auth: Auth::Trust,
+        pairs: Seq::new(Vec::new(alloc)),
+        key: None,
+        answers: Seq::new(answers),
+    };
+    script.check(alloc)?;
+    Ok(script)
 }
 
 /// Handles all that waits.
@@ -78,9 +94,9 @@ impl Session {
     pub fn new(alloc: Global, script: Script) -> anyhow::Result<Session>
         requires { IsChecked script }
     {
-        let user = Seq::from_slice(alloc, b"clerk")?;
+        let settings = settings(alloc)?;
         Ok(Session {
-            client: Client::new(alloc, Settings::new(alloc, user)),
+            client: Client::new(alloc, settings),
             backend: Backend::new(alloc, script, LONGEST),
             to_backend: Vec::new(alloc),
             to_client: Vec::new(alloc),

@@ -5,13 +5,13 @@ ghost use Rattle.pg_backend.specs.Check.{IsChecked};
 
 use crate::digest::Digest;
 use crate::orders::{Order, columns};
-use crate::session::Session;
-use pg_backend::{Answer, Auth, Script, ScriptPart};
+use crate::session::{Session, checked};
+use pg_backend::{Answer, Script, ScriptPart};
 use pg_client::Settled;
 use pg_wire::{Aside, ExecEnd, Fields, Part, Request, Seq, Status, Step, Target, Values};
 use rand_xoshiro::Xoshiro256PlusPlus;
 use rand_xoshiro::rand_core::Rng;
-use std::alloc::Global;
+use std::alloc::{AllocError, Global};
 
 /// How many groups a session has.
 const GROUPS: u32 = 64;
@@ -25,35 +25,65 @@ fn values(
     Ok(Values::from_slice(alloc, order.next(random).as_slice())?)
 }
 
-/// The steps of a group: a statement is parsed, bound, described and run.
+/// The step that parses a statement.
+fn parse(alloc: Global) -> Result<Step, AllocError> {
+    let text = b"INSERT INTO orders VALUES ($1, $2, $3, $4, $5, $6, $7) RETURNING *";
+    Ok(Step::Parse {
+        name: Seq::new(Vec::new(alloc)),
+        text: Seq::from_slice(alloc, text)?,
+        types: Seq::new(Vec::new(alloc)),
+    })
+}
+
+/// The step that binds values.
+fn bind(alloc: Global, values: Values) -> Step {
+    Step::Bind {
+        portal: Seq::new(Vec::new(alloc)),
+        statement: Seq::new(Vec::new(alloc)),
+        formats: Seq::new(Vec::new(alloc)),
+        values,
+        result_formats: Seq::new(Vec::new(alloc)),
+    }
+}
+
+/// The step that describes what is bound.
+fn describe(alloc: Global) -> Step {
+    Step::Describe {
+        target: Target::Portal,
+        name: Seq::new(Vec::new(alloc)),
+    }
+}
+
+/// The step that runs what is bound.
+fn execute(alloc: Global) -> Step {
+    Step::Execute {
+        portal: Seq::new(Vec::new(alloc)),
+        max_rows: 0,
+    }
+}
+
+/// Puts the steps of a group: a statement is parsed, bound, described and run.
+fn put_steps(
+    alloc: Global,
+    order: &mut Order,
+    random: &mut Xoshiro256PlusPlus,
+    steps: &mut Vec<Step>,
+) -> anyhow::Result<()> {
+    steps.push(parse(alloc)?)?;
+    steps.push(bind(alloc, values(alloc, order, random)?))?;
+    steps.push(describe(alloc))?;
+    steps.push(execute(alloc))?;
+    Ok(())
+}
+
+/// A group of steps.
 fn group(
     alloc: Global,
     order: &mut Order,
     random: &mut Xoshiro256PlusPlus,
 ) -> anyhow::Result<Request> {
-    let text = b"INSERT INTO orders VALUES ($1, $2, $3, $4, $5, $6, $7) RETURNING *";
-    let steps = vec![in alloc;
-        Step::Parse {
-            name: Seq::new(Vec::new(alloc)),
-            text: Seq::from_slice(alloc, text)?,
-            types: Seq::new(Vec::new(alloc))
-        },
-        Step::Bind {
-            portal: Seq::new(Vec::new(alloc)),
-            statement: Seq::new(Vec::new(alloc)),
-            formats: Seq::new(Vec::new(alloc)),
-            values: values(alloc, order, random)?,
-            result_formats: Seq::new(Vec::new(alloc))
-        },
-        Step::Describe {
-            target: Target::Portal,
-            name: Seq::new(Vec::new(alloc))
-        },
-        Step::Execute {
-            portal: Seq::new(Vec::new(alloc)),
-            max_rows: 0
-        },
-    ]?;
+    let mut steps = Vec::with_capacity(alloc, 4)?;
+    put_steps(alloc, order, random, &mut steps)?;
     Ok(Request::Group(Seq::new(steps)))
 }
 
@@ -92,31 +122,58 @@ fn executed(
     })
 }
 
-/// What a group is answered: mostly a few rows, sometimes an error, and before some a notice.
+/// Puts what a group is answered into an answer: mostly a few rows, sometimes an error, and before some a notice.
+fn fill(
+    alloc: Global,
+    order: &mut Order,
+    random: &mut Xoshiro256PlusPlus,
+    answer: &mut Answer,
+) -> anyhow::Result<()> {
+    let bits = random.next_u64();
+    answer.before = notices(alloc, bits & 7 == 0)?;
+    answer.parts.push(ScriptPart::Parsed)?;
+    answer.parts.push(ScriptPart::Bound)?;
+    if bits >> 3 & 15 == 0 {
+        answer.error = Some(error(alloc)?);
+        return Ok(());
+    }
+    answer.parts.push(ScriptPart::Described {
+        parameters: None,
+        columns: Some(columns(alloc)?),
+    })?;
+    answer
+        .parts
+        .push(executed(alloc, order, random, bits >> 8 & 7)?)?;
+    Ok(())
+}
+
+/// What a group is answered.
 fn answer(
     alloc: Global,
     order: &mut Order,
     random: &mut Xoshiro256PlusPlus,
 ) -> anyhow::Result<Answer> {
-    let bits = random.next_u64();
-    let before = notices(alloc, bits & 7 == 0)?;
-    let mut parts = vec![in alloc; ScriptPart::Parsed, ScriptPart::Bound]?;
-    let mut refused = None;
-    if bits >> 3 & 15 == 0 {
-        refused = Some(error(alloc)?);
-    } else {
-        parts.push(ScriptPart::Described {
-            parameters: None,
-            columns: Some(columns(alloc)?),
-        })?;
-        parts.push(executed(alloc, order, random, bits >> 8 & 7)?)?;
-    }
-    Ok(Answer {
-        before,
-        parts: Seq::new(parts),
-        error: refused,
+    let mut answer = Answer {
+        before: Seq::new(Vec::new(alloc)),
+        parts: Seq::new(Vec::new(alloc)),
+        error: None,
         status: Status::Idle,
-    })
+    };
+    fill(alloc, order, random, &mut answer)?;
+    Ok(answer)
+}
+
+/// Puts the answers of a session.
+fn put_answers(
+    alloc: Global,
+    order: &mut Order,
+    random: &mut Xoshiro256PlusPlus,
+    answers: &mut Vec<Answer>,
+) -> anyhow::Result<()> {
+    for _ in 0..GROUPS {
+        answers.push(answer(alloc, order, random)?)?;
+    }
+    Ok(())
 }
 
 /// What the backend answers.
@@ -128,17 +185,8 @@ fn script(
     ensures { IfOk result (λ script. IsChecked script) }
 {
     let mut answers = Vec::new(alloc);
-    for _ in 0..GROUPS {
-        answers.push(answer(alloc, order, random)?)?;
-    }
-    let script = Script {
-        auth: Auth::Trust,
-        pairs: Seq::new(Vec::new(alloc)),
-        key: None,
-        answers: Seq::new(answers),
-    };
-    script.check(alloc)?;
-    Ok(script)
+    put_answers(alloc, order, random, &mut answers)?;
+    checked(alloc, answers)
 }
 
 /// Puts a group that was settled.
@@ -158,7 +206,7 @@ fn put_settled(settled: &Settled, digest: &mut Digest) {
     digest.put(settled.outcome.asides.len() as u64);
 }
 
-/// The client asks for group after group.
+/// The client starts, and asks for group after group.
 fn ask_all(
     alloc: Global,
     session: &mut Session,
@@ -166,6 +214,7 @@ fn ask_all(
     random: &mut Xoshiro256PlusPlus,
     digest: &mut Digest,
 ) -> anyhow::Result<()> {
+    session.start()?;
     for _ in 0..GROUPS {
         session.ask(group(alloc, order, random)?)?;
         session.trickle(random)?;
@@ -182,7 +231,6 @@ fn play(
     digest: &mut Digest,
 ) -> anyhow::Result<()> {
     let mut session = Session::new(alloc, script(alloc, order, random)?)?;
-    session.start()?;
     ask_all(alloc, &mut session, order, random, digest)
 }
 
