@@ -71,6 +71,20 @@ class Streams:
         return spoiled_messages(chance, packets + messages)
 
 
+def foreign(chance, front):
+    """A message that isn't of the tables of this library: of SASL, of a function call, of replication, of another version, or of any tag."""
+    way = chance.randrange(6)
+    body = chance.randbytes(chance.choice((0, 1, 4, 10, 99, 100, 101, 300)))
+    if way == 0:
+        body = "".join(chance.choice("aé\u0085\x1b'\\\t\0") for _ in range(chance.choice((1, 5, 60, 150)))).encode()
+    tag = bytes([chance.choice(b"pF" if front else b"VWvR") if chance.random() < 0.6 else chance.randrange(256)])
+    if way == 1:
+        body = struct.pack(">i", chance.choice((2, 6, 7, 8, 9, 10, 11, 12, 13))) + chance.choice((b"", b"SCRAM-SHA-256\0\0", b"A\0B\xff\0\0", body))
+    if way == 2:
+        body = b"SCRAM-SHA-256\0" + struct.pack(">i", len(body)) + body
+    return tag + struct.pack(">I", len(body) + 4) + body
+
+
 def by_tag(messages):
     found = {}
     for message in messages:

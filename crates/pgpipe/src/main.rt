@@ -1,54 +1,216 @@
-//! Shows the byte stream of a PostgreSQL backend or client, a line a message; converts COPY files; and runs a client's calls against
-//! a scripted backend.
+//! Shows the byte stream of a PostgreSQL backend or client, a line a message; converts COPY files; runs a client's calls against a
+//! scripted backend; and serves clients from a script.
 #![tactic(auto)]
 
-use pg_pair::Direct;
+ghost use Rattle.pgpipe_words.specs.Tasks.{IsTask};
+
+use pg_pair::{Carry, Direct};
 use pg_wire::{Over, Patient};
+use pgpipe_places::Tracked;
 use pgpipe_words::{
-    Disk, Failure, connect_to_itself, do_task, exit_code, explain, task_of, words_failure,
+    Asked, Disk, Failure, Listening, NotedDisk, Reason, Serving, Subject, Task, Telling, Watched,
+    asked_of, connect_to_itself, do_task, exit_code, explain, file_failure, file_reason,
+    serve_file, stream_reason, task_reason, words_failure,
 };
 use standard_streams::{ClosedStream, all_open};
+use std::io::Read;
 use std::net::Net;
 use std::process::ExitCode;
 use std::rt::{Env, Files};
-use std::{env, io};
+use std::time::Clock;
+use std::{env, fs, io};
 
 fn main(rt: HostRuntime) -> ExitCode {
     // before anything is opened, which would take the place of a stream that is closed
     let streams = all_open(&rt.stdin(), &rt.stdout(), &rt.stderr());
-    let ended = run(&rt, streams);
-    if let Err(failure) = &ended {
+    let Ended { status, reason } = run(&rt, streams);
+    if let Err(failure) = &status {
         // where this can't be written, the status still tells
         let _ = eprintln!(rt; "pgpipe: {failure}");
+        if let Some(reason) = &reason {
+            let _ = eprintln!(rt; "pgpipe: {reason}");
+        }
     }
-    exit_code(&ended)
+    exit_code(&status)
+}
+
+// How the program ends, and why, if that is to be explained.
+#[derive(Drop)]
+struct Ended {
+    status: Result<ExitCode, Failure>,
+    reason: Option<Reason>,
+}
+
+// The program ends so, and that isn't explained.
+fn plainly(status: Result<ExitCode, Failure>) -> Ended {
+    Ended {
+        status,
+        reason: None,
+    }
+}
+
+// The program ends with a failure, for this reason, if that is to be explained.
+fn failed(telling: Telling, failure: Failure, reason: Option<Reason>) -> Ended {
+    Ended {
+        status: Err(failure),
+        reason: if telling.explain { reason } else { None },
+    }
 }
 
 // Does what the words ask for.
-fn run<R: Env + Files + Net + Input + Print + Eprint + AllocGlobal>(
+fn run<R: Env + Files + Net + Clock + Input + Print + Eprint + AllocGlobal>(
     rt: &R,
     streams: Result<(), ClosedStream>,
-) -> Result<ExitCode, Failure> {
-    let words: Vec<String> = env::args(rt)
+) -> Ended {
+    let words = match words(rt) {
+        Ok(words) => words,
+        Err(failure) => return plainly(Err(failure)),
+    };
+    let Asked { task, telling } = match asked_of(rt.alloc(), words.as_slice()) {
+        Ok(asked) => asked,
+        Err(error) => return plainly(explain(rt, &error)),
+    };
+    // what is opened would take the place of a closed output; of the other streams nothing is read or told meanwhile
+    if opens_first(&task) && matches!(streams, Err(ClosedStream::Output)) {
+        return failed(telling, Failure::Device, Some(Reason::Closed));
+    }
+    if let Task::Serve(serving) = &task {
+        return serve(rt, serving, telling);
+    }
+    run_task(rt, task, telling)
+}
+
+// The words of the command line.
+fn words<R: Env + AllocGlobal>(rt: &R) -> Result<Vec<String>, Failure> {
+    env::args(rt)
         .map_err(|error| words_failure(&error))?
         .collect(rt.alloc())
-        .map_err(|_| Failure::Memory)?;
-    let task = match task_of(rt.alloc(), words.as_slice()) {
-        Ok(task) => task,
-        Err(error) => return explain(rt, &error),
+        .map_err(|_| Failure::Memory)
+}
+
+// Whether a task opens a file, a connection or a port before anything is printed, and then prints.
+fn opens_first(task: &Task) -> bool {
+    matches!(task, Task::Serve(_)) || task.is_over_tcp() || task.input_file().is_some()
+}
+
+// The file that is read in the place of standard input, opened, if the task names one. If it can't be: how that ends, and why.
+fn open_input<R: Files + AllocGlobal>(
+    rt: &R,
+    task: &Task,
+) -> Result<Option<R::File>, (Failure, Option<Reason>)> {
+    let Some(path) = task.input_file() else {
+        return Ok(None);
     };
-    let files = Disk::new(rt);
-    let mut source = Over::new(Patient::new(rt.reader()));
-    let mut sink = Over::new(Patient::new(io::writer(rt)));
-    if task.is_over_tcp() {
-        // nothing is read while the connection is open, and nothing is told: so the other two may be closed
-        if matches!(streams, Err(ClosedStream::Output)) {
-            return Err(Failure::Device);
-        }
-        let carrier = connect_to_itself(rt)?;
-        do_task(rt.alloc(), task, &files, carrier, &mut source, &mut sink)?;
-    } else {
-        do_task(rt.alloc(), task, &files, Direct, &mut source, &mut sink)?;
+    match fs::open(rt, path) {
+        Ok(file) => Ok(Some(file)),
+        Err(error) => Err((
+            file_failure(&error),
+            match String::from_str(rt.alloc(), path) {
+                Ok(path) => Some(Reason::File { path, error }),
+                Err(_) => None,
+            },
+        )),
     }
-    Ok(ExitCode::SUCCESS)
+}
+
+// Does a task other than that of serving clients.
+fn run_task<R: Files + Net + Clock + Input + Print + Eprint + AllocGlobal>(
+    rt: &R,
+    task: Task,
+    telling: Telling,
+) -> Ended
+    requires { IsTask task }
+{
+    let file = match open_input(rt, &task) {
+        Ok(file) => file,
+        Err((failure, reason)) => return failed(telling, failure, reason),
+    };
+    if let Some(file) = file {
+        return run_over(rt, task, telling, file, Direct);
+    }
+    if !task.is_over_tcp() {
+        return run_over(rt, task, telling, rt.reader(), Direct);
+    }
+    match connect_to_itself(rt) {
+        Ok(carrier) => run_over(rt, task, telling, rt.reader(), carrier),
+        Err(failure) => failed(telling, failure, Some(Reason::Carrier)),
+    }
+}
+
+// Does a task over an input and a carrier, and tells of it what is to be told.
+fn run_over<R: Files + Clock + Print + Eprint + AllocGlobal, I: Read + Drop, C: Carry>(
+    rt: &R,
+    task: Task,
+    telling: Telling,
+    input: I,
+    carrier: C,
+) -> Ended
+    requires { IsTask task }
+{
+    if telling.explain || telling.progress {
+        return run_told(rt, task, telling, input, carrier);
+    }
+    let files = Disk::new(rt);
+    let mut source = Over::new(Patient::new(input));
+    let mut sink = Over::new(Patient::new(io::writer(rt)));
+    match do_task(rt.alloc(), task, &files, carrier, &mut source, &mut sink) {
+        Ok(()) => plainly(Ok(ExitCode::SUCCESS)),
+        Err(failure) => plainly(Err(failure)),
+    }
+}
+
+// Does a task whose streams are followed, so that it can be told how far it is, and where and why it failed.
+fn run_told<R: Files + Clock + Print + Eprint + AllocGlobal, I: Read + Drop, C: Carry>(
+    rt: &R,
+    task: Task,
+    telling: Telling,
+    input: I,
+    carrier: C,
+) -> Ended
+    requires { IsTask task }
+{
+    let alloc = rt.alloc();
+    let subject = Subject::of(&task);
+    let files = NotedDisk::new(rt);
+    let reader = Over::new(Patient::new(input));
+    let tracked = Tracked::new(alloc, reader, subject.input());
+    let mut source = Watched::new(alloc, rt, tracked, subject.input(), telling.progress);
+    let writer = Over::new(Patient::new(io::writer(rt)));
+    let mut sink = Tracked::new(alloc, writer, subject.output());
+    let Err(failure) = do_task(alloc, task, &files, carrier, &mut source, &mut sink) else {
+        return plainly(Ok(ExitCode::SUCCESS));
+    };
+    let streams = stream_reason(
+        source.get_ref().get_ref().last_error(),
+        sink.get_ref().last_error(),
+    );
+    let place = source.get_ref().place(sink.tracker().place.number);
+    let reason = streams
+        .or(file_reason(alloc, subject, &failure, files.into_last()))
+        .or(task_reason(subject, &failure, place, source.first()));
+    failed(telling, failure, reason)
+}
+
+// Serves clients on a port.
+fn serve<R: Files + Net + Print + AllocGlobal>(
+    rt: &R,
+    serving: &Serving,
+    telling: Telling,
+) -> Ended {
+    let alloc = rt.alloc();
+    let mut clients = match Listening::new(rt, serving.port) {
+        Ok(clients) => clients,
+        Err(error) => return failed(telling, Failure::Device, Some(Reason::Port(error))),
+    };
+    let port = clients.port();
+    let files = NotedDisk::new(rt);
+    let mut sink = Over::new(Patient::new(io::writer(rt)));
+    let served = serve_file(alloc, serving, port, &files, &mut clients, &mut sink);
+    let Err(failure) = served else {
+        return plainly(Ok(ExitCode::SUCCESS));
+    };
+    let reason = stream_reason(None, sink.last_error())
+        .or(file_reason(alloc, Subject::Serve, &failure, files.into_last()))
+        .or(task_reason(Subject::Serve, &failure, None, &[]));
+    failed(telling, failure, reason)
 }

@@ -1,5 +1,5 @@
 -- Text that is put piece by piece.
-use Rattle.std.proofs.Common.{◌≡◌, ℕ, ◌+◌, ◌/◌, ◌%◌, ◌<◌, ◌≤◌, ◌⊎◌, inl, inr, List, [], ◌∷◌, ◌++◌, take, drop, slice_index, Result, Ok, Err, refl, sym, ap, subst, ◌∙◌, append_assoc, append-nil, length, length-append, arith}
+use Rattle.std.proofs.Common.{◌≡◌, ℕ, ◌+◌, ◌/◌, ◌%◌, ◌<◌, ◌≤◌, ◌⊎◌, inl, inr, List, [], ◌∷◌, ◌++◌, take, drop, slice_index, Result, Ok, Err, OnOk, refl, sym, ap, subst, ◌∙◌, append_assoc, append-nil, length, length-append, arith}
 use Rattle.std.specs.List.{FoldsTo, concat}
 use Rattle.std.proofs.lemmas.List.Folds.{concat-append}
 use Rattle.std.proofs.lemmas.Bool.{cases_lt}
@@ -91,6 +91,11 @@ received_on holds received sent piece all before n some few = by_cases (cases_lt
         let went : take (length sent) sent ≡ sent = take_all (length sent) sent (omega arith) in
         (length sent, omega arith, subst (λ (l : List (List ℕ)). holds (concat l) (concat (take (length sent) sent))) (sym came) (subst (λ (l : List (List ℕ)). holds (concat received) (concat l)) (sym went) (all (omega (arith, some, within)))))
 
+-- what holds anyway holds where there was no error
+pub any_on_ok : {A E P : Type 0} (r : Result A E) → P → OnOk r P
+any_on_ok (Ok x) p = p
+any_on_ok (Err e) p = tt
+
 -- ---- text that is put
 
 module _ {K : Type 0} (takes : K → List ℕ → K → Type 0) (failures : K → ℕ) where
@@ -164,6 +169,14 @@ module _ {K : Type 0} (takes : K → List ℕ → K → Type 0) (failures : K �
   -- what was collected begins with a piece, and the sink took it
   pub puts_sent : (c : List ℕ) (s : K) (piece c' : List ℕ) (s' : K) → c ≡ piece ++ c' → takes s piece s' → failures s' ≡ failures s → Puts {A = Unit {0}} takes failures c s [] (Ok tt) c' s'
   puts_sent c s piece c' s' e t n = record { pieces = piece ∷ []; calls = (s', t, refl); sent = append-nil c ∙ e ∙ ap (λ (l : List ℕ). l ++ c') (sym (append-nil piece)); counted = n }
+
+  -- all that was collected was sent, and then a text
+  pub sent_after : {A : Type 0} (c : List ℕ) (s : K) (c' : List ℕ) (s' : K) (text : List ℕ) (r : Result A LinkFault) (s'' : K) → Puts {A = Unit {0}} takes failures c s [] (Ok tt) c' s' → c' ≡ [] → Puts {A = A} takes failures text s' [] r [] s''
+      → Puts {A = A} takes failures c s text r c' s''
+  sent_after {A} c s c' s' text r s'' p none q =
+      let put : Puts {A = A} takes failures [] s' text r [] s'' = record { pieces = q.pieces; calls = q.calls; sent = subst (λ (l : List ℕ). IsSentBut r l (concat q.pieces) []) (append-nil text) q.sent; counted = q.counted } in
+      let here : Puts {A = A} takes failures c' s' text r c' s'' = subst (λ (k : List ℕ). Puts {A = A} takes failures k s' text r k s'') (sym none) put in
+      puts_then c s [] c' s' text r c' s'' p here
 
   -- the sink failed at once
   pub puts_nothing : (c : List ℕ) (s : K) (f : LinkFault) (c' : List ℕ) (s' : K) → takes s [] s' → HasRisen (failures s) (failures s') → Puts {A = Unit {0}} takes failures c s [] (Err f) c' s'

@@ -166,6 +166,38 @@ impl Outbox {
         Ok(())
     }
 
+    // Sends what was collected, and a text after it.
+    fn send_after<K: Sink>(&mut self, text: &[u8], sink: &mut K) -> Result<(), LinkFault>
+        ensures puts { Puts K.takes K.failures self.old sink.old text.now result self.new sink.new }
+        ensures within { OnOk result (length self.new ≤ most_collected) }
+    {
+        self.flush(sink)?;
+        send_all(text, sink)
+    }
+
+    // Puts a text that isn't longer than there may be room for.
+    fn put_within<K: Sink>(&mut self, text: &[u8], sink: &mut K) -> Result<(), LinkFault>
+        requires { length text.now ≤ most_collected }
+        ensures puts { Puts K.takes K.failures self.old sink.old text.now result self.new sink.new }
+        ensures within { OnOk result (length self.new ≤ most_collected) }
+    {
+        self.make_room(text.len(), sink)?;
+        self.put(text);
+        Ok(())
+    }
+
+    /// Puts a text, however long. Where the sink fails a prefix of what was collected and the text was sent.
+    pub fn put_text<K: Sink>(&mut self, text: &[u8], sink: &mut K) -> Result<(), LinkFault>
+        ensures puts { Puts K.takes K.failures self.old sink.old text.now result self.new sink.new }
+        ensures within { OnOk result (length self.new ≤ most_collected) }
+    {
+        if text.len() > ROOM {
+            self.send_after(text, sink)
+        } else {
+            self.put_within(text, sink)
+        }
+    }
+
     /// Puts the line for a name, a length and bytes. Where the sink fails a prefix of what was collected and the line was sent.
     pub fn put_line<K: Sink>(
         &mut self,

@@ -4,4 +4,7 @@ pub mod LoopGroups
 pub mod LoopEnds
 pub mod LoopRows
 pub mod Rows
+pub mod Sending
+pub mod Telling
 pub mod Crossing
+pub mod Everywhere

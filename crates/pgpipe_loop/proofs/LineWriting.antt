@@ -163,12 +163,13 @@ lines_of_rows law plain text (row ∷ rows) =
 pub whole_text : FieldsAreLine → NoneLikeNull → (s : LineState) (rows : List Row) → s ≡ with_rows (whole_lines []) rows → s.text ≡ text_lines rows
 whole_text law plain s rows e = ap (λ (t : LineState). t.text) (e ∙ lines_of_rows law plain [] rows)
 
--- three lists of lines, and a list and two lines
+-- four lists of lines
+pub four_put : (old s1 s2 s3 s4 : LineState) (xs ys zs ws : List Row) → s1 ≡ with_rows old xs → s2 ≡ with_rows s1 ys → s3 ≡ with_rows s2 zs → s4 ≡ with_rows s3 ws → s4 ≡ with_rows old (xs ++ ys ++ zs ++ ws)
+four_put old s1 s2 s3 s4 xs ys zs ws h1 h2 h3 h4 = after old s3 s4 (xs ++ ys ++ zs) ws (after old s2 s3 (xs ++ ys) zs (after old s1 s2 xs ys h1 h2) h3) h4
+
+-- three lists of lines
 pub three_put : (old s1 s2 s3 : LineState) (xs ys zs : List Row) → s1 ≡ with_rows old xs → s2 ≡ with_rows s1 ys → s3 ≡ with_rows s2 zs → s3 ≡ with_rows old (xs ++ ys ++ zs)
 three_put old s1 s2 s3 xs ys zs h1 h2 h3 = after old s2 s3 (xs ++ ys) zs (after old s1 s2 xs ys h1 h2) h3
-
-pub two_after : (old s1 s2 s3 : LineState) (xs : List Row) (y z : Row) → s1 ≡ with_rows old xs → s2 ≡ with_row s1 y → s3 ≡ with_row s2 z → s3 ≡ with_rows old (xs ++ y ∷ z ∷ [])
-two_after old s1 s2 s3 xs y z h1 h2 h3 = after old s1 s3 xs (y ∷ z ∷ []) h1 (h3 ∙ ap (λ (s : LineState). with_row s z) h2)
 
 -- ---- chunks that were loaded
 

@@ -15,7 +15,7 @@ use Rattle.pg_backend.specs.phase.BackPhase.TheVariants as back
 use Rattle.pg_backend.specs.declared.fault.BackendFault.TheVariants as backend
 use Rattle.pg_backend.specs.OwnError.{wrong_password}
 use Rattle.pg_pair.specs.declared.event.Applied.TheVariants as applied
-use Rattle.pgpipe_loop.specs.Lines.{closing_rows, event_rows, loaded_row, text_line, text_lines}
+use Rattle.pgpipe_loop.specs.Lines.{closing_rows, decided_rows, event_rows, loaded_row, port_row, text_line, text_lines}
 
 -- settled<tab>query<tab>SELECT 1 / rows<tab>SELECT 1<tab>n / row<tab>1 / status<tab>I
 pub one_row : text_lines (event_rows (record { request = Query (codes "SELECT 1"); outcome = record { parts = part.Rows (record { name = codes "n"; table_oid = 0; attribute = pos 0; type_oid = 25; size = negsuc 0; modifier = negsuc 0; format = pos 0 } ∷ []) ((Some (codes "1") ∷ []) ∷ []) (codes "SELECT 1") ∷ []; error = None; status = status.Idle; asides = [] } } ∷ []) applied.Done None)
@@ -61,3 +61,12 @@ the_end_at_a_question = refl
 -- loaded<tab>1<tab>a<tab>b
 pub loaded_chunks : text_line (loaded_row 1 (codes "a" ∷ codes "b" ∷ [])) ≡ codes "loaded" ++ 9 ∷ codes "1" ++ 9 ∷ codes "a" ++ 9 ∷ codes "b" ++ 10 ∷ []
 loaded_chunks = ap (λ (digits : List ℕ). text_line (Some (codes "loaded") ∷ Some digits ∷ Some (codes "a") ∷ Some (codes "b") ∷ [])) (decimal_digit 1 (omega arith))
+
+-- port<tab>7
+pub the_port : text_line (port_row 7) ≡ codes "port" ++ 9 ∷ codes "7" ++ 10 ∷ []
+the_port = ap (λ (digits : List ℕ). text_line (Some (codes "port") ∷ Some digits ∷ [])) (decimal_digit 7 (omega arith))
+
+-- settled<tab>query<tab>Q / command<tab>A / status<tab>I / fault<tab>K1<tab>W4
+pub a_turn : text_lines (decided_rows (record { request = Query (codes "Q"); outcome = record { parts = part.Command (codes "A") ∷ []; error = None; status = status.Idle; asides = [] }; loaded = [] } ∷ []) (applied.Backend (backend.Wire (BadBody 90))))
+    ≡ codes "settled" ++ 9 ∷ codes "query" ++ 9 ∷ codes "Q" ++ 10 ∷ codes "command" ++ 9 ∷ codes "A" ++ 10 ∷ codes "status" ++ 9 ∷ codes "I" ++ 10 ∷ codes "fault" ++ 9 ∷ codes "K1" ++ 9 ∷ codes "W4" ++ 10 ∷ []
+a_turn = refl

@@ -163,6 +163,10 @@ settled_rows s =
     ++ flat_map part_rows s.outcome.parts ++ outcome_error_rows s.outcome.error
     ++ status_row s.outcome.status ∷ []
 
+-- the lines of an entry of a backend's log: those of the group that its client sees settled
+abbrev pub logged_rows : Logged → List Row
+logged_rows entry = settled_rows (record { request = entry.request; outcome = entry.outcome })
+
 -- ---- refused calls and faults
 
 -- the fields after the code of a client's fault: of F1 the code of the stream's fault, of F5 and F6
@@ -222,6 +226,16 @@ abbrev pub event_rows : List Settled → Applied → Option Loss → List Row
 event_rows settled answer loss = flat_map settled_rows settled ++ answer_rows answer
     ++ loss_rows loss
 
+-- ---- a turn of a backend that serves a client, and its port
+
+-- the lines of a turn: what was decided in it, as entries of the backend's log, and its answer
+abbrev pub decided_rows : List Logged → Applied → List Row
+decided_rows decided answer = flat_map logged_rows decided ++ answer_rows answer
+
+-- the line `port`, with the port on which clients are awaited
+abbrev pub port_row : ℕ → Row
+port_row port = Some (codes "port") ∷ Some (decimal port) ∷ []
+
 -- ---- the end
 
 -- the most chunks in one line `loaded`
@@ -264,9 +278,12 @@ backend_word back_phase.Grouping = codes "grouping"
 backend_word back_phase.CopyIn = codes "copying"
 backend_word back_phase.Closed = codes "closed"
 
+-- the lines of the phases of both ends
+abbrev pub phase_rows : Phase → BackPhase → List Row
+phase_rows client backend = (Some (codes "client") ∷ Some (client_word client) ∷ [])
+    ∷ (Some (codes "backend") ∷ Some (backend_word backend) ∷ []) ∷ []
+
 -- the last lines of a loop: the chunks that were loaded for each request, and the phases of both
 -- ends
 abbrev pub closing_rows : List Logged → Phase → BackPhase → List Row
-closing_rows log client backend =
-    loaded_rows 1 log ++ (Some (codes "client") ∷ Some (client_word client) ∷ [])
-    ∷ (Some (codes "backend") ∷ Some (backend_word backend) ∷ []) ∷ []
+closing_rows log client backend = loaded_rows 1 log ++ phase_rows client backend

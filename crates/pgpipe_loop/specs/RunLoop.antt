@@ -18,7 +18,8 @@ use Rattle.pgpipe_loop.specs.declared.run_loop.Ran.{Ran}
 use Rattle.pgpipe_loop.specs.declared.run_loop.Ran.TheVariants as ran
 use Rattle.pgpipe_base.specs.declared.fault.ToolFault.{ToolFault}
 use Rattle.pgpipe_base.specs.declared.fault.ToolFault.TheVariants as fault
-use Rattle.pgpipe_loop.specs.Lines.{event_rows, closing_rows, text_lines}
+use Rattle.pgpipe_loop.specs.Lines.{event_rows, closing_rows, phase_rows, text_lines}
+use Rattle.pgpipe_loop.specs.Trace.{event_row, moved_rows}
 use mathlib.Core.List.{IsPrefix}
 
 -- ---- what is to happen
@@ -90,29 +91,43 @@ abbrev pub rows_between : {C : Type 0} → PairView C → Applied → PairView C
 rows_between p answer q =
     event_rows (drop (length p.settled) q.settled) answer (new_loss p.loss q.loss)
 
+-- the rows of an event in a trace, with this answer, from pair p to q: none where it did nothing
+-- (true), and else its name, what it moved, its own lines, and the phases of both ends after it
+abbrev pub traced_unless : {C : Type 0} → Bool → Event → PairView C → Applied → PairView C
+    → List Row
+traced_unless true e p answer q = []
+traced_unless false e p answer q = event_row e ∷ moved_rows p q ++ rows_between p answer q
+    ++ phase_rows (client.phase_of q.client) (backend.phase_of q.backend.stage)
+
+-- the lines of an event as rows, in a trace (true) or without one
+abbrev pub rows_told : {C : Type 0} → Bool → Event → PairView C → Applied → PairView C → List Row
+rows_told false e p answer q = rows_between p answer q
+rows_told true e p answer q = traced_unless (is_nothing answer) e p answer q
+
 -- From the pair `begun` the first of all the events have happened, one after the other. They led to
--- this pair; these are still to come, these are their rows, and this says whether one was answered
--- Carrier.
-pub data Happened {C : Type 0} (carries : Carrying C) (begun : PairView C)
+-- this pair; these are still to come, these are their rows, as a trace has them (true) or as a loop
+-- without one does, and this says whether one was answered Carrier.
+pub data Happened {C : Type 0} (carries : Carrying C) (trace : Bool) (begun : PairView C)
     (all : List PlannedEvent) : PairView C → List PlannedEvent → List Row → Bool → Type 0 where
-  nothing : Happened carries begun all begun all [] false
+  nothing : Happened carries trace begun all begun all [] false
   one_more : (p q : PairView C) (d : PlannedEvent) (left : List PlannedEvent) (rows : List Row)
       (failed : Bool) (answer : Applied)
-      → Happened carries begun all p (d ∷ left) rows failed
+      → Happened carries trace begun all p (d ∷ left) rows failed
       → Applies carries d.event p (Ok answer) q
-      → Happened carries begun all q (left_to_happen (came_to_nothing d.event p answer q) d ++ left)
-      (rows ++ rows_between p answer q) (failed || is_carrier answer)
+      → Happened carries trace begun all q
+      (left_to_happen (came_to_nothing d.event p answer q) d ++ left)
+      (rows ++ rows_told trace d.event p answer q) (failed || is_carrier answer)
 
 -- ---- what is sent
 
 -- The text is the lines of the events that have happened so far.
-pub record IsTextSoFar {C : Type 0} (carries : Carrying C) (begun : PairView C)
+pub record IsTextSoFar {C : Type 0} (carries : Carrying C) (trace : Bool) (begun : PairView C)
     (all : List PlannedEvent) (text : List ℕ) : Type 0 where
   pub pair : PairView C
   pub left : List PlannedEvent
   pub rows : List Row
   pub failed : Bool
-  pub happened : Happened carries begun all pair left rows failed
+  pub happened : Happened carries trace begun all pair left rows failed
   pub text_is : text ≡ text_lines rows
 
 -- the closing lines of this pair, as rows
@@ -121,32 +136,33 @@ ending_of p =
     closing_rows p.backend.log (client.phase_of p.client) (backend.phase_of p.backend.stage)
 
 -- All events have happened, and the text is their lines and the closing lines.
-pub record IsWholeText {C : Type 0} (carries : Carrying C) (begun : PairView C)
+pub record IsWholeText {C : Type 0} (carries : Carrying C) (trace : Bool) (begun : PairView C)
     (all : List PlannedEvent) (failed : Bool) (text : List ℕ) : Type 0 where
   pub pair : PairView C
   pub rows : List Row
-  pub happened : Happened carries begun all pair [] rows failed
+  pub happened : Happened carries trace begun all pair [] rows failed
   pub text_is : text ≡ text_lines (rows ++ ending_of pair)
 
 -- The text is a prefix of the lines of the events that have happened, or of all with the closing
 -- lines, and may end within a line.
-abbrev pub IsPartOfText : {C : Type 0} → Carrying C → PairView C → List PlannedEvent → List ℕ
+abbrev pub IsPartOfText : {C : Type 0} → Carrying C → Bool → PairView C → List PlannedEvent → List ℕ
     → Type 0
-IsPartOfText carries begun all text = (whole : List ℕ) × IsPrefix text whole
-    × (IsTextSoFar carries begun all whole
-    ⊎ ((failed : Bool) × IsWholeText carries begun all failed whole))
+IsPartOfText carries trace begun all text = (whole : List ℕ) × IsPrefix text whole
+    × (IsTextSoFar carries trace begun all whole
+    ⊎ ((failed : Bool) × IsWholeText carries trace begun all failed whole))
 
 -- whether the answer is that the carrier failed
 abbrev pub says_carrier_failed : Ran → Bool
 says_carrier_failed ran.Whole = false
 says_carrier_failed ran.CarrierFailed = true
 
--- What `run_loop` answers, by the text sent. Ok: all lines. Memory: whole lines, up to the event
+-- What `run_loop` answers, and `trace_loop` (true), by the text sent. Ok: all lines. Memory: whole lines, up to the event
 -- where memory was refused. Device: the sink broke, and a prefix was sent.
-abbrev pub LoopAnswers : {C : Type 0} → Type 0 → Carrying C → PairView C → List PlannedEvent
+abbrev pub LoopAnswers : {C : Type 0} → Type 0 → Carrying C → Bool → PairView C → List PlannedEvent
     → List ℕ → Result Ran ToolFault → Type 0
-LoopAnswers broke carries begun all text (Ok r) =
-    IsWholeText carries begun all (says_carrier_failed r) text
-LoopAnswers broke carries begun all text (Err fault.Memory) = IsTextSoFar carries begun all text
-LoopAnswers broke carries begun all text (Err fault.Device) =
-    broke × IsPartOfText carries begun all text
+LoopAnswers broke carries trace begun all text (Ok r) =
+    IsWholeText carries trace begun all (says_carrier_failed r) text
+LoopAnswers broke carries trace begun all text (Err fault.Memory) =
+    IsTextSoFar carries trace begun all text
+LoopAnswers broke carries trace begun all text (Err fault.Device) =
+    broke × IsPartOfText carries trace begun all text

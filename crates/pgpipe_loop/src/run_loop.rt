@@ -1,6 +1,11 @@
 //! Running a loop: a client and a scripted backend in one process, and what happens between them.
 
-ghost use Rattle.std.specs.Prelude.{◌≡◌, ◌≤◌, ℕ, List, drop, length, IfOk, cond};
+pub(crate) mod everywhere;
+pub(crate) mod places;
+mod telling;
+mod wire;
+
+ghost use Rattle.std.specs.Prelude.{◌≡◌, ℕ, List, true, false};
 ghost use Rattle.std.specs.List.{FoldsTo, concat};
 ghost use Rattle.pg_wire.specs.Direction.{IsLimit};
 ghost use Rattle.pg_wire.specs.Link.{HasRisen};
@@ -9,19 +14,19 @@ ghost use Rattle.pg_pair.specs.Beginning.{IsBegun};
 ghost use Rattle.pg_pair.specs.View.{PairView};
 ghost use Rattle.pg_pair.specs.declared.event.Event.TheVariants as event;
 ghost use Rattle.pgpipe_files.specs.Filling.{next_file};
-ghost use Rattle.pgpipe_loop.specs.Lines.{event_rows, text_lines};
-ghost use Rattle.pgpipe_loop.specs.RunLoop.{PlannedEvent, times, most_times, flow_once, line_events, planned_events, is_carrier, is_nothing, LoopAnswers};
+ghost use Rattle.pgpipe_loop.specs.RunLoop.{PlannedEvent, times, most_times, flow_once, line_events, planned_events, is_carrier, LoopAnswers};
 ghost use Rattle.pgpipe_loop.specs.Private.Running.{at, delivery, SendsLines, Prints, HasDone, DoesAll, DoesOnce, Closes, EndsLoop};
 ghost use Rattle.pgpipe_base.specs.Receiving.{CountsNoFailure};
 
-use crate::lines::{closing_lines, event_lines};
+use crate::lines::closing_lines;
 use pg_backend::Script;
 use pg_pair::{Applied, Carry, Event, Pair, Way};
 use pg_wire::{Seq, Sink};
 use pgpipe_base::ToolFault;
 use pgpipe_base::outbox::send;
 use pgpipe_files::{CallLine, Calls};
-use std::alloc::{AllocError, Global};
+use std::alloc::Global;
+use telling::{before_of, is_nothing, lines_since, named_lines};
 
 /// How a loop ended.
 #[derive(Clone, Copy, Debug, PartialEq, Eq)]
@@ -44,39 +49,27 @@ struct Running<C: Carry> {
 }
 
 impl<C: Carry> Running<C> {
-    // Applies an event, and sends its lines.
-    fn apply<K: Sink>(&mut self, event: Event, sink: &mut K) -> Result<Applied, ToolFault>
-        ensures { Prints C.carries K.takes K.failures event
+    // Applies an event, and sends its lines, in a trace or without one.
+    fn apply<K: Sink>(
+        &mut self,
+        event: Event,
+        trace: bool,
+        sink: &mut K,
+    ) -> Result<Applied, ToolFault>
+        ensures { Prints C.carries trace K.takes K.failures event
             (at self.old.pair self.old.carrier_failed sink.old) result
             (at self.new.pair self.new.carrier_failed sink.new) }
     {
-        let settled = self.pair.settled().len();
-        let lost = self.pair.loss().is_some();
+        let before = before_of(&self.pair);
+        let named = named_lines(self.alloc, trace, &event)?;
         let answer = match self.pair.apply(event) {
             Ok(answer) => answer,
             Err(_) => return Err(ToolFault::Memory),
         };
         self.carrier_failed |= is_carrier(&answer);
-        let lines = self.lines_since(settled, lost, &answer)?;
+        let lines = lines_since(self.alloc, &self.pair, trace, &before, named, &answer)?;
         send_lines(lines, sink)?;
         Ok(answer)
-    }
-
-    // The lines of an event, before which so many groups were settled.
-    fn lines_since(
-        &self,
-        settled: usize,
-        lost: bool,
-        answer: &Applied,
-    ) -> Result<Vec<u8>, AllocError>
-        requires { settled ≤ length self.now.pair.settled }
-        ensures { IfOk result (λ text. text.items
-            ≡ text_lines (event_rows (drop settled self.now.pair.settled) answer.now
-            (cond lost None self.now.pair.loss))) }
-    {
-        let (_, new) = self.pair.settled().split_at(settled);
-        let loss = if lost { None } else { self.pair.loss() };
-        event_lines(self.alloc, new, answer, loss)
     }
 
     // Delivers at most so many bytes, and answers whether no byte was moved.
@@ -84,35 +77,42 @@ impl<C: Carry> Running<C> {
         &mut self,
         way: Way,
         count: u32,
+        trace: bool,
         sink: &mut K,
     ) -> Result<bool, ToolFault>
-        ensures { DoesOnce C.carries K.takes K.failures (delivery way count)
+        ensures { DoesOnce C.carries trace K.takes K.failures (delivery way count)
             (at self.old.pair self.old.carrier_failed sink.old) result
             (at self.new.pair self.new.carrier_failed sink.new) }
     {
         let before = self.pair.reached(way);
-        self.apply(delivery(way, count), sink)?;
+        self.apply(delivery(way, count), trace, sink)?;
         Ok(self.pair.reached(way) == before)
     }
 
     // Makes a step, and answers whether nothing whole waited.
-    fn step_once<K: Sink>(&mut self, sink: &mut K) -> Result<bool, ToolFault>
-        ensures { DoesOnce C.carries K.takes K.failures event.Step
+    fn step_once<K: Sink>(&mut self, trace: bool, sink: &mut K) -> Result<bool, ToolFault>
+        ensures { DoesOnce C.carries trace K.takes K.failures event.Step
             (at self.old.pair self.old.carrier_failed sink.old) result
             (at self.new.pair self.new.carrier_failed sink.new) }
     {
-        let answer = self.apply(Event::Step, sink)?;
+        let answer = self.apply(Event::Step, trace, sink)?;
         Ok(is_nothing(&answer))
     }
 
     // Delivers so many bytes at a time, until none is moved.
-    fn deliver<K: Sink>(&mut self, way: Way, count: u32, sink: &mut K) -> Result<(), ToolFault>
-        ensures { DoesAll C.carries K.takes K.failures (times most_times (delivery way count))
+    fn deliver<K: Sink>(
+        &mut self,
+        way: Way,
+        count: u32,
+        trace: bool,
+        sink: &mut K,
+    ) -> Result<(), ToolFault>
+        ensures { DoesAll C.carries trace K.takes K.failures (times most_times (delivery way count))
             (at self.old.pair self.old.carrier_failed sink.old) result
             (at self.new.pair self.new.carrier_failed sink.new) }
     {
         for _ in 0..MOST_TIMES {
-            if self.deliver_once(way, count, sink)? {
+            if self.deliver_once(way, count, trace, sink)? {
                 return Ok(());
             }
         }
@@ -120,13 +120,13 @@ impl<C: Carry> Running<C> {
     }
 
     // Has the backend step, until nothing whole waits.
-    fn step<K: Sink>(&mut self, sink: &mut K) -> Result<(), ToolFault>
-        ensures { DoesAll C.carries K.takes K.failures (times most_times event.Step)
+    fn step<K: Sink>(&mut self, trace: bool, sink: &mut K) -> Result<(), ToolFault>
+        ensures { DoesAll C.carries trace K.takes K.failures (times most_times event.Step)
             (at self.old.pair self.old.carrier_failed sink.old) result
             (at self.new.pair self.new.carrier_failed sink.new) }
     {
         for _ in 0..MOST_TIMES {
-            if self.step_once(sink)? {
+            if self.step_once(trace, sink)? {
                 return Ok(());
             }
         }
@@ -134,30 +134,36 @@ impl<C: Carry> Running<C> {
     }
 
     // All that waits goes to the backend, it steps, and all that waits goes to the client.
-    fn flow_once<K: Sink>(&mut self, cut: u32, sink: &mut K) -> Result<(), ToolFault>
-        ensures { DoesAll C.carries K.takes K.failures (flow_once cut)
+    fn flow_once<K: Sink>(&mut self, cut: u32, trace: bool, sink: &mut K) -> Result<(), ToolFault>
+        ensures { DoesAll C.carries trace K.takes K.failures (flow_once cut)
             (at self.old.pair self.old.carrier_failed sink.old) result
             (at self.new.pair self.new.carrier_failed sink.new) }
     {
-        self.deliver(Way::ToBackend, cut, sink)?;
-        self.step(sink)?;
-        self.deliver(Way::ToClient, cut, sink)
+        self.deliver(Way::ToBackend, cut, trace, sink)?;
+        self.step(trace, sink)?;
+        self.deliver(Way::ToClient, cut, trace, sink)
     }
 
     // Does a line of the calls.
-    fn line<K: Sink>(&mut self, line: CallLine, cut: u32, sink: &mut K) -> Result<(), ToolFault>
-        ensures { DoesAll C.carries K.takes K.failures (line_events cut line)
+    fn line<K: Sink>(
+        &mut self,
+        line: CallLine,
+        cut: u32,
+        trace: bool,
+        sink: &mut K,
+    ) -> Result<(), ToolFault>
+        ensures { DoesAll C.carries trace K.takes K.failures (line_events cut line)
             (at self.old.pair self.old.carrier_failed sink.old) result
             (at self.new.pair self.new.carrier_failed sink.new) }
     {
         match line {
             CallLine::Event(event) => {
-                self.apply(event, sink)?;
+                self.apply(event, trace, sink)?;
                 Ok(())
             }
             CallLine::Flow => {
-                self.flow_once(cut, sink)?;
-                self.flow_once(cut, sink)
+                self.flow_once(cut, trace, sink)?;
+                self.flow_once(cut, trace, sink)
             }
             // no file is left
             CallLine::File(_) => Ok(()),
@@ -169,14 +175,15 @@ impl<C: Carry> Running<C> {
         &mut self,
         lines: Seq<CallLine>,
         cut: u32,
+        trace: bool,
         sink: &mut K,
     ) -> Result<(), ToolFault>
-        ensures { DoesAll C.carries K.takes K.failures (planned_events cut lines)
+        ensures { DoesAll C.carries trace K.takes K.failures (planned_events cut lines)
             (at self.old.pair self.old.carrier_failed sink.old) result
             (at self.new.pair self.new.carrier_failed sink.new) }
     {
         for line in lines {
-            self.line(line, cut, sink)?;
+            self.line(line, cut, trace, sink)?;
         }
         Ok(())
     }
@@ -195,14 +202,15 @@ impl<C: Carry> Running<C> {
         &mut self,
         lines: Seq<CallLine>,
         cut: u32,
+        trace: bool,
         sink: &mut K,
     ) -> Result<Ran, ToolFault>
         ensures { (start : K) (begun : PairView C) (all : List PlannedEvent)
-            → HasDone C.carries K.takes K.failures start begun all
+            → HasDone C.carries trace K.takes K.failures start begun all
             (at self.old.pair self.old.carrier_failed sink.old) (planned_events cut lines)
-            → EndsLoop C.carries K.takes K.failures start begun all result sink.new }
+            → EndsLoop C.carries trace K.takes K.failures start begun all result sink.new }
     {
-        self.lines(lines, cut, sink)?;
+        self.lines(lines, cut, trace, sink)?;
         self.close(sink)?;
         Ok(if self.carrier_failed {
             Ran::CarrierFailed
@@ -216,12 +224,6 @@ fn is_carrier(answer: &Applied) -> bool
     ensures { result ≡ is_carrier answer.now }
 {
     matches!(answer, Applied::Carrier)
-}
-
-fn is_nothing(answer: &Applied) -> bool
-    ensures { result ≡ is_nothing answer.now }
-{
-    matches!(answer, Applied::Nothing)
 }
 
 fn delivery(way: Way, count: u32) -> Event
@@ -238,6 +240,34 @@ fn send_lines<K: Sink>(lines: Vec<u8>, sink: &mut K) -> Result<(), ToolFault>
 {
     let mut lines = lines;
     send(&mut lines, sink).map_err(|_| ToolFault::Device)
+}
+
+// Runs a loop, in a trace or without one.
+fn run_told<C: Carry, K: Sink>(
+    alloc: Global,
+    script: Script,
+    calls: Calls,
+    cut: u32,
+    trace: bool,
+    carrier: C,
+    sink: &mut K,
+) -> Result<Ran, ToolFault>
+    requires limit { IsLimit calls.settings.limit }
+    requires checked { IsChecked script }
+    requires filled { next_file calls.lines ≡ None }
+    ensures ran { (begun : PairView C) × (sent : List (List ℕ))
+        × IsBegun calls.settings script carrier begun × FoldsTo K.takes sink.old sent sink.new
+        × LoopAnswers (HasRisen (K.failures sink.old) (K.failures sink.new)) C.carries trace begun
+        (planned_events cut calls.lines) (concat sent) result }
+    ensures sink { CountsNoFailure (K.failures sink.old) result (K.failures sink.new) }
+{
+    let Calls { settings, lines } = calls;
+    let mut running = Running {
+        alloc,
+        pair: Pair::new(alloc, settings, script, carrier),
+        carrier_failed: false,
+    };
+    running.run(lines, cut, trace, sink)
 }
 
 /// Runs the lines of `calls` over a client with their settings and a backend with `script`, between which `carrier` carries, and sends
@@ -260,16 +290,35 @@ pub fn run_loop<C: Carry, K: Sink>(
     // the pair as it begins, what was sent, and the answer for what has happened
     ensures ran { (begun : PairView C) × (sent : List (List ℕ))
         × IsBegun calls.settings script carrier begun × FoldsTo K.takes sink.old sent sink.new
-        × LoopAnswers (HasRisen (K.failures sink.old) (K.failures sink.new)) C.carries begun
+        × LoopAnswers (HasRisen (K.failures sink.old) (K.failures sink.new)) C.carries false begun
         (planned_events cut calls.lines) (concat sent) result }
     // where the answer isn't Device, the sink didn't fail
     ensures sink { CountsNoFailure (K.failures sink.old) result (K.failures sink.new) }
 {
-    let Calls { settings, lines } = calls;
-    let mut running = Running {
-        alloc,
-        pair: Pair::new(alloc, settings, script, carrier),
-        carrier_failed: false,
-    };
-    running.run(lines, cut, sink)
+    run_told(alloc, script, calls, cut, false, carrier, sink)
+}
+
+/// Runs a loop as [`run_loop`] does, for the same script and calls and with the same answers, and sends a trace of it. Each event that did
+/// something has these lines: `event` and what happened, `reached` and how many bytes were delivered, `sent` for each message that an end
+/// put out, the lines that `run_loop` sends of it, and the phases of both ends. The closing lines are last.
+pub fn trace_loop<C: Carry, K: Sink>(
+    alloc: Global,
+    script: Script,
+    calls: Calls,
+    cut: u32,
+    carrier: C,
+    sink: &mut K,
+) -> Result<Ran, ToolFault>
+    requires limit { IsLimit calls.settings.limit }
+    requires checked { IsChecked script }
+    requires filled { next_file calls.lines ≡ None }
+    // the pair as it begins, what was sent, and the answer for what has happened
+    ensures ran { (begun : PairView C) × (sent : List (List ℕ))
+        × IsBegun calls.settings script carrier begun × FoldsTo K.takes sink.old sent sink.new
+        × LoopAnswers (HasRisen (K.failures sink.old) (K.failures sink.new)) C.carries true begun
+        (planned_events cut calls.lines) (concat sent) result }
+    // where the answer isn't Device, the sink didn't fail
+    ensures sink { CountsNoFailure (K.failures sink.old) result (K.failures sink.new) }
+{
+    run_told(alloc, script, calls, cut, true, carrier, sink)
 }

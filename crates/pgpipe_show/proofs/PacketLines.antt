@@ -17,8 +17,8 @@ use Rattle.pgpipe_base.specs.declared.stop.Stop.{Stop}
 use Rattle.pgpipe_base.specs.declared.stop.Stop.TheVariants as stop
 use Rattle.pgpipe_show.specs.declared.show.Shown.{Shown}
 use Rattle.pgpipe_show.specs.declared.show.Shown.TheVariants as shown
-use Rattle.pgpipe_show.specs.declared.packets.Next.{Next}
-use Rattle.pgpipe_show.specs.declared.packets.Next.TheVariants as next
+use Rattle.pgpipe_frames.specs.declared.next.Next.{Next}
+use Rattle.pgpipe_frames.specs.declared.next.Next.TheVariants as next
 use Rattle.pgpipe_base.specs.Outbox.{Puts}
 use Rattle.pgpipe_show.specs.Private.Showing.{HasPutPackets, PutsPackets, PutsLine, fault_stop}
 use Rattle.pgpipe_show.proofs.MessageLines.{each_append}

@@ -20,12 +20,13 @@ use Rattle.pg_wire.specs.Frontend.{frontend}
 use Rattle.pg_wire.specs.Stream.{IsFaulty}
 use Rattle.pg_wire.proofs.BackMessages.{is_tag, no_tag}
 use Rattle.pg_wire.proofs.Rests.{short_open, partial_open}
-use Rattle.pgpipe_show.specs.declared.packets.Next.TheVariants as next
+use Rattle.pgpipe_frames.specs.declared.next.Next.TheVariants as next
 use Rattle.pgpipe_show.specs.declared.show.Shown.TheVariants as shown
 use Rattle.pgpipe_show.specs.Packets.{packet_line}
 use Rattle.pgpipe_base.specs.declared.fault.ToolFault.TheVariants as fault
 use Rattle.pgpipe_base.specs.Outbox.{body_text, line_of}
 use Rattle.pgpipe_show.specs.Messages.{line}
+use Rattle.pgpipe_show.specs.Way.{messages_of}
 use Rattle.pgpipe_show.specs.Show.{length_limit, AreMessages, IsClientSide, AreShownBefore, ShowAnswers}
 
 -- a line by the text of its length
@@ -122,10 +123,10 @@ cancel_and rest = record {
   each_line = sym (append-nil (packet_line canceled ++ []) ∙ append-nil (packet_line canceled));
 }
 
-pub a_cancel : ShowAnswers ⊥ ⊥ true (packet canceled) (packet_line canceled) (Ok shown.Whole)
+pub a_cancel : ShowAnswers ⊥ ⊥ (messages_of true) (packet canceled) (packet_line canceled) (Ok shown.Whole)
 a_cancel = (next.Nothing, cancel_and [])
 
-pub byte_after_a_cancel : ShowAnswers ⊥ ⊥ true (packet canceled ++ 0 ∷ []) (packet_line canceled) (Ok (shown.Rest 1))
+pub byte_after_a_cancel : ShowAnswers ⊥ ⊥ (messages_of true) (packet canceled ++ 0 ∷ []) (packet_line canceled) (Ok (shown.Rest 1))
 byte_after_a_cancel = (next.Nothing, 0 ∷ [], cancel_and (0 ∷ []), tt, refl, omega arith)
 
 -- a ReadyForQuery, and what stands after it
@@ -142,14 +143,14 @@ no_message = 0x21 ∷ 0 ∷ 0 ∷ 0 ∷ 4 ∷ []
 unknown : IsFaulty backend length_limit no_message (wire.UnknownTag 33)
 unknown = (pos 4, record { there = omega arith; tag_is = refl; length_is = refl }, no_tag 33 refl)
 
-pub unknown_tag : ShowAnswers ⊥ ⊥ false (spelling backend (Ready Idle) ++ no_message) (line backend (Ready Idle)) (Ok (shown.Fault (wire.UnknownTag 33)))
+pub unknown_tag : ShowAnswers ⊥ ⊥ (messages_of false) (spelling backend (Ready Idle) ++ no_message) (line backend (Ready Idle)) (Ok (shown.Fault (wire.UnknownTag 33)))
 unknown_tag = (next.Message, no_message, (refl, ready_and no_message), unknown)
 
 -- a ReadyForQuery without its last byte
 abbrev five_bytes : List ℕ
 five_bytes = 0x5A ∷ 0 ∷ 0 ∷ 0 ∷ 5 ∷ []
 
-pub cut_off : ShowAnswers ⊥ ⊥ false five_bytes [] (Ok (shown.Rest 5))
+pub cut_off : ShowAnswers ⊥ ⊥ (messages_of false) five_bytes [] (Ok (shown.Rest 5))
 cut_off = (
   next.Message,
   five_bytes,
@@ -160,9 +161,9 @@ cut_off = (
 )
 
 -- the sink failed at once: no more than a piece was received
-pub broken_at_once : (broke : Type 0) → broke → ShowAnswers ⊥ broke false (spelling backend (Ready Idle)) [] (Err fault.Device)
+pub broken_at_once : (broke : Type 0) → broke → ShowAnswers ⊥ broke (messages_of false) (spelling backend (Ready Idle)) [] (Err fault.Device)
 broken_at_once broke is =
-    let before : AreShownBefore false (spelling backend (Ready Idle)) [] = record {
+    let before : AreShownBefore (messages_of false) (spelling backend (Ready Idle)) [] = record {
       earlier = [];
       last = spelling backend (Ready Idle);
       whole = refl;

@@ -6,8 +6,8 @@ use Rattle.std.specs.List.{flat_map}
 use Rattle.pg_wire.specs.message.First.{First}
 use Rattle.pg_wire.specs.message.First.TheVariants as first
 use Rattle.pg_wire.specs.First.{packet_length, code, content}
-use Rattle.pgpipe_show.specs.declared.packets.Next.{Next}
-use Rattle.pgpipe_show.specs.declared.packets.Next.TheVariants as next
+use Rattle.pgpipe_frames.specs.declared.next.Next.{Next}
+use Rattle.pgpipe_frames.specs.declared.next.Next.TheVariants as next
 use Rattle.pgpipe_base.specs.Outbox.{line_of}
 
 -- the word for a packet: startup, cancel, ssl or gss

@@ -7,14 +7,20 @@ use Rattle.pg_wire.specs.Direction.{Direction, longest}
 use Rattle.pg_wire.specs.First.{IsBeginning, IsOpenPacket, IsFaultyPacket}
 use Rattle.pg_wire.specs.Frontend.{frontend}
 use Rattle.pg_wire.specs.Stream.{IsStream, IsOpen, IsFaulty}
-use Rattle.pgpipe_show.specs.declared.packets.Next.{Next}
-use Rattle.pgpipe_show.specs.declared.packets.Next.TheVariants as next
+use Rattle.pgpipe_frames.specs.declared.next.Next.{Next}
+use Rattle.pgpipe_frames.specs.declared.next.Next.TheVariants as next
 use Rattle.pgpipe_show.specs.declared.show.Shown.{Shown}
 use Rattle.pgpipe_show.specs.declared.show.Shown.TheVariants as shown
 use Rattle.pgpipe_base.specs.declared.fault.ToolFault.{ToolFault}
 use Rattle.pgpipe_base.specs.declared.fault.ToolFault.TheVariants as fault
+use Rattle.pgpipe_frames.specs.declared.judge.Judged.TheVariants as judge
+use Rattle.pgpipe_frames.specs.Frames.{judged}
+use Rattle.pgpipe_show.specs.declared.form.Form.{Form}
+use Rattle.pgpipe_show.specs.declared.form.Form.TheVariants as forms
+use Rattle.pgpipe_show.specs.FrameLines.{AreFramesShown}
 use Rattle.pgpipe_show.specs.Messages.{lines}
 use Rattle.pgpipe_show.specs.Packets.{packet_lines, next_after, have_ended}
+use Rattle.pgpipe_show.specs.Way.{Way}
 use Rattle.pgpipe_base.specs.Receiving.{longest_piece}
 use Rattle.pgpipe_base.specs.Outbox.{most_collected}
 use mathlib.Core.List.{IsPrefix}
@@ -50,65 +56,90 @@ pub record IsClientSide (bytes text : List ℕ) (n : Next) (rest : List ℕ) : T
   pub follows : ComesAfter n following later rest
   pub each_line : text ≡ packet_lines packets ++ later
 
--- ---- either side
+-- ---- either side, and either form
 
 -- The bytes of a client (true) or a backend (false) are what this text has the lines of, and this
 -- rest, where `n` may come next.
-abbrev pub AreShown : Bool → List ℕ → List ℕ → Next → List ℕ → Type 0
-AreShown false bytes text n rest = (n ≡ next.Message) × AreMessages backend bytes text rest
-AreShown true bytes text n rest = IsClientSide bytes text n rest
+abbrev pub AreMessagesShown : Bool → List ℕ → List ℕ → Next → List ℕ → Type 0
+AreMessagesShown false bytes text n rest = (n ≡ next.Message) × AreMessages backend bytes text rest
+AreMessagesShown true bytes text n rest = IsClientSide bytes text n rest
 
 -- The rest is open, where n may come next. After a Cancel any rest is, as nothing more is read.
-abbrev pub IsOpenFor : Bool → Next → List ℕ → Type 0
-IsOpenFor false n rest = IsOpen backend length_limit rest
-IsOpenFor true next.Packet rest = IsOpenPacket rest
-IsOpenFor true next.Message rest = IsOpen frontend length_limit rest
-IsOpenFor true next.Nothing rest = Unit {0}
+abbrev pub AreMessagesOpen : Bool → Next → List ℕ → Type 0
+AreMessagesOpen false n rest = IsOpen backend length_limit rest
+AreMessagesOpen true next.Packet rest = IsOpenPacket rest
+AreMessagesOpen true next.Message rest = IsOpen frontend length_limit rest
+AreMessagesOpen true next.Nothing rest = Unit {0}
 
 -- The rest is faulty for this reason, where n may come next. After a Cancel no rest is.
-abbrev pub IsFaultyFor : Bool → Next → List ℕ → WireFault → Type 0
-IsFaultyFor false n rest f = IsFaulty backend length_limit rest f
-IsFaultyFor true next.Packet rest f = IsFaultyPacket rest f
-IsFaultyFor true next.Message rest f = IsFaulty frontend length_limit rest f
-IsFaultyFor true next.Nothing rest f = ⊥
+abbrev pub AreMessagesFaulty : Bool → Next → List ℕ → WireFault → Type 0
+AreMessagesFaulty false n rest f = IsFaulty backend length_limit rest f
+AreMessagesFaulty true next.Packet rest f = IsFaultyPacket rest f
+AreMessagesFaulty true next.Message rest f = IsFaulty frontend length_limit rest f
+AreMessagesFaulty true next.Nothing rest f = ⊥
+
+-- By the form: the text is the lines of messages and packets of the tables, or of frames.
+abbrev pub AreShownIn : Form → Bool → List ℕ → List ℕ → Next → List ℕ → Type 0
+AreShownIn forms.Messages front bytes text n rest = AreMessagesShown front bytes text n rest
+AreShownIn (forms.Frames form) front bytes text n rest =
+    AreFramesShown form front bytes text n rest
+
+abbrev pub AreShown : Way → List ℕ → List ℕ → Next → List ℕ → Type 0
+AreShown way bytes text n rest = AreShownIn way.form way.front bytes text n rest
+
+-- By the form: the rest is open.
+abbrev pub IsOpenIn : Form → Bool → Next → List ℕ → Type 0
+IsOpenIn forms.Messages front n rest = AreMessagesOpen front n rest
+IsOpenIn (forms.Frames form) front n rest = judged n rest ≡ judge.Open
+
+abbrev pub IsOpenFor : Way → Next → List ℕ → Type 0
+IsOpenFor way n rest = IsOpenIn way.form way.front n rest
+
+-- By the form: the rest is faulty for this reason. Of frames only a length is.
+abbrev pub IsFaultyIn : Form → Bool → Next → List ℕ → WireFault → Type 0
+IsFaultyIn forms.Messages front n rest f = AreMessagesFaulty front n rest f
+IsFaultyIn (forms.Frames form) front n rest f = judged n rest ≡ judge.Faulty f
+
+abbrev pub IsFaultyFor : Way → Next → List ℕ → WireFault → Type 0
+IsFaultyFor way n rest f = IsFaultyIn way.form way.front n rest f
 
 -- ---- how much is shown
 
 -- The text has a line for all that is whole in these bytes, and the rest of them is open.
-pub record AreAllShown (front : Bool) (bytes text : List ℕ) : Type 0 where
+pub record AreAllShown (way : Way) (bytes text : List ℕ) : Type 0 where
   pub n : Next
   pub rest : List ℕ
-  pub shown : AreShown front bytes text n rest
-  pub is_open : IsOpenFor front n rest
+  pub shown : AreShown way bytes text n rest
+  pub is_open : IsOpenFor way n rest
 
 -- The text has the lines for these bytes without the last piece, a piece being at most 65,536
 -- bytes, and the rest before that piece is open.
-pub record AreShownBefore (front : Bool) (bytes text : List ℕ) : Type 0 where
+pub record AreShownBefore (way : Way) (bytes text : List ℕ) : Type 0 where
   pub earlier : List ℕ
   pub last : List ℕ
   pub whole : bytes ≡ earlier ++ last
   pub a_piece : length last ≤ longest_piece
-  pub shown : AreAllShown front earlier text
+  pub shown : AreAllShown way earlier text
 
 -- The text is whole lines for these bytes, and none of those for the bytes before the last piece is
 -- missing.
-pub record AreMostlyShown (front : Bool) (bytes text : List ℕ) : Type 0 where
+pub record AreMostlyShown (way : Way) (bytes text : List ℕ) : Type 0 where
   pub before : List ℕ
-  pub shown_before : AreShownBefore front bytes before
+  pub shown_before : AreShownBefore way bytes before
   pub begins : IsPrefix before text
   pub n : Next
   pub rest : List ℕ
-  pub shown : AreShown front bytes text n rest
+  pub shown : AreShown way bytes text n rest
 
 -- The text is a prefix of the lines for these bytes, and may end within a line.
-abbrev pub ArePartlyShown : Bool → List ℕ → List ℕ → Type 0
-ArePartlyShown front bytes text = (all rest : List ℕ) × (n : Next) × AreShown front bytes all n rest
+abbrev pub ArePartlyShown : Way → List ℕ → List ℕ → Type 0
+ArePartlyShown way bytes text = (all rest : List ℕ) × (n : Next) × AreShown way bytes all n rest
     × IsPrefix text all
 
 -- At most 65,536 bytes of lines, for the bytes before the last piece, weren't sent: so a failed
 -- sink is noticed soon.
-abbrev pub IsShownAtOnce : Bool → List ℕ → List ℕ → Type 0
-IsShownAtOnce front bytes text = (before : List ℕ) × AreShownBefore front bytes before
+abbrev pub IsShownAtOnce : Way → List ℕ → List ℕ → Type 0
+IsShownAtOnce way bytes text = (before : List ℕ) × AreShownBefore way bytes before
     × (length before ≤ most_collected + length text)
 
 -- ---- the answer
@@ -116,17 +147,17 @@ IsShownAtOnce front bytes text = (before : List ℕ) × AreShownBefore front byt
 -- What `show` answers, by the bytes received and the text sent: Whole without a rest, Rest with its
 -- size, or the rest's fault. Memory: no line is missing for what came before the last piece.
 -- Device: the sink broke (a prefix was sent), or the source stopped (all was sent).
-abbrev pub ShowAnswers : Type 0 → Type 0 → Bool → List ℕ → List ℕ → Result Shown ToolFault → Type 0
-ShowAnswers stopped broke front bytes text (Ok shown.Whole) = (n : Next)
-    × AreShown front bytes text n []
-ShowAnswers stopped broke front bytes text (Ok (shown.Rest size)) = (n : Next) × (rest : List ℕ)
-    × AreShown front bytes text n rest × IsOpenFor front n rest × (size ≡ length rest) × (0 < size)
-ShowAnswers stopped broke front bytes text (Ok (shown.Fault f)) = (n : Next) × (rest : List ℕ)
-    × AreShown front bytes text n rest × IsFaultyFor front n rest f
-ShowAnswers stopped broke front bytes text (Err fault.Memory) = AreMostlyShown front bytes text
-ShowAnswers stopped broke front bytes text (Err fault.Device) =
-    (broke × ArePartlyShown front bytes text
-    × IsShownAtOnce front bytes text) ⊎ (stopped × AreAllShown front bytes text)
+abbrev pub ShowAnswers : Type 0 → Type 0 → Way → List ℕ → List ℕ → Result Shown ToolFault → Type 0
+ShowAnswers stopped broke way bytes text (Ok shown.Whole) = (n : Next)
+    × AreShown way bytes text n []
+ShowAnswers stopped broke way bytes text (Ok (shown.Rest size)) = (n : Next) × (rest : List ℕ)
+    × AreShown way bytes text n rest × IsOpenFor way n rest × (size ≡ length rest) × (0 < size)
+ShowAnswers stopped broke way bytes text (Ok (shown.Fault f)) = (n : Next) × (rest : List ℕ)
+    × AreShown way bytes text n rest × IsFaultyFor way n rest f
+ShowAnswers stopped broke way bytes text (Err fault.Memory) = AreMostlyShown way bytes text
+ShowAnswers stopped broke way bytes text (Err fault.Device) =
+    (broke × ArePartlyShown way bytes text
+    × IsShownAtOnce way bytes text) ⊎ (stopped × AreAllShown way bytes text)
 
 -- Where the answer is Whole or Rest, the source has ended.
 abbrev pub EndsStream : Type 0 → Result Shown ToolFault → Type 0

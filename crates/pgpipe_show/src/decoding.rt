@@ -2,14 +2,18 @@
 
 ghost use Rattle.std.specs.Prelude.{◌≡◌, ◌<◌, ◌+◌, ◌^◌, ◌++◌, [], length, true, false, None, ℕ, List, OnOk};
 ghost use Rattle.pgpipe_show.specs.declared.decoding.Decoding.TheVariants.{First};
-ghost use Rattle.pgpipe_show.specs.Private.Showing.{is_front, unshown, AreAt, IsSoundAt, HasShown, StepShows, LeavesSource};
+ghost use Rattle.pgpipe_show.specs.Way.{messages_of};
+ghost use Rattle.pgpipe_show.specs.Private.Showing.{way_of, unshown, AreAt, IsSoundAt, HasShown, StepShows, LeavesSource};
 
+use crate::form::{Form, Line};
+use crate::framing::{Framing, take_frames};
 use crate::messages::{put_messages, take_messages};
-use crate::packets::{Next, put_packets};
+use crate::packets::put_packets;
 use crate::show::Shown;
 use pg_wire::{BackMessage, FirstDecoder, FrontMessage, LONGEST, Sink, Spellings};
 use pgpipe_base::Stop;
 use pgpipe_base::outbox::Outbox;
+use pgpipe_frames::Next;
 use std::alloc::Global;
 
 /// What is read now.
@@ -23,6 +27,10 @@ pub enum Decoding {
     Front(Spellings<FrontMessage>),
     /// Nothing after a Cancel: so many bytes came.
     Over(usize),
+    /// Frames.
+    Framed(Framing),
+    /// Nothing after a request to cancel, of a client whose frames are shown so: so many bytes came.
+    FramedOver(Line, bool, usize),
 }
 
 // Takes a piece of what a client begins with, and puts the lines of the packets and messages that are whole then.
@@ -36,7 +44,7 @@ fn take_packets<K: Sink>(
     requires { (decoder.ended ≡ false) × (decoder.fault ≡ None) }
     ensures steps { (start : K) (bytes : List ℕ)
         (stands : HasShown K.takes K.failures start bytes (First decoder) outbox.old sink.old)
-        → StepShows K.takes K.failures true start (bytes
+        → StepShows K.takes K.failures (messages_of true) start (bytes
         ++ piece.now) stands.put.pieces result outbox.new sink.new }
     ensures source { LeavesSource result }
 {
@@ -55,15 +63,26 @@ fn take_packets<K: Sink>(
 }
 
 impl Decoding {
-    /// Nothing was read yet.
-    pub fn begin(alloc: Global, front: bool) -> Decoding
-        ensures side { is_front result ≡ front }
+    // Nothing was read yet of messages and packets of the tables.
+    fn begin_messages(alloc: Global, front: bool) -> Decoding
+        ensures side { way_of result ≡ messages_of front }
         ensures begun { AreAt [] [] result }
     {
         if front {
             Decoding::First(FirstDecoder::new(alloc))
         } else {
             Decoding::Back(Spellings::new(alloc, LONGEST))
+        }
+    }
+
+    /// Nothing was read yet.
+    pub fn begin(alloc: Global, form: Form, front: bool) -> Decoding
+        ensures side { way_of result ≡ record { form = form; front = front } }
+        ensures begun { AreAt [] [] result }
+    {
+        match form {
+            Form::Messages => Decoding::begin_messages(alloc, front),
+            Form::Frames(line) => Decoding::Framed(Framing::new(alloc, line, front)),
         }
     }
 
@@ -76,6 +95,8 @@ impl Decoding {
             Decoding::First(decoder) => decoder.kept(),
             Decoding::Front(spellings) => spellings.kept(),
             Decoding::Over(count) => *count,
+            Decoding::FramedOver(_, _, count) => *count,
+            Decoding::Framed(framing) => framing.frames.kept(),
         }
     }
 
@@ -91,7 +112,7 @@ impl Decoding {
         requires room { unshown self + length piece.now < 2 ^ 64 }
         ensures steps { (start : K) (bytes : List ℕ)
             (stands : HasShown K.takes K.failures start bytes self outbox.old sink.old)
-            → StepShows K.takes K.failures (is_front self) start (bytes
+            → StepShows K.takes K.failures (way_of self) start (bytes
             ++ piece.now) stands.put.pieces result outbox.new sink.new }
         ensures source { LeavesSource result }
     {
@@ -106,6 +127,10 @@ impl Decoding {
                 Ok(Decoding::Front(spellings))
             }
             Decoding::Over(count) => Ok(Decoding::Over(count + piece.len())),
+            Decoding::Framed(framing) => take_frames(framing, piece, spelled, outbox, sink),
+            Decoding::FramedOver(line, front, count) => {
+                Ok(Decoding::FramedOver(line, front, count + piece.len()))
+            }
         }
     }
 
@@ -121,7 +146,7 @@ impl Decoding {
         requires room { unshown self + length piece.now < 2 ^ 64 }
         ensures steps { (start : K) (bytes : List ℕ)
             (stands : HasShown K.takes K.failures start bytes self outbox.old sink.old)
-            → StepShows K.takes K.failures (is_front self) start (bytes
+            → StepShows K.takes K.failures (way_of self) start (bytes
             ++ piece.now) stands.put.pieces result outbox.new sink.new }
         ensures source { LeavesSource result }
         ensures nothing_left { OnOk result (outbox.new ≡ []) }

@@ -10,8 +10,8 @@ use pg_wire::{Message, Sink, Spellings};
 use pgpipe_base::Stop;
 use pgpipe_base::outbox::Outbox;
 
-// Puts the line of a message that is spelled so, from where it stands.
-fn put_spelled<K: Sink>(
+/// Puts the line of a message that is spelled so, from where it stands.
+pub fn put_spelled<K: Sink>(
     spelled: &[u8],
     outbox: &mut Outbox,
     sink: &mut K,

@@ -13,17 +13,7 @@ use pg_wire::frontend::encode_first;
 use pg_wire::{EncodeFault, First, FirstDecoder, Sink};
 use pgpipe_base::Stop;
 use pgpipe_base::outbox::Outbox;
-
-/// What a client sends next.
-#[derive(Clone, Copy, Debug, PartialEq, Eq)]
-pub enum Next {
-    /// A first packet.
-    Packet,
-    /// A message, since a Startup came.
-    Message,
-    /// Nothing that is read, since a Cancel came.
-    Nothing,
-}
+use pgpipe_frames::Next;
 
 // What comes after a packet.
 fn after_packet(packet: &First) -> Next
@@ -75,8 +65,8 @@ fn put_spelled<K: Sink>(
     }
 }
 
-// Puts the line of a packet.
-fn put_packet<K: Sink>(
+/// Puts the line of a packet.
+pub fn put_packet<K: Sink>(
     packet: First,
     spelled: &mut Vec<u8>,
     outbox: &mut Outbox,

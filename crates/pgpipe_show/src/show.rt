@@ -5,9 +5,11 @@ ghost use Rattle.std.specs.List.{FoldsTo, concat};
 ghost use Rattle.pg_wire.specs.Link.{HasRisen};
 ghost use Rattle.pgpipe_base.specs.Receiving.{longest_piece, HasStopped, CountsNoFailure, IsSentAtOnce};
 ghost use Rattle.pgpipe_show.specs.Show.{AreAllShown, ShowAnswers, EndsStream};
-ghost use Rattle.pgpipe_show.specs.Private.Showing.{is_front, unshown, IsSoundAt, HasShown, StepShows, StepsSource, HasRun};
+ghost use Rattle.pgpipe_show.specs.Way.{messages_of};
+ghost use Rattle.pgpipe_show.specs.Private.Showing.{way_of, unshown, IsSoundAt, HasShown, StepShows, StepsSource, HasRun};
 
 use crate::decoding::Decoding;
+use crate::form::Form;
 use crate::stop::end_stop;
 use pg_wire::{Sink, Source, WireFault};
 use pgpipe_base::outbox::Outbox;
@@ -51,7 +53,7 @@ impl Showing {
             × S.gives source.old piece source.new
             × ((start : K) (bytes : List ℕ)
             (stands : HasShown K.takes K.failures start bytes decoding self.old.outbox sink.old)
-            → StepShows K.takes K.failures (is_front decoding) start (bytes
+            → StepShows K.takes K.failures (way_of decoding) start (bytes
             ++ piece) stands.put.pieces result self.new.outbox sink.new) }
         ensures source { StepsSource (S.has_ended source.new) (S.failures source.old)
             (S.failures source.new) result }
@@ -80,7 +82,7 @@ impl Showing {
         requires stands { HasShown K.takes K.failures sink.old [] decoding self.old.outbox sink.old }
         requires nothing_left { self.old.outbox ≡ [] }
         ensures { HasRun S.gives S.failures (S.has_ended source.new) K.takes K.failures
-            (is_front decoding) source.old sink.old result source.new self.new.outbox sink.new }
+            (way_of decoding) source.old sink.old result source.new self.new.outbox sink.new }
     {
         let mut decoding = decoding;
         for _ in 0..MOST_RECEIVES {
@@ -102,6 +104,45 @@ fn begin(alloc: Global) -> Result<Showing, AllocError>
         spelled: Vec::new(alloc),
         into: vec![in alloc; 0; PIECE]?,
     })
+}
+
+/// Shows a stream as [`show`] does, in one of several forms: its messages and packets of the tables, as `show` itself; or its frames, whatever
+/// they are ("Message Formats", "Start-up"), with a line of hexadecimal or of words for each. A frame is told by its length field alone: of a
+/// message 4 to 1,073,741,823, of a first packet 8 to 10,000. A client's first packets go on up to one that is no request, of any version, or
+/// to a request to cancel; messages follow, or nothing that is read.
+///
+/// Its answers come as of `show`. A fault is a length field that can't be, where frames are shown.
+pub fn show_as<S: Source, K: Sink>(
+    alloc: Global,
+    form: Form,
+    front: bool,
+    source: &mut S,
+    sink: &mut K,
+) -> Result<Shown, ToolFault>
+    // what was received, what was sent, and the answer for them, where the source may have stopped and the sink broken
+    ensures shown { (received sent : List (List ℕ)) × FoldsTo S.gives source.old received source.new
+        × FoldsTo K.takes sink.old sent sink.new × ShowAnswers
+        (HasStopped (S.failures source.old) (S.failures source.new) received)
+        (HasRisen (K.failures sink.old) (K.failures sink.new))
+        (record { form = form; front = front }) (concat received) (concat sent) result }
+    // before each receive but the first, the lines for all that came had been sent
+    ensures at_once { (received sent : List (List ℕ))
+        × FoldsTo S.gives source.old received source.new × FoldsTo K.takes sink.old sent sink.new
+        × IsSentAtOnce (AreAllShown (record { form = form; front = front })) received sent }
+    ensures ended { EndsStream (S.has_ended source.new) result }
+    // where the answer isn't Device, neither failed
+    ensures source { CountsNoFailure (S.failures source.old) result (S.failures source.new) }
+    ensures sink { CountsNoFailure (K.failures sink.old) result (K.failures sink.new) }
+{
+    let mut work = match begin(alloc) {
+        Ok(work) => work,
+        Err(_) => return Err(ToolFault::Memory),
+    };
+    let stop = work.run(Decoding::begin(alloc, form, front), source, sink);
+    match stop.settle(work.outbox.collected(), sink) {
+        Ok(()) => stop.answer(),
+        Err(_) => Err(ToolFault::Device),
+    }
 }
 
 /// Writes a line for each message of a backend's stream: its tag as a letter, a space, its length field in decimal, a
@@ -131,23 +172,15 @@ pub fn show<S: Source, K: Sink>(
         × FoldsTo K.takes sink.old sent sink.new × ShowAnswers
         (HasStopped (S.failures source.old) (S.failures source.new) received)
         (HasRisen (K.failures sink.old) (K.failures sink.new))
-        front (concat received) (concat sent) result }
+        (messages_of front) (concat received) (concat sent) result }
     // before each receive but the first, the lines for all that came had been sent
     ensures at_once { (received sent : List (List ℕ))
         × FoldsTo S.gives source.old received source.new × FoldsTo K.takes sink.old sent sink.new
-        × IsSentAtOnce (AreAllShown front) received sent }
+        × IsSentAtOnce (AreAllShown (messages_of front)) received sent }
     ensures ended { EndsStream (S.has_ended source.new) result }
     // where the answer isn't Device, neither failed
     ensures source { CountsNoFailure (S.failures source.old) result (S.failures source.new) }
     ensures sink { CountsNoFailure (K.failures sink.old) result (K.failures sink.new) }
 {
-    let mut work = match begin(alloc) {
-        Ok(work) => work,
-        Err(_) => return Err(ToolFault::Memory),
-    };
-    let stop = work.run(Decoding::begin(alloc, front), source, sink);
-    match stop.settle(work.outbox.collected(), sink) {
-        Ok(()) => stop.answer(),
-        Err(_) => Err(ToolFault::Device),
-    }
+    show_as(alloc, Form::Messages, front, source, sink)
 }

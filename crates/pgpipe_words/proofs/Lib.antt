@@ -1,2 +1,4 @@
+pub mod Uncommenting
 pub mod Filling
+pub mod Judging
 pub mod Rows

@@ -1,5 +1,5 @@
 -- Worked examples of words and their tasks, computed from the definitions alone.
-use Rattle.std.proofs.Common.{◌≡◌, ℕ, Bool, rules, true, false, List, [], ◌∷◌, ◌++◌, Option, codes, refl, arith, string_bytes}
+use Rattle.std.proofs.Common.{◌≡◌, ℕ, Bool, rules, true, false, List, [], ◌∷◌, ◌++◌, Option, Some, None, option_map, codes, refl, arith, string_bytes}
 use Rattle.clap.specs.Words.{Row, Text, fault_of, subcommand_of}
 use Rattle.clap.specs.declared.builder.value_parser.ValueParser.TheVariants as parser
 use Rattle.clap.specs.declared.error.kind.ErrorKind.TheVariants as kind
@@ -7,28 +7,40 @@ use Rattle.clap.proofs.OnLiterals.{clap_on_literals}
 use Rattle.std.specs.Borrow.{Bor}
 use Rattle.pgpipe_convert.specs.declared.format.Format.{Format}
 use Rattle.pgpipe_convert.specs.declared.format.Format.TheVariants as format
+use Rattle.pgpipe_words.specs.declared.asked.Telling.{Telling}
 use Rattle.pgpipe_words.specs.declared.tasks.Conversion.{Conversion}
+use Rattle.pgpipe_show.specs.declared.form.Form.TheVariants as forms
+use Rattle.pgpipe_words.specs.declared.showing.Showing.{Showing}
+use Rattle.pgpipe_words.specs.declared.tasks.LoopTask.{LoopTask}
+use Rattle.pgpipe_words.specs.declared.tasks.Serving.{Serving}
 use Rattle.pgpipe_words.specs.declared.tasks.Task.{Task}
 use Rattle.pgpipe_words.specs.declared.tasks.Task.TheVariants as task
 use Rattle.pgpipe_words.specs.CommandLine.{command_line}
-use Rattle.pgpipe_words.specs.Tasks.{IsAskedFor}
+use Rattle.pgpipe_words.specs.Tasks.{IsAskedFor, IsTellingOf}
 
 module _ (names : Bor (List (Bor (List ℕ)))) where
   -- the subcommand that the words name, with what was found for its arguments
   abbrev met : List Text → Option (Text × List Row)
   met words = subcommand_of (command_line (parser.Names names)) words
 
-  pub no_words : (t : Task) → IsAskedFor (met (codes "pgpipe" ∷ [])) t → t ≡ task.Show false
+  abbrev shown : List Text → Showing → Type 0
+  shown words showing = IsAskedFor (met words) (task.Show showing)
+
+  pub no_words : (t : Task) → IsAskedFor (met (codes "pgpipe" ∷ [])) t → t ≡ task.Show (record { front = false; form = forms.Messages; file = None })
   unfolding clap_on_literals
   no_words t asked = asked
 
-  pub show_is_of_a_backend : (front : _) → IsAskedFor (met (codes "pgpipe" ∷ codes "show" ∷ [])) (task.Show front) → front ≡ false
+  pub show_is_of_a_backend : (s : Showing) → shown (codes "pgpipe" ∷ codes "show" ∷ []) s → (s.front ≡ false) × (option_map string_bytes s.file ≡ None)
   unfolding clap_on_literals
-  show_is_of_a_backend front asked = (asked.show refl).if_false refl
+  show_is_of_a_backend s asked = let named = asked.show refl in (named.front.if_false refl, named.file)
 
-  pub front_is_of_a_client : (front : _) → IsAskedFor (met (codes "pgpipe" ∷ codes "show" ∷ codes "--front" ∷ [])) (task.Show front) → front ≡ true
+  pub front_is_of_a_client : (s : Showing) → shown (codes "pgpipe" ∷ codes "show" ∷ codes "--front" ∷ []) s → s.front ≡ true
   unfolding clap_on_literals
-  front_is_of_a_client front asked = (asked.show refl).if_true refl
+  front_is_of_a_client s asked = (asked.show refl).front.if_true refl
+
+  pub a_file_is_shown : (s : Showing) → shown (codes "pgpipe" ∷ codes "show" ∷ codes "--decode" ∷ codes "f" ∷ []) s → option_map string_bytes s.file ≡ Some (codes "f")
+  unfolding clap_on_literals
+  a_file_is_shown s asked = (asked.show refl).file
 
   abbrev conversion : List Text
   conversion = codes "pgpipe" ∷ codes "convert" ∷ codes "--from" ∷ codes "text" ∷ codes "--to" ∷ codes "binary" ∷ codes "--columns" ∷ codes "2" ∷ []
@@ -45,18 +57,38 @@ module _ (names : Bor (List (Bor (List ℕ)))) where
   unfolding clap_on_literals
   other_options c asked = let named = asked.convert refl in (named.delimiter, named.null_mark)
 
-  pub a_conversion_shows_nothing : (front : Bool) → IsAskedFor (met conversion) (task.Show front) → ⊥
+  pub a_conversion_shows_nothing : (s : Showing) → shown conversion s → ⊥
   unfolding clap_on_literals
-  a_conversion_shows_nothing front asked = asked.convert refl
+  a_conversion_shows_nothing s asked = asked.convert refl
 
-  pub a_loop : (tcp : Bool) (cut : ℕ) (script calls : _) → IsAskedFor (met (codes "pgpipe" ∷ codes "loop" ∷ codes "s" ∷ codes "c" ∷ [])) (task.Loop tcp cut script calls)
-      → (tcp ≡ false) × (string_bytes script ≡ codes "s") × (string_bytes calls ≡ codes "c") × (cut ≡ 4096)
+  pub a_loop : (l : LoopTask) → IsAskedFor (met (codes "pgpipe" ∷ codes "loop" ∷ codes "s" ∷ codes "c" ∷ [])) (task.Loop l)
+      → (l.tcp ≡ false) × (l.breaks ≡ false) × (l.trace ≡ false) × (l.comments ≡ false) × (string_bytes l.script ≡ codes "s") × (string_bytes l.calls ≡ codes "c") × (l.cut ≡ 4096)
   unfolding clap_on_literals
-  a_loop tcp cut script calls asked = let named = asked.loop refl in (named.0.if_false refl, named.1, named.2, named.4 refl)
+  a_loop l asked = let named = asked.loop refl in (named.tcp.if_false refl, named.breaks.if_false refl, named.trace.if_false refl, named.comments.if_false refl, named.script, named.calls, named.no_cut refl)
 
-  pub a_loop_over_tcp : (tcp : Bool) (cut : ℕ) (script calls : _) → IsAskedFor (met (codes "pgpipe" ∷ codes "loop" ∷ codes "--tcp" ∷ codes "s" ∷ codes "c" ∷ [])) (task.Loop tcp cut script calls) → tcp ≡ true
+  pub a_loop_over_tcp : (l : LoopTask) → IsAskedFor (met (codes "pgpipe" ∷ codes "loop" ∷ codes "--tcp" ∷ codes "s" ∷ codes "c" ∷ [])) (task.Loop l) → l.tcp ≡ true
   unfolding clap_on_literals
-  a_loop_over_tcp tcp cut script calls asked = let named = asked.loop refl in named.0.if_true refl
+  a_loop_over_tcp l asked = let named = asked.loop refl in named.tcp.if_true refl
+
+  pub a_broken_loop : (l : LoopTask) → IsAskedFor (met (codes "pgpipe" ∷ codes "loop" ∷ codes "--break-everywhere" ∷ codes "s" ∷ codes "c" ∷ [])) (task.Loop l) → l.breaks ≡ true
+  unfolding clap_on_literals
+  a_broken_loop l asked = let named = asked.loop refl in named.breaks.if_true refl
+
+  pub a_traced_loop : (l : LoopTask) → IsAskedFor (met (codes "pgpipe" ∷ codes "loop" ∷ codes "--trace" ∷ codes "s" ∷ codes "c" ∷ [])) (task.Loop l) → l.trace ≡ true
+  unfolding clap_on_literals
+  a_traced_loop l asked = let named = asked.loop refl in named.trace.if_true refl
+
+  pub a_loop_with_comments : (l : LoopTask) → IsAskedFor (met (codes "pgpipe" ∷ codes "loop" ∷ codes "--comments" ∷ codes "s" ∷ codes "c" ∷ [])) (task.Loop l) → l.comments ≡ true
+  unfolding clap_on_literals
+  a_loop_with_comments l asked = let named = asked.loop refl in named.comments.if_true refl
+
+  pub a_server : (s : Serving) → IsAskedFor (met (codes "pgpipe" ∷ codes "serve" ∷ codes "s" ∷ [])) (task.Serve s) → (string_bytes s.script ≡ codes "s") × (s.port ≡ 0) × (s.connections ≡ None)
+  unfolding clap_on_literals
+  a_server s asked = let named = asked.serve refl in (named.script, named.any_port refl, named.no_end refl)
+
+  pub a_server_of_one : (s : Serving) → IsAskedFor (met (codes "pgpipe" ∷ codes "serve" ∷ codes "--connections" ∷ codes "1" ∷ codes "s" ∷ [])) (task.Serve s) → s.connections ≡ Some 1
+  unfolding clap_on_literals
+  a_server_of_one s asked = (asked.serve refl).connections 1 ((omega arith, search rules), refl) (omega arith) (omega arith)
 
   pub an_unknown_word : fault_of (command_line (parser.Names names)) (codes "pgpipe" ∷ codes "shown" ∷ []) ≡ kind.UnknownArgument ∷ kind.InvalidSubcommand ∷ []
   unfolding clap_on_literals
@@ -65,3 +97,15 @@ module _ (names : Bor (List (Bor (List ℕ)))) where
   pub a_cut_of_nothing : fault_of (command_line (parser.Names names)) (codes "pgpipe" ∷ codes "loop" ∷ codes "--cut" ∷ codes "0" ∷ codes "s" ∷ codes "c" ∷ []) ≡ kind.ValueValidation ∷ []
   unfolding clap_on_literals
   a_cut_of_nothing = refl
+
+  pub a_fault_is_explained : (t : Telling) → IsTellingOf (met (codes "pgpipe" ∷ codes "show" ∷ codes "--explain" ∷ [])) t → (t.explain ≡ true) × (t.progress ≡ false)
+  unfolding clap_on_literals
+  a_fault_is_explained t told = (told.explain.if_true refl, told.progress.if_false refl)
+
+  pub nothing_is_told : (t : Telling) → IsTellingOf (met (codes "pgpipe" ∷ [])) t → (t.explain ≡ false) × (t.progress ≡ false)
+  unfolding clap_on_literals
+  nothing_is_told t told = told
+
+  pub the_version : fault_of (command_line (parser.Names names)) (codes "pgpipe" ∷ codes "--version" ∷ []) ≡ kind.DisplayVersion ∷ []
+  unfolding clap_on_literals
+  the_version = refl

@@ -1,5 +1,5 @@
 -- How the program fails.
-use Rattle.std.specs.Prelude.{ℕ, ◌≡◌, ◌≢◌, ◌⊎◌, Result, Ok, Err}
+use Rattle.std.specs.Prelude.{ℕ, ◌≡◌, ◌≢◌, ◌⊎◌, Option, Some, None, Result, Ok, Err}
 use Rattle.std.specs.Process.{exit_status}
 use Rattle.std.specs.declared.process.ExitCode.{ExitCode}
 use Rattle.clap.specs.declared.error.kind.ErrorKind.{ErrorKind}
@@ -14,16 +14,20 @@ use Rattle.pgpipe_files.specs.fault.LineFault.{LineFault}
 use Rattle.pgpipe_files.specs.fault.LineFault.TheVariants as line
 use Rattle.pgpipe_loop.specs.declared.run_loop.Ran.{Ran}
 use Rattle.pgpipe_loop.specs.declared.run_loop.Ran.TheVariants as ran
+use Rattle.pgpipe_loop.specs.declared.run_loop.places.Place.{Place}
 use Rattle.pgpipe_show.specs.declared.show.Shown.{Shown}
 use Rattle.pgpipe_show.specs.declared.show.Shown.TheVariants as shown
 use Rattle.pgpipe_base.specs.declared.fault.ToolFault.{ToolFault}
 use Rattle.pgpipe_base.specs.declared.fault.ToolFault.TheVariants as fault
 
--- the exit status: 1 for a wrong word, 2 for wrong options and for a fault of what was read, 3 for a
--- failed file, stream or carrier, 4 for want of memory
+-- the exit status: 1 for a wrong word, 2 for wrong options, for a fault of what was read, and where a
+-- broken loop wasn't seen to settle what was answered, 3 for a failed file, stream or carrier, 4 for
+-- want of memory
 abbrev pub failure_status : Failure → ℕ
 failure_status failure.NotUtf8 = 1
 failure_status failure.Delimiter = 1
+failure_status failure.BreaksOverTcp = 1
+failure_status failure.BreaksTraced = 1
 failure_status (failure.Options f) = 2
 failure_status (failure.Rest n) = 2
 failure_status (failure.Fault f) = 2
@@ -33,6 +37,7 @@ failure_status (failure.Row f) = 2
 failure_status (failure.Script n) = 2
 failure_status (failure.Calls n) = 2
 failure_status (failure.Check f) = 2
+failure_status (failure.Unseen place) = 2
 failure_status failure.Device = 3
 failure_status failure.Memory = 4
 
@@ -77,6 +82,14 @@ LoopResults (Ok ran.Whole) r = r ≡ Ok tt
 LoopResults (Ok ran.CarrierFailed) r = r ≡ Err failure.Device
 LoopResults (Err fault.Device) r = r ≡ Err failure.Device
 LoopResults (Err fault.Memory) r = r ≡ Err failure.Memory
+
+-- What the answer of `break_everywhere` means for the program: success where it names no place at
+-- which the headline wasn't seen, and else a failure that names it.
+abbrev pub BreakResults : Result (Option Place) ToolFault → Result Unit Failure → Type 0
+BreakResults (Ok None) r = r ≡ Ok tt
+BreakResults (Ok (Some place)) r = r ≡ Err (failure.Unseen place)
+BreakResults (Err fault.Device) r = r ≡ Err failure.Device
+BreakResults (Err fault.Memory) r = r ≡ Err failure.Memory
 
 -- This kind of clap's errors is no mistake in the words: help or the version was asked for.
 abbrev pub IsHelp : ErrorKind → Type 0

@@ -1,5 +1,5 @@
 -- The task that the words of a command line ask for.
-use Rattle.std.specs.Prelude.{◌≡◌, ◌<◌, ◌≤◌, ℕ, true, false, Bool, List, [], ◌∷◌, Option, Some, None, Result, IfOk, if◌then◌else◌, codes, unwrap_or, string_bytes}
+use Rattle.std.specs.Prelude.{◌≡◌, ◌<◌, ◌≤◌, ℕ, true, false, Bool, List, [], ◌∷◌, Option, Some, None, Result, IfOk, ◌&&◌, not, if◌then◌else◌, codes, option_map, unwrap_or, string_bytes}
 use Rattle.std.specs.Str.{bytes_eq}
 use Rattle.std.specs.Str.Parse.{IsNumeral, digits_value, without_leading_plus}
 use Rattle.clap.specs.Words.{FailsBy, Row, Text, fault_of, first_of, one_of, subcommand_of}
@@ -8,21 +8,36 @@ use Rattle.clap.specs.declared.error.Error.{Error}
 use Rattle.pg_copy.specs.Text as copy
 use Rattle.pgpipe_convert.specs.declared.format.Format.{Format}
 use Rattle.pgpipe_convert.specs.declared.format.Format.TheVariants as format
+use Rattle.pgpipe_show.specs.declared.form.Form.{Form}
+use Rattle.pgpipe_show.specs.declared.form.Form.TheVariants as forms
+use Rattle.pgpipe_show.specs.declared.form.Line.TheVariants as line
+use Rattle.pgpipe_words.specs.declared.showing.Showing.{Showing}
+use Rattle.pgpipe_words.specs.declared.asked.Asked.{Asked}
+use Rattle.pgpipe_words.specs.declared.asked.Telling.{Telling}
 use Rattle.pgpipe_words.specs.declared.tasks.Conversion.{Conversion}
+use Rattle.pgpipe_words.specs.declared.tasks.LoopTask.{LoopTask}
+use Rattle.pgpipe_words.specs.declared.tasks.Serving.{Serving}
 use Rattle.pgpipe_words.specs.declared.tasks.Task.{Task}
 use Rattle.pgpipe_words.specs.declared.tasks.Task.TheVariants as task
 use Rattle.pgpipe_words.specs.CommandLine.{IsFormats, command_line}
 
 -- The numbers of the task are in range: 1 to 32,767 columns, and deliveries of 1 to 4,096 bytes.
 abbrev pub IsTask : Task → Type 0
-IsTask (task.Show front) = Unit {0}
+IsTask (task.Show s) = Unit {0}
 IsTask (task.Convert c) = (0 < c.columns) × (c.columns ≤ 32767)
-IsTask (task.Loop tcp cut script calls) = (0 < cut) × (cut ≤ 4096)
+IsTask (task.Loop l) = (0 < l.cut) × (l.cut ≤ 4096)
+IsTask (task.Serve s) = Unit {0}
 
--- whether the task is a loop that is carried over TCP
+-- whether the task is a loop that is carried over TCP; one that is broken everywhere isn't
 abbrev pub is_over_tcp : Task → Bool
-is_over_tcp (task.Loop tcp cut script calls) = tcp
+is_over_tcp (task.Loop l) = l.tcp && not l.breaks
 is_over_tcp _ = false
+
+-- the path of the file that is read in the place of standard input, if the task names one
+abbrev pub input_file : Task → Option Text
+input_file (task.Show s) = option_map string_bytes s.file
+input_file (task.Convert c) = option_map string_bytes c.file
+input_file _ = None
 
 -- ---- what was found for an argument
 
@@ -45,13 +60,27 @@ pub record IsFlag (found : Option Text) (given : Bool) : Type 0 where
 
 -- ---- the task of a subcommand, by what was found for its arguments
 
--- The task is to show a client's stream, if `--front` was given, and else a backend's.
+-- How a stream is shown, by whether `--decode` and `--frames` were given: of both the first counts.
+abbrev pub form_of : Bool → Bool → Form
+form_of true frames = forms.Frames line.Decoded
+form_of false true = forms.Frames line.Hexadecimal
+form_of false false = forms.Messages
+
+-- A client's stream is shown, if `--front` was given, and else a backend's, in the form that was
+-- asked for; it is in the file that was given, or without one on standard input.
+pub record HasShowing (found : List Row) (s : Showing) : Type 0 where
+  pub front : IsFlag (one_of (codes "front") found) s.front
+  pub form : (decode frames : Bool) × IsFlag (one_of (codes "decode") found) decode
+      × IsFlag (one_of (codes "frames") found) frames × (s.form ≡ form_of decode frames)
+  pub file : option_map string_bytes s.file ≡ first_of (codes "FILE") found
+
+-- The task is to show a stream as it was asked for.
 abbrev pub IsShowOf : List Row → Task → Type 0
-IsShowOf found (task.Show front) = IsFlag (one_of (codes "front") found) front
+IsShowOf found (task.Show s) = HasShowing found s
 IsShowOf found _ = ⊥
 
--- The conversion has the formats and the number of columns that were given, and the
--- delimiter and the null mark, which are a tab and \N where they were left out.
+-- The conversion has the formats and the number of columns that were given, the delimiter and the
+-- null mark, which are a tab and \N where they were left out, and the file, if it was given.
 pub record HasConversion (found : List Row) (c : Conversion) : Type 0 where
   pub from : c.from ≡ format_named (first_of (codes "from") found)
   pub to : c.to ≡ format_named (first_of (codes "to") found)
@@ -61,22 +90,45 @@ pub record HasConversion (found : List Row) (c : Conversion) : Type 0 where
       ≡ unwrap_or (first_of (codes "delimiter") found) (copy.delimiter ∷ [])
   pub null_mark : string_bytes c.null_mark
       ≡ unwrap_or (first_of (codes "null") found) copy.null_mark
+  pub file : option_map string_bytes c.file ≡ first_of (codes "FILE") found
 
 -- The task is a conversion as it was asked for.
 abbrev pub IsConversionOf : List Row → Task → Type 0
 IsConversionOf found (task.Convert c) = HasConversion found c
 IsConversionOf found _ = ⊥
 
--- The task is a loop over the files that were given, carried over TCP if `--tcp` was given, with
--- deliveries of as many bytes as `--cut` says, or 4,096 without it.
+-- The loop is over the files that were given, carried over TCP if `--tcp` was given, broken everywhere
+-- if `--break-everywhere` was given, with a trace if `--trace` was given, with comments in the files if
+-- `--comments` was given, and with deliveries of as many bytes as `--cut` says, or 4,096 without it.
+pub record HasLoop (found : List Row) (l : LoopTask) : Type 0 where
+  pub tcp : IsFlag (one_of (codes "tcp") found) l.tcp
+  pub breaks : IsFlag (one_of (codes "break-everywhere") found) l.breaks
+  pub trace : IsFlag (one_of (codes "trace") found) l.trace
+  pub comments : IsFlag (one_of (codes "comments") found) l.comments
+  pub script : string_bytes l.script ≡ unwrap_or (first_of (codes "SCRIPT") found) []
+  pub calls : string_bytes l.calls ≡ unwrap_or (first_of (codes "CALLS") found) []
+  pub cut : (n : ℕ) → IsNumber (one_of (codes "cut") found) n → 0 < n → n ≤ 4096 → l.cut ≡ n
+  pub no_cut : one_of (codes "cut") found ≡ None → l.cut ≡ 4096
+
+-- The task is a loop as it was asked for.
 abbrev pub IsLoopOf : List Row → Task → Type 0
-IsLoopOf found (task.Loop tcp cut script calls) =
-    IsFlag (one_of (codes "tcp") found) tcp
-    × (string_bytes script ≡ unwrap_or (first_of (codes "SCRIPT") found) [])
-    × (string_bytes calls ≡ unwrap_or (first_of (codes "CALLS") found) [])
-    × ((n : ℕ) → IsNumber (one_of (codes "cut") found) n → 0 < n → n ≤ 4096 → cut ≡ n)
-    × (one_of (codes "cut") found ≡ None → cut ≡ 4096)
+IsLoopOf found (task.Loop l) = HasLoop found l
 IsLoopOf found _ = ⊥
+
+-- Clients are served from the script that was given, on the port that `--port` says, or on any free
+-- one (0) without it, and as many as `--connections` says, or without end (None).
+pub record HasServing (found : List Row) (s : Serving) : Type 0 where
+  pub script : string_bytes s.script ≡ unwrap_or (first_of (codes "SCRIPT") found) []
+  pub port : (n : ℕ) → IsNumber (one_of (codes "port") found) n → n ≤ 65535 → s.port ≡ n
+  pub any_port : one_of (codes "port") found ≡ None → s.port ≡ 0
+  pub connections : (n : ℕ) → IsNumber (one_of (codes "connections") found) n → 0 < n
+      → n ≤ 4294967295 → s.connections ≡ Some n
+  pub no_end : one_of (codes "connections") found ≡ None → s.connections ≡ None
+
+-- The task is to serve clients as it was asked for.
+abbrev pub IsServingOf : List Row → Task → Type 0
+IsServingOf found (task.Serve s) = HasServing found s
+IsServingOf found _ = ⊥
 
 -- ---- the task of the words
 
@@ -85,17 +137,31 @@ pub record IsNamed (name : Text) (found : List Row) (t : Task) : Type 0 where
   pub show : name ≡ codes "show" → IsShowOf found t
   pub convert : name ≡ codes "convert" → IsConversionOf found t
   pub loop : name ≡ codes "loop" → IsLoopOf found t
+  pub serve : name ≡ codes "serve" → IsServingOf found t
 
--- What clap found asks for this task: without a subcommand it is to show a backend's stream.
+-- What clap found asks for this task: without a subcommand it is to show a backend's stream, which
+-- comes on standard input.
 abbrev pub IsAskedFor : Option (Text × List Row) → Task → Type 0
-IsAskedFor None t = t ≡ task.Show false
+IsAskedFor None t = t
+    ≡ task.Show (record { front = false; form = forms.Messages; file = None })
 IsAskedFor (Some subcommand) t = IsNamed subcommand.0 subcommand.1 t
 
--- What the words come to: the task that they ask for, or an error of the kind that clap has for
--- them. Where the words are right, want of memory is the only error.
-pub record IsReadOf (words : List Text) (result : Result Task Error) : Type 0 where
+-- What is told of a task, by what was found for the flags of its subcommand.
+pub record IsTellingBy (found : List Row) (t : Telling) : Type 0 where
+  pub explain : IsFlag (one_of (codes "explain") found) t.explain
+  pub progress : IsFlag (one_of (codes "progress") found) t.progress
+
+-- What is told: what the flags of the subcommand say, and nothing without a subcommand.
+abbrev pub IsTellingOf : Option (Text × List Row) → Telling → Type 0
+IsTellingOf None t = (t.explain ≡ false) × (t.progress ≡ false)
+IsTellingOf (Some subcommand) t = IsTellingBy subcommand.1 t
+
+-- What the words come to: the task that they ask for and what is told of it, or an error of the kind that
+-- clap has for them. Where the words are right, want of memory is the only error.
+pub record IsReadOf (words : List Text) (result : Result Asked Error) : Type 0 where
   pub formats : ValueParser
   pub are_formats : IsFormats formats
-  pub asked_for : IfOk result (λ t. IsTask t
-      × IsAskedFor (subcommand_of (command_line formats) words) t)
+  pub asked_for : IfOk result (λ a. IsTask a.task
+      × IsAskedFor (subcommand_of (command_line formats) words) a.task
+      × IsTellingOf (subcommand_of (command_line formats) words) a.telling)
   pub taken : FailsBy (fault_of (command_line formats) words) result

@@ -2,36 +2,16 @@
 
 ghost use Rattle.std.specs.Prelude.{◌≡◌, IfOk, [], codes};
 ghost use Rattle.clap.specs.Words.{Rule, Shape, app_of, new_app, new_rule, with_rule};
-ghost use Rattle.pgpipe_words.specs.CommandLine.{flag, show, columns, cut, convert, loop, command_line, text_option, option, required};
-ghost use Rattle.pgpipe_words.specs.Private.CommandLine.{IsArg, IsCommand};
+ghost use Rattle.pgpipe_words.specs.CommandLine.{flag, show, columns, cut, convert, explain, file, loop, command_line, program, progress, text_option, option, required, without_serve};
+ghost use Rattle.pgpipe_words.specs.Private.CommandLine.{IsArg, IsCommand, IsProgram};
 
+use crate::help;
 use clap::builder::ValueParser;
 use clap::{Arg, ArgAction, Command, value_parser};
+use serve::serve_command;
 use std::alloc::{AllocError, Global};
 
-// What a conversion does with types.
-const CONVERT_HELP: &str =
-    "Convert the COPY file on standard input between the text and the binary format
-
-A value is bytes, whatever its type: it is copied as it is from text to binary and back. So of a binary \
-file that is made from text only text columns come out as a server expects; an integer, for one, has \
-another form there.";
-
-// What the delimiter is.
-const DELIMITER_HELP: &str =
-    "The byte between two fields of a text file, read or written; no newline, return, \
-backslash, dot, letter from a to z or digit [default: a tab]";
-
-// What the null mark is.
-const NULL_HELP: &str =
-    "What stands for null in a text file, read or written; it has no newline, return or \
-delimiter, isn't \\., and doesn't end in a lone backslash [default: \\N]";
-
-// What is carried over a connection.
-const TCP_HELP: &str = "Carry over a TCP connection of this process to itself, on 127.0.0.1";
-
-// How many bytes are delivered.
-const CUT_HELP: &str = "How many bytes a flow delivers at a time [default: 4096]";
+mod serve;
 
 // A flag.
 fn flag_arg<'a>(alloc: Global, name: &'a str, help: &'a str) -> Arg<'a>
@@ -90,16 +70,6 @@ fn path_arg<'a>(alloc: Global, name: &'a str, help: &'a str) -> Arg<'a>
     Arg::new(alloc, name).required(true).help(help)
 }
 
-// The subcommand that shows a stream.
-fn show_command<'a>(alloc: Global) -> Result<Command<'a>, AllocError>
-    ensures { IfOk result (IsCommand show) }
-{
-    let help = "Read a client's side: its first packets, and then its messages";
-    Command::new(alloc, "show")
-        .about("Print a line for each message of a backend's stream on standard input")
-        .arg(flag_arg(alloc, "front", help))
-}
-
 // The command with one more argument.
 fn with_arg<'a>(command: Command<'a>, arg: Arg<'a>) -> Result<Command<'a>, AllocError>
     ensures { (shape : Shape) (rule : Rule) → IsCommand shape command.entry → IsArg rule arg.entry
@@ -108,12 +78,56 @@ fn with_arg<'a>(command: Command<'a>, arg: Arg<'a>) -> Result<Command<'a>, Alloc
     command.arg(arg)
 }
 
+// The path FILE, which may be left out.
+fn file_arg<'a>(alloc: Global) -> Arg<'a>
+    ensures { IsArg file result }
+{
+    Arg::new(alloc, "FILE").help(help::FILE)
+}
+
+// The flag `--explain`.
+fn explain_arg<'a>(alloc: Global) -> Arg<'a>
+    ensures { IsArg explain result }
+{
+    flag_arg(alloc, "explain", help::EXPLAIN)
+}
+
+// The flag `--progress`.
+fn progress_arg<'a>(alloc: Global) -> Arg<'a>
+    ensures { IsArg progress result }
+{
+    flag_arg(alloc, "progress", help::PROGRESS)
+}
+
+// The subcommand that shows a stream, without its arguments.
+fn bare_show_command<'a>(alloc: Global) -> Command<'a>
+    ensures { IsCommand (new_app (codes "show")).top result }
+{
+    Command::new(alloc, "show")
+        .about("Print a line for each message of a backend's stream, or a client's")
+        .after_help(help::AFTER_SHOW)
+}
+
+// The subcommand that shows a stream.
+fn show_command<'a>(alloc: Global) -> Result<Command<'a>, AllocError>
+    ensures { IfOk result (IsCommand show) }
+{
+    let front = flag_arg(alloc, "front", help::FRONT);
+    let frames = flag_arg(alloc, "frames", help::FRAMES);
+    let decode = flag_arg(alloc, "decode", help::DECODE);
+    let command = bare_show_command(alloc);
+    let command = with_arg(with_arg(with_arg(command, front)?, frames)?, decode)?;
+    let command = with_arg(command, explain_arg(alloc))?;
+    let command = with_arg(command, progress_arg(alloc))?;
+    with_arg(command, file_arg(alloc))
+}
+
 // The required option `--columns N`.
 fn columns_arg<'a>(alloc: Global) -> Arg<'a>
     ensures { IsArg (required columns) result }
 {
     let numbers = value_parser!(u16).range(1..=32_767);
-    required_arg(alloc, "columns", "N", numbers, "How many fields a row has")
+    required_arg(alloc, "columns", "N", numbers, help::COLUMNS)
 }
 
 // The subcommand that converts a file, without its arguments.
@@ -121,8 +135,9 @@ fn bare_convert_command<'a>(alloc: Global) -> Command<'a>
     ensures { IsCommand (new_app (codes "convert")).top result }
 {
     Command::new(alloc, "convert")
-        .about("Convert the COPY file on standard input between the text and the binary format")
-        .long_about(CONVERT_HELP)
+        .about("Convert a COPY file between the text and the binary format")
+        .long_about(help::CONVERT)
+        .after_help(help::AFTER_CONVERT)
 }
 
 // The subcommand that converts a file.
@@ -132,11 +147,14 @@ fn convert_command<'a>(alloc: Global, formats: ValueParser<'a>) -> Result<Comman
     let from = required_arg(alloc, "from", "FORMAT", formats, "The format to read");
     let to = required_arg(alloc, "to", "FORMAT", formats, "The format to write");
     let columns = columns_arg(alloc);
-    let delimiter = text_arg(alloc, "delimiter", "C", DELIMITER_HELP);
-    let null = text_arg(alloc, "null", "S", NULL_HELP);
+    let delimiter = text_arg(alloc, "delimiter", "C", help::DELIMITER);
+    let null = text_arg(alloc, "null", "S", help::NULL);
     let command = bare_convert_command(alloc);
     let command = with_arg(with_arg(with_arg(command, from)?, to)?, columns)?;
-    with_arg(with_arg(command, delimiter)?, null)
+    let command = with_arg(with_arg(command, delimiter)?, null)?;
+    let command = with_arg(command, explain_arg(alloc))?;
+    let command = with_arg(command, progress_arg(alloc))?;
+    with_arg(command, file_arg(alloc))
 }
 
 // The option `--cut N`.
@@ -144,38 +162,59 @@ fn cut_arg<'a>(alloc: Global) -> Arg<'a>
     ensures { IsArg cut result }
 {
     let numbers = value_parser!(u32).range(1..=4_096);
-    option_arg(alloc, "cut", "N", numbers, CUT_HELP)
+    option_arg(alloc, "cut", "N", numbers, help::CUT)
 }
 
 // The subcommand that runs a loop, without its arguments.
 fn bare_loop_command<'a>(alloc: Global) -> Command<'a>
     ensures { IsCommand (new_app (codes "loop")).top result }
 {
-    Command::new(alloc, "loop").about(
-        "Run a client's calls against a scripted backend, and print what comes of them",
-    )
+    Command::new(alloc, "loop")
+        .about("Run a client's calls against a scripted backend, and print what comes of them")
+        .after_help(help::AFTER_LOOP)
 }
 
 // The subcommand that runs a loop.
 fn loop_command<'a>(alloc: Global) -> Result<Command<'a>, AllocError>
     ensures { IfOk result (IsCommand loop) }
 {
-    let tcp = flag_arg(alloc, "tcp", TCP_HELP);
+    let tcp = flag_arg(alloc, "tcp", help::TCP);
+    let breaks = flag_arg(alloc, "break-everywhere", help::BREAK);
+    let trace = flag_arg(alloc, "trace", help::TRACE);
+    let comments = flag_arg(alloc, "comments", help::COMMENTS);
     let cut = cut_arg(alloc);
-    let script = path_arg(alloc, "SCRIPT", "The file of what the backend answers");
-    let calls = path_arg(alloc, "CALLS", "The file of what happens to the client");
+    let script = path_arg(alloc, "SCRIPT", help::SCRIPT);
+    let calls = path_arg(alloc, "CALLS", help::CALLS);
     let command = bare_loop_command(alloc);
-    let command = with_arg(with_arg(command, tcp)?, cut)?;
+    let command = with_arg(with_arg(with_arg(command, tcp)?, breaks)?, trace)?;
+    let command = with_arg(with_arg(command, comments)?, cut)?;
+    let command = with_arg(command, explain_arg(alloc))?;
     with_arg(with_arg(command, script)?, calls)
+}
+
+// The program, without its subcommands.
+fn bare_program<'a>(alloc: Global) -> Command<'a>
+    ensures { IsProgram program result }
+{
+    Command::new(alloc, "pgpipe")
+        .about("PostgreSQL protocol 3.0 and COPY files on standard input and output")
+        .version(help::VERSION)
+        .after_help(help::AFTER_ALL)
+}
+
+// The command line without the subcommand that serves clients.
+fn without_serve<'a>(alloc: Global, formats: ValueParser<'a>) -> Result<Command<'a>, AllocError>
+    ensures { IfOk result (IsProgram (without_serve formats.entry)) }
+{
+    bare_program(alloc)
+        .subcommand(show_command(alloc)?)?
+        .subcommand(convert_command(alloc, formats)?)?
+        .subcommand(loop_command(alloc)?)
 }
 
 /// The command line, with the parser for the names of the formats.
 pub fn command_line<'a>(alloc: Global, formats: ValueParser<'a>) -> Result<Command<'a>, AllocError>
     ensures { IfOk result (λ command. app_of command ≡ command_line formats.entry) }
 {
-    Command::new(alloc, "pgpipe")
-        .about("PostgreSQL protocol 3.0 and COPY files on standard input and output")
-        .subcommand(show_command(alloc)?)?
-        .subcommand(convert_command(alloc, formats)?)?
-        .subcommand(loop_command(alloc)?)
+    without_serve(alloc, formats)?.subcommand(serve_command(alloc)?)
 }

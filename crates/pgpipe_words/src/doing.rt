@@ -3,35 +3,38 @@
 ghost use Rattle.std.specs.Prelude.{◌≡◌, MatchResult};
 ghost use Rattle.std.specs.Process.{exit_status};
 ghost use Rattle.clap.specs.Words.{kind_of};
-ghost use Rattle.pgpipe_words.specs.Doing.{DoesTask, DoesShow, DoesConvert};
+ghost use Rattle.pgpipe_show.specs.Way.{Way};
+ghost use Rattle.pgpipe_words.specs.Doing.{DoesTask, DoesShow, DoesConvert, DoesLoop};
 ghost use Rattle.pgpipe_words.specs.Failure.{failure_status, Explains};
 ghost use Rattle.pgpipe_words.specs.Tasks.{IsTask};
 ghost use Rattle.pgpipe_words.specs.declared.tasks.Task.TheVariants as task;
 
 use crate::failure::{Failure, conversion_result_of, show_result_of};
 use crate::files::FileStore;
-use crate::loop_files::run_files;
-use crate::tasks::{Conversion, Task};
+use crate::loop_files::{break_files, run_files};
+use crate::tasks::{Conversion, LoopTask, Task};
 use crate::text_options::options_of;
 use clap::error::ErrorKind;
 use pg_pair::Carry;
 use pg_wire::{Sink, Source};
 use pgpipe_convert::convert_with;
-use pgpipe_show::show::show;
+use pgpipe_show::Form;
+use pgpipe_show::show::show_as;
 use std::alloc::Global;
 use std::process::ExitCode;
 
 // Shows what the source gives.
 fn do_show<S: Source, K: Sink>(
     alloc: Global,
+    form: Form,
     front: bool,
     source: &mut S,
     sink: &mut K,
 ) -> Result<(), Failure>
-    ensures { DoesShow S.gives S.failures S.has_ended K.takes K.failures front source.old sink.old
-        result source.new sink.new }
+    ensures { DoesShow S.gives S.failures S.has_ended K.takes K.failures
+        (record { form = form; front = front }) source.old sink.old result source.new sink.new }
 {
-    show_result_of(show(alloc, front, source, sink))
+    show_result_of(show_as(alloc, form, front, source, sink))
 }
 
 // Converts what the source gives, once the options are judged.
@@ -51,12 +54,38 @@ fn do_convert<S: Source, K: Sink>(
         columns,
         delimiter,
         null_mark,
+        file: _,
     } = conversion;
     let options = options_of(alloc, delimiter.as_str(), null_mark.as_str())?;
     conversion_result_of(convert_with(alloc, from, to, columns, &options, source, sink))
 }
 
-/// Does a task: shows or converts what the source gives, or runs a loop of two files, over a carrier; what comes of it is sent.
+// Runs a loop, or breaks it everywhere.
+fn do_loop<F: FileStore, C: Carry, K: Sink>(
+    alloc: Global,
+    task: &LoopTask,
+    files: &F,
+    carrier: C,
+    sink: &mut K,
+) -> Result<(), Failure>
+    ensures { DoesLoop C.carries K.takes K.failures (F.holds files.now) (F.fails files.now) carrier
+        task.now sink.old result sink.new }
+{
+    if !task.breaks {
+        return run_files(alloc, task, files, carrier, sink);
+    }
+    if task.tcp {
+        return Err(Failure::BreaksOverTcp);
+    }
+    if task.trace {
+        return Err(Failure::BreaksTraced);
+    }
+    break_files(alloc, task, files, sink)
+}
+
+/// Does a task: shows or converts what the source gives, or runs a loop of two files, over a carrier, or breaks it everywhere; what
+/// comes of it is sent. Clients aren't served here, where none come, but by [`serve_file`](crate::serve_file): that task fails as a
+/// device does, and does nothing.
 pub fn do_task<F: FileStore, C: Carry, S: Source, K: Sink>(
     alloc: Global,
     task: Task,
@@ -70,22 +99,10 @@ pub fn do_task<F: FileStore, C: Carry, S: Source, K: Sink>(
         (F.fails files.now) C.carries carrier task source.old sink.old result source.new sink.new }
 {
     match task {
-        Task::Show { front } => do_show(alloc, front, source, sink),
+        Task::Show(showing) => do_show(alloc, showing.form, showing.front, source, sink),
         Task::Convert(conversion) => do_convert(alloc, conversion, source, sink),
-        Task::Loop {
-            tcp: _,
-            cut,
-            script,
-            calls,
-        } => run_files(
-            alloc,
-            cut,
-            script.as_str(),
-            calls.as_str(),
-            files,
-            carrier,
-            sink,
-        ),
+        Task::Loop(task) => do_loop(alloc, &task, files, carrier, sink),
+        Task::Serve(_) => Err(Failure::Device),
     }
 }
 

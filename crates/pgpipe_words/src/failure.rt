@@ -2,7 +2,7 @@
 
 ghost use Rattle.std.specs.Prelude.{◌≡◌, ◌≢◌};
 ghost use Rattle.std.specs.IoError.{error_kind};
-ghost use Rattle.pgpipe_words.specs.Failure.{failure_status, ShowResults, ConversionResults, LoopResults, script_failure, calls_failure, check_failure};
+ghost use Rattle.pgpipe_words.specs.Failure.{failure_status, BreakResults, ShowResults, ConversionResults, LoopResults, script_failure, calls_failure, check_failure};
 
 use pg_backend::ScriptFault;
 use pg_copy::{BinaryFault, OptionFault, RowFault, TextFault};
@@ -10,6 +10,7 @@ use pg_wire::WireFault;
 use pgpipe_base::ToolFault;
 use pgpipe_convert::convert::Converted;
 use pgpipe_files::LineFault;
+use pgpipe_loop::Place;
 use pgpipe_loop::run_loop::Ran;
 use pgpipe_show::show::Shown;
 use std::io;
@@ -25,6 +26,12 @@ pub enum Failure {
     /// The delimiter isn't one byte.
     #[error("delimiter")]
     Delimiter,
+    /// A loop that is broken everywhere isn't carried over TCP.
+    #[error("--break-everywhere can't go with --tcp")]
+    BreaksOverTcp,
+    /// Of a loop that is broken everywhere there is no trace.
+    #[error("--break-everywhere can't go with --trace")]
+    BreaksTraced,
     /// There are no such options of COPY text, for this reason.
     #[error("{0}")]
     Options(OptionFault),
@@ -54,6 +61,9 @@ pub enum Failure {
     /// The script can't be played, for this reason.
     #[error("{0}")]
     Check(ScriptFault),
+    /// Where the loop was broken in this place, the settled groups weren't seen to be the first of those that the backend has answered.
+    #[error("unseen {0}")]
+    Unseen(Place),
     /// A file, a stream or a carrier failed.
     #[error("device")]
     Device,
@@ -63,14 +73,16 @@ pub enum Failure {
 }
 
 impl Failure {
-    /// The program's exit status: 1 for a wrong word, 2 for wrong options and for a rest or a fault
-    /// of what was read, 3 for Device, 4 for Memory.
+    /// The program's exit status: 1 for a wrong word, 2 for wrong options, for a rest or a fault of what
+    /// was read, and for Unseen, 3 for Device, 4 for Memory.
     pub fn status(&self) -> u8
         ensures { result ≡ failure_status self.now }
     {
         match self {
             Failure::NotUtf8 => 1,
             Failure::Delimiter => 1,
+            Failure::BreaksOverTcp => 1,
+            Failure::BreaksTraced => 1,
             Failure::Options(_) => 2,
             Failure::Rest(_) => 2,
             Failure::Fault(_) => 2,
@@ -80,6 +92,7 @@ impl Failure {
             Failure::Script(_) => 2,
             Failure::Calls(_) => 2,
             Failure::Check(_) => 2,
+            Failure::Unseen(_) => 2,
             Failure::Device => 3,
             Failure::Memory => 4,
         }
@@ -172,6 +185,18 @@ pub fn loop_result_of(answer: Result<Ran, ToolFault>) -> Result<(), Failure>
     match answer {
         Ok(Ran::Whole) => Ok(()),
         Ok(Ran::CarrierFailed) => Err(Failure::Device),
+        Err(ToolFault::Device) => Err(Failure::Device),
+        Err(ToolFault::Memory) => Err(Failure::Memory),
+    }
+}
+
+/// What an answer of `break_everywhere` means for the program: only where no place is named is it a success.
+pub fn break_result_of(answer: Result<Option<Place>, ToolFault>) -> Result<(), Failure>
+    ensures { BreakResults answer result }
+{
+    match answer {
+        Ok(None) => Ok(()),
+        Ok(Some(place)) => Err(Failure::Unseen(place)),
         Err(ToolFault::Device) => Err(Failure::Device),
         Err(ToolFault::Memory) => Err(Failure::Memory),
     }

@@ -13,14 +13,14 @@ use std::net::{Net, OpenListener, OpenStream, SocketAddr, TcpListener, TcpStream
 /// An end of a TCP connection. What is interrupted at it is tried again.
 pub type TcpEnd<R> = Over<Patient<<R as Net>::Stream>>;
 
-// The address to listen at, with any free port.
-fn own_address() -> SocketAddr {
-    SocketAddr::from(([127, 0, 0, 1], 0))
+/// The address to listen at, with this port, or with any free one for 0.
+pub(crate) fn own_address(port: u16) -> SocketAddr {
+    SocketAddr::from(([127, 0, 0, 1], port))
 }
 
 // The end that this process makes and the end that it accepts, of one connection. Small pieces are sent at once.
 fn both_ends<R: Net>(rt: &R) -> io::Result<(R::Stream, R::Stream)> {
-    let listener = TcpListener::bind(rt, own_address())?;
+    let listener = TcpListener::bind(rt, own_address(0))?;
     let client = TcpStream::connect(rt, listener.local_addr()?)?;
     let (backend, peer) = listener.accept()?;
     // another process may have connected first

@@ -7,6 +7,8 @@
 #[cfg(test)]
 mod across;
 #[cfg(test)]
+mod breaks;
+#[cfg(test)]
 mod carriers;
 #[cfg(test)]
 mod conversions;

@@ -3,6 +3,7 @@
 ghost use Rattle.std.specs.Prelude.{◌≡◌, [], List, Some, OnOk, option_copied};
 ghost use Rattle.std.specs.Fmt.{decimal, signed_decimal};
 ghost use Rattle.pg_copy.specs.Row.{Row};
+ghost use Rattle.pgpipe_base.specs.Outbox.{body_text};
 ghost use Rattle.pgpipe_loop.specs.Lines.{text_lines};
 ghost use Rattle.pgpipe_loop.specs.Private.Lines.{whole_lines, with_field, with_end, with_row, with_rows};
 
@@ -87,6 +88,17 @@ impl LineBuffer {
         ensures { OnOk result (self.new ≡ with_field self.old (Some (signed_decimal number))) }
     {
         let digits = number.to_string(self.alloc)?;
+        self.put_text(digits.as_bytes())
+    }
+
+    /// Puts bytes into the open line, in hexadecimal, or `-` where there are none.
+    pub fn put_hexadecimal(&mut self, bytes: &[u8]) -> Result<(), AllocError>
+        ensures { OnOk result (self.new ≡ with_field self.old (Some (body_text bytes.now))) }
+    {
+        if bytes.is_empty() {
+            return self.put_text(b"-");
+        }
+        let digits = hex::encode(self.alloc, bytes)?;
         self.put_text(digits.as_bytes())
     }
 

@@ -3,7 +3,7 @@
 ghost use Rattle.std.specs.Prelude.{◌≡◌, length, IfOk, OnOk, option_copied};
 ghost use Rattle.pg_backend.specs.Fault.{backend_code};
 ghost use Rattle.pg_client.specs.Fault.{feed_code};
-ghost use Rattle.pgpipe_loop.specs.Lines.{answer_rows, backend_details, backend_word, client_word, closing_rows, event_rows, fault_row, feed_details, loaded_row, loaded_rows, loaded_rows_of, lost_row, loss_rows, text_lines, unsettled_fields};
+ghost use Rattle.pgpipe_loop.specs.Lines.{answer_rows, backend_details, backend_word, client_word, closing_rows, event_rows, fault_row, feed_details, loaded_row, loaded_rows, loaded_rows_of, lost_row, loss_rows, phase_rows, text_lines, unsettled_fields};
 ghost use Rattle.pgpipe_loop.specs.Private.Lines.{with_fields, with_row, with_rows};
 
 use super::buffer::LineBuffer;
@@ -48,9 +48,20 @@ pub fn closing_lines(
 {
     let mut lines = LineBuffer::new(alloc);
     put_loaded(log, &mut lines)?;
-    put_text_line(b"client", client_word(client), &mut lines)?;
-    put_text_line(b"backend", backend_word(backend), &mut lines)?;
+    put_phases(client, backend, &mut lines)?;
     Ok(lines.into_text())
+}
+
+/// Puts the lines of the phases of both ends.
+pub fn put_phases(
+    client: Phase,
+    backend: BackPhase,
+    lines: &mut LineBuffer,
+) -> Result<(), AllocError>
+    ensures { OnOk result (lines.new ≡ with_rows lines.old (phase_rows client backend)) }
+{
+    put_text_line(b"client", client_word(client), lines)?;
+    put_text_line(b"backend", backend_word(backend), lines)
 }
 
 fn client_word(phase: Phase) -> &'static [u8]
@@ -79,8 +90,8 @@ fn backend_word(phase: BackPhase) -> &'static [u8]
     }
 }
 
-// Puts the lines of an answer.
-fn put_answer(answer: &Applied, lines: &mut LineBuffer) -> Result<(), AllocError>
+/// Puts the lines of an answer.
+pub fn put_answer(answer: &Applied, lines: &mut LineBuffer) -> Result<(), AllocError>
     ensures { OnOk result (lines.new ≡ with_rows lines.old (answer_rows answer.now)) }
 {
     match answer {

@@ -1,7 +1,7 @@
 //! The lines of a settled group, in the form of a script.
 
 ghost use Rattle.std.specs.Prelude.{◌≡◌, ◌∷◌, map, OnOk};
-ghost use Rattle.pgpipe_loop.specs.Lines.{aside_row, chunk_row, copy_in_row, copy_out_row, described_row, executed_row, outcome_error_rows, parameter_rows, part_rows, rows_row, settled_rows, status_letter, value_row};
+ghost use Rattle.pgpipe_loop.specs.Lines.{aside_row, chunk_row, copy_in_row, copy_out_row, described_row, executed_row, logged_rows, outcome_error_rows, parameter_rows, part_rows, rows_row, settled_rows, status_letter, value_row};
 ghost use Rattle.pgpipe_loop.specs.Private.Lines.{with_row, with_rows};
 
 use super::buffer::{LineBuffer, PutsLine, PutsLines};
@@ -10,8 +10,11 @@ use super::short::{
     put_error_line, put_head, put_list_line, put_request_line, put_text_line, put_values,
     put_word_line,
 };
+use pg_backend::Logged;
 use pg_client::Settled;
-use pg_wire::{Aside, Column, CopyHead, ExecEnd, Fields, Part, Seq, Status, Values};
+use pg_wire::{
+    Aside, Column, CopyHead, ExecEnd, Fields, Outcome, Part, Request, Seq, Status, Values,
+};
 use std::alloc::AllocError;
 
 impl PutsLine for Aside {
@@ -76,12 +79,32 @@ impl PutsLines for Settled {
     ghost rows = { settled_rows };
 
     fn put_lines(&self, lines: &mut LineBuffer) -> Result<(), AllocError> {
-        put_request_line(b"settled", &self.request, lines)?;
-        put_each_line(self.outcome.asides.as_slice(), lines)?;
-        put_all_lines(self.outcome.parts.as_slice(), lines)?;
-        put_error(&self.outcome.error, lines)?;
-        put_text_line(b"status", status_letter(self.outcome.status), lines)
+        put_settled(&self.request, &self.outcome, lines)
     }
+}
+
+impl PutsLines for Logged {
+    ghost rows = { logged_rows };
+
+    fn put_lines(&self, lines: &mut LineBuffer) -> Result<(), AllocError> {
+        put_settled(&self.request, &self.outcome, lines)
+    }
+}
+
+// Puts the lines of a request that ended so.
+fn put_settled(
+    request: &Request,
+    outcome: &Outcome,
+    lines: &mut LineBuffer,
+) -> Result<(), AllocError>
+    ensures { OnOk result (lines.new ≡ with_rows lines.old
+        (settled_rows (record { request = request.now; outcome = outcome.now }))) }
+{
+    put_request_line(b"settled", request, lines)?;
+    put_each_line(outcome.asides.as_slice(), lines)?;
+    put_all_lines(outcome.parts.as_slice(), lines)?;
+    put_error(&outcome.error, lines)?;
+    put_text_line(b"status", status_letter(outcome.status), lines)
 }
 
 fn status_letter(status: Status) -> &'static [u8]

@@ -14,8 +14,8 @@ use Rattle.pg_wire.specs.FirstDecoder.{FirstState}
 use Rattle.pg_wire.specs.Frontend.{frontend}
 use Rattle.pg_wire.specs.Link.{HasRisen}
 use Rattle.pg_wire.specs.Stream.{IsStream, IsOpen, IsFaulty}
-use Rattle.pgpipe_show.specs.declared.packets.Next.{Next}
-use Rattle.pgpipe_show.specs.declared.packets.Next.TheVariants as next
+use Rattle.pgpipe_frames.specs.declared.next.Next.{Next}
+use Rattle.pgpipe_frames.specs.declared.next.Next.TheVariants as next
 use Rattle.pgpipe_show.specs.declared.show.Shown.{Shown}
 use Rattle.pgpipe_show.specs.declared.show.Shown.TheVariants as shown
 use Rattle.pgpipe_show.specs.Packets.{packet_lines, next_after, have_ended}
@@ -23,7 +23,14 @@ use Rattle.pgpipe_base.specs.declared.stop.Stop.{Stop}
 use Rattle.pgpipe_base.specs.declared.stop.Stop.TheVariants as stop
 use Rattle.pgpipe_show.specs.declared.decoding.Decoding.{Decoding}
 use Rattle.pgpipe_show.specs.declared.decoding.Decoding.TheVariants as decoding
+use Rattle.pgpipe_frames.specs.declared.judge.Judged.TheVariants as judge
+use Rattle.pgpipe_frames.specs.Frames.{Frame, judged, AreFramed}
+use Rattle.pgpipe_frames.specs.Reader.{FramesState}
+use Rattle.pgpipe_show.specs.declared.form.Form.TheVariants as forms
+use Rattle.pgpipe_show.specs.declared.form.Line.{Line}
+use Rattle.pgpipe_show.specs.FrameLines.{AreLines, AreFramesShown}
 use Rattle.pgpipe_show.specs.Messages.{lines}
+use Rattle.pgpipe_show.specs.Way.{Way, messages_of}
 use Rattle.pgpipe_base.specs.Outbox.{most_collected, Puts, StaysWithin}
 use mathlib.Core.List.{IsPrefix}
 use Rattle.pgpipe_show.specs.Show.{length_limit, AreMessages, IsClientSide, AreShown, IsOpenFor, IsFaultyFor, AreAllShown, AreShownBefore}
@@ -142,12 +149,71 @@ PutsPackets takes failures collected sink bytes (Err stop.SinkFailed) new collec
     BreaksPackets takes failures collected sink bytes collected' sink'
 PutsPackets takes failures collected sink bytes (Err _) new collected' sink' = ⊥
 
+-- ---- the frames of a stream
+
+-- A line of this kind is put, and no more is collected than there is room for; or memory was
+-- refused, and then nothing was put; or the sink failed.
+abbrev pub PutsLineOf : {K : Type 0} → (K → List ℕ → K → Type 0) → (K → ℕ) → List ℕ → K
+    → (List ℕ → Type 0) → Result Unit (Stop Shown) → List ℕ → K → Type 0
+PutsLineOf takes failures collected sink IsText (Ok x) collected' sink' = (text : List ℕ)
+    × IsText text × PutsLine takes failures collected sink text (Ok x) collected' sink'
+PutsLineOf takes failures collected sink IsText (Err stop.Memory) collected' sink' = (collected'
+    ≡ collected) × (sink' ≡ sink)
+PutsLineOf takes failures collected sink IsText (Err w) collected' sink' = (text : List ℕ)
+    × IsText text × PutsLine takes failures collected sink text (Err w) collected' sink'
+
+-- Of these bytes, at which `first` is next, the frames are put, but for those that begin the rest.
+pub record HasPutFrames {K : Type 0} (takes : K → List ℕ → K → Type 0) (failures : K → ℕ)
+    (line : Line) (front : Bool) (collected : List ℕ) (sink : K) (first : Next) (bytes : List ℕ)
+    (n : Next) (rest collected' : List ℕ) (sink' : K) : Type 0 where
+  pub frames : List Frame
+  pub framed : AreFramed first bytes frames n rest
+  pub text : List ℕ
+  pub lines : AreLines line front frames text
+  pub put : Puts {A = Unit {0}} takes failures collected sink text (Ok tt) collected' sink'
+  pub within : StaysWithin collected collected'
+
+-- The sink failed in the midst of the frames' lines.
+pub record BreaksFrames {K : Type 0} (takes : K → List ℕ → K → Type 0) (failures : K → ℕ)
+    (line : Line) (front : Bool) (collected : List ℕ) (sink : K) (first : Next)
+    (bytes collected' : List ℕ) (sink' : K) : Type 0 where
+  pub fault : LinkFault
+  pub frames : List Frame
+  pub n : Next
+  pub rest : List ℕ
+  pub framed : AreFramed first bytes frames n rest
+  pub text : List ℕ
+  pub lines : AreLines line front frames text
+  pub put : Puts {A = Unit {0}} takes failures collected sink text (Err fault) collected' sink'
+
+-- The frames in what a reader keeps are put, as far as may be.
+abbrev pub PutsFrames : {K : Type 0} → (K → List ℕ → K → Type 0) → (K → ℕ) → Line → Bool → List ℕ
+    → K → FramesState → Result Unit (Stop Shown) → FramesState → List ℕ → K → Type 0
+PutsFrames takes failures line front collected sink old (Ok x) new collected' sink' =
+    HasPutFrames takes failures line front collected sink old.next old.kept new.next new.kept
+    collected' sink' × (judged new.next new.kept ≡ judge.Open)
+PutsFrames takes failures line front collected sink old (Err (stop.Answer (shown.Fault f))) new
+    collected' sink' = (n : Next) × (rest : List ℕ)
+    × HasPutFrames takes failures line front collected sink old.next old.kept n rest collected'
+    sink' × (judged n rest ≡ judge.Faulty f)
+PutsFrames takes failures line front collected sink old (Err stop.Memory) new collected' sink' =
+    (n : Next) × (rest : List ℕ)
+    × HasPutFrames takes failures line front collected sink old.next old.kept n rest collected'
+    sink'
+PutsFrames takes failures line front collected sink old (Err stop.SinkFailed) new collected' sink' =
+    BreaksFrames takes failures line front collected sink old.next old.kept collected' sink'
+PutsFrames takes failures line front collected sink old (Err _) new collected' sink' = ⊥
+
 -- ---- what is read now
 
--- a client is read
-abbrev pub is_front : Decoding → Bool
-is_front (decoding.Back d) = false
-is_front _ = true
+-- what is shown, and of which side
+abbrev pub way_of : Decoding → Way
+way_of (decoding.Back d) = messages_of false
+way_of (decoding.First s) = messages_of true
+way_of (decoding.Front d) = messages_of true
+way_of (decoding.Over size) = messages_of true
+way_of (decoding.Framed f) = record { form = forms.Frames f.line; front = f.front }
+way_of (decoding.FramedOver line side size) = record { form = forms.Frames line; front = side }
 
 -- how many bytes no line was put for
 abbrev pub unshown : Decoding → ℕ
@@ -155,6 +221,8 @@ unshown (decoding.Back d) = length d.stream.kept
 unshown (decoding.First s) = length s.kept
 unshown (decoding.Front d) = length d.stream.kept
 unshown (decoding.Over n) = n
+unshown (decoding.Framed f) = length f.frames.kept
+unshown (decoding.FramedOver line side n) = n
 
 -- No fault was found in what is read now, and it has not come to its end.
 abbrev pub IsSoundAt : Decoding → Type 0
@@ -162,6 +230,8 @@ IsSoundAt (decoding.Back d) = IsSound d.stream
 IsSoundAt (decoding.First s) = (s.ended ≡ false) × (s.fault ≡ None)
 IsSoundAt (decoding.Front d) = IsSound d.stream
 IsSoundAt (decoding.Over size) = Unit {0}
+IsSoundAt (decoding.Framed f) = Unit {0}
+IsSoundAt (decoding.FramedOver line side size) = Unit {0}
 
 -- What is read now keeps the open rest of these bytes, and the text is the lines for the others.
 abbrev pub AreAt : List ℕ → List ℕ → Decoding → Type 0
@@ -174,6 +244,11 @@ AreAt bytes text (decoding.Front d) = IsSound d.stream
     × IsOpen frontend length_limit d.stream.kept
 AreAt bytes text (decoding.Over size) = (rest : List ℕ) × IsClientSide bytes text next.Nothing rest
     × (size ≡ length rest)
+AreAt bytes text (decoding.Framed f) =
+    AreFramesShown f.line f.front bytes text f.frames.next f.frames.kept
+    × (judged f.frames.next f.frames.kept ≡ judge.Open)
+AreAt bytes text (decoding.FramedOver line side size) = (rest : List ℕ)
+    × AreFramesShown line side bytes text next.Nothing rest × (size ≡ length rest)
 
 -- The lines for the bytes received are put, and what is read now keeps the open rest.
 pub record HasShown {K : Type 0} (takes : K → List ℕ → K → Type 0) (failures : K → ℕ) (start : K)
@@ -184,47 +259,47 @@ pub record HasShown {K : Type 0} (takes : K → List ℕ → K → Type 0) (fail
   pub within : length collected ≤ most_collected
 
 -- The lines for the bytes received are put, but for this rest, and these sends were the first.
-pub record ArePut {K : Type 0} (takes : K → List ℕ → K → Type 0) (failures : K → ℕ) (front : Bool)
+pub record ArePut {K : Type 0} (takes : K → List ℕ → K → Type 0) (failures : K → ℕ) (way : Way)
     (start : K) (bytes : List ℕ) (earlier : List (List ℕ)) (n : Next) (rest collected : List ℕ)
     (sink : K) : Type 0 where
   pub text : List ℕ
-  pub shown : AreShown front bytes text n rest
+  pub shown : AreShown way bytes text n rest
   pub put : Puts {A = Unit {0}} takes failures [] start text (Ok tt) collected sink
   pub begins : IsPrefix earlier put.pieces
   pub within : length collected ≤ most_collected
 
 -- The sink failed in the midst of the lines, and these sends were the first.
 pub record HasSinkFailed {K : Type 0} (takes : K → List ℕ → K → Type 0) (failures : K → ℕ)
-    (front : Bool) (start : K) (bytes : List ℕ) (earlier : List (List ℕ)) (collected : List ℕ)
+    (way : Way) (start : K) (bytes : List ℕ) (earlier : List (List ℕ)) (collected : List ℕ)
     (sink : K) : Type 0 where
   pub fault : LinkFault
   pub text : List ℕ
   pub n : Next
   pub rest : List ℕ
-  pub shown : AreShown front bytes text n rest
+  pub shown : AreShown way bytes text n rest
   pub put : Puts {A = Unit {0}} takes failures [] start text (Err fault) collected sink
   pub begins : IsPrefix earlier put.pieces
 
 -- What stands where the work stops, in a step before which these sends were made.
-abbrev pub Stops : {K : Type 0} → (K → List ℕ → K → Type 0) → (K → ℕ) → Bool → K → List ℕ
+abbrev pub Stops : {K : Type 0} → (K → List ℕ → K → Type 0) → (K → ℕ) → Way → K → List ℕ
     → List (List ℕ) → Stop Shown → List ℕ → K → Type 0
-Stops takes failures front start bytes earlier (stop.Answer shown.Whole) collected sink = (n : Next)
-    × (rest : List ℕ) × ArePut takes failures front start bytes earlier n rest collected sink
-    × IsOpenFor front n rest × (0 ≡ length rest)
-Stops takes failures front start bytes earlier (stop.Answer (shown.Rest size)) collected sink =
+Stops takes failures way start bytes earlier (stop.Answer shown.Whole) collected sink = (n : Next)
+    × (rest : List ℕ) × ArePut takes failures way start bytes earlier n rest collected sink
+    × IsOpenFor way n rest × (0 ≡ length rest)
+Stops takes failures way start bytes earlier (stop.Answer (shown.Rest size)) collected sink =
     (n : Next) × (rest : List ℕ)
-    × ArePut takes failures front start bytes earlier n rest collected sink
-    × IsOpenFor front n rest × (size ≡ length rest) × (0 < size)
-Stops takes failures front start bytes earlier (stop.Answer (shown.Fault f)) collected sink =
+    × ArePut takes failures way start bytes earlier n rest collected sink
+    × IsOpenFor way n rest × (size ≡ length rest) × (0 < size)
+Stops takes failures way start bytes earlier (stop.Answer (shown.Fault f)) collected sink =
     (n : Next)
-    × (rest : List ℕ) × ArePut takes failures front start bytes earlier n rest collected sink
-    × IsFaultyFor front n rest f
-Stops takes failures front start bytes earlier stop.Memory collected sink = (n : Next)
-    × (rest : List ℕ) × ArePut takes failures front start bytes earlier n rest collected sink
-Stops takes failures front start bytes earlier stop.SinkFailed collected sink =
-    HasSinkFailed takes failures front start bytes earlier collected sink
-Stops takes failures front start bytes earlier _ collected sink = (n : Next) × (rest : List ℕ)
-    × ArePut takes failures front start bytes earlier n rest collected sink × IsOpenFor front n rest
+    × (rest : List ℕ) × ArePut takes failures way start bytes earlier n rest collected sink
+    × IsFaultyFor way n rest f
+Stops takes failures way start bytes earlier stop.Memory collected sink = (n : Next)
+    × (rest : List ℕ) × ArePut takes failures way start bytes earlier n rest collected sink
+Stops takes failures way start bytes earlier stop.SinkFailed collected sink =
+    HasSinkFailed takes failures way start bytes earlier collected sink
+Stops takes failures way start bytes earlier _ collected sink = (n : Next) × (rest : List ℕ)
+    × ArePut takes failures way start bytes earlier n rest collected sink × IsOpenFor way n rest
 
 -- The lines for the bytes received are put as before, and these sends were the first.
 abbrev pub GoesOn : {K : Type 0} → (K → List ℕ → K → Type 0) → (K → ℕ) → K → List ℕ
@@ -234,13 +309,13 @@ GoesOn takes failures start bytes earlier at collected sink =
     × IsPrefix earlier shown.put.pieces
 
 -- Where a step of the work leads, before which these sends were made.
-abbrev pub StepShows : {K : Type 0} → (K → List ℕ → K → Type 0) → (K → ℕ) → Bool → K → List ℕ
+abbrev pub StepShows : {K : Type 0} → (K → List ℕ → K → Type 0) → (K → ℕ) → Way → K → List ℕ
     → List (List ℕ) → Result Decoding (Stop Shown) → List ℕ → K → Type 0
-StepShows takes failures front start bytes earlier (Ok s) collected sink = (is_front s ≡ front)
+StepShows takes failures way start bytes earlier (Ok s) collected sink = (way_of s ≡ way)
     × (shown : HasShown takes failures start bytes s collected sink)
     × IsPrefix earlier shown.put.pieces
-StepShows takes failures front start bytes earlier (Err h) collected sink =
-    Stops takes failures front start bytes earlier h collected sink
+StepShows takes failures way start bytes earlier (Err h) collected sink =
+    Stops takes failures way start bytes earlier h collected sink
 
 -- What a stop says of the source: it has ended, it failed in these calls, it gave no end in so many,
 -- or it didn't fail.
@@ -253,15 +328,15 @@ StopsSource ended old new pieces _ = new ≡ old
 
 -- Pieces were received until the work stopped, and this is what stands then.
 pub record HasRun {S K : Type 0} (gives : S → List ℕ → S → Type 0) (source_failures : S → ℕ)
-    (ended : Type 0) (takes : K → List ℕ → K → Type 0) (failures : K → ℕ) (front : Bool)
+    (ended : Type 0) (takes : K → List ℕ → K → Type 0) (failures : K → ℕ) (way : Way)
     (source : S) (start : K) (s : Stop Shown) (source' : S) (collected : List ℕ)
     (sink : K) : Type 0 where
   pub pieces : List (List ℕ)
   pub received : FoldsTo gives source pieces source'
   pub earlier : List (List ℕ)
-  pub shown_before : AreShownBefore front (concat pieces) (concat earlier)
-  pub at_once : IsSentAtOnce (AreAllShown front) pieces earlier
-  pub stops : Stops takes failures front start (concat pieces) earlier s collected sink
+  pub shown_before : AreShownBefore way (concat pieces) (concat earlier)
+  pub at_once : IsSentAtOnce (AreAllShown way) pieces earlier
+  pub stops : Stops takes failures way start (concat pieces) earlier s collected sink
   pub stops_source : StopsSource ended (source_failures source) (source_failures source') pieces s
 
 -- One call of receive gave these bytes, and the work went on with them.

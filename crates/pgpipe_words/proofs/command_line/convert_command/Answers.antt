@@ -7,4 +7,7 @@ returns c =
     let to = c.in_ok-with_arg-2.ensures _ _ from c.required_arg-to.ensures in
     let columns = c.in_ok-command.ensures _ _ to c.columns_arg-columns.ensures in
     let delimiter = c.in_ok-with_arg-3.ensures _ _ columns c.text_arg-delimiter.ensures in
-    c.with_arg-5.ensures _ _ delimiter c.text_arg-null.ensures
+    let null = c.in_ok-command-2.ensures _ _ delimiter c.text_arg-null.ensures in
+    let explain = c.in_ok-command-3.ensures _ _ null c.explain_arg.ensures in
+    let progress = c.in_ok-command-4.ensures _ _ explain c.progress_arg.ensures in
+    c.with_arg-8.ensures _ _ progress c.file_arg.ensures

@@ -1,3 +1,4 @@
+use Rattle.std.proofs.Common.{refl}
 use Rattle.pgpipe_words.proofs.doing.do_task.Goals as goal
 
 pub returns-in-Show : goal.returns-in-Show
@@ -5,3 +6,9 @@ returns-in-Show g c = rw c.in-Show.is c.do_show.ensures
 
 pub returns-in-Convert : goal.returns-in-Convert
 returns-in-Convert g c = rw c.in-Convert.is c.do_convert.ensures
+
+pub returns-in-Loop : goal.returns-in-Loop
+returns-in-Loop g c = rw c.in-Loop.is (refl, c.do_loop.ensures)
+
+pub returns : goal.returns
+returns g c = rw c.in-Serve.is (refl, refl, refl)

@@ -18,4 +18,5 @@ returns-clause-named c =
       columns = λ n is low high. many n (subst (λ (o : Option (List ℕ)). IsNumber o n) (sym (one_text-rows found (codes "columns"))) is) low high;
       delimiter = mark ∙ ap (λ (o : Option (List ℕ)). unwrap_or o (delimiter ∷ [])) (first_value-rows found (codes "delimiter"));
       null_mark = null ∙ ap (λ (o : Option (List ℕ)). unwrap_or o null_mark) (first_value-rows found (codes "null"));
+      file = c.in_ok-file_of.ensures ∙ first_value-rows found (codes "FILE");
     }

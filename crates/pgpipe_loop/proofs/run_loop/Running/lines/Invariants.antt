@@ -6,4 +6,4 @@ use Rattle.pgpipe_loop.proofs.run_loop.Running.lines.Given as goal
 -- what was yielded is done
 abbrev pub invariant-loop-line : goal.invariant-loop-line
 invariant-loop-line g l =
-    DoesAll {A = Unit {0}} g.C.Carry.carries g.K.Sink.takes g.K.Sink.failures (planned_events l.cut l.yielded) (at l.initial.self.pair l.initial.self.carrier_failed l.initial.sink) (Ok tt) (at l.self.pair l.self.carrier_failed l.sink)
+    DoesAll {A = Unit {0}} g.C.Carry.carries l.trace g.K.Sink.takes g.K.Sink.failures (planned_events l.cut l.yielded) (at l.initial.self.pair l.initial.self.carrier_failed l.initial.sink) (Ok tt) (at l.self.pair l.self.carrier_failed l.sink)

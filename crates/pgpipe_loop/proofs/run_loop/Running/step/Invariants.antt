@@ -8,4 +8,4 @@ abbrev pub invariant-loop : goal.invariant-loop
 invariant-loop g l =
     let old = at l.initial.self.pair l.initial.self.carrier_failed l.initial.sink in
     let now = at l.self.pair l.self.carrier_failed l.sink in
-    Does {A = Unit {0}} g.C.Carry.carries g.K.Sink.takes g.K.Sink.failures (times most_times (event.Step)) (λ x. times (most_times - l.counter) (event.Step)) old (Ok tt) now
+    Does {A = Unit {0}} g.C.Carry.carries l.trace g.K.Sink.takes g.K.Sink.failures (times most_times (event.Step)) (λ x. times (most_times - l.counter) (event.Step)) old (Ok tt) now

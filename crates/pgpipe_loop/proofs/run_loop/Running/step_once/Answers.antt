@@ -10,10 +10,10 @@ returns-in_err-answer g c =
     let p = err_from_is_err_and c.from_residual.result c.from_residual.ensures.1 in
     let old = at c.args.self.now.pair c.args.self.now.carrier_failed c.args.sink.now in
     let new = at c.apply.new.self.pair c.apply.new.self.carrier_failed c.apply.new.sink in
-    rw (p.1, p.2) (λ n. not_once g.C.Carry.carries g.K.Sink.takes g.K.Sink.failures (λ nothing. left_to_happen nothing (record { event = event.Step; again = n })) event.Step n old new c.in_err-answer.field-0.0 c.in_err-answer.ensures)
+    rw (p.1, p.2) (λ n. not_once g.C.Carry.carries c.args.trace g.K.Sink.takes g.K.Sink.failures (λ nothing. left_to_happen nothing (record { event = event.Step; again = n })) event.Step n old new c.in_err-answer.field-0.0 c.in_err-answer.ensures)
 
 pub returns : goal.returns
 returns g c =
     let old = at c.args.self.now.pair c.args.self.now.carrier_failed c.args.sink.now in
     let new = at c.apply.new.self.pair c.apply.new.self.carrier_failed c.apply.new.sink in
-    once g.C.Carry.carries g.K.Sink.takes g.K.Sink.failures event.Step old new c.in_ok-answer.answer c.is_nothing.result c.in_ok-answer.ensures c.is_nothing.ensures
+    once g.C.Carry.carries c.args.trace g.K.Sink.takes g.K.Sink.failures event.Step old new c.in_ok-answer.answer c.is_nothing.result c.in_ok-answer.ensures c.is_nothing.ensures

@@ -1,5 +1,5 @@
 use Rattle.std.proofs.lemmas.Result.{err_from_is_err_and}
-use Rattle.pgpipe_show.proofs.Decodings.{take_back_ok, take_back_err, take_first, take_front_ok, take_front_err, take_over}
+use Rattle.pgpipe_show.proofs.Decodings.{take_back_ok, take_back_err, take_first, take_front_ok, take_front_err, take_over, take_framed, take_framed_over}
 use Rattle.pgpipe_show.proofs.decoding.Decoding.take.Goals as goal
 
 pub returns-in_ok-spellings-in-Back-clause-steps : goal.returns-in_ok-spellings-in-Back-clause-steps
@@ -23,3 +23,9 @@ returns-in_err-spellings-in-Front-clause-steps g c =
 
 pub returns-in-Over-clause-steps : goal.returns-in-Over-clause-steps
 returns-in-Over-clause-steps g c = λ start bytes st. take_over g.K.Sink.takes g.K.Sink.failures start bytes c.args.piece.now c.args.outbox.now c.args.sink.now c.args.self st c.in-Over.count c.in-Over.is
+
+pub returns-in-Framed-clause-steps : goal.returns-in-Framed-clause-steps
+returns-in-Framed-clause-steps g c = λ start bytes st. take_framed g.K.Sink.takes g.K.Sink.failures start bytes c.args.piece.now c.args.outbox.now c.args.sink.now c.args.self st c.in-Framed.framing c.take_frames.result c.take_frames.new.outbox c.take_frames.new.sink c.in-Framed.is (c.take_frames.ensures.steps start bytes)
+
+pub returns-in-FramedOver-clause-steps : goal.returns-in-FramedOver-clause-steps
+returns-in-FramedOver-clause-steps g c = λ start bytes st. take_framed_over g.K.Sink.takes g.K.Sink.failures start bytes c.args.piece.now c.args.outbox.now c.args.sink.now c.args.self st c.in-FramedOver.line c.in-FramedOver.front c.in-FramedOver.count c.in-FramedOver.is

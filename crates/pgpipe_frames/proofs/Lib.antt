@@ -1,0 +1,3 @@
+pub mod Judging
+mod Packets
+pub mod Framing

@@ -1,0 +1,36 @@
+//! The lines of a text file.
+
+ghost use Rattle.std.specs.Prelude.{◌≡◌};
+ghost use Rattle.pgpipe_places.specs.Tracker.{text_taken};
+
+use crate::tracker::{Phase, Turn};
+
+/// What came last in a line.
+#[derive(Clone, Copy, Debug, PartialEq, Eq)]
+pub enum Text {
+    /// Nothing that changes what the next byte is.
+    Plain,
+    /// A backslash that begins an escape.
+    Escape,
+    /// A return that ends the line, unless a newline does after it.
+    Return,
+}
+
+impl Text {
+    /// What a byte does: an escaped line end stands within its line.
+    pub fn take(self, byte: u8) -> Turn
+        ensures { result ≡ text_taken self byte }
+    {
+        match (self, byte) {
+            (Text::Escape, b'\n' | b'\r') => Turn::Line(Phase::Text(Text::Plain)),
+            (Text::Escape, _) => Turn::Within(Phase::Text(Text::Plain)),
+            (_, b'\n') => Turn::Last(Phase::Text(Text::Plain)),
+            (Text::Plain, b'\\') => Turn::Within(Phase::Text(Text::Escape)),
+            (Text::Plain, b'\r') => Turn::Within(Phase::Text(Text::Return)),
+            (Text::Plain, _) => Turn::Within(Phase::Text(Text::Plain)),
+            (Text::Return, b'\\') => Turn::First(Phase::Text(Text::Escape)),
+            (Text::Return, b'\r') => Turn::First(Phase::Text(Text::Return)),
+            (Text::Return, _) => Turn::First(Phase::Text(Text::Plain)),
+        }
+    }
+}

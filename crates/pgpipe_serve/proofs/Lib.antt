@@ -1,0 +1,3 @@
+-- Lemmas, by the subject.
+pub mod Turning
+pub mod Coming
