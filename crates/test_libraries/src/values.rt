@@ -2,7 +2,7 @@
 
 ghost use Rattle.std.specs.Prelude.{◌≡◌, IfOk};
 
-use pg_wire::{Aside, Column, CopyHead, Fields, Request, Seq, Values};
+use pg_wire::{CopyHead, Fields, Request, Seq, Values};
 use std::alloc::{AllocError, Global};
 
 /// These bytes, as a list of a message or a script.
@@ -27,32 +27,9 @@ pub fn query(alloc: Global, bytes: &[u8]) -> Result<Request, AllocError> {
     Ok(Request::Query(text(alloc, bytes)?))
 }
 
-/// A column of the type text.
-pub fn column(alloc: Global, name: &[u8]) -> Result<Column, AllocError> {
-    Ok(Column {
-        name: text(alloc, name)?,
-        table_oid: 0,
-        attribute: 0,
-        type_oid: 25,
-        size: -1,
-        modifier: -1,
-        format: 0,
-    })
-}
-
-/// One column.
-pub fn columns(alloc: Global, name: &[u8]) -> Result<Seq<Column>, AllocError> {
-    Ok(Seq::new(vec![in alloc; column(alloc, name)?]?))
-}
-
 /// A row of a value.
 pub fn row(alloc: Global, value: &[u8]) -> Result<Values, AllocError> {
     Values::from_slice(alloc, &[Some(value)]).map_err(|_| AllocError)
-}
-
-/// A row of a value and a null.
-pub fn row_and_null(alloc: Global, value: &[u8]) -> Result<Values, AllocError> {
-    Values::from_slice(alloc, &[Some(value), None]).map_err(|_| AllocError)
 }
 
 /// The head of a copy with as many formats of 0 as columns.
@@ -70,29 +47,4 @@ fn fields(alloc: Global, list: &[(u8, &[u8])]) -> Result<Fields, AllocError> {
 /// The fields of an error: the code `XX000` and the text `bad`.
 pub fn bad(alloc: Global) -> Result<Fields, AllocError> {
     fields(alloc, &[(b'C', b"XX000"), (b'M', b"bad")])
-}
-
-fn notice(alloc: Global) -> Result<Aside, AllocError> {
-    Ok(Aside::Notice(fields(alloc, &[(b'M', b"hi")])?))
-}
-
-fn parameter(alloc: Global) -> Result<Aside, AllocError> {
-    Ok(Aside::Parameter {
-        name: text(alloc, b"n")?,
-        value: text(alloc, b"v")?,
-    })
-}
-
-fn notification(alloc: Global) -> Result<Aside, AllocError> {
-    Ok(Aside::Notification {
-        process: -1,
-        channel: text(alloc, b"c")?,
-        payload: text(alloc, b"p")?,
-    })
-}
-
-/// A notice, a parameter and a notification.
-pub fn asides(alloc: Global) -> Result<Seq<Aside>, AllocError> {
-    let asides = vec![in alloc; notice(alloc)?, parameter(alloc)?, notification(alloc)?]?;
-    Ok(Seq::new(asides))
 }

@@ -1,4 +1,5 @@
-//! Tests of what a loop's two files, SCRIPT and CALLS, are read as, by the public interface alone.
+//! Tests of what a loop's two files, SCRIPT and CALLS, are read as, by the public interface alone: of what no loop shows. What else they are
+//! read as, and where they are refused, is asked by `.ci/loops`.
 //!
 //! Each is a table: a file, and what is so of what it is read as. What was read costs the prover much in each function that owns it, so
 //! one function for each kind of file reads it, by `holds`, and lends it to the others.
@@ -9,11 +10,7 @@ mod calls;
 #[cfg(test)]
 mod copies;
 #[cfg(test)]
-mod groups;
-#[cfg(test)]
 mod queries;
-#[cfg(test)]
-mod refusals;
 #[cfg(test)]
 mod scripts;
 #[cfg(test)]

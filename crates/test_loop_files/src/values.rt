@@ -1,14 +1,11 @@
 //! What both kinds of files are read as, as tables have it, owning nothing.
 
-use pg_wire::{Fields, Seq, Values};
+use pg_wire::{Fields, Seq};
 use std::alloc::{AllocError, Global};
 use test_libraries::values::{pair, text};
 
 /// A name and a value.
 pub(crate) type TablePair = (&'static [u8], &'static [u8]);
-
-/// The values of a row, or of a Bind.
-pub(crate) type TableRow = &'static [Option<&'static [u8]>];
 
 /// The fields of an error, each by its code and its text.
 pub(crate) type TableFields = &'static [(u8, &'static [u8])];
@@ -22,10 +19,6 @@ pub(crate) fn pairs(
         pairs.push(pair(alloc, *name, *value)?)?;
     }
     Ok(Seq::new(pairs))
-}
-
-pub(crate) fn values(alloc: Global, row: TableRow) -> Result<Values, AllocError> {
-    Values::from_slice(alloc, row).map_err(|_| AllocError)
 }
 
 pub(crate) fn fields(alloc: Global, list: TableFields) -> Result<Fields, AllocError> {

@@ -12,7 +12,6 @@ mod events;
 mod everywhere;
 mod groups;
 mod outside;
-mod passwords;
 mod rows;
 mod wanted;
 mod worked;

@@ -1,170 +1,26 @@
-//! Lines of what happens.
+//! Lines of what no loop of a script comes to; those of others are asked by `.ci/loops`.
 
-use crate::told::{
-    TableAnswer, TableEnd, TableGroup, TableLoss, TablePart, TableRequest, applied, log, loss,
-    settled_list,
-};
+use crate::told::{TableAnswer, applied, log};
 use pg_backend::{BackPhase, BackendFault, Logged};
-use pg_client::{CallFault, Cause, Loss, Phase, Settled};
+use pg_client::{CallFault, Phase};
 use pg_pair::Applied;
-use pg_wire::{EncodeFault, Status, WireFault};
+use pg_wire::{EncodeFault, WireFault};
 use pgpipe_loop::{closing_lines, event_lines};
 use std::alloc::Global;
 use test_base::holds;
 
-/// Whether these are the lines of an event.
-fn are_lines(
-    alloc: Global,
-    settled: &[Settled],
-    answer: &Applied,
-    loss: Option<&Loss>,
-    lines: &[u8],
-) -> bool {
-    match event_lines(alloc, settled, answer, loss) {
+/// Whether these are the lines of an event that was answered so.
+fn are_lines(alloc: Global, answer: &Applied, lines: &[u8]) -> bool {
+    match event_lines(alloc, &[], answer, None) {
         Ok(text) => text.as_slice() == lines,
         Err(_) => false,
     }
 }
 
-// ---- settled groups
-
-fn settles_as(alloc: Global, group: TableGroup, lines: &[u8]) -> bool {
-    holds(
-        settled_list(alloc, group).ok(),
-        |it| are_lines(alloc, it.as_slice(), &Applied::Done, None, lines),
-    )
-}
-
-/// Whether each group has these lines.
-fn settle_as(alloc: Global, rows: &[(TableGroup, &[u8])]) -> bool {
-    for (group, lines) in rows {
-        if !settles_as(alloc, *group, *lines) {
-            return false;
-        }
-    }
-    true
-}
-
-const FAILED: [(TableGroup, &[u8]); 1] = [(
-    TableGroup {
-        request: TableRequest::Query(b"Q"),
-        parts: &[],
-        fails: true,
-        status: Status::Failed,
-    },
-    b"settled\tquery\tQ\nnotice\tM\thi\nset\tn\tv\nnotify\t-1\tc\tp\nerror\tC\tXX000\tM\tbad\nstatus\tE\n",
-)];
-
-#[test]
-fn lines_of_asides_and_an_error(rt: HostRuntime) {
-    assert!(rt; settle_as(rt.alloc(), &FAILED));
-}
-
-const RESULTS: [(TableGroup, &[u8]); 1] = [(
-    TableGroup {
-        request: TableRequest::Query(b"Q"),
-        parts: &[
-            TablePart::Rows(b"a\tb", b"SELECT 1"),
-            TablePart::Command(b"A\\B"),
-            TablePart::Empty,
-        ],
-        fails: false,
-        status: Status::InBlock,
-    },
-    b"settled\tquery\tQ\nrows\tSELECT 1\tn\nrow\ta\\tb\t\\N\ncommand\tA\\\\B\nempty\nstatus\tT\n",
-)];
-
-#[test]
-fn lines_of_results(rt: HostRuntime) {
-    assert!(rt; settle_as(rt.alloc(), &RESULTS));
-}
-
-const COPIES: [(TableGroup, &[u8]); 1] = [(
-    TableGroup {
-        request: TableRequest::Query(b"Q"),
-        parts: &[
-            TablePart::CopyOut(b"1\n", b"COPY 1"),
-            TablePart::CopyIn(b"COPY 2"),
-        ],
-        fails: false,
-        status: Status::InBlock,
-    },
-    b"settled\tquery\tQ\ncopyout\tCOPY 1\ttext\t1\nchunk\t1\\n\ncopyin\tbinary\t0\taccept\tCOPY 2\nstatus\tT\n",
-)];
-
-#[test]
-fn lines_of_copies(rt: HostRuntime) {
-    assert!(rt; settle_as(rt.alloc(), &COPIES));
-}
-
-const PREPARED: [(TableGroup, &[u8]); 1] = [(
-    TableGroup {
-        request: TableRequest::OneStep,
-        parts: &[
-            TablePart::Parsed,
-            TablePart::Bound,
-            TablePart::Described(4_294_967_295),
-            TablePart::Bare,
-            TablePart::Shut,
-        ],
-        fails: false,
-        status: Status::InBlock,
-    },
-    b"settled\tgroup\t1\nparsed\nbound\nparamtypes\t4294967295\ndescribed\tn\ndescribed\nshut\nstatus\tT\n",
-)];
-
-#[test]
-fn lines_of_a_group(rt: HostRuntime) {
-    assert!(rt; settle_as(rt.alloc(), &PREPARED));
-}
-
-const COMPLETE: [(TableGroup, &[u8]); 1] = [(
-    TableGroup {
-        request: TableRequest::OneStep,
-        parts: &[TablePart::Executed(TableEnd::Complete(b"SELECT 0"))],
-        fails: false,
-        status: Status::InBlock,
-    },
-    b"settled\tgroup\t1\nexecuted\tcomplete\tSELECT 0\nrow\t1\nstatus\tT\n",
-)];
-
-#[test]
-fn a_line_of_a_complete_execute(rt: HostRuntime) {
-    assert!(rt; settle_as(rt.alloc(), &COMPLETE));
-}
-
-const OTHER_EXECUTES: [(TableGroup, &[u8]); 2] = [
-    (
-        TableGroup {
-            request: TableRequest::OneStep,
-            parts: &[TablePart::Executed(TableEnd::Empty)],
-            fails: false,
-            status: Status::InBlock,
-        },
-        b"settled\tgroup\t1\nexecuted\tempty\nrow\t1\nstatus\tT\n",
-    ),
-    (
-        TableGroup {
-            request: TableRequest::OneStep,
-            parts: &[TablePart::Executed(TableEnd::Suspended)],
-            fails: false,
-            status: Status::InBlock,
-        },
-        b"settled\tgroup\t1\nexecuted\tsuspended\nrow\t1\nstatus\tT\n",
-    ),
-];
-
-#[test]
-fn lines_of_other_executes(rt: HostRuntime) {
-    assert!(rt; settle_as(rt.alloc(), &OTHER_EXECUTES));
-}
-
-// ---- answers
-
 fn says(alloc: Global, answer: TableAnswer, lines: &[u8]) -> bool {
     holds(
         applied(alloc, answer).ok(),
-        |it| are_lines(alloc, &[], it, None, lines),
+        |it| are_lines(alloc, it, lines),
     )
 }
 
@@ -277,114 +133,7 @@ fn lines_have_at_most_so_many_fields(rt: HostRuntime) {
     assert!(rt; held);
 }
 
-// ---- losses
-
-fn loses(alloc: Global, table: TableLoss, lines: &[u8]) -> bool {
-    holds(
-        loss(alloc, table).ok(),
-        |it| are_lines(alloc, &[], &Applied::Nothing, Some(it), lines),
-    )
-}
-
-/// Whether each loss has these lines.
-fn lose(alloc: Global, rows: &[(TableLoss, &[u8])]) -> bool {
-    for (table, lines) in rows {
-        if !loses(alloc, *table, *lines) {
-            return false;
-        }
-    }
-    true
-}
-
-const LOSSES: [(TableLoss, &[u8]); 3] = [
-    (
-        TableLoss {
-            in_doubt: None,
-            seen_error: false,
-        },
-        b"lost\tclear\tnone\n",
-    ),
-    (
-        TableLoss {
-            in_doubt: Some(TableRequest::NoStep),
-            seen_error: false,
-        },
-        b"lost\tclear\tgroup\t0\n",
-    ),
-    (
-        TableLoss {
-            in_doubt: Some(TableRequest::Query(b"Q")),
-            seen_error: true,
-        },
-        b"lost\terror\tquery\tQ\n",
-    ),
-];
-
-#[test]
-fn lines_of_a_loss(rt: HostRuntime) {
-    assert!(rt; lose(rt.alloc(), &LOSSES));
-}
-
 // ---- closing lines
-
-/// Whether these are the closing lines.
-fn closes(alloc: Global, log: &[Logged], at: (Phase, BackPhase), lines: &[u8]) -> bool {
-    match closing_lines(alloc, log, at.0, at.1) {
-        Ok(text) => text.as_slice() == lines,
-        Err(_) => false,
-    }
-}
-
-const PHASES: [((Phase, BackPhase), &[u8]); 7] = [
-    (
-        (Phase::New, BackPhase::First),
-        b"client\tnew\nbackend\tfirst\n",
-    ),
-    (
-        (Phase::Starting, BackPhase::First),
-        b"client\tstarting\nbackend\tfirst\n",
-    ),
-    (
-        (Phase::Starting, BackPhase::Password),
-        b"client\tstarting\nbackend\tpassword\n",
-    ),
-    (
-        (Phase::Busy, BackPhase::Grouping),
-        b"client\tbusy\nbackend\tgrouping\n",
-    ),
-    (
-        (Phase::CopyingIn, BackPhase::CopyIn),
-        b"client\tcopying\nbackend\tcopying\n",
-    ),
-    (
-        (Phase::Closed(Cause::Lost), BackPhase::Closed),
-        b"client\tclosed\nbackend\tclosed\n",
-    ),
-    (
-        (Phase::Ready, BackPhase::Ready),
-        b"client\tready\nbackend\tready\n",
-    ),
-];
-
-#[test]
-fn phases_at_the_end(rt: HostRuntime) {
-    for (at, lines) in PHASES {
-        assert!(rt; closes(rt.alloc(), &[], at, lines), "{lines:?}");
-    }
-}
-
-const READY: (Phase, BackPhase) = (Phase::Ready, BackPhase::Ready);
-
-#[test]
-fn chunks_at_the_end(rt: HostRuntime) {
-    let alloc = rt.alloc();
-    let lines = b"loaded\t2\tc\tc\nclient\tready\nbackend\tready\n";
-    let held = holds(
-        log(alloc, &[0, 2]).ok(),
-        |it| closes(alloc, it.as_slice(), READY, lines),
-    );
-    assert!(rt; held);
-}
 
 /// Whether one line has the first 32,765 chunks of a request, and a second one the last.
 fn needs_two_lines(alloc: Global, log: &[Logged]) -> bool {

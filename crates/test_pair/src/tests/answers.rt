@@ -20,7 +20,6 @@ pub enum Question {
     /// It doesn't.
     Trust,
     Cleartext,
-    Md5,
 }
 
 /// What a backend answers to one request.
@@ -54,8 +53,6 @@ pub struct Ends<'a> {
     pub question: Question,
     /// What the client has, if it has one.
     pub password: Option<&'static [u8]>,
-    /// Whether the client's further pairs name another user.
-    pub other_user: bool,
     pub replies: &'a [Reply],
 }
 
@@ -64,7 +61,6 @@ pub fn answering<'a>(replies: &'a [Reply]) -> Ends<'a> {
     Ends {
         question: Question::Trust,
         password: None,
-        other_user: false,
         replies,
     }
 }
@@ -74,7 +70,6 @@ pub fn asking(question: Question, password: Option<&'static [u8]>) -> Ends<'stat
     Ends {
         question,
         password,
-        other_user: false,
         replies: &[Reply::Row],
     }
 }
@@ -118,7 +113,7 @@ fn long(alloc: Global) -> Result<ScriptPart, AllocError> {
 }
 
 /// One column, in text.
-pub fn head(alloc: Global) -> Result<CopyHead, AllocError> {
+fn head(alloc: Global) -> Result<CopyHead, AllocError> {
     Ok(CopyHead {
         binary: false,
         formats: Seq::new(vec![in alloc; 0]?),
@@ -126,17 +121,17 @@ pub fn head(alloc: Global) -> Result<CopyHead, AllocError> {
 }
 
 /// Fields, each given by its code and its text.
-pub fn all_fields(alloc: Global, list: &[(u8, &[u8])]) -> Result<Fields, AllocError> {
+fn all_fields(alloc: Global, list: &[(u8, &[u8])]) -> Result<Fields, AllocError> {
     Fields::from_slice(alloc, list).map_err(|_| AllocError)
 }
 
 /// Fields of one message.
-pub fn fields(alloc: Global, message: &[u8]) -> Result<Fields, AllocError> {
+fn fields(alloc: Global, message: &[u8]) -> Result<Fields, AllocError> {
     all_fields(alloc, &[(b'M', message)])
 }
 
 /// The fields of each error that a backend answers.
-pub const FAILURE: &[(u8, &[u8])] = &[(b'C', b"XX000"), (b'M', b"bad")];
+const FAILURE: &[(u8, &[u8])] = &[(b'C', b"XX000"), (b'M', b"bad")];
 
 fn load(alloc: Global, reply: Reply) -> Result<Load, AllocError> {
     match reply {
@@ -245,10 +240,6 @@ fn auth(alloc: Global, question: Question) -> Result<Auth, AllocError> {
     match question {
         Question::Trust => Ok(Auth::Trust),
         Question::Cleartext => Ok(Auth::Cleartext(text(alloc, SECRET)?)),
-        Question::Md5 => Ok(Auth::Md5 {
-            password: text(alloc, SECRET)?,
-            salt: [7, 0, 91, 200],
-        }),
     }
 }
 
@@ -280,25 +271,14 @@ fn optional(alloc: Global, bytes: Option<&[u8]>) -> Result<Option<Seq<u8>>, Allo
     }
 }
 
-fn further_pairs(alloc: Global, other_user: bool) -> Result<Vec<(Seq<u8>, Seq<u8>)>, AllocError> {
-    if !other_user {
-        return Ok(Vec::new(alloc));
-    }
-    Ok(vec![in alloc; (text(alloc, b"user")?, text(alloc, b"v")?)]?)
-}
-
 /// A client of the user `u` that has this password, or none.
-pub fn settings(
-    alloc: Global,
-    password: Option<&[u8]>,
-    other_user: bool,
-) -> Result<Settings, AllocError>
+pub fn settings(alloc: Global, password: Option<&[u8]>) -> Result<Settings, AllocError>
     ensures { IfOk result (λ s. s.limit ≡ 65536) }
 {
     Ok(Settings {
         user: text(alloc, b"u")?,
         database: None,
-        pairs: Seq::new(further_pairs(alloc, other_user)?),
+        pairs: Seq::new(Vec::new(alloc)),
         password: optional(alloc, password)?,
         limit: 65_536,
     })
@@ -307,6 +287,6 @@ pub fn settings(
 /// A pair of these ends.
 pub fn pair<C: Carry>(alloc: Global, ends: Ends<'_>, carrier: C) -> Result<Pair<C>, AllocError> {
     let script = checked(alloc, ends.question, ends.replies)?;
-    let settings = settings(alloc, ends.password, ends.other_user)?;
+    let settings = settings(alloc, ends.password)?;
     Ok(Pair::new(alloc, settings, script, carrier))
 }

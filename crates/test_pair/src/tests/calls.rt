@@ -1,4 +1,4 @@
-//! What is answered to events.
+//! What is told of a refused call and of a fault. What other events are answered is asked by `.ci/loops`.
 
 use super::answers::{Reply, answering};
 use super::claims::Claim;
@@ -14,48 +14,6 @@ use std::alloc::Global;
 const ASKS_B: TableEvent = TableEvent::Request(TableRequest::Query(b"B"));
 
 const CHUNK: TableEvent = TableEvent::Chunk(b"1\n");
-
-/// Whether each of the events is answered so, by a pair that is new.
-fn all_come_to(alloc: Global, reply: Reply, list: &[TableEvent], answer: TableAnswer) -> bool {
-    judge(
-        alloc,
-        answering(&[reply]),
-        Direct,
-        happened(&[]),
-        &[Claim::Answer(list, answer)],
-    )
-}
-
-const SESSION: [TableEvent; 12] = [
-    TableEvent::Start,
-    TableEvent::ToBackend(16),
-    TableEvent::Step,
-    TableEvent::ToClient(15),
-    ASKS,
-    TableEvent::ToBackend(14),
-    TableEvent::Step,
-    TableEvent::ToClient(4_096),
-    CHUNK,
-    TableEvent::Done,
-    TableEvent::Terminate,
-    TableEvent::BreakToBackend,
-];
-
-#[test]
-fn a_session_goes_on_event_by_event(rt: HostRuntime) {
-    assert!(rt; all_come_to(rt.alloc(), Reply::Accepting, &SESSION, TableAnswer::Done));
-}
-
-const WITHOUT_BYTES: [TableEvent; 3] = [
-    TableEvent::Step,
-    TableEvent::ToBackend(4_096),
-    TableEvent::ToClient(4_096),
-];
-
-#[test]
-fn without_bytes_nothing_is_done(rt: HostRuntime) {
-    assert!(rt; all_come_to(rt.alloc(), Reply::Row, &WITHOUT_BYTES, TableAnswer::Nothing));
-}
 
 /// Whether the call is refused so after what the plan says, and a second time.
 fn refuses(alloc: Global, plan: Plan<'_>, call: TableEvent, fault: CallFault) -> bool {
@@ -119,24 +77,6 @@ fn what_has_no_spelling_is_refused(rt: HostRuntime) {
 /// Whether this holds after these events, where the client was let in.
 fn comes_to(alloc: Global, reply: Reply, list: &[TableEvent], claims: &[Claim<'_, '_>]) -> bool {
     judge(alloc, answering(&[reply]), Direct, started(list), claims)
-}
-
-const REFUSED_BETWEEN: [TableEvent; 5] = [
-    ASKS,
-    ASKS_B,
-    TableEvent::ToBackend(4_096),
-    TableEvent::Step,
-    TableEvent::ToClient(4_096),
-];
-
-const ONE_SETTLED: [Claim<'static, 'static>; 2] = [
-    Claim::Settled(1),
-    Claim::Stand(Phase::Ready, BackPhase::Ready),
-];
-
-#[test]
-fn after_a_refusal_the_answer_settles(rt: HostRuntime) {
-    assert!(rt; comes_to(rt.alloc(), Reply::Row, &REFUSED_BETWEEN, &ONE_SETTLED));
 }
 
 const UP_TO_THE_ANSWER: [TableEvent; 3] = [ASKS, TableEvent::ToBackend(4_096), TableEvent::Step];

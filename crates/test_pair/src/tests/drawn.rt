@@ -20,7 +20,7 @@ const ANSWERED: [TableEvent; 7] = [
 
 fn played(alloc: Global) -> Result<Pair<Direct>, AllocError> {
     let script = checked(alloc, Question::Trust, &[Reply::Row])?;
-    let settings = settings(alloc, None, false)?;
+    let settings = settings(alloc, None)?;
     let events = events(alloc, &ANSWERED)?;
     match play(alloc, settings, script, Direct, events) {
         (pair, Ok(())) => Ok(pair),

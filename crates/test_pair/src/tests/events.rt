@@ -43,7 +43,6 @@ pub enum TableEvent {
     Step,
     ToBackend(u32),
     ToClient(u32),
-    BreakToBackend,
     BreakToClient,
 }
 
@@ -168,7 +167,6 @@ pub fn event(alloc: Global, event: TableEvent) -> Result<Event, AllocError> {
         TableEvent::Step => Event::Step,
         TableEvent::ToBackend(most) => Event::ToBackend(most),
         TableEvent::ToClient(most) => Event::ToClient(most),
-        TableEvent::BreakToBackend => Event::BreakToBackend,
         TableEvent::BreakToClient => Event::BreakToClient,
     })
 }

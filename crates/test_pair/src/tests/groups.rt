@@ -1,69 +1,40 @@
-//! Groups of steps.
+//! Groups of steps, which a client outside the pair settles, too. What each comes to is asked by `.ci/loops`.
 
-use super::answers::{FAILURE, Reply, answering};
+use super::answers::{Reply, answering};
 use super::claims::Claim;
 use super::events::{GROUP, TableEvent, TableRequest};
-use super::wanted::{TableGroup, TablePart};
 use super::{carried_out, judge};
-use pg_backend::BackPhase;
-use pg_client::Phase;
 use pg_pair::Direct;
 use pg_wire::Status;
 use std::alloc::Global;
 
-const ASKED: TableRequest = TableRequest::Group(&GROUP);
+const CALLS: [TableEvent; 2] = [
+    TableEvent::Start,
+    TableEvent::Request(TableRequest::Group(&GROUP)),
+];
 
-const CALLS: [TableEvent; 2] = [TableEvent::Start, TableEvent::Request(ASKED)];
-
-/// What each step came to.
-const WHOLE: [TableGroup; 1] = [TableGroup {
-    request: ASKED,
-    parts: &[
-        TablePart::Parsed,
-        TablePart::Bound,
-        TablePart::Described,
-        TablePart::Executed,
-    ],
-    error: None,
-    status: Status::Idle,
-    notice: None,
-}];
-
-/// A group whose second step fails.
-const BROKEN_OFF: [TableGroup; 1] = [TableGroup {
-    request: ASKED,
-    parts: &[TablePart::Parsed],
-    error: Some(FAILURE),
-    status: Status::Failed,
-    notice: None,
-}];
-
-/// Whether this alone is settled where the client asks for the group and is answered so, in deliveries of at most so many bytes; and a
-/// client outside the pair settles it, too.
-fn settles(alloc: Global, reply: Reply, cut: u32, wanted: &[TableGroup]) -> bool {
-    let claims = [
-        Claim::Groups(wanted),
-        Claim::Alike(&CALLS),
-        Claim::Stand(Phase::Ready, BackPhase::Ready),
-    ];
+/// Whether a client outside the pair settles the same where the client asks for the group and is answered so, in deliveries of at most so
+/// many bytes.
+fn is_alike(alloc: Global, reply: Reply, cut: u32) -> bool {
     judge(
         alloc,
         answering(&[reply]),
         Direct,
         carried_out(&CALLS, cut),
-        &claims,
+        &[Claim::Alike(&CALLS)],
     )
 }
 
-#[test]
-fn a_group_settles_with_the_answers_to_its_steps(rt: HostRuntime) {
-    for cut in [4_096, 1] {
-        assert!(rt; settles(rt.alloc(), Reply::Steps, cut, &WHOLE));
-    }
-}
+// What the backend answers, and how many bytes are delivered at a time.
+const GROUPS: [(Reply, u32); 3] = [
+    (Reply::Steps, 4_096),
+    (Reply::Steps, 1),
+    (Reply::FailingStep(Status::Failed), 4_096),
+];
 
 #[test]
-fn a_group_settles_with_the_error_of_a_step(rt: HostRuntime) {
-    let reply = Reply::FailingStep(Status::Failed);
-    assert!(rt; settles(rt.alloc(), reply, 4_096, &BROKEN_OFF));
+fn outside_a_pair_a_group_settles(rt: HostRuntime) {
+    for (reply, cut) in GROUPS {
+        assert!(rt; is_alike(rt.alloc(), reply, cut));
+    }
 }

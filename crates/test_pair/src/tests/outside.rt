@@ -85,7 +85,7 @@ fn settles(
 }
 
 fn client(alloc: Global) -> Result<Client, AllocError> {
-    Ok(Client::new(alloc, settings(alloc, None, false)?))
+    Ok(Client::new(alloc, settings(alloc, None)?))
 }
 
 /// Whether a client that stands alone, with the same calls, settles the same of the same bytes.

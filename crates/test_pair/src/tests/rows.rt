@@ -1,6 +1,6 @@
-//! What is settled.
+//! Queries, which a client outside the pair settles, too, and a list of events that is run. What each query comes to is asked by `.ci/loops`.
 
-use super::answers::{FAILURE, Reply, answering};
+use super::answers::{Reply, answering};
 use super::claims::Claim;
 use super::events::{ASKED, ASKS, TableEvent, TableRequest};
 use super::wanted::{TableGroup, TablePart};
@@ -11,88 +11,41 @@ use pg_pair::Direct;
 use pg_wire::Status;
 use std::alloc::Global;
 
-const READY: Claim<'static, 'static> = Claim::Stand(Phase::Ready, BackPhase::Ready);
-
-/// Whether these groups alone are settled where the calls are made and answered so, in deliveries of at most so many bytes; and a client
-/// outside the pair settles them, too.
-fn settles(
-    alloc: Global,
-    calls: &[TableEvent],
-    replies: &[Reply],
-    cut: u32,
-    wanted: &[TableGroup],
-) -> bool {
+/// Whether a client outside the pair settles the same where the calls are made and answered so, in deliveries of at most so many bytes.
+fn is_alike(alloc: Global, calls: &[TableEvent], replies: &[Reply], cut: u32) -> bool {
     judge(
         alloc,
         answering(replies),
         Direct,
         carried_out(calls, cut),
-        &[Claim::Groups(wanted), Claim::Alike(calls), READY],
+        &[Claim::Alike(calls)],
     )
 }
 
 const CALLS: [TableEvent; 2] = [TableEvent::Start, ASKS];
 
-const ROW: [TableGroup; 1] = [TableGroup {
-    request: ASKED,
-    parts: &[TablePart::Row],
-    error: None,
-    status: Status::Idle,
-    notice: None,
-}];
-
 #[test]
-fn a_row_settles(rt: HostRuntime) {
+fn outside_a_pair_a_row_settles(rt: HostRuntime) {
     for cut in [4_096, 1, 3] {
-        assert!(rt; settles(rt.alloc(), &CALLS, &[Reply::Row], cut, &ROW));
+        assert!(rt; is_alike(rt.alloc(), &CALLS, &[Reply::Row], cut));
     }
 }
 
-const FAILED: [TableGroup; 1] = [TableGroup {
-    request: ASKED,
-    parts: &[TablePart::Command(b"A"), TablePart::Command(b"B")],
-    error: Some(FAILURE),
-    status: Status::Failed,
-    notice: None,
-}];
-
 #[test]
-fn an_error_settles(rt: HostRuntime) {
-    assert!(rt; settles(rt.alloc(), &CALLS, &[Reply::Failing], 4_096, &FAILED));
+fn outside_a_pair_an_error_settles(rt: HostRuntime) {
+    assert!(rt; is_alike(rt.alloc(), &CALLS, &[Reply::Failing], 4_096));
 }
-
-const FIRST: TableRequest = TableRequest::Query(b"Q1");
-
-const SECOND: TableRequest = TableRequest::Query(b"Q2");
 
 const TWO_CALLS: [TableEvent; 3] = [
     TableEvent::Start,
-    TableEvent::Request(FIRST),
-    TableEvent::Request(SECOND),
-];
-
-/// A command with a notice, and one within a transaction.
-const TOLD_AND_IN_BLOCK: [TableGroup; 2] = [
-    TableGroup {
-        request: FIRST,
-        parts: &[TablePart::Command(b"A")],
-        error: None,
-        status: Status::Idle,
-        notice: Some(b"hi"),
-    },
-    TableGroup {
-        request: SECOND,
-        parts: &[TablePart::Command(b"B")],
-        error: None,
-        status: Status::InBlock,
-        notice: None,
-    },
+    TableEvent::Request(TableRequest::Query(b"Q1")),
+    TableEvent::Request(TableRequest::Query(b"Q2")),
 ];
 
 #[test]
-fn asides_settle_with_their_request(rt: HostRuntime) {
+fn outside_a_pair_asides_settle(rt: HostRuntime) {
     let replies = [Reply::Told, Reply::InBlock];
-    assert!(rt; settles(rt.alloc(), &TWO_CALLS, &replies, 4_096, &TOLD_AND_IN_BLOCK));
+    assert!(rt; is_alike(rt.alloc(), &TWO_CALLS, &replies, 4_096));
 }
 
 /// Start and a query. After each all that waits goes to the backend, twice, with steps up to the one that does nothing, and then to the
@@ -116,13 +69,19 @@ const ROW_EVENTS: [TableEvent; 16] = [
     TableEvent::ToClient(u32::MAX),
 ];
 
+const ROW: [TableGroup; 1] = [TableGroup {
+    request: ASKED,
+    parts: &[TablePart::Row],
+    status: Status::Idle,
+}];
+
 /// The list of the row's events runs and settles its group, and a list of none no more.
 const RUNS: [Claim<'static, 'static>; 5] = [
     Claim::Runs(&ROW_EVENTS),
     Claim::Groups(&ROW),
     Claim::Runs(&[]),
     Claim::Settled(1),
-    READY,
+    Claim::Stand(Phase::Ready, BackPhase::Ready),
 ];
 
 #[test]
