@@ -13,60 +13,83 @@ use std::io::{Read, Write};
 /// How many bytes are pushed at once: some rows, and mostly a part of one.
 const PIECE: usize = 100;
 
-/// The file in binary.
-fn to_binary(alloc: Global, text: &[u8], refused: &mut Refused) -> Result<Vec<u8>> {
-    let mut reader = Text::new(alloc);
-    let mut out = Vec::new(alloc);
-    write_again(&FilePart::Head, &mut out, refused)?;
+/// Puts the binary file that a reader makes of the text.
+fn put_binary(
+    reader: &mut Text,
+    text: &[u8],
+    out: &mut Vec<u8>,
+    refused: &mut Refused,
+) -> Result<()> {
+    write_again(&FilePart::Head, out, refused)?;
     for piece in text.chunks(PIECE) {
         reader.push(piece, refused)?;
         for _ in 0..u64::MAX {
             let Some(row) = reader.next(refused)? else {
                 break;
             };
-            write_again(&FilePart::Binary(&row), &mut out, refused)?;
+            write_again(&FilePart::Binary(&row), out, refused)?;
         }
     }
     for _ in 0..u64::MAX {
         let Some(row) = reader.finish(refused)? else {
             break;
         };
-        write_again(&FilePart::Binary(&row), &mut out, refused)?;
+        write_again(&FilePart::Binary(&row), out, refused)?;
     }
-    write_again(&FilePart::Trailer, &mut out, refused)?;
-    Ok(out)
+    write_again(&FilePart::Trailer, out, refused)
 }
 
-/// The binary file in text.
-fn to_text(alloc: Global, binary: &[u8], refused: &mut Refused) -> Result<Vec<u8>> {
-    let mut reader = Binary::new(alloc);
-    let mut out = Vec::new(alloc);
+/// Puts the file in binary.
+fn to_binary(alloc: Global, text: &[u8], out: &mut Vec<u8>, refused: &mut Refused) -> Result<()> {
+    let mut reader = Text::new(alloc);
+    put_binary(&mut reader, text, out, refused)
+}
+
+/// Puts the text that a reader makes of the binary file.
+fn put_text(
+    reader: &mut Binary,
+    binary: &[u8],
+    out: &mut Vec<u8>,
+    refused: &mut Refused,
+) -> Result<()> {
     for piece in binary.chunks(PIECE) {
         reader.push(piece, refused)?;
         for _ in 0..u64::MAX {
             let Some(row) = reader.next(refused)? else {
                 break;
             };
-            write_again(&FilePart::Text(&row), &mut out, refused)?;
+            write_again(&FilePart::Text(&row), out, refused)?;
         }
     }
     for _ in 0..u64::MAX {
         let Some(row) = reader.finish(refused)? else {
             break;
         };
-        write_again(&FilePart::Text(&row), &mut out, refused)?;
+        write_again(&FilePart::Text(&row), out, refused)?;
     }
-    Ok(out)
+    Ok(())
+}
+
+/// Puts the binary file in text.
+fn to_text(alloc: Global, binary: &[u8], out: &mut Vec<u8>, refused: &mut Refused) -> Result<()> {
+    let mut reader = Binary::new(alloc);
+    put_text(&mut reader, binary, out, refused)
+}
+
+/// Reads the text, and puts it as it comes back from binary. Says what was refused.
+fn run(rt: &HostRuntime, again: &mut Vec<u8>) -> Result<()> {
+    let mut text = Vec::new(rt.alloc());
+    rt.reader().read_to_end(&mut text)?;
+    let mut refused = Refused::default();
+    let mut binary = Vec::new(rt.alloc());
+    to_binary(rt.alloc(), text.as_slice(), &mut binary, &mut refused)?;
+    to_text(rt.alloc(), binary.as_slice(), again, &mut refused)?;
+    refused.say(rt)
 }
 
 fn main(rt: HostRuntime) -> Result<()> {
-    let alloc = rt.alloc();
-    let mut text = Vec::new(alloc);
-    rt.reader().read_to_end(&mut text)?;
-    let mut refused = Refused::default();
-    let binary = to_binary(alloc, text.as_slice(), &mut refused)?;
-    let again = to_text(alloc, binary.as_slice(), &mut refused)?;
-    refused.say(&rt)?;
+    let mut again = Vec::new(rt.alloc());
+    run(&rt, &mut again)?;
     std::io::writer(&rt).write_all(again.as_slice())?;
     Ok(())
 }
