@@ -7,7 +7,7 @@
 use anyhow::{Context, Result, bail, ensure};
 use pg_client::{Client, FeedFault, Settings};
 use pg_wire::{BackDecoder, BackMessage, Cut, EncodeFault, Fields, LONGEST, Lent, Seq, backend};
-use std::alloc::Global;
+use std::alloc::{AllocError, Global};
 use std::env;
 
 /// How many bytes an error has without its fields: its tag, its length field, and the zero byte that closes them.
@@ -19,26 +19,32 @@ const MOST: usize = 536_870_909;
 /// How many fields more are tried.
 const TRIED: usize = 10;
 
-/// An ErrorResponse of so many fields of two bytes each: a code, and an empty text.
+/// Puts an ErrorResponse with this length field and so many fields of two bytes each: a code, and an empty text.
+fn put_error(length: u32, count: usize, error: &mut Vec<u8>) -> Result<(), AllocError> {
+    error.push(b'E')?;
+    error.extend_from_slice(&length.to_be_bytes())?;
+    for _ in 0..count {
+        error.extend_from_slice(b"M\0")?;
+    }
+    error.push(0)?;
+    Ok(())
+}
+
+/// An ErrorResponse of so many fields.
 fn error_of(alloc: Global, count: usize) -> Result<Vec<u8>> {
     if count > MOST {
         bail!("no message has so many fields");
     }
     let size = OTHERS + 2 * count;
-    let mut error = Vec::with_capacity(alloc, size)?;
-    error.push(b'E')?;
     // the length field counts itself, but not the tag
-    error.extend_from_slice(&((size - 1) as u32).to_be_bytes())?;
-    for _ in 0..count {
-        error.extend_from_slice(b"M\0")?;
-    }
-    error.push(0)?;
+    let length = (size - 1) as u32;
+    let mut error = Vec::with_capacity(alloc, size)?;
+    put_error(length, count, &mut error)?;
     Ok(error)
 }
 
-/// The fields that a decoder gives.
-fn given(alloc: Global, error: &[u8]) -> Result<Fields> {
-    let mut decoder = BackDecoder::new(alloc, LONGEST);
+/// Gives an error to a decoder, and takes the fields that it gives.
+fn next_given(decoder: &mut BackDecoder, error: &[u8]) -> Result<Fields> {
     decoder.push(error)?;
     match decoder.next()? {
         Some(BackMessage::ErrorResponse(fields)) => Ok(fields),
@@ -46,11 +52,17 @@ fn given(alloc: Global, error: &[u8]) -> Result<Fields> {
     }
 }
 
-/// The error of these fields as an encoder writes it.
-fn written(alloc: Global, fields: &Fields) -> Result<Vec<u8>> {
-    let mut error = Vec::new(alloc);
-    backend::error_response(fields, &mut error)?;
-    Ok(error)
+/// The fields that a decoder gives.
+fn given(alloc: Global, error: &[u8]) -> Result<Fields> {
+    let mut decoder = BackDecoder::new(alloc, LONGEST);
+    next_given(&mut decoder, error)
+}
+
+/// Whether an encoder writes these fields as this error.
+fn is_written(alloc: Global, fields: &Fields, error: &[u8]) -> Result<bool, EncodeFault> {
+    let mut written = Vec::new(alloc);
+    backend::error_response(fields, &mut written)?;
+    Ok(written.as_slice() == error)
 }
 
 /// How many fields more go in before they are too long.
@@ -63,9 +75,8 @@ fn more(fields: &mut Fields) -> usize {
     TRIED
 }
 
-/// How many fields are copied of an error that a decoder lends.
-fn lent(alloc: Global, error: &[u8]) -> Result<usize> {
-    let mut decoder = BackDecoder::new(alloc, LONGEST);
+/// How many fields are copied of an error that a decoder is given and lends.
+fn next_lent(alloc: Global, decoder: &mut BackDecoder, error: &[u8]) -> Result<usize> {
     decoder.push(error)?;
     let Cut::Held = decoder.next_lent()? else {
         bail!("nothing is held");
@@ -76,10 +87,14 @@ fn lent(alloc: Global, error: &[u8]) -> Result<usize> {
     }
 }
 
-/// How many fields a client is told.
-fn told(alloc: Global, error: &[u8]) -> Result<usize> {
-    let user = Seq::from_slice(alloc, b"u")?;
-    let mut client = Client::new(alloc, Settings::new(alloc, user));
+/// How many fields are copied of an error that a decoder lends.
+fn lent(alloc: Global, error: &[u8]) -> Result<usize> {
+    let mut decoder = BackDecoder::new(alloc, LONGEST);
+    next_lent(alloc, &mut decoder, error)
+}
+
+/// How many fields a client is told that is started and fed an error.
+fn feed(alloc: Global, client: &mut Client, error: &[u8]) -> Result<usize> {
     let mut out = Vec::new(alloc);
     client.start(&mut out)?;
     match client.feed(error, &mut out) {
@@ -89,21 +104,42 @@ fn told(alloc: Global, error: &[u8]) -> Result<usize> {
     }
 }
 
-fn main(rt: HostRuntime) -> Result<()> {
-    let alloc = rt.alloc();
-    let words: Vec<String> = env::args(&rt)?.collect(alloc)?;
-    let [_, count] = words.as_slice() else {
-        bail!("the word is a number of fields");
-    };
-    let error = error_of(alloc, count.parse().context("no number")?)?;
-    println!(rt; "lent {}", lent(alloc, error.as_slice())?)?;
-    println!(rt; "told {}", told(alloc, error.as_slice())?)?;
-    let mut fields = given(alloc, error.as_slice())?;
+/// How many fields a client is told.
+fn told(alloc: Global, error: &[u8]) -> Result<usize> {
+    let user = Seq::from_slice(alloc, b"u")?;
+    let mut client = Client::new(alloc, Settings::new(alloc, user));
+    feed(alloc, &mut client, error)
+}
+
+/// Prints what comes of the fields that were given of an error.
+fn print_given(rt: &HostRuntime, fields: &mut Fields, error: &[u8]) -> Result<()> {
     println!(rt; "given {}", fields.len())?;
     ensure!(
-        written(alloc, &fields)? == error,
+        is_written(rt.alloc(), fields, error)?,
         "another error is written"
     );
-    println!(rt; "more {}", more(&mut fields))?;
+    println!(rt; "more {}", more(fields))?;
     Ok(())
+}
+
+/// Prints what comes of an error.
+fn print(rt: &HostRuntime, error: &[u8]) -> Result<()> {
+    println!(rt; "lent {}", lent(rt.alloc(), error)?)?;
+    println!(rt; "told {}", told(rt.alloc(), error)?)?;
+    let mut fields = given(rt.alloc(), error)?;
+    print_given(rt, &mut fields, error)
+}
+
+/// Makes the error that the words want, and prints what comes of it.
+fn run(rt: &HostRuntime, words: &[String]) -> Result<()> {
+    let [_, count] = words else {
+        bail!("the word is a number of fields");
+    };
+    let error = error_of(rt.alloc(), count.parse().context("no number")?)?;
+    print(rt, error.as_slice())
+}
+
+fn main(rt: HostRuntime) -> Result<()> {
+    let words: Vec<String> = env::args(&rt)?.collect(rt.alloc())?;
+    run(&rt, words.as_slice())
 }
