@@ -160,31 +160,56 @@ fn read_piece<F: File>(
     bail!("there are more rows than bytes")
 }
 
-/// The rows of a file that comes in pieces.
-pub fn read<F: File>(alloc: Global, bytes: &[u8], cut: FileCut) -> Result<Vec<Row>> {
-    let mut reader = F::begin(alloc);
-    let mut rows = Vec::new(alloc);
+// Pushes a file that comes in pieces, and takes the rows that wait after each.
+fn push_pieces<F: File>(
+    reader: &mut F,
+    bytes: &[u8],
+    cut: FileCut,
+    rows: &mut Vec<Row>,
+) -> Result<()> {
     let most = bytes.len();
     match cut {
-        FileCut::Nowhere => read_piece(&mut reader, bytes, most, &mut rows)?,
+        FileCut::Nowhere => read_piece(reader, bytes, most, rows),
         FileCut::Everywhere => {
             for i in 0..bytes.len() {
-                read_piece(&mut reader, &bytes[i..i + 1], most, &mut rows)?;
+                read_piece(reader, &bytes[i..i + 1], most, rows)?;
             }
+            Ok(())
         }
         FileCut::At(place) => {
             let (front, back) = bytes.split_at(place.min(bytes.len()));
-            read_piece(&mut reader, front, most, &mut rows)?;
-            read_piece(&mut reader, back, most, &mut rows)?;
+            read_piece(reader, front, most, rows)?;
+            read_piece(reader, back, most, rows)
         }
     }
+}
+
+// Takes the rows that are left at the end of the input, of which there are no more than bytes.
+fn read_left<F: File>(reader: &mut F, most: usize, rows: &mut Vec<Row>) -> Result<()> {
     for _ in 0..=most {
         match reader.finish()? {
             Some(row) => rows.push(row)?,
-            None => return Ok(rows),
+            None => return Ok(()),
         }
     }
     bail!("there are more rows than bytes")
+}
+
+// Reads a file that comes in pieces to its end.
+fn read_pieces<F: File>(
+    reader: &mut F,
+    bytes: &[u8],
+    cut: FileCut,
+    rows: &mut Vec<Row>,
+) -> Result<()> {
+    push_pieces(reader, bytes, cut, rows)?;
+    read_left(reader, bytes.len(), rows)
+}
+
+/// Appends the rows of a file that comes in pieces.
+pub fn read<F: File>(alloc: Global, bytes: &[u8], cut: FileCut, rows: &mut Vec<Row>) -> Result<()> {
+    let mut reader = F::begin(alloc);
+    read_pieces(&mut reader, bytes, cut, rows)
 }
 
 /// A whole file of these rows.

@@ -28,14 +28,26 @@ fn take_left(reader: &mut BinaryReader, rows: &mut Vec<Row>) -> Result<()> {
     Ok(())
 }
 
-/// The rows of a binary file that comes whole.
-fn rows_of(alloc: Global, bytes: &[u8]) -> Result<Vec<Row>> {
-    let mut reader = BinaryReader::new(alloc, COLUMNS, LIMIT);
-    let mut rows = Vec::new(alloc);
+/// Takes the rows of a file that comes whole.
+fn take_all(reader: &mut BinaryReader, bytes: &[u8], rows: &mut Vec<Row>) -> Result<()>
+    requires { reader.old.ended ≡ false }
+{
     reader.push(bytes)?;
-    take_waiting(&mut reader, &mut rows)?;
-    take_left(&mut reader, &mut rows)?;
-    Ok(rows)
+    take_waiting(reader, rows)?;
+    take_left(reader, rows)
+}
+
+/// Appends the rows of a binary file that comes whole.
+fn put_rows(alloc: Global, bytes: &[u8], rows: &mut Vec<Row>) -> Result<()> {
+    let mut reader = BinaryReader::new(alloc, COLUMNS, LIMIT);
+    take_all(&mut reader, bytes, rows)
+}
+
+/// Whether a binary file that comes whole has these rows.
+fn has_rows(alloc: Global, bytes: &[u8], rows: &[Row]) -> Result<bool> {
+    let mut found = Vec::new(alloc);
+    put_rows(alloc, bytes, &mut found)?;
+    Ok(found.as_slice() == rows)
 }
 
 /// Writes the row that the reader lends, value by value.
@@ -61,23 +73,48 @@ fn write_waiting(reader: &mut BinaryReader, out: &mut Vec<u8>) -> Result<()>
     Ok(())
 }
 
-/// A binary file written again from so many rows that the reader lends, which comes a byte at a time.
-fn written_again(alloc: Global, bytes: &[u8], rows: usize) -> Result<Vec<u8>> {
-    let mut reader = BinaryReader::new(alloc, COLUMNS, LIMIT);
-    let mut out = Vec::new(alloc);
-    write_binary_head(&mut out)?;
+/// Writes the rows of a binary file, which comes a byte at a time, each as it is lent.
+fn write_rows(reader: &mut BinaryReader, bytes: &[u8], out: &mut Vec<u8>) -> Result<()>
+    requires { reader.old.ended ≡ false }
+{
     for i in 0..bytes.len() {
         reader.push(&bytes[i..i + 1])?;
-        write_waiting(&mut reader, &mut out)?;
+        write_waiting(reader, out)?;
     }
+    Ok(())
+}
+
+/// The reader has to have given so many rows, which end with the trailer of a file of so many bytes.
+fn check_end(reader: &mut BinaryReader, rows: usize, bytes: usize) -> Result<()> {
     ensure!(reader.finish()?.is_none(), "a row is left");
     ensure!(reader.rows_given() == rows as u64, "another number of rows");
     ensure!(
-        reader.offset() == bytes.len().saturating_sub(2) as u64,
+        reader.offset() == bytes.saturating_sub(2) as u64,
         "the trailer stands elsewhere"
     );
-    write_binary_trailer(&mut out)?;
-    Ok(out)
+    Ok(())
+}
+
+/// Writes a binary file again from so many rows that the reader lends.
+fn write_file(reader: &mut BinaryReader, bytes: &[u8], rows: usize, out: &mut Vec<u8>) -> Result<()>
+    requires { reader.old.ended ≡ false }
+{
+    write_binary_head(out)?;
+    write_rows(reader, bytes, out)?;
+    check_end(reader, rows, bytes.len())?;
+    Ok(write_binary_trailer(out)?)
+}
+
+fn put_again(alloc: Global, bytes: &[u8], rows: usize, out: &mut Vec<u8>) -> Result<()> {
+    let mut reader = BinaryReader::new(alloc, COLUMNS, LIMIT);
+    write_file(&mut reader, bytes, rows, out)
+}
+
+/// Whether a binary file of so many rows is written again as it was.
+fn is_written_again(alloc: Global, bytes: &[u8], rows: usize) -> Result<bool> {
+    let mut out = Vec::new(alloc);
+    put_again(alloc, bytes, rows, &mut out)?;
+    Ok(out.as_slice() == bytes)
 }
 
 /// Passes the rows by that wait, and says why none stands after them.
@@ -93,27 +130,34 @@ fn fault_after(reader: &mut BinaryReader) -> Option<BinaryFault>
     }
 }
 
-/// Where the row begins in place of which a fault stands, of a file whose trailer has another number of fields.
-fn place_of_fault(alloc: Global, bytes: &[u8]) -> Result<u64> {
-    ensure!(bytes.len() >= 2, "there is no trailer");
-    let mut reader = BinaryReader::new(alloc, COLUMNS, LIMIT);
-    reader.push(&bytes[..bytes.len() - 2])?;
+/// Pushes the rows of a file, and a trailer that has another number of fields: where the row begins in place of which the fault stands.
+fn push_fault(reader: &mut BinaryReader, rows: &[u8]) -> Result<u64>
+    requires { reader.old.ended ≡ false }
+{
+    reader.push(rows)?;
     reader.push(&[0, 9])?;
     ensure!(
-        fault_after(&mut reader) == Some(BinaryFault::FieldCount(9)),
+        fault_after(reader) == Some(BinaryFault::FieldCount(9)),
         "another fault"
     );
     Ok(reader.offset())
 }
 
+/// Where the row begins in place of which a fault stands, of a file whose trailer has another number of fields.
+fn place_of_fault(alloc: Global, bytes: &[u8]) -> Result<u64> {
+    ensure!(bytes.len() >= 2, "there is no trailer");
+    let mut reader = BinaryReader::new(alloc, COLUMNS, LIMIT);
+    push_fault(&mut reader, &bytes[..bytes.len() - 2])
+}
+
 /// Reads a binary file of these rows by the loops.
 pub fn check(alloc: Global, file: &[u8], rows: &[Row]) -> Result<()> {
     ensure!(
-        rows_of(alloc, file)?.as_slice() == rows,
+        has_rows(alloc, file, rows)?,
         "a loop over the reader gives other rows"
     );
     ensure!(
-        written_again(alloc, file, rows.len())?.as_slice() == file,
+        is_written_again(alloc, file, rows.len())?,
         "another binary file is written of rows that are lent"
     );
     ensure!(

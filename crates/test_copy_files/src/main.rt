@@ -12,45 +12,92 @@ use pg_copy::{BinaryReader, Row, TextReader};
 use std::alloc::Global;
 use std::fs;
 
-/// The rows of a file, which are the same however it is cut.
-fn rows_of<F: File>(alloc: Global, bytes: &[u8]) -> Result<Vec<Row>> {
-    let rows = read::<F>(alloc, bytes, FileCut::Nowhere)?;
-    if read::<F>(alloc, bytes, FileCut::Everywhere)?.as_slice() != rows.as_slice() {
+/// Whether a file that is cut so has these rows.
+fn has_rows<F: File>(alloc: Global, bytes: &[u8], cut: FileCut, rows: &[Row]) -> Result<bool> {
+    let mut found = Vec::new(alloc);
+    read::<F>(alloc, bytes, cut, &mut found)?;
+    Ok(found.as_slice() == rows)
+}
+
+/// A file has to have these rows however it is cut.
+fn check_cuts<F: File>(alloc: Global, bytes: &[u8], rows: &[Row]) -> Result<()> {
+    if !has_rows::<F>(alloc, bytes, FileCut::Everywhere, rows)? {
         bail!("a byte at a time gives other rows");
     }
     for place in 0..bytes.len() {
-        if read::<F>(alloc, bytes, FileCut::At(place))?.as_slice() != rows.as_slice() {
+        if !has_rows::<F>(alloc, bytes, FileCut::At(place), rows)? {
             bail!("cut at {place} it gives other rows");
         }
     }
-    Ok(rows)
+    Ok(())
 }
 
-fn main(rt: HostRuntime) -> Result<()> {
-    let alloc = rt.alloc();
-    let text = fs::read(&rt, "rows.text")?;
-    let binary = fs::read(&rt, "rows.binary")?;
-    let of_text = rows_of::<TextReader>(alloc, text.as_slice())?;
-    let of_binary = rows_of::<BinaryReader>(alloc, binary.as_slice())?;
+/// Appends the rows of a file, which are the same however it is cut.
+fn put_rows<F: File>(alloc: Global, bytes: &[u8], rows: &mut Vec<Row>) -> Result<()> {
+    read::<F>(alloc, bytes, FileCut::Nowhere, rows)?;
+    check_cuts::<F>(alloc, bytes, rows.as_slice())
+}
+
+/// Whether these rows are written as this file.
+fn is_written<F: File>(alloc: Global, rows: &[Row], file: &[u8]) -> Result<bool> {
+    Ok(write::<F>(alloc, rows)?.as_slice() == file)
+}
+
+/// A text file and a binary file of the same rows.
+#[derive(Clone, Copy)]
+struct Files<'a> {
+    text: &'a [u8],
+    binary: &'a [u8],
+}
+
+/// The rows that were read of both files have to be the same, and are written as both.
+fn check_rows(alloc: Global, files: Files<'_>, of_text: &[Row], of_binary: &[Row]) -> Result<()> {
+    ensure!(of_text == of_binary, "the files have other rows");
     ensure!(
-        of_text.as_slice() == of_binary.as_slice(),
-        "the files have other rows"
-    );
-    ensure!(
-        write::<TextReader>(alloc, of_binary.as_slice())? == text,
+        is_written::<TextReader>(alloc, of_binary, files.text)?,
         "another text is written"
     );
     ensure!(
-        write::<BinaryReader>(alloc, of_text.as_slice())? == binary,
+        is_written::<BinaryReader>(alloc, of_text, files.binary)?,
         "another binary file is written"
     );
-    loops::check(alloc, binary.as_slice(), of_binary.as_slice())?;
-    text_loops::check(alloc, text.as_slice(), of_text.as_slice())?;
+    loops::check(alloc, files.binary, of_binary)?;
+    text_loops::check(alloc, files.text, of_text)
+}
+
+/// Reads both files, and says how many rows and bytes there are.
+fn check(
+    rt: &HostRuntime,
+    files: Files<'_>,
+    of_text: &mut Vec<Row>,
+    of_binary: &mut Vec<Row>,
+) -> Result<()> {
+    put_rows::<TextReader>(rt.alloc(), files.text, of_text)?;
+    put_rows::<BinaryReader>(rt.alloc(), files.binary, of_binary)?;
+    check_rows(rt.alloc(), files, of_text.as_slice(), of_binary.as_slice())?;
     println!(rt;
         "{} rows, {} bytes in text, {} in binary",
         of_text.len(),
-        text.len(),
-        binary.len()
+        files.text.len(),
+        files.binary.len()
     )?;
     Ok(())
+}
+
+/// Reads both files. What they hold is owned here, in a function with one way out, since a function is proved to let go what it owns on
+/// each way out.
+fn check_files(rt: &HostRuntime, files: Files<'_>) -> Result<()> {
+    let mut of_text = Vec::new(rt.alloc());
+    let mut of_binary = Vec::new(rt.alloc());
+    check(rt, files, &mut of_text, &mut of_binary)
+}
+
+fn main(rt: HostRuntime) -> Result<()> {
+    let text = fs::read(&rt, "rows.text")?;
+    let binary = fs::read(&rt, "rows.binary")?;
+    let files = Files {
+        text: text.as_slice(),
+        binary: binary.as_slice(),
+    };
+    check_files(&rt, files)
 }

@@ -25,14 +25,26 @@ fn take_left(reader: &mut TextReader, rows: &mut Vec<Row>) -> Result<()> {
     Ok(())
 }
 
-/// The rows of a text file that comes whole.
-fn rows_of(alloc: Global, bytes: &[u8]) -> Result<Vec<Row>> {
-    let mut reader = TextReader::new(alloc, Some(COLUMNS));
-    let mut rows = Vec::new(alloc);
+/// Takes the rows of a file that comes whole.
+fn take_all(reader: &mut TextReader, bytes: &[u8], rows: &mut Vec<Row>) -> Result<()>
+    requires { reader.old.ended ≡ false }
+{
     reader.push(bytes)?;
-    take_waiting(&mut reader, &mut rows)?;
-    take_left(&mut reader, &mut rows)?;
-    Ok(rows)
+    take_waiting(reader, rows)?;
+    take_left(reader, rows)
+}
+
+/// Appends the rows of a text file that comes whole.
+fn put_rows(alloc: Global, bytes: &[u8], rows: &mut Vec<Row>) -> Result<()> {
+    let mut reader = TextReader::new(alloc, Some(COLUMNS));
+    take_all(&mut reader, bytes, rows)
+}
+
+/// Whether a text file that comes whole has these rows.
+fn has_rows(alloc: Global, bytes: &[u8], rows: &[Row]) -> Result<bool> {
+    let mut found = Vec::new(alloc);
+    put_rows(alloc, bytes, &mut found)?;
+    Ok(found.as_slice() == rows)
 }
 
 /// Writes the row that the reader lends, value by value.
@@ -62,22 +74,49 @@ fn write_waiting(
     Ok(())
 }
 
-/// A text file written again from so many rows that the reader lends, which comes a byte at a time.
-fn written_again(alloc: Global, bytes: &[u8], rows: usize) -> Result<Vec<u8>> {
-    let mut reader = TextReader::new(alloc, Some(COLUMNS));
-    let mut writer = TextRowWriter::new();
-    let mut out = Vec::new(alloc);
+/// Writes the rows of a text file, which comes a byte at a time, each as it is lent.
+fn write_rows(
+    reader: &mut TextReader,
+    writer: &mut TextRowWriter,
+    bytes: &[u8],
+    out: &mut Vec<u8>,
+) -> Result<()>
+    requires { reader.old.ended ≡ false }
+{
     for i in 0..bytes.len() {
         reader.push(&bytes[i..i + 1])?;
-        write_waiting(&mut reader, &mut writer, &mut out)?;
+        write_waiting(reader, writer, out)?;
     }
+    Ok(())
+}
+
+/// The reader has to have given so many rows, which end with a file of so many bytes.
+fn check_end(reader: &mut TextReader, rows: usize, bytes: usize) -> Result<()> {
     ensure!(reader.finish()?.is_none(), "a row is left");
     ensure!(reader.rows_given() == rows as u64, "another number of rows");
-    ensure!(
-        reader.offset() == bytes.len() as u64,
-        "the rows end elsewhere"
-    );
-    Ok(out)
+    ensure!(reader.offset() == bytes as u64, "the rows end elsewhere");
+    Ok(())
+}
+
+/// Writes a text file again from so many rows that the reader lends.
+fn write_file(reader: &mut TextReader, bytes: &[u8], rows: usize, out: &mut Vec<u8>) -> Result<()>
+    requires { reader.old.ended ≡ false }
+{
+    let mut writer = TextRowWriter::new();
+    write_rows(reader, &mut writer, bytes, out)?;
+    check_end(reader, rows, bytes.len())
+}
+
+fn put_again(alloc: Global, bytes: &[u8], rows: usize, out: &mut Vec<u8>) -> Result<()> {
+    let mut reader = TextReader::new(alloc, Some(COLUMNS));
+    write_file(&mut reader, bytes, rows, out)
+}
+
+/// Whether a text file of so many rows is written again as it was.
+fn is_written_again(alloc: Global, bytes: &[u8], rows: usize) -> Result<bool> {
+    let mut out = Vec::new(alloc);
+    put_again(alloc, bytes, rows, &mut out)?;
+    Ok(out.as_slice() == bytes)
 }
 
 /// Passes the rows by that wait, and says why none stands after them.
@@ -93,26 +132,33 @@ fn fault_after(reader: &mut TextReader) -> Option<TextFault>
     }
 }
 
-/// Where the line begins that a fault stands in, of a file after which a line comes with another number of fields.
-fn place_of_fault(alloc: Global, bytes: &[u8]) -> Result<u64> {
-    let mut reader = TextReader::new(alloc, Some(COLUMNS));
+/// Pushes a file, and a line that has another number of fields: where the line begins that the fault stands in.
+fn push_fault(reader: &mut TextReader, bytes: &[u8]) -> Result<u64>
+    requires { reader.old.ended ≡ false }
+{
     reader.push(bytes)?;
     reader.push(b"alone\n")?;
     ensure!(
-        fault_after(&mut reader) == Some(TextFault::Columns(1)),
+        fault_after(reader) == Some(TextFault::Columns(1)),
         "another fault"
     );
     Ok(reader.offset())
 }
 
+/// Where the line begins that a fault stands in, of a file after which a line comes with another number of fields.
+fn place_of_fault(alloc: Global, bytes: &[u8]) -> Result<u64> {
+    let mut reader = TextReader::new(alloc, Some(COLUMNS));
+    push_fault(&mut reader, bytes)
+}
+
 /// Reads a text file of these rows by the loops.
 pub fn check(alloc: Global, file: &[u8], rows: &[Row]) -> Result<()> {
     ensure!(
-        rows_of(alloc, file)?.as_slice() == rows,
+        has_rows(alloc, file, rows)?,
         "a loop over the reader of text gives other rows"
     );
     ensure!(
-        written_again(alloc, file, rows.len())?.as_slice() == file,
+        is_written_again(alloc, file, rows.len())?,
         "another text is written of rows that are lent"
     );
     ensure!(
