@@ -207,9 +207,9 @@ class Frame:
         return f"{name}, not of the profile: {word} {size} {'(hidden)' if hidden else quoted(self.body)}"
 
 
-def show(data, front, decode):
-    """What is printed, what is said on standard error, and the status."""
-    lines, at, packets = [], 0, front
+def read(data, front):
+    """The frames of a stream, what is said on standard error, and the status."""
+    frames, at, packets = [], 0, front
     while True:
         head, least, most = (0, 8, stream.GREATEST_PACKET) if packets else (1, 4, stream.GREATEST)
         if len(data) < at + head + 4:
@@ -217,15 +217,21 @@ def show(data, front, decode):
         size = struct.unpack_from(">i", data, at + head)[0]
         if not least <= size <= most:
             fault = f"W2 ShortLength {size}" if size < least else f"W3 LongLength {size}"
-            return "".join(lines).encode(), f"pgpipe: {fault}\n".encode(), 2
+            return frames, f"pgpipe: {fault}\n".encode(), 2
         if len(data) < at + head + size:
             break
         frame = Frame(data[at:at + head + size], packets, front)
-        lines.append((frame.words() if decode else frame.line()) + "\n")
+        frames.append(frame)
         at += head + size
         if packets and frame.code == 80877102:
             break
         packets = packets and frame.code >> 16 == 1234
     if at < len(data):
-        return "".join(lines).encode(), f"pgpipe: rest {len(data) - at}\n".encode(), 2
-    return "".join(lines).encode(), b"", 0
+        return frames, f"pgpipe: rest {len(data) - at}\n".encode(), 2
+    return frames, b"", 0
+
+
+def show(data, front, line):
+    """What is printed, what is said, and the status, where `line` gives the line of a frame."""
+    frames, said, status = read(data, front)
+    return "".join(line(frame) + "\n" for frame in frames).encode(), said, status

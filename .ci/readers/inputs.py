@@ -48,8 +48,9 @@ def cut_messages(data, first):
 
 class Streams:
     def __init__(self):
-        self.back, self.front, self.first = [], [], []
+        self.back, self.front, self.first, self.pairs = [], [], [], []
         for back, front in sessions():
+            self.pairs.append((cut_messages(back, False), cut_messages(front, True)))
             self.back += cut_messages(back, False)
             self.take_front(cut_messages(front, True))
         self.take_front(cut_messages(bytes.fromhex(recorded("test_libraries", "recorded", "psql.hex").decode()), True))
@@ -69,6 +70,39 @@ class Streams:
         kinds = list((self.front if front else self.back).values())
         messages = [chance.choice(chance.choice(kinds)) for _ in range(chance.choice((0, 1, 2, 3, 5, 10, 40)))]
         return spoiled_messages(chance, packets + messages)
+
+
+    def make_both(self, chance):
+        """The streams of a client and of a server: a recorded session's or made up, maybe with requests for encryption before, and spoiled."""
+        way = chance.random()
+        if way < 0.3:
+            back, front = chance.choice(self.pairs)
+            back, front = list(back), list(front)
+        elif way < 0.8:
+            count = chance.choice((0, 1, 3, 8, 20, 40))
+            front = [chance.choice(self.first) for _ in range(chance.choice((0, 0, 0, 1)))] + [b"\0\0\0\x10\0\3\0\0user\0u\0\0"]
+            front += [plain(chance, FRONT_TAGS) for _ in range(count)]
+            back = [plain(chance, BACK_TAGS) for _ in range(chance.choice((0, count, 2 * count)))]
+        else:
+            front, back = [self.make(chance, True)], [self.make(chance, False)]
+        for _ in range(chance.choice((0, 0, 1, 1, 2))):
+            front.insert(0, chance.choice((b"\0\0\0\x08\x04\xd2\x16\x2f", b"\0\0\0\x08\x04\xd2\x16\x30", b"\0\0\0\x08\x04\xd2\0\0")))
+            if chance.random() < 0.9:
+                back.insert(0, chance.choice((b"N", b"N", b"N", b"S", b"G", b"E", b"")))
+        return tuple(b"".join(side) if chance.random() < 0.7 else spoiled_messages(chance, [part for part in side if part]) for side in (front, back))
+
+
+FRONT_TAGS = b"QQQSSSPBEDHHFpcccfdddddX~"
+BACK_TAGS = b"ZZZZRRGGWWEEDTC12NSAdcs~"
+
+
+def plain(chance, tags):
+    """A message with one of these tags, whose body is often none that the tables have: whose turn it is doesn't depend on that."""
+    tag = bytes([chance.choice(tags)])
+    body = chance.choice((b"", b"\0", b"I", b"a\0", b"\0\0\0", chance.randbytes(chance.choice((1, 3, 4, 8)))))
+    if tag == b"R" and chance.random() < 0.9:
+        body = struct.pack(">I", chance.choice((0, 0, 3, 5, 7, 8, 10, 11, 12))) + chance.choice((b"", b"\1\2\3\4"))
+    return tag + struct.pack(">I", len(body) + 4) + body
 
 
 def foreign(chance, front):

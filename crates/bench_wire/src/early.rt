@@ -8,7 +8,7 @@ use anyhow::bail;
 use pg_client::{EarlyClient, Next};
 use std::alloc::Global;
 
-/// An early client asks for rows, and their columns come.
+// An early client asks for rows, and their columns come.
 fn ask(alloc: Global, client: &mut EarlyClient, out: &mut Vec<u8>) -> anyhow::Result<()> {
     client.start(out)?;
     client.feed(&WELCOME, out)?;
@@ -19,7 +19,7 @@ fn ask(alloc: Global, client: &mut EarlyClient, out: &mut Vec<u8>) -> anyhow::Re
     Ok(())
 }
 
-/// Takes what came of the bytes that were pushed: how many bytes the values of the rows have.
+// Takes what came of the bytes that were pushed: how many bytes the values of the rows have.
 fn take(client: &mut EarlyClient, out: &mut Vec<u8>) -> anyhow::Result<u64> {
     let mut size = 0u64;
     for _ in 0..u64::MAX {
@@ -36,7 +36,7 @@ fn take(client: &mut EarlyClient, out: &mut Vec<u8>) -> anyhow::Result<u64> {
     Ok(size)
 }
 
-/// An early client asks for rows, is given them in pieces of so many bytes, and they are taken lent.
+// An early client asks for rows, is given them in pieces of so many bytes, and they are taken lent.
 fn lend_rows(
     alloc: Global,
     client: &mut EarlyClient,

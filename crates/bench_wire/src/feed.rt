@@ -40,7 +40,7 @@ pub(crate) fn rows_of(stream: &[u8]) -> anyhow::Result<&[u8]> {
     Ok(&stream[BEFORE..stream.len() - AFTER])
 }
 
-/// A client asks for rows, and their columns come.
+// A client asks for rows, and their columns come.
 fn ask(alloc: Global, client: &mut Client, out: &mut Vec<u8>) -> anyhow::Result<()> {
     client.start(out)?;
     client.feed(&WELCOME, out)?;
@@ -51,7 +51,7 @@ fn ask(alloc: Global, client: &mut Client, out: &mut Vec<u8>) -> anyhow::Result<
     Ok(())
 }
 
-/// A client asks for rows, and is fed them in pieces of so many bytes.
+// A client asks for rows, and is fed them in pieces of so many bytes.
 fn feed_rows(alloc: Global, client: &mut Client, rows: &[u8], piece: usize) -> anyhow::Result<()>
     requires { 0 < piece }
 {

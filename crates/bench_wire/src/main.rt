@@ -15,7 +15,7 @@ use std::alloc::Global;
 use std::env;
 use std::io::Read;
 
-/// How many bytes the values of a row have; 0 of any other message.
+// How many bytes the values of a row have; 0 of any other message.
 fn size_of(message: &BackMessage) -> u64 {
     let mut size = 0u64;
     if let BackMessage::DataRow(values) = message {
@@ -39,7 +39,7 @@ pub(crate) fn size_of_lent(row: &RowView<'_>) -> u64 {
     size
 }
 
-/// Takes the messages that are whole, each owned.
+// Takes the messages that are whole, each owned.
 fn take_owned(decoder: &mut BackDecoder) -> Result<u64, WireFault> {
     let mut size = 0u64;
     for _ in 0..u64::MAX {
@@ -51,7 +51,7 @@ fn take_owned(decoder: &mut BackDecoder) -> Result<u64, WireFault> {
     Ok(size)
 }
 
-/// Takes the messages that are whole, the rows lent.
+// Takes the messages that are whole, the rows lent.
 fn take_lent(decoder: &mut BackDecoder) -> Result<u64, WireFault> {
     let mut size = 0u64;
     for _ in 0..u64::MAX {
@@ -68,7 +68,7 @@ fn take_lent(decoder: &mut BackDecoder) -> Result<u64, WireFault> {
     Ok(size)
 }
 
-/// Decodes the stream, by owned messages or by rows that are lent.
+// Decodes the stream, by owned messages or by rows that are lent.
 fn decode(alloc: Global, stream: &[u8], piece: usize, is_lent: bool) -> anyhow::Result<u64> {
     if piece == 0 {
         bail!("a piece has a byte at least");

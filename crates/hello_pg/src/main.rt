@@ -1,101 +1,88 @@
-//! A driver that a reader copies from. It asks a PostgreSQL server a query over TCP and prints what comes as it comes, in the form
+//! A driver that a reader copies from. It asks a PostgreSQL server queries over TCP, and prints what comes as it comes, in the form
 //! of `psql -A`.
+//!
+//! `ask_all` and `print_answer` below are the driver. `opening` opens what it needs, `words` reads the command line, `printing` prints what
+//! comes, `copies` gives the server the data of a copy, and `failure` says how the program ends.
 #![tactic(auto)]
 
-mod asking;
+mod copies;
 mod failure;
+mod opening;
 mod printing;
-mod session;
-mod text;
 mod words;
 
-use crate::asking::{ask, start};
 use crate::failure::Failure;
 use crate::printing::Printer;
-use crate::session::{Session, connect};
-use crate::words::{HELP, Target, Words};
-use pg_wire::{Over, Patient, Sink};
-use standard_streams::{ClosedStream, all_open};
-use std::fs::File;
-use std::io::{Read, Write};
-use std::net::Net;
+use pg_drive::{Event, Session};
+use pg_wire::{Over, Patient, Sink, Source, send_all};
+use standard_streams::all_open;
 use std::process::ExitCode;
-use std::rt::{Env, Files};
-use std::{env, io};
 
 fn main(rt: HostRuntime) -> ExitCode {
     // before anything is opened, which would take the place of a stream that is closed
     let streams = all_open(&rt.stdin(), &rt.stdout(), &rt.stderr());
-    match run(&rt, streams, Over::new(Patient::new(rt.stderr()))) {
+    match opening::run(&rt, streams, Over::new(Patient::new(rt.stderr()))) {
         Ok(()) => ExitCode::SUCCESS,
         Err(failure) => {
-            if failure.is_untold() {
-                // where this can't be written, the status still tells
-                let _ = eprintln!(rt; "hello_pg: {failure}");
+            // where this can't be made or written, the status still tells
+            let mut text = Vec::new(rt.alloc());
+            if failure.put(&mut text).is_ok() {
+                let _ = send_all(text.as_slice(), &mut Over::new(Patient::new(rt.stderr())));
             }
             ExitCode::from(failure.status())
         }
     }
 }
 
-// Does what the words ask for, where the standard streams are open.
-fn run<R: Env + Files + Net + Input + Print + AllocGlobal, E: Sink + Drop>(
-    rt: &R,
-    streams: Result<(), ClosedStream>,
-    errors: E,
+// Asks each query in its turn.
+pub(crate) fn ask_all<L: Source + Sink, I: Source, O: Sink, E: Sink>(
+    session: &mut Session<L>,
+    queries: &[&str],
+    input: &mut I,
+    printer: &mut Printer<O, E>,
 ) -> Result<(), Failure> {
-    let words: Vec<String> = env::args(rt)
-        .map_err(Failure::of_words)?
-        .collect(rt.alloc())?;
-    let words = Words::of(rt.alloc(), words.as_slice())?;
-    if words.help {
-        return println!(rt; "{HELP}").map_err(|_| Failure::Output);
+    session.start().map_err(Failure::of_start)?;
+    for query in queries {
+        session.query(query)?;
+        print_answer(session, input, printer)?;
     }
-    streams?;
-    match words.output {
-        Some(path) => {
-            let file = File::create(rt, path).map_err(Failure::File)?;
-            with_output(rt, &words, file, errors)
-        }
-        None => with_output(rt, &words, io::writer(rt), errors),
+    // the server learns of it, unless the link fails, of which it learns too
+    let _ = session.end();
+    if printer.has_failed {
+        return Err(Failure::Refused);
     }
+    Ok(())
 }
 
-// Does it with the output open.
-fn with_output<R: Env + Files + Net + Input + AllocGlobal, W: Write + Drop, E: Sink + Drop>(
-    rt: &R,
-    words: &Words<'_>,
-    output: W,
-    errors: E,
+// Prints the answer to a query as it comes. What was printed is seen before more is waited for.
+fn print_answer<L: Source + Sink, I: Source, O: Sink, E: Sink>(
+    session: &mut Session<L>,
+    input: &mut I,
+    printer: &mut Printer<O, E>,
 ) -> Result<(), Failure> {
-    match words.input {
-        Some(path) => {
-            let file = File::open(rt, path).map_err(Failure::File)?;
-            with_input(rt, words, file, output, errors)
+    let mut is_settled = false;
+    for _ in 0..u64::MAX {
+        let event = match session.try_next_lent()? {
+            Some(event) => event,
+            None if is_settled => break,
+            None => {
+                printer.flush()?;
+                session.next_lent()?
+            }
+        };
+        match event {
+            Event::Row => {
+                if let Some(row) = session.held() {
+                    printer.print_row(row.values())?;
+                }
+            }
+            Event::Message(message) => printer.print(&message)?,
+            Event::CopyIn => {
+                printer.flush()?;
+                copies::put_chunk(session, input)?;
+            }
+            Event::Settled { .. } => is_settled = true,
         }
-        None => with_input(rt, words, rt.reader(), output, errors),
     }
-}
-
-// Does it with the input open too.
-fn with_input<R: Env + Net + Input + AllocGlobal, I: Read + Drop, W: Write + Drop, E: Sink + Drop>(
-    rt: &R,
-    words: &Words<'_>,
-    input: I,
-    output: W,
-    errors: E,
-) -> Result<(), Failure> {
-    let alloc = rt.alloc();
-    let target = Target::of(rt, words)?;
-    let link = connect(rt, target.host.as_str(), target.port)?;
-    let mut input = Over::new(Patient::new(input));
-    let output = Over::new(Patient::new(output));
-    let mut printer = Printer::new(alloc, words.count, output, errors);
-    let mut session = Session::new(alloc, target.settings, link);
-    start(&mut session, &mut printer)?;
-    for query in words.queries.iter() {
-        ask(alloc, &mut session, query, &mut input, &mut printer)?;
-    }
-    session.end();
-    printer.judge()
+    printer.flush()
 }

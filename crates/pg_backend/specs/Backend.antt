@@ -22,7 +22,7 @@ abbrev pub IsClosed : BackendState → Type 0
 IsClosed b = phase_of b.stage ≡ phase.Closed
 
 -- A push stores the whole piece, or refuses it and changes nothing: where the backend is closed, or
--- for want of memory, which a piece without bytes never meets.
+-- where memory ran out, which a piece without bytes never meets.
 abbrev pub Stores : BackendState → List ℕ → Result Unit BackendFault → BackendState → Type 0
 Stores old piece (Ok x) new = (IsClosed old → ⊥)
     × (new ≡ record old { stage = stored old.stage piece })
@@ -31,7 +31,7 @@ Stores old piece (Err faults.Closed) new = IsClosed old × (new ≡ old)
 Stores old piece (Err f) new = ⊥
 
 -- A step that took a packet or a message leaves script and limit as they were. Where the backend is
--- closed by it, that is for its input, neither for want of memory nor for a lost connection.
+-- closed by it, that is for its input, neither because memory ran out nor because the connection was lost.
 pub record PlaysOn (old new : BackendState) : Type 0 where
   pub script_is : new.script ≡ old.script
   pub limit_is : new.limit ≡ old.limit
@@ -39,7 +39,7 @@ pub record PlaysOn (old new : BackendState) : Type 0 where
   pub not_lost : was_lost new.stage ≡ false
 
 -- What `step` answers: false where nothing whole waits; true for a packet or message that may stand
--- in its place; K4 for one that may not, K1 for a faulty rest and K2 for want of memory, each of
+-- in its place; K4 for one that may not, K1 for a faulty rest and K2 where memory ran out, each of
 -- which closes; K3 where it was closed. K2 appends and logs nothing.
 abbrev pub Steps : BackendState → List ℕ
     → Result Bool BackendFault → BackendState → List ℕ → Type 0

@@ -49,7 +49,7 @@ pub record IsHistoryOf (h : History) (b : BackendState) : Type 0 where
   pub spelled : AllByRecursion IsSpelled (transcript b.script h.input)
   -- the log is that of the input
   pub log_is : b.log ≡ input_log b.script h.input
-  -- the phase is the one that the input leads to, unless a step was refused memory or the
+  -- the phase is the one that the input leads to, unless a step ran out of memory or the
   -- connection was lost
   pub phase_is : phase_of b.stage ≡ phase_by b.stage (input_phase b.script h.input)
   pub stands : StandsAt b.script b.left h b.stage

@@ -41,7 +41,7 @@ phase_of (stage.First d) = phase.First
 phase_of (stage.Open d a) = end_phase (awaited_end a)
 phase_of (stage.Closed by) = phase.Closed
 
--- No step of the backend was refused memory: such a step would have closed it, and nothing opens a
+-- No step of the backend ran out of memory: such a step would have closed it, and nothing opens a
 -- closed backend.
 abbrev pub had_memory : BackStage → Bool
 had_memory (stage.Closed closed_by.Memory) = false
@@ -52,7 +52,7 @@ abbrev pub was_lost : BackStage → Bool
 was_lost (stage.Closed closed_by.Lost) = true
 was_lost s = false
 
--- the phase at this stage, where the input leads to the phase `p`: Closed where want of memory or
+-- the phase at this stage, where the input leads to the phase `p`: Closed where running out of memory or
 -- the loss of the connection has closed the backend, and else p
 abbrev pub phase_by : BackStage → BackPhase → BackPhase
 phase_by (stage.Closed closed_by.Memory) p = phase.Closed

@@ -38,7 +38,7 @@ pub enum Split<'a> {
     Copies(&'a [ScriptPart], &'a CopyHead, &'a Load, &'a [ScriptPart]),
 }
 
-/// Splits the parts at the first copy from the client.
+// Splits the parts at the first copy from the client.
 fn split_at_copy(parts: &[ScriptPart]) -> Split<'_>
     ensures { IsSplit parts.now result }
 {
@@ -52,7 +52,7 @@ fn split_at_copy(parts: &[ScriptPart]) -> Split<'_>
     Split::Whole
 }
 
-/// An error, if there is one, and ReadyForQuery.
+// An error, if there is one, and ReadyForQuery.
 fn tell_end(error: &Option<Fields>, status: Status, out: &mut Vec<u8>) -> Result<(), EncodeFault>
     ensures { EncodesAll (error_sent error.now ++ Ready status ∷ [])
         out.old.items result out.new.items }
@@ -61,7 +61,7 @@ fn tell_end(error: &Option<Fields>, status: Status, out: &mut Vec<u8>) -> Result
     both(so_far, encode(&BackMessage::Ready(status), out))
 }
 
-/// These parts, and the end of the answer.
+// These parts, and the end of the answer.
 fn tell_rest(answer: &Answer, parts: &[ScriptPart], out: &mut Vec<u8>) -> Result<(), EncodeFault>
     ensures { EncodesAll (parts_sent parts.now ++ end_sent answer.now.error answer.now)
         out.old.items result out.new.items }
@@ -70,7 +70,7 @@ fn tell_rest(answer: &Answer, parts: &[ScriptPart], out: &mut Vec<u8>) -> Result
     both(so_far, tell_end(&answer.error, answer.status, out))
 }
 
-/// An answer with these parts.
+// An answer with these parts.
 fn tell_whole(answer: &Answer, parts: &[ScriptPart], out: &mut Vec<u8>) -> Result<(), EncodeFault>
     ensures { EncodesAll (map aside_message answer.now.before
         ++ (parts_sent parts.now ++ end_sent answer.now.error answer.now))
@@ -80,7 +80,7 @@ fn tell_whole(answer: &Answer, parts: &[ScriptPart], out: &mut Vec<u8>) -> Resul
     both(so_far, tell_rest(answer, parts, out))
 }
 
-/// An answer up to a copy from the client.
+// An answer up to a copy from the client.
 fn tell_opening(
     answer: &Answer,
     parts: &[ScriptPart],
@@ -97,7 +97,7 @@ fn tell_opening(
     both(asides, so_far)
 }
 
-/// An answer up to a copy from the client that is refused at once with this error.
+// An answer up to a copy from the client that is refused at once with this error.
 fn tell_refusal(
     answer: &Answer,
     parts: &[ScriptPart],
@@ -113,7 +113,7 @@ fn tell_refusal(
     both(so_far, tell_end(error, answer.status, out))
 }
 
-/// What comes after a copy from the client that is complete with this tag.
+// What comes after a copy from the client that is complete with this tag.
 fn tell_completion(
     answer: &Answer,
     tag: &[u8],
@@ -128,7 +128,7 @@ fn tell_completion(
     both(so_far, tell_rest(answer, parts, out))
 }
 
-/// What telling comes to, where its only fault is want of memory: a message of a checked script has a spelling.
+/// What telling comes to, where its only fault is Memory: a message of a checked script has a spelling.
 pub fn or_memory(telling: Result<(), EncodeFault>) -> Result<(), BackendFault>
     ensures { MatchResult telling
         (λ _. result ≡ Ok record {}) (λ _. result ≡ Err BackendFault.Memory) }
@@ -139,7 +139,7 @@ pub fn or_memory(telling: Result<(), EncodeFault>) -> Result<(), BackendFault>
     }
 }
 
-/// Answers a request whose answer is given whole at once.
+// Answers a request whose answer is given whole at once.
 fn give_whole(
     alloc: Global,
     request: Request,
@@ -159,7 +159,7 @@ fn give_whole(
     })
 }
 
-/// Answers a request whose copy is refused at once.
+// Answers a request whose copy is refused at once.
 fn refuse(
     alloc: Global,
     request: Request,
@@ -192,7 +192,7 @@ fn refuse(
     })
 }
 
-/// Answers a request up to a copy from the client.
+// Answers a request up to a copy from the client.
 fn begin_copy(
     alloc: Global,
     request: Request,
@@ -213,7 +213,7 @@ fn begin_copy(
     })
 }
 
-/// The error of a copy that is refused at once.
+// The error of a copy that is refused at once.
 fn refused_at_once(load: &Load) -> Option<&Fields>
     ensures { MatchOption result
         (NotRefused load.now 0) (λ fields. load.now ≡ Refuse 0 fields.now) }
@@ -246,7 +246,7 @@ pub fn open(
     }
 }
 
-/// The parts before a copy from the client, and those after it.
+// The parts before a copy from the client, and those after it.
 fn around_copy(parts: &[ScriptPart]) -> (&[ScriptPart], &[ScriptPart])
     ensures before { result.0.now ≡ parts_before parts.now }
     ensures after { result.1.now ≡ parts_after parts.now }
@@ -257,7 +257,7 @@ fn around_copy(parts: &[ScriptPart]) -> (&[ScriptPart], &[ScriptPart])
     }
 }
 
-/// Ends an answer after a copy from the client that is complete with this tag.
+// Ends an answer after a copy from the client that is complete with this tag.
 fn complete(
     alloc: Global,
     request: Request,
@@ -277,7 +277,7 @@ fn complete(
     })
 }
 
-/// Ends an answer with the error that ended its copy.
+// Ends an answer with the error that ended its copy.
 fn fail(
     alloc: Global,
     request: Request,

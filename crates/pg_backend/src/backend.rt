@@ -60,7 +60,7 @@ impl Model for Backend {
         × IsSound b.limit b.stage };
 }
 
-/// What a decoder answers to a piece, as it has found no fault.
+// What a decoder answers to a piece, as it has found no fault.
 fn stored(pushed: Result<(), WireFault>) -> Result<(), BackendFault>
     ensures { MatchResult pushed
         (λ _. result ≡ Ok record {}) (λ _. result ≡ Err BackendFault.Memory) }
@@ -71,14 +71,14 @@ fn stored(pushed: Result<(), WireFault>) -> Result<(), BackendFault>
     }
 }
 
-/// Whether memory was refused.
+// Whether memory ran out.
 fn is_refused(answer: &Result<bool, BackendFault>) -> bool
     ensures { result ≡ is_refused answer.now }
 {
     matches!(answer, Err(BackendFault::Memory))
 }
 
-/// Closes by its input, and refuses what is kept: it is faulty, or memory was refused for it.
+// Closes by its input, and refuses what is kept: it is faulty, or memory ran out for it.
 fn break_off(
     alloc: Global,
     stage: &mut BackStage,
@@ -99,7 +99,7 @@ fn break_off(
 
 impl Backend {
     /// A backend that plays this script, and takes messages with a length field of at most `limit`, from 64 to
-    /// 1,073,741,823. The script's `check` has answered Ok. It takes no memory.
+    /// 1,073,741,823. The script's `check` has returned Ok. It takes no memory.
     pub fn new(alloc: Global, script: Script, limit: u32) -> Backend
         requires limit { IsLimit limit }
         requires checked { IsChecked script }
@@ -121,7 +121,7 @@ impl Backend {
     }
 
     /// Takes the next piece of what the client sends, all of it, and handles nothing of it. After Memory the backend is
-    /// unchanged; a piece without bytes wants no memory. Closed is answered where the backend is closed.
+    /// unchanged; a piece without bytes needs no memory. Closed is returned where the backend is closed.
     pub fn push(&mut self, piece: &[u8]) -> Result<(), BackendFault>
         ensures call { Stores self.old piece.now result self.new }
         ensures history { OnOk result (Carries self.old self.new (with_pushed piece.now)) }
@@ -145,7 +145,7 @@ impl Backend {
         }
     }
 
-    /// Answers a request for encryption: there is none ("SSL Session Encryption").
+    // Answers a request for encryption: there is none ("SSL Session Encryption").
     fn decline(&mut self, decoder: FirstDecoder, out: &mut Vec<u8>) -> Result<(), BackendFault>
         requires { (decoder.fault ≡ None) × (decoder.ended ≡ false) }
         ensures { TakesEffect (only_sends self.old (BackStage.First decoder) (No ∷ []))
@@ -156,7 +156,7 @@ impl Backend {
         Ok(())
     }
 
-    /// Refuses a client that names no user.
+    // Refuses a client that names no user.
     fn refuse(&mut self, out: &mut Vec<u8>) -> Result<(), BackendFault>
         ensures { TakesEffect
             (only_sends self.old (BackStage.Closed ByInput) (Says (ErrorResponse no_user) ∷ []))
@@ -168,7 +168,7 @@ impl Backend {
         Ok(())
     }
 
-    /// Lets a client in, or asks for the password of this user.
+    // Lets a client in, or asks for the password of this user.
     fn admit(
         &mut self,
         decoder: FirstDecoder,
@@ -185,7 +185,7 @@ impl Backend {
         Ok(())
     }
 
-    /// Handles a first packet, after which the decoder stands.
+    // Handles a first packet, after which the decoder stands.
     fn greet(
         &mut self,
         decoder: FirstDecoder,
@@ -214,8 +214,8 @@ impl Backend {
         }
     }
 
-    /// Handles the next packet or message. Where none is whole, nothing is moved; for a message only what is awaited is taken out, and what is
-    /// awaited next is put in its place. After Memory, bytes may stand after what `out` had, and the stage may have lost what it held.
+    // Handles the next packet or message. Where none is whole, nothing is moved; for a message only what is awaited is taken out, and what is
+    // awaited next is put in its place. After Memory, bytes may stand after what `out` had, and the stage may have lost what it held.
     fn advance(&mut self, out: &mut Vec<u8>) -> Result<bool, BackendFault>
         ensures call { AdvancesUnlessClosed self.old out.old.items result self.new out.new.items }
         ensures sound { IsSound self.old.limit self.old.stage }
@@ -255,7 +255,7 @@ impl Backend {
         }
     }
 
-    /// Closes for want of memory.
+    // Closes because memory ran out.
     fn give_up(&mut self)
         ensures { self.new ≡ record self.old { stage = BackStage.Closed ByMemory } }
     {
@@ -267,7 +267,7 @@ impl Backend {
     ///
     /// After Wire and Unexpected the client was told, by an error with severity FATAL, and the backend is closed. After Memory it
     /// is closed with `out` and the log as they were; memory is wanted only where something whole waits, or what waits can be
-    /// none. Closed is answered where the backend was closed before, and changes nothing. A close by the protocol, as by a
+    /// none. Closed is returned where the backend was closed before, and changes nothing. A close by the protocol, as by a
     /// Terminate or a wrong password, is Ok(true).
     pub fn step(&mut self, out: &mut Vec<u8>) -> Result<bool, BackendFault>
         ensures call { Steps self.old out.old.items result self.new out.new.items }

@@ -15,7 +15,7 @@ pub enum BackendFault {
     /// backend is closed.
     #[error("K1 Wire {0}")]
     Wire(WireFault),
-    /// Memory was refused. After `push` nothing has changed; after `step` the backend is closed,
+    /// Memory ran out. After `push` nothing has changed; after `step` the backend is closed,
     /// with its output and log as they were.
     #[error("K2 Memory")]
     Memory,

@@ -6,7 +6,8 @@ ghost use Rattle.pg_script.specs.declared.meaning.InCopy.TheVariants.{Chunk};
 ghost use Rattle.pg_script.specs.Fitting.{answer_for};
 ghost use Rattle.pg_script.specs.OwnError.{no_answer};
 ghost use Rattle.pg_script.specs.Meaning.{meaning, in_copy};
-ghost use Rattle.pg_backend.specs.Private.Moves.{load_result, refuses_at, requested, between, effect};
+ghost use Rattle.pg_backend.specs.Private.Moves.{load_result, refuses_at, requested, between};
+ghost use Rattle.pg_backend.specs.Private.Moves.{effect};
 ghost use Rattle.pg_backend.specs.Private.Moves.{entered, entering, has_effect, move, decided};
 ghost use Rattle.pg_backend.specs.Private.Moves.{strays};
 ghost use Rattle.pg_backend.specs.Private.Answering.{Opens};
@@ -25,7 +26,7 @@ use pg_wire::{Fields, FrontMessage, Request, Seq, Step};
 use std::alloc::Global;
 use std::marker::Model;
 
-/// The tag or the error that the script ends a copy with.
+// The tag or the error that the script ends a copy with.
 fn load_end(load: Load) -> Result<Seq<u8>, Fields>
     ensures { result ≡ load_result load }
 {
@@ -35,7 +36,7 @@ fn load_end(load: Load) -> Result<Seq<u8>, Fields>
     }
 }
 
-/// Whether the chunk of this number is refused.
+// Whether the chunk of this number is refused.
 fn refuses_at(load: &Load, number: usize) -> bool
     ensures { result ≡ refuses_at load.now number }
 {
@@ -45,7 +46,7 @@ fn refuses_at(load: &Load, number: usize) -> bool
     }
 }
 
-/// The answer at this place, if there is one and it fits the request.
+// The answer at this place, if there is one and it fits the request.
 fn fitting<'a>(answers: &'a [Answer], next: usize, request: &Request) -> Option<&'a Answer>
     ensures { MatchOption result
         (answer_for (drop next answers.now) request.now ≡ no_answer)
@@ -111,7 +112,7 @@ impl Playing {
         self.log.as_slice()
     }
 
-    /// Answers a request as far as it can be answered at once.
+    // Answers a request as far as it can be answered at once.
     fn open(&self, request: Request, out: &mut Vec<u8>) -> Result<Opened, BackendFault>
         ensures { Opens request (answer_for self.now.left request)
             out.old.items result out.new.items }
@@ -125,7 +126,7 @@ impl Playing {
         }
     }
 
-    /// Logs a request that is decided.
+    // Logs a request that is decided.
     fn note(&mut self, logged: Logged) -> Result<(), BackendFault>
         ensures { Notes logged self.old result self.new }
     {
@@ -136,7 +137,7 @@ impl Playing {
         Ok(())
     }
 
-    /// Answers a request, and logs it if it is decided.
+    // Answers a request, and logs it if it is decided.
     fn ask(&mut self, request: Request, out: &mut Vec<u8>) -> Result<Next, BackendFault>
         ensures { Moves (requested self.old.left request)
             self.old out.old.items result self.new out.new.items }
@@ -157,7 +158,7 @@ impl Playing {
         Seq::new(Vec::new(self.alloc))
     }
 
-    /// Ends a copy from the client, and logs its request.
+    // Ends a copy from the client, and logs its request.
     fn decide(
         &mut self,
         request: Request,
@@ -179,7 +180,7 @@ impl Playing {
         Ok(Next::Goes(Awaits::Request(self.no_steps())))
     }
 
-    /// Takes a chunk of a copy.
+    // Takes a chunk of a copy.
     fn take_chunk(
         &mut self,
         loading: Loading,
@@ -207,7 +208,7 @@ impl Playing {
         })))
     }
 
-    /// Takes a message during a copy.
+    // Takes a message during a copy.
     fn take_in_copy(
         &mut self,
         loading: Loading,
@@ -242,7 +243,7 @@ impl Playing {
         }
     }
 
-    /// Ends a copy with an error that isn't the script's.
+    // Ends a copy with an error that isn't the script's.
     fn break_off(
         &mut self,
         loading: Loading,
@@ -260,7 +261,7 @@ impl Playing {
         self.decide(request, loaded, Err(fields), out)
     }
 
-    /// Tells the client that its message can't stand in its place.
+    // Tells the client that its message can't stand in its place.
     fn stray(&self, tag: u8, out: &mut Vec<u8>) -> Result<Next, BackendFault>
         ensures { Moves (strays self.now.left tag)
             self.now out.old.items result self.now out.new.items }
@@ -272,7 +273,7 @@ impl Playing {
         }
     }
 
-    /// Takes a message where a request is awaited, or the next step after these.
+    // Takes a message where a request is awaited, or the next step after these.
     fn take_request(
         &mut self,
         mut steps: Seq<Step>,
@@ -301,7 +302,7 @@ impl Playing {
         }
     }
 
-    /// Lets a client in whose password is right.
+    // Lets a client in whose password is right.
     fn welcome(&self, out: &mut Vec<u8>) -> Result<Next, BackendFault>
         ensures { Moves (entered self.now.script self.now.left true)
             self.now out.old.items result self.now out.new.items }
@@ -310,7 +311,7 @@ impl Playing {
         Ok(Next::Goes(Awaits::Request(self.no_steps())))
     }
 
-    /// Refuses a client whose password is wrong.
+    // Refuses a client whose password is wrong.
     fn refuse(&self, out: &mut Vec<u8>) -> Result<Next, BackendFault>
         ensures { Moves (entered self.now.script self.now.left false)
             self.now out.old.items result self.now out.new.items }
@@ -320,7 +321,7 @@ impl Playing {
         Ok(Next::Ends)
     }
 
-    /// Takes a message where this password is awaited.
+    // Takes a message where this password is awaited.
     fn take_password(
         &self,
         expected: &[u8],

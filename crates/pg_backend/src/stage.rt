@@ -41,7 +41,7 @@ pub enum Next {
 pub enum ClosedBy {
     /// Its input: the client left or was refused, or its input can't be handled further.
     Input,
-    /// A step that was refused memory.
+    /// A step that ran out of memory.
     Memory,
     /// The connection was lost.
     Lost,

@@ -204,7 +204,7 @@ module _ {K : Type 0} (way : Collects K) (v : MachineView K) where
       let same : lent ≡ other = (let k : Some lent ≡ Some other = sym is ∙ e in cc) in
       subst (λ (x : Lent). Handles way (message_of x) v r new) same h
 
-  -- where memory is refused for it
+  -- where memory runs out for it
   pub starved_in : (m : BackMessage) → Handles way m v (Err feeding.Memory) v
   starved_in m stand settled f = (stand, settled, f, (record { settings = refl; settled = refl; alike = record { request = refl; error = refl }; knows = record { status = refl; parameters = refl; key = refl } }, refl), λ given hs t. t)
 

@@ -22,7 +22,7 @@ pub record Accepts (c : Call) (old new : ClientView) (before after : List ℕ) :
   pub history : Carries old new (with_call old.settings c)
 
 -- Why the bytes of a call can't be sent: for the fault that the call has, or, where it has none, as
--- memory was refused (Memory).
+-- memory ran out (Memory).
 abbrev pub IsRefusedBy : Settings → Call → CallFault → Type 0
 IsRefusedBy settings c (fault.Encode encoding.Memory) = call_fault settings c ≡ None
 IsRefusedBy settings c (fault.Encode f) = call_fault settings c ≡ Some f
@@ -44,7 +44,7 @@ RefusesCopy old c (fault.Encode f) = (phase_of old ≡ phase.CopyingIn)
     × IsRefusedBy old.settings c (fault.Encode f)
 RefusesCopy old c _ = ⊥
 
--- Why terminate is refused: the client wasn't started or is closed, or memory was refused. A
+-- Why terminate is refused: the client wasn't started or is closed, or memory ran out. A
 -- Terminate always has a spelling ("Termination").
 abbrev pub RefusesEnd : ClientView → CallFault → Type 0
 RefusesEnd old (fault.NotReady p) = (p ≡ phase_of old) × (IsOpenPhase p → ⊥)
@@ -52,7 +52,7 @@ RefusesEnd old (fault.Encode f) = IsOpenPhase (phase_of old) × (f ≡ encoding.
 RefusesEnd old _ = ⊥
 
 -- What cancel_packet does with the last key of the server. It appends the CancelRequest of that key
--- ("Canceling Requests in Progress"), or appends nothing, as memory was refused or the server has
+-- ("Canceling Requests in Progress"), or appends nothing, as memory ran out or the server has
 -- sent no key. The arguments are the key, the output before, the answer, and the output after.
 abbrev pub Cancels : Option (ℤ × ℤ) → List ℕ → Result Unit CallFault → List ℕ → Type 0
 Cancels (Some key) before (Ok x) after = after ≡ before ++ packet (Cancel key.0 key.1)

@@ -84,7 +84,7 @@ pub record IsKept (limit : ℕ) (rest kept : List ℕ) : Type 0 where
 -- Why a client has handled no message after these events. The arguments are its settings, the
 -- events, the bytes that are left, those that it keeps, and why it is closed, or None. Open, Lost
 -- and Terminated: no message is whole; with Terminated, terminate was the last event. Wire: the
--- bytes left are no message and can't become one. Memory: memory was refused, at whatever point.
+-- bytes left are no message and can't become one. Memory: memory ran out, at whatever point.
 -- Any other cause: the bytes left begin with a message that may not come, with a fault of that
 -- cause.
 abbrev pub Ends : Settings → List Happening → List ℕ → List ℕ → Option Cause → Type 0

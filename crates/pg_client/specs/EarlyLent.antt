@@ -64,7 +64,7 @@ FeedsNothing old piece result new before after = old.closed ≡ None → length 
 -- ---- push
 
 -- What push does to an early client that is open. Ok: it keeps the piece, and lends no row any
--- more. Memory: memory was refused, which closes it; a piece without bytes takes none.
+-- more. Memory: memory ran out, which closes it; a piece without bytes takes none.
 abbrev pub KeepsAll : EarlyView → List ℕ → Result Unit FeedFault → EarlyView → Type 0
 KeepsAll old piece (Ok x) new = new ≡ record old { kept = old.kept ++ piece; held = None }
 KeepsAll old piece (Err feeding.Memory) new = (0 < length piece)
@@ -83,7 +83,7 @@ PushesByCause None old piece result new = KeepsAll old piece result new
 abbrev pub Pushes : EarlyView → List ℕ → Result Unit FeedFault → EarlyView → Type 0
 Pushes old piece result new = PushesByCause old.closed old piece result new
 
--- Where push was refused memory, it is as if the piece had been fed with the bytes that were still
+-- Where push ran out of memory, it is as if the piece had been fed with the bytes that were still
 -- to be heard, and feed had been refused memory before it heard a message.
 abbrev pub RefusesPiece : EarlyView → List ℕ → FeedFault → EarlyView → Type 0
 RefusesPiece old piece f new = old.closed ≡ None → (unread : List ℕ) (h : History)

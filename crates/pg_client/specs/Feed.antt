@@ -15,7 +15,7 @@ use Rattle.pg_client.specs.History.{with_fed, IsHistoryOf, with_heard, happening
 
 -- What feed answers to a client that was open. The arguments are the settings, the events after the
 -- feed, the bytes left, the piece, the answer, and why the client is closed then. Ok: it stays
--- open. Wire: the bytes left are no message and can't become one. Memory: memory was refused; a
+-- open. Wire: the bytes left are no message and can't become one. Memory: memory ran out; a
 -- piece without bytes takes none. Any other fault but Closed, which doesn't come: the bytes left
 -- begin with a message that may not come.
 abbrev pub FeedAnswers : Settings → List Happening → List ℕ → List ℕ → Result Unit FeedFault

@@ -1,10 +1,12 @@
 //! The client: its calls.
 
-ghost use Rattle.std.specs.Prelude.{◌≡◌, ◌≢◌, ◌≤◌, ◌∷◌, ◌↔◌, [], false, IfErr, IfNone, IfSome, IsTrue, None, OnErr, OnOk, option_copied, Some};
+ghost use Rattle.std.specs.Prelude.{◌≡◌, ◌≢◌, ◌≤◌, ◌∷◌, ◌↔◌, [], false, IfErr, IfNone, IfSome};
+ghost use Rattle.std.specs.Prelude.{IsTrue, None, OnErr, OnOk, option_copied, Some};
 ghost use Rattle.pg_wire.specs.Direction.{IsLimit};
 ghost use Rattle.pg_client.specs.declared.call.Call.TheVariants as call;
 ghost use Rattle.pg_client.specs.Client.{IsOpenPhase, phase_of, value_of};
-ghost use Rattle.pg_client.specs.History.{blank, Carries, IsHistoryOf, with_given, with_handed_back};
+ghost use Rattle.pg_client.specs.History.{blank, Carries, IsHistoryOf, with_given};
+ghost use Rattle.pg_client.specs.History.{with_handed_back};
 ghost use Rattle.pg_client.specs.Feed.{Feeds};
 ghost use Rattle.pg_client.specs.Calls.{Accepts, Cancels, RefusesCopy, RefusesEnd, RefusesUnless};
 ghost use Rattle.pg_client.specs.Lost.{first_cause, HandsBack};
@@ -182,7 +184,7 @@ impl Client {
     ///
     /// F1 Wire: the stream has a fault. F2 Unexpected: a message goes on with no segment that fits. F3 UnsupportedAuth and F4
     /// PasswordWanted: the server asks for what the client can't give. F5 StartupError and F6 ServerEnd: an error came in phase
-    /// Starting or Ready. F7 Memory: memory was refused. After these the client is closed with the cause of that name: the
+    /// Starting or Ready. F7 Memory: memory ran out. After these the client is closed with the cause of that name: the
     /// messages before the fault have had their effect, also on `out`, groups that were settled stay to be taken, and a request
     /// that is outstanding stays to be handed back by [`lost`](Client::lost). F8 Closed: the client was closed before, and
     /// nothing changes. A piece without bytes takes no memory.

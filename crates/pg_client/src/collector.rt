@@ -3,7 +3,8 @@
 ghost use Rattle.std.specs.Prelude.{◌≡◌, [], List, IfOk, OnErr, OnOk};
 ghost use Rattle.pg_wire.specs.Segment.{aside_of};
 ghost use Rattle.pg_wire.specs.message.BackMessage.{BackMessage};
-ghost use Rattle.pg_wire.specs.message.BackMessage.TheVariants.{DataRow, ErrorResponse, ParameterStatus};
+ghost use Rattle.pg_wire.specs.message.BackMessage.TheVariants.{DataRow, ErrorResponse};
+ghost use Rattle.pg_wire.specs.message.BackMessage.TheVariants.{ParameterStatus};
 ghost use Rattle.pg_segment.specs.Kind.{auth_message, IsResult};
 ghost use Rattle.pg_client.specs.declared.settled.Settled.{Settled};
 ghost use Rattle.pg_client.specs.declared.stand.Stand.{Stand};
@@ -12,7 +13,8 @@ ghost use Rattle.pg_client.specs.declared.startup.Welcome.TheVariants.{Fresh};
 ghost use Rattle.pg_client.specs.Client.{stand_phase};
 ghost use Rattle.pg_client.specs.Private.Calling.{with_answer, with_request};
 ghost use Rattle.pg_client.specs.Private.Hearing.{HearsAs, HearsAuth, IsSentFor};
-ghost use Rattle.pg_client.specs.Private.Collector.{Collects, EndsIn, HearsIn, IsLostOf, SetsParameter, TakesKey, TellsSame};
+ghost use Rattle.pg_client.specs.Private.Collector.{Collects, EndsIn, HearsIn, IsLostOf};
+ghost use Rattle.pg_client.specs.Private.Collector.{SetsParameter, TakesKey, TellsSame};
 
 use crate::fault::FeedFault;
 use crate::parameters::Parameters;

@@ -1,10 +1,13 @@
 //! Giving what comes as it comes.
 
 ghost use Rattle.std.specs.Prelude.{◌≡◌, ◌≢◌, ◌∷◌, ◌↔◌, [], IfNone, IfOk, IfSome, IsTrue};
-ghost use Rattle.pg_wire.specs.message.BackMessage.TheVariants.{DataRow, ErrorResponse, ParameterStatus};
+ghost use Rattle.pg_wire.specs.message.BackMessage.TheVariants.{DataRow, ErrorResponse};
+ghost use Rattle.pg_wire.specs.message.BackMessage.TheVariants.{ParameterStatus};
 ghost use Rattle.pg_segment.specs.Kind.{auth_message, IsResult};
 ghost use Rattle.pg_client.specs.Private.Collector.{SetsParameter};
-ghost use Rattle.pg_client.specs.Private.Early.{early_answered, early_asked, early_ends, early_loss, early_phase, early_takes_key, aside_message, TakesAuth, TakesEnd, TakesIn};
+ghost use Rattle.pg_client.specs.Private.Early.{early_answered, early_asked, early_ends};
+ghost use Rattle.pg_client.specs.Private.Early.{early_loss, early_phase, early_takes_key};
+ghost use Rattle.pg_client.specs.Private.Early.{aside_message, TakesAuth, TakesEnd, TakesIn};
 ghost use Rattle.pg_client.specs.Private.Hearing.{IsSentFor};
 ghost use Rattle.pg_client.specs.Private.Lending.{PassesRow};
 
@@ -122,7 +125,7 @@ pub struct Queue {
 }
 
 impl Queue {
-    // Takes an aside in. Where memory is refused, nothing changes, as with each message.
+    // Takes an aside in. Where memory runs out, nothing changes, as with each message.
     #[tactic(auto, using(crate::proofs::Asides::aside_of_message, crate::proofs::Asides::tag_of_aside_message))]
     fn take_aside(&mut self, aside: Aside) -> Result<ToSend, FeedFault>
         ensures { TakesIn self.old.stand self.old.items.items (aside_message aside) result

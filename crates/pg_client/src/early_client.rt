@@ -1,6 +1,7 @@
 //! The early client: its calls.
 
-ghost use Rattle.std.specs.Prelude.{◌≡◌, ◌≢◌, ◌<◌, ◌∷◌, ◌↔◌, ◌++◌, [], ℕ, IfErr, IfNone, IfSome, IsTrue, length, List, OnErr, OnOk, None, option_copied, Some};
+ghost use Rattle.std.specs.Prelude.{◌≡◌, ◌≢◌, ◌<◌, ◌∷◌, ◌↔◌, ◌++◌, [], ℕ, IfErr, IfNone, IfSome};
+ghost use Rattle.std.specs.Prelude.{IsTrue, length, List, OnErr, OnOk, None, option_copied, Some};
 ghost use Rattle.pg_wire.specs.Direction.{IsLimit};
 ghost use Rattle.pg_client.specs.declared.call.Call.TheVariants as call;
 ghost use Rattle.pg_client.specs.declared.item.Item.{Item};
@@ -10,7 +11,9 @@ ghost use Rattle.pg_client.specs.History.{blank, happenings, History, with_hande
 ghost use Rattle.pg_client.specs.Calls.{Cancels, RefusesCopy, RefusesEnd, RefusesUnless};
 ghost use Rattle.pg_client.specs.Lost.{first_cause, Loses};
 ghost use Rattle.pg_client.specs.Early.{EarlyAccepts, EarlyFeeds, IsEarlyHistoryOf, StandsFor};
-ghost use Rattle.pg_client.specs.EarlyLent.{ComesBefore, FeedsAll, FeedsNothing, GivesBefore, IsEarlyHistoryBefore, LosesBefore, Pushes, RefusesPiece, TakesLent};
+ghost use Rattle.pg_client.specs.EarlyLent.{ComesBefore, FeedsAll, FeedsNothing, GivesBefore};
+ghost use Rattle.pg_client.specs.EarlyLent.{IsEarlyHistoryBefore, LosesBefore, Pushes};
+ghost use Rattle.pg_client.specs.EarlyLent.{RefusesPiece, TakesLent};
 
 use crate::early::Queue;
 use crate::fault::{CallFault, FeedFault};
@@ -175,7 +178,7 @@ impl EarlyClient {
     }
 
     /// Keeps the bytes that came from the server, all of them, and handles none of their messages: [`next_lent`](EarlyClient::next_lent)
-    /// does, and so does a [`feed`](EarlyClient::feed) that has bytes. No row is lent any more. A closed client answers F8 Closed.
+    /// does, and so does a [`feed`](EarlyClient::feed) that has bytes. No row is lent any more. A closed client returns F8 Closed.
     pub fn push(&mut self, piece: &[u8]) -> Result<(), FeedFault>
         ensures pushes { Pushes self.old piece.now result self.new }
         ensures history { OnOk result ((unread : List ℕ) (h : History) (given : List Item)
@@ -200,7 +203,7 @@ impl EarlyClient {
         self.machine.next_lent(out)
     }
 
-    /// The row that [`next_lent`](EarlyClient::next_lent) answered Held for, until the next call of it, of
+    /// The row that [`next_lent`](EarlyClient::next_lent) returned Held for, until the next call of it, of
     /// [`push`](EarlyClient::push) or of [`feed`](EarlyClient::feed), and else None. A closed client lends none. It takes no memory.
     pub fn held(&self) -> Option<RowView<'_>>
         ensures row { result ≡ self.now.held }

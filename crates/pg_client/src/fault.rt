@@ -75,7 +75,7 @@ pub enum FeedFault {
     /// The server ended the session while no request was outstanding, with this error.
     #[error("F6 ServerEnd")]
     ServerEnd(Fields),
-    /// Memory was refused.
+    /// Memory ran out.
     #[error("F7 Memory")]
     Memory,
     /// The client was closed before.

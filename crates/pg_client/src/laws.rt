@@ -17,7 +17,8 @@ ghost use Rattle.pg_client.specs.Early.{EarlyFacts, EarlyView, IsEarlyHistoryOf}
 ghost use Rattle.pg_client.specs.declared.item.Item.{Item};
 ghost use Rattle.pg_client.specs.Turns.{InTurns, turns_of};
 ghost use Rattle.pg_client.specs.Spelled.{SendsSpelled};
-ghost use Rattle.pg_client.specs.Answering.{AllSettled, KeepsOrder, SettlesLast, TakesTurns, calls_of, turns_with};
+ghost use Rattle.pg_client.specs.Answering.{AllSettled, KeepsOrder, SettlesLast, TakesTurns};
+ghost use Rattle.pg_client.specs.Answering.{calls_of, turns_with};
 ghost use Rattle.pg_client.specs.Driving.{IsFedOn, requests_by};
 
 /// What the history of a client means, in the words of the protocol: what it settled, and what its phase says.

@@ -1,6 +1,7 @@
 //! The values of run-time parameters.
 
-ghost use Rattle.std.specs.Prelude.{◌≡◌, [], ℕ, List, bytes_eq, cond, OnErr, OnOk, option_copied, Some};
+ghost use Rattle.std.specs.Prelude.{◌≡◌, [], ℕ, List, bytes_eq, cond, OnErr, OnOk, option_copied};
+ghost use Rattle.std.specs.Prelude.{Some};
 ghost use Rattle.pg_client.specs.Client.{value_of};
 
 use pg_wire::Seq;
@@ -39,7 +40,7 @@ impl Parameters {
         self.values.get(name)
     }
 
-    /// Gives a parameter this value. Where memory is refused, all are as they were.
+    /// Gives a parameter this value. Where memory runs out, all are as they were.
     pub fn set(&mut self, name: Vec<u8>, value: Seq<u8>) -> Result<(), AllocError>
         ensures ok { OnOk result ((n : List ℕ)
             → value_of n self.new

@@ -18,7 +18,7 @@ pub enum Cause {
     StartupError,
     /// The server ended the session with an error while no request was outstanding.
     ServerEnd,
-    /// Memory was refused while bytes were taken in.
+    /// Memory ran out while bytes were taken in.
     Memory,
     /// The connection was lost.
     Lost,

@@ -8,7 +8,8 @@ ghost use Rattle.pg_wire.specs.message.First.TheVariants.{Startup};
 ghost use Rattle.pg_wire.specs.message.FrontMessage.TheVariants.{Password, Sync};
 ghost use Rattle.pg_wire.specs.declared.session.Request.TheVariants.{Group};
 ghost use Rattle.pg_client.specs.Sent.{first_fault, password_messages, startup_pairs};
-ghost use Rattle.pg_client.specs.Private.Sending.{password_text, Puts, SendsAll, SendsStart, starved_after};
+ghost use Rattle.pg_client.specs.Private.Sending.{password_text, Puts, SendsAll, SendsStart};
+ghost use Rattle.pg_client.specs.Private.Sending.{starved_after};
 
 use crate::settings::Settings;
 use pg_wire::{EncodeFault, LONGEST, Request, Seq, Step, frontend, md5_answer};
@@ -46,7 +47,7 @@ fn password_fault(password: &Option<Seq<u8>>) -> Option<EncodeFault>
     }
 }
 
-/// Puts the startup packet out, or nothing. The password is judged too, also where memory was refused for the packet.
+/// Puts the startup packet out, or nothing. The password is judged too, also where memory ran out for the packet.
 pub fn put_start(settings: &Settings, out: &mut Vec<u8>) -> Result<(), EncodeFault>
     ensures { SendsStart settings.now out.old.items result out.new.items }
 {
@@ -113,7 +114,7 @@ fn put_step(step: &Step, out: &mut Vec<u8>) -> Result<(), EncodeFault>
     }
 }
 
-// Whether memory was refused so far, after one more message was put out.
+// Whether memory ran out so far, after one more message was put out.
 fn starved_after(starved: bool, put: Result<(), EncodeFault>) -> Result<bool, EncodeFault>
     ensures { result ≡ starved_after starved put }
 {
@@ -124,7 +125,7 @@ fn starved_after(starved: bool, put: Result<(), EncodeFault>) -> Result<bool, En
     }
 }
 
-// Puts the steps and a Sync out, as far as may be. All are judged, also after one that memory was refused for.
+// Puts the steps and a Sync out, as far as may be. All are judged, also after one that memory ran out for.
 fn put_steps(steps: &[Step], out: &mut Vec<u8>) -> Result<(), EncodeFault>
     ensures { Puts (map step_message steps.now ++ Sync ∷ []) out.old.items result out.new.items }
 {

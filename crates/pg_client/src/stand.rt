@@ -3,13 +3,16 @@
 ghost use Rattle.std.specs.Prelude.{◌≡◌, ◌++◌, ◌∷◌, [], ℤ, false, IfOk, IsTrue, OnErr, OnOk, Some};
 ghost use Rattle.pg_wire.specs.Segment.{aside_of};
 ghost use Rattle.pg_wire.specs.message.BackMessage.{BackMessage};
-ghost use Rattle.pg_wire.specs.message.BackMessage.TheVariants.{DataRow, ErrorResponse, KeyData, ParameterStatus};
+ghost use Rattle.pg_wire.specs.message.BackMessage.TheVariants.{DataRow, ErrorResponse, KeyData};
+ghost use Rattle.pg_wire.specs.message.BackMessage.TheVariants.{ParameterStatus};
 ghost use Rattle.pg_wire.specs.declared.session.Aside.TheVariants as aside;
 ghost use Rattle.pg_client.specs.Client.{has_failed, stand_phase, unsettled_of};
 ghost use Rattle.pg_client.specs.Stand.{hear, Rejected, Leads};
 ghost use Rattle.pg_client.specs.Private.Calling.{with_answer, with_request};
 ghost use Rattle.pg_segment.specs.Kind.{auth_message, IsResult};
-ghost use Rattle.pg_client.specs.Private.Hearing.{HearsReady, fault_at, HearsAs, HearsAuth, HearsParameter, IsSentFor, may_end_at, tag_of_aside};
+ghost use Rattle.pg_client.specs.Private.Hearing.{HearsReady, fault_at, HearsAs, HearsAuth};
+ghost use Rattle.pg_client.specs.Private.Hearing.{HearsParameter, IsSentFor, may_end_at};
+ghost use Rattle.pg_client.specs.Private.Hearing.{tag_of_aside};
 ghost use Rattle.pg_client.specs.declared.fault.FeedFault.TheVariants as feeding;
 
 use crate::fault::FeedFault;

@@ -1,12 +1,34 @@
-//! Rows of PostgreSQL's COPY files, text and binary (PostgreSQL documentation, page COPY, "File Formats").
+//! The files of PostgreSQL's COPY, text and binary: readers that take a file in any pieces and give its rows, and writers of rows
+//! (PostgreSQL documentation, page COPY, "File Formats").
 //!
-//! A reader takes a file in any pieces and gives exactly its rows ([`TextReader`], [`BinaryReader`]). A writer appends the one
-//! form in which a row is written ([`write_text_row`], [`write_binary_row`] between [`write_binary_head`] and
-//! [`write_binary_trailer`]). Values that don't stand in a row are written one by one
-//! ([`TextRowWriter`], and [`write_binary_count`] with [`write_binary_field`]). The functions of [`laws`] say what reading and writing have in common.
+//! - **Readers.** [`TextReader`] and [`BinaryReader`]: `push` appends bytes, `next` returns the next row that is whole, and `finish`
+//!   those that are left at the end of the input. `next_lent` copies nothing: `held` lends the row until the next call. A fault stands
+//!   in the place of its row, after all rows before it; `rows_given` and `offset` say where.
+//! - **Writers.** [`write_text_row`] and [`write_text_row_with`] append the canonical line of a row; [`write_binary_row`], between
+//!   [`write_binary_head`] and [`write_binary_trailer`], a row of a binary file. Values that don't stand in a [`Row`] are written one by
+//!   one: [`TextRowWriter`], and [`write_binary_count`] with [`write_binary_field`].
+//! - **Options.** [`TextOptions`]: the delimiter and the null mark of a text file.
 //!
-//! Each format stands in a crate of its own, `pg_copy_text` and `pg_copy_binary`, and what they have in common in `pg_copy_rows`. All that a
-//! user needs of these is passed on here.
+//! Types aren't known here: a value is its bytes, or null.
+//!
+//! # States of a reader
+//!
+//!     Reading --- next: a row, or None where no whole row waits -----> Reading
+//!     Reading --- next: T1 to T5, B1 to B7 --------------------------> Failed: each later call returns this fault again
+//!     Reading --- next: memory ran out ------------------------------> Reading, unchanged: the call may be made again
+//!     Reading --- the end mark `\.`, or the trailer -----------------> Done: no row comes any more
+//!     Reading, Done --- finish, until it returns None ---------------> Ended: the input has ended
+//!
+//! # What is proved
+//!
+//! A file has one split into lines and fields, and a field has one value (`one_split`, `one_value`); a binary file has one reading
+//! (`one_file`). A reader gives exactly the rows of its file, however the file is cut. What a writer writes is read as the same rows
+//! (`text_round_trip`, `binary_round_trip`). These are the functions of [`laws`].
+//!
+//! # Files
+//!
+//! This crate has nothing of its own. It passes on what users need of three: `pg_copy_rows` (rows, why one is refused, what a reader
+//! keeps), `pg_copy_text` and `pg_copy_binary` (each format).
 #![tactic(auto)]
 
 pub mod laws;

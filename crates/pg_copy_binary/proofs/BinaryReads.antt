@@ -199,7 +199,7 @@ body-step columns limit bytes =
     let lt = shorter (row_at columns limit bytes) bytes x (row_takes columns limit bytes) e in
     rows-enough (length bytes) (suc (length x.1)) columns limit x.1 lt (omega arith))
 
--- ---- want of memory is no fault of a file
+-- ---- running out of memory is no fault of a file
 
 abbrev pub NoMemory : {A : Type 0} → Result A NoPart → Type 0
 NoMemory (Ok x) = Unit {0}

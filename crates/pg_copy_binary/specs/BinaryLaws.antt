@@ -38,7 +38,7 @@ pub record BinaryRoundTrip : Type 0 where
       → binary.binary_file_reading columns limit (h ++ flat_map binary_row rows ++ trailer)
       ≡ record { rows = rows; ending = Done }
 
--- These fields were written to a buffer one after the other, and each call answered Ok.
+-- These fields were written to a buffer one after the other, and each call returned Ok.
 abbrev pub WritesFields : Row → List ℕ → List ℕ → Type 0
 WritesFields [] old new = new ≡ old
 WritesFields (field ∷ fields) old new = (mid : List ℕ)

@@ -6,9 +6,13 @@ ghost use Rattle.pg_copy_rows.specs.declared.fault.BinaryFault.TheVariants.{Fiel
 ghost use Rattle.pg_copy_binary.specs.declared.binary_part.NoPart.TheVariants.{Faulty};
 ghost use Rattle.std.specs.Option.{option_copied};
 ghost use Rattle.pg_copy_binary.specs.declared.binary_part.NoRow.TheVariants.{Memory};
-ghost use Rattle.pg_copy_binary.specs.BinaryPart.{Incomplete, number_at, bytes_at, signature_at, flags_at, extension_at, fixed_at, head_at, value_at, values_at};
+ghost use Rattle.pg_copy_binary.specs.BinaryPart.{Incomplete, number_at, bytes_at, signature_at};
+ghost use Rattle.pg_copy_binary.specs.BinaryPart.{flags_at, extension_at, fixed_at, head_at};
+ghost use Rattle.pg_copy_binary.specs.BinaryPart.{value_at, values_at};
 ghost use Rattle.pg_copy_rows.specs.Row.{Row};
-ghost use Rattle.pg_copy_binary.specs.Private.BinaryPart.{ReadsPart, IsRowWalked, FindsRow, IsAfterHead, StartsRow, IsLooked, FindsPart, extension_left};
+ghost use Rattle.pg_copy_binary.specs.Private.BinaryPart.{ReadsPart, IsRowWalked, FindsRow};
+ghost use Rattle.pg_copy_binary.specs.Private.BinaryPart.{IsAfterHead, StartsRow, IsLooked};
+ghost use Rattle.pg_copy_binary.specs.Private.BinaryPart.{FindsPart, extension_left};
 
 use crate::format::{LONGEST_VALUE, NULL, SIGNATURE, TRAILER};
 use pg_copy_rows::BinaryFault;
@@ -97,7 +101,7 @@ fn extension_at(bytes: &[u8]) -> Result<(u32, &[u8]), NoPart>
     Ok((len, rest))
 }
 
-/// What every head begins with: the signature, the flags, and the length of the extension, which is given.
+// What every head begins with: the signature, the flags, and the length of the extension, which is given.
 #[tactic(auto, unfolding(crate::specs::BinaryPart::fixed_at))]
 fn fixed_at(bytes: &[u8]) -> Result<(u32, &[u8]), NoPart>
     ensures { ReadsPart (λ x. (x.0, x.1.now)) result (fixed_at bytes.now) }
@@ -204,7 +208,7 @@ pub fn find_row(
     find_values(columns, limit, bytes, walk)
 }
 
-/// Walks on over the values of a row whose number of values was read.
+// Walks on over the values of a row whose number of values was read.
 fn find_values(
     columns: u16,
     limit: u32,
@@ -264,7 +268,7 @@ pub struct Place {
     pub end: usize,
 }
 
-/// Where the row begins in the bytes: after the head, where it is still to be read.
+// Where the row begins in the bytes: after the head, where it is still to be read.
 fn row_start(in_head: bool, bytes: &[u8], start: usize) -> Result<usize, NoPart>
     requires found { (in_head ≡ false) ⊎ (0 < start)
         → IsAfterHead in_head bytes.now (drop start bytes.now) }

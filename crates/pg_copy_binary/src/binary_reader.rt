@@ -1,15 +1,25 @@
 //! Reading a binary file that comes in pieces.
 
-ghost use Rattle.std.specs.Prelude.{◌≡◌, ◌+◌, ◌++◌, ◌≤◌, ◌<◌, ◌↔◌, ◌⊎◌, ℕ, List, length, None, Ok, Err, [], true, false, IsTrue, IfOk, OnOk};
+ghost use Rattle.std.specs.Prelude.{◌≡◌, ◌+◌, ◌++◌, ◌≤◌, ◌<◌, ◌↔◌, ◌⊎◌, ℕ, List, length, None, Ok};
+ghost use Rattle.std.specs.Prelude.{Err, [], true, false, IsTrue, IfOk, OnOk};
 ghost use Rattle.pg_copy_rows.specs.declared.fault.BinaryFault.{BinaryFault};
 ghost use Rattle.pg_copy_rows.specs.declared.fault.BinaryFault.TheVariants.{Memory};
-ghost use Rattle.pg_copy_binary.specs.declared.binary_reader.BinaryStage.TheVariants.{Head, Extension, Rows, Closed, Failed};
+ghost use Rattle.pg_copy_binary.specs.declared.binary_reader.BinaryStage.TheVariants.{Head};
+ghost use Rattle.pg_copy_binary.specs.declared.binary_reader.BinaryStage.TheVariants.{Extension};
+ghost use Rattle.pg_copy_binary.specs.declared.binary_reader.BinaryStage.TheVariants.{Rows, Closed};
+ghost use Rattle.pg_copy_binary.specs.declared.binary_reader.BinaryStage.TheVariants.{Failed};
 ghost use Rattle.pg_copy_rows.specs.Row.{Row};
-ghost use Rattle.pg_copy_rows.specs.Reading.{RowWaits, given_by, AnswersNext, one_more, told, given_after};
-ghost use Rattle.pg_copy_binary.specs.BinaryPart.{Incomplete, fixed_at, head_at, binary_reading, binary_file_reading};
-ghost use Rattle.pg_copy_binary.specs.BinaryReader.{HasReadBinary, PushesBinary, IsReading, WaitsWith, rows_begin, binary_left, binary_ending};
+ghost use Rattle.pg_copy_rows.specs.Reading.{RowWaits, given_by, AnswersNext, one_more, told};
+ghost use Rattle.pg_copy_rows.specs.Reading.{given_after};
+ghost use Rattle.pg_copy_binary.specs.BinaryPart.{Incomplete, fixed_at, head_at, binary_reading};
+ghost use Rattle.pg_copy_binary.specs.BinaryPart.{binary_file_reading};
+ghost use Rattle.pg_copy_binary.specs.BinaryReader.{HasReadBinary, PushesBinary, IsReading};
+ghost use Rattle.pg_copy_binary.specs.BinaryReader.{WaitsWith, rows_begin, binary_left};
+ghost use Rattle.pg_copy_binary.specs.BinaryReader.{binary_ending};
 ghost use Rattle.pg_copy_rows.specs.Lent.{as_next, Lends};
-ghost use Rattle.pg_copy_binary.specs.Private.BinaryPart.{IsRowAt, HasRowAt, lending, let_go, start_offset, TakesPart, FindsNext, stage_of, extension_left, in_extension};
+ghost use Rattle.pg_copy_binary.specs.Private.BinaryPart.{IsRowAt, HasRowAt, lending, let_go};
+ghost use Rattle.pg_copy_binary.specs.Private.BinaryPart.{start_offset, TakesPart, FindsNext};
+ghost use Rattle.pg_copy_binary.specs.Private.BinaryPart.{stage_of, extension_left, in_extension};
 
 use crate::binary_part::{
     Look, NoPart, NoRow, Place, RowOrTrailer, extension_left, find_part, values_of,
@@ -37,7 +47,7 @@ pub enum BinaryStage {
     Failed(BinaryFault),
 }
 
-/// Where a row begins that stands so many bytes after the first of those that are kept: only a head stands before it.
+// Where a row begins that stands so many bytes after the first of those that are kept: only a head stands before it.
 fn start_offset(offset: u64, start: usize) -> u64
     ensures { result ≡ start_offset offset start }
 {
@@ -48,7 +58,7 @@ fn start_offset(offset: u64, start: usize) -> u64
 ///
 /// `push` keeps a piece, `next` gives the rows that are whole, one by one, and `finish` those that are left at the end of the
 /// input, where the trailer must have come; no byte may stand after it. The length -1 is a null. A fault stands in the place
-/// of its row, and is answered for good from then on. The flags that a reader need not know and the header's extension are
+/// of its row, and is returned by each call from then on. The flags that a reader need not know and the header's extension are
 /// skipped. The extension's bytes are dropped as they come, so that no more is kept than a row until it is whole, and what was
 /// pushed since `next` was last called. A row is looked over once, however the pieces are cut, and its values are copied once
 /// it is whole (PostgreSQL documentation, page COPY, "Binary Format").
@@ -116,7 +126,7 @@ impl BinaryReader {
         self.stage == BinaryStage::Closed
     }
 
-    /// Whether `finish` was called, calls that answered Memory left out. No more may then be pushed, and `next` not be called.
+    /// Whether `finish` was called, calls that returned Memory left out. No more may then be pushed, and `next` not be called.
     pub fn ended(&self) -> bool
         ensures { result ≡ self.now.ended }
     {
@@ -142,8 +152,8 @@ impl BinaryReader {
 
     /// Takes the next piece of the file, all of it. What it has of the head's extension is dropped, once a call of `next` has
     /// found that only the extension is to come of the head. After the trailer nothing is kept: a byte is a fault, which the
-    /// next call answers. A fault that was found is answered again. After Memory nothing of the piece was taken and the reader
-    /// is unchanged; a piece of which nothing is to be kept wants no memory: one without bytes, one within the extension, or
+    /// next call answers. A fault that was found is returned again. After Memory nothing of the piece was taken and the reader
+    /// is unchanged; a piece of which nothing is to be kept needs no memory: one without bytes, one within the extension, or
     /// one after the trailer.
     pub fn push(&mut self, piece: &[u8]) -> Result<(), BinaryFault>
         requires { self.old.ended ≡ false }
@@ -169,8 +179,8 @@ impl BinaryReader {
     }
 
     /// The next row, or None where no whole row waits or the trailer was read. A fault is found where no more rows stand before
-    /// it, and is then answered for good. Memory is answered only where a row waits, and leaves the reader unchanged. Where it
-    /// answers None, at most 18 bytes of a head are kept, and none of its extension. Where it gives a row, fewer bytes are kept, so
+    /// it, and is then returned for good. Memory is returned only where a row waits, and leaves the reader unchanged. Where it
+    /// returns None, at most 18 bytes of a head are kept, and none of its extension. Where it gives a row, fewer bytes are kept, so
     /// that a loop over the rows comes to its end (PostgreSQL documentation, page COPY, "Binary Format").
     pub fn next(&mut self) -> Result<Option<Row>, BinaryFault>
         requires { self.old.ended ≡ false }
@@ -206,7 +216,7 @@ impl BinaryReader {
     }
 
     /// Whether a next row waits, which is then lent until the next change of the reader: [`BinaryReader::held`] gives it. It counts as
-    /// given, and the reader has its bytes until then. A fault is answered as `next` answers it, and no memory is asked for (PostgreSQL
+    /// given, and the reader has its bytes until then. A fault is returned as `next` returns it, and no memory is asked for (PostgreSQL
     /// documentation, page COPY, "Binary Format").
     pub fn next_lent(&mut self) -> Result<bool, BinaryFault>
         requires { self.old.ended ≡ false }
@@ -245,8 +255,8 @@ impl BinaryReader {
         }
     }
 
-    /// The row that the last call of `next_lent` answered true for; None where another call of `push`, `next`, `next_lent` or
-    /// `finish` came after it, but for those that answered Memory. It takes no memory.
+    /// The row that the last call of `next_lent` returned true for; None where another call of `push`, `next`, `next_lent` or
+    /// `finish` came after it, but for those that returned Memory. It takes no memory.
     pub fn held(&self) -> Option<BinaryRow<'_>>
         ensures { result ≡ self.now.held }
     {
@@ -257,7 +267,7 @@ impl BinaryReader {
     }
 
     /// Says that the input has ended, and gives the next row that is left, or None where none is and the trailer was read.
-    /// Truncated is answered where it was not. It is to be called until it answers None. Memory is answered only where a row is
+    /// Truncated is returned where it was not. It is to be called until it returns None. Memory is returned only where a row is
     /// left, and leaves the reader unchanged (PostgreSQL documentation, page COPY, "Binary Format").
     pub fn finish(&mut self) -> Result<Option<Row>, BinaryFault>
         ensures read { (pushed : List ℕ) (given : List Row) → HasReadBinary self.old pushed given
@@ -308,7 +318,7 @@ impl BinaryReader {
         }
     }
 
-    /// Drops what a piece has of the extension, and keeps what stands after it.
+    // Drops what a piece has of the extension, and keeps what stands after it.
     fn skip(&mut self, missing: u32, piece: &[u8]) -> Result<(), BinaryFault>
         requires { self.old.stage ≡ Extension missing }
         ensures { PushesBinary self.old piece.now result self.new }
@@ -327,7 +337,7 @@ impl BinaryReader {
         }
     }
 
-    /// Takes the next part of the file.
+    // Takes the next part of the file.
     fn read(&mut self) -> Result<Option<Row>, NoRow>
         requires { IsReading self.old.stage }
         ensures { TakesPart result self.old self.new }
@@ -346,7 +356,7 @@ impl BinaryReader {
         }
     }
 
-    /// Finds the next row, or takes the trailer.
+    // Finds the next row, or takes the trailer.
     fn find(&mut self) -> Result<Option<Place>, NoPart>
         requires { IsReading self.old.stage }
         ensures { FindsNext result self.old self.new }
@@ -358,8 +368,8 @@ impl BinaryReader {
         self.find_row(in_head)
     }
 
-    /// Finds a row, or takes the trailer, in front of which the head may stand. Where neither is whole, a head that is goes off
-    /// alone, so that it isn't kept until the first row has come, and so does one that lacks bytes of its extension alone.
+    // Finds a row, or takes the trailer, in front of which the head may stand. Where neither is whole, a head that is goes off
+    // alone, so that it isn't kept until the first row has come, and so does one that lacks bytes of its extension alone.
     fn find_row(&mut self, in_head: bool) -> Result<Option<Place>, NoPart>
         requires { self.old.stage ≡ stage_of in_head }
         ensures { FindsNext result self.old self.new }
@@ -396,7 +406,7 @@ impl BinaryReader {
         }
     }
 
-    /// A copy of the row that was found at this place.
+    // A copy of the row that was found at this place.
     fn copy_row(&self, place: Place) -> Result<Row, AllocError>
         requires { HasRowAt self.now place }
         ensures { IfOk result (λ row. IsRowAt self.now place row) }
@@ -406,7 +416,7 @@ impl BinaryReader {
         Ok(Seq::new(values))
     }
 
-    /// Takes the row that was found at this place, and lends it.
+    // Takes the row that was found at this place, and lends it.
     fn hold(&mut self, place: Place)
         requires { HasRowAt self.old place }
         ensures { (row : Row) → IsRowAt self.old place row
@@ -420,14 +430,14 @@ impl BinaryReader {
         self.given = one_more(self.given);
     }
 
-    /// Lends no row any more.
+    // Lends no row any more.
     fn let_go(&mut self)
         ensures { self.new ≡ let_go self.old }
     {
         self.buffer.take(0);
     }
 
-    /// Takes a head off that lacks bytes of its extension alone.
+    // Takes a head off that lacks bytes of its extension alone.
     fn enter_extension(&mut self)
         requires stage { self.old.stage ≡ Head }
         requires open { head_at self.old.kept ≡ Err Incomplete }
@@ -443,7 +453,7 @@ impl BinaryReader {
         }
     }
 
-    /// The trailer was read, and nothing stands after it.
+    // The trailer was read, and nothing stands after it.
     fn close(&mut self)
         ensures { self.new ≡ record self.old { kept = []; stage = Closed; held = None } }
     {
@@ -452,7 +462,7 @@ impl BinaryReader {
         self.stage = BinaryStage::Closed;
     }
 
-    /// Reads no more.
+    // Reads no more.
     fn stop(&mut self, fault: BinaryFault)
         requires { fault ≡ Memory → ⊥ }
         ensures { self.new ≡ record self.old { kept = []; stage = Failed fault; held = None } }
@@ -462,7 +472,7 @@ impl BinaryReader {
         self.stage = BinaryStage::Failed(fault);
     }
 
-    /// The input has ended.
+    // The input has ended.
     fn end(&mut self)
         ensures { self.new ≡ record self.old { ended = true } }
     {

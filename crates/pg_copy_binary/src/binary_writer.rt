@@ -1,6 +1,7 @@
 //! The parts of a binary file, written.
 
-ghost use Rattle.std.specs.Prelude.{◌≡◌, ◌++◌, ◌≤◌, ◌<◌, None, false, length, option_copied, take, OnOk, OnErr};
+ghost use Rattle.std.specs.Prelude.{◌≡◌, ◌++◌, ◌≤◌, ◌<◌, None, false, length, option_copied, take};
+ghost use Rattle.std.specs.Prelude.{OnOk, OnErr};
 ghost use Rattle.std.specs.Int.{w16, to_be_bytes};
 ghost use Rattle.std.specs.List.{list_any};
 ghost use Rattle.pg_copy_rows.specs.Row.{is_long, width_fault, field_fault, binary_fault, Writes};
@@ -13,7 +14,7 @@ use pg_seq::Seq;
 use std::alloc::AllocError;
 
 /// Appends the head of a file, with no flags and an empty extension (PostgreSQL documentation, page COPY, "Binary Format").
-/// Memory is answered where the buffer could not grow, and leaves `buf` as it was.
+/// Memory is returned where the buffer could not grow, and leaves `buf` as it was.
 pub fn write_binary_head(buf: &mut Vec<u8>) -> Result<(), RowFault>
     ensures { Writes None written_head buf.old.items result buf.new.items }
 {
@@ -27,7 +28,7 @@ pub fn write_binary_head(buf: &mut Vec<u8>) -> Result<(), RowFault>
     }
 }
 
-/// The signature, no flags, and the length of an empty extension.
+// The signature, no flags, and the length of an empty extension.
 fn put_head(buf: &mut Vec<u8>) -> Result<(), AllocError>
     ensures ok { OnOk result (buf.new.items ≡ buf.old.items ++ written_head) }
     ensures err { OnErr result (take (length buf.old.items) buf.new.items ≡ buf.old.items) }
@@ -36,7 +37,7 @@ fn put_head(buf: &mut Vec<u8>) -> Result<(), AllocError>
     buf.extend_from_slice(&[0; 8])
 }
 
-/// Appends the trailer, after which nothing stands (PostgreSQL documentation, page COPY, "Binary Format"). Memory is answered
+/// Appends the trailer, after which nothing stands (PostgreSQL documentation, page COPY, "Binary Format"). Memory is returned
 /// where the buffer could not grow, and leaves `buf` as it was.
 pub fn write_binary_trailer(buf: &mut Vec<u8>) -> Result<(), RowFault>
     ensures { Writes None trailer buf.old.items result buf.new.items }
@@ -53,7 +54,7 @@ fn append(bytes: &[u8], buf: &mut Vec<u8>) -> Result<(), RowFault>
     }
 }
 
-/// Why a row can't have so many fields.
+// Why a row can't have so many fields.
 fn width_fault(count: usize) -> Option<RowFault>
     ensures { result ≡ width_fault count }
 {
@@ -72,7 +73,7 @@ fn is_long(field: Option<&[u8]>) -> bool
     }
 }
 
-/// Why a field can't be written.
+// Why a field can't be written.
 fn field_fault(field: Option<&[u8]>) -> Option<RowFault>
     ensures { result ≡ field_fault (option_copied field.entry) }
 {
@@ -88,7 +89,7 @@ fn has_long(fields: &[Option<Seq<u8>>]) -> bool
     fields.iter().any(|field| is_long(lent(field)))
 }
 
-/// Why a row can't be written.
+// Why a row can't be written.
 fn row_fault(fields: &[Option<Seq<u8>>]) -> Option<RowFault>
     ensures { result ≡ binary_fault fields.now }
 {
@@ -138,7 +139,7 @@ fn put_values(fields: &[Option<Seq<u8>>], buf: &mut Vec<u8>) -> Result<(), Alloc
 }
 
 /// Appends the number of a row's values, which stands in front of them. A caller whose values don't stand in a `Row` writes a row
-/// by it, and each value by [`write_binary_field`] (PostgreSQL documentation, page COPY, "Binary Format"). Width is answered where
+/// by it, and each value by [`write_binary_field`] (PostgreSQL documentation, page COPY, "Binary Format"). Width is returned where
 /// there is no value or there are more than 32,767, and Memory where there are so many and the buffer could not grow. A refusal
 /// leaves `buf` as it was.
 pub fn write_binary_count(count: usize, buf: &mut Vec<u8>) -> Result<(), RowFault>
@@ -155,7 +156,7 @@ pub fn write_binary_count(count: usize, buf: &mut Vec<u8>) -> Result<(), RowFaul
 }
 
 /// Appends one value after its length, which is -1 for a null, as a row has it after the number of its values (PostgreSQL
-/// documentation, page COPY, "Binary Format"). FieldLong is answered where it has more than 2,147,483,647 bytes, and Memory where
+/// documentation, page COPY, "Binary Format"). FieldLong is returned where it has more than 2,147,483,647 bytes, and Memory where
 /// it has no more and the buffer could not grow. A refusal leaves `buf` as it was.
 pub fn write_binary_field(field: Option<&[u8]>, buf: &mut Vec<u8>) -> Result<(), RowFault>
     ensures { Writes (field_fault (option_copied field.entry))
@@ -175,7 +176,7 @@ pub fn write_binary_field(field: Option<&[u8]>, buf: &mut Vec<u8>) -> Result<(),
 }
 
 /// Appends the row: the number of its values, and each value after its length, which is -1 for a null (PostgreSQL
-/// documentation, page COPY, "Binary Format"). Width is answered where the row has no field or more than 32,767, then FieldLong
+/// documentation, page COPY, "Binary Format"). Width is returned where the row has no field or more than 32,767, then FieldLong
 /// where a value has more than 2,147,483,647 bytes, and Memory where it has neither fault and the buffer could not grow. A
 /// refusal leaves `buf` as it was.
 pub fn write_binary_row(row: &Row, buf: &mut Vec<u8>) -> Result<(), RowFault>

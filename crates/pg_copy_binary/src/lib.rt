@@ -1,6 +1,19 @@
 //! Rows of COPY files in binary (PostgreSQL documentation, page COPY, "Binary Format").
 //!
 //! It is a layer of `pg_copy`. Users name `pg_copy`, which passes on what they need of it.
+//!
+//! # Files
+//!
+//! | File | Definitions in `specs/` | What it has |
+//! |---|---|---|
+//! | `format.rt`, `binary_writer.rt` | `Binary` | the parts of a binary file; a file as head, rows and rest |
+//! | `binary_part.rt` | `BinaryPart` | a binary file read from left to right |
+//! | `binary_reader.rt`, `binary_row.rt` | `BinaryReader` | what the calls of a reader do, and the row that it lends |
+//! | `laws.rt` | `BinaryLaws` | a binary file has one reading, and what was written is read as what was meant |
+//!
+//! **A reader** looks over a row's lengths without copying, and goes on where it stopped. When the row is whole it copies its values,
+//! once each, for `next`, or lends them from the front of the buffer for `next_lent`. A head that is whole is taken off when no row follows
+//! it yet, and an extension of a head is dropped as it comes.
 #![tactic(auto)]
 
 mod binary_part;

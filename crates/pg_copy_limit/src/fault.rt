@@ -3,7 +3,7 @@
 use pg_copy::TextFault;
 use thiserror::Error;
 
-/// What stands in the place of a row. After any of them but `Text(Memory)` the reader answers it for good; after that it is
+/// What stands in the place of a row. After any of them but `Text(Memory)` the reader returns it for good; after that it is
 /// unchanged (PostgreSQL documentation, page COPY, "Text Format").
 #[derive(Clone, Copy, Debug, Drop, PartialEq, Eq, Error)]
 pub enum LimitedTextFault {

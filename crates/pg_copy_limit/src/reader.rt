@@ -1,13 +1,15 @@
 //! Reading a text file that comes in pieces, with a limit for its lines.
 
-ghost use Rattle.std.specs.Prelude.{◌≡◌, ◌≤◌, ◌<◌, ◌++◌, ◌⊎◌, ℕ, List, None, Some, Ok, Err, [], false, true, length, IfSome, OnOk};
+ghost use Rattle.std.specs.Prelude.{◌≡◌, ◌≤◌, ◌<◌, ◌++◌, ◌⊎◌, ℕ, List, None, Some, Ok, Err, []};
+ghost use Rattle.std.specs.Prelude.{false, true, length, IfSome, OnOk};
 ghost use Rattle.pg_copy.specs.fault.TextFault.TheVariants.{Memory};
 ghost use Rattle.pg_copy.specs.Reading.{AnswersNext, RowWaits, given_by};
 ghost use Rattle.pg_copy.specs.Row.{Row};
 ghost use Rattle.pg_copy.specs.Text.{text_reading, text_file_reading};
 ghost use Rattle.pg_copy.specs.TextReader.{text_ending, last_text_ending, text_left, text_last};
 ghost use Rattle.pg_copy_limit.specs.declared.fault.LimitedTextFault.TheVariants.{Text, LongLine};
-ghost use Rattle.pg_copy_limit.specs.Limited.{HasReadLimited, JudgesLine, PushesLimited, as_text, begun};
+ghost use Rattle.pg_copy_limit.specs.Limited.{HasReadLimited, JudgesLine, PushesLimited, as_text};
+ghost use Rattle.pg_copy_limit.specs.Limited.{begun};
 ghost use Rattle.pg_copy_limit.specs.Private.Judging.{is_long, judged, after_judging, limited};
 
 use crate::fault::LimitedTextFault;
@@ -18,8 +20,8 @@ use std::marker::Model;
 
 /// Takes a text file in any pieces, and gives its rows as a [`TextReader`] does, but refuses a line that is too long to be kept.
 ///
-/// Where no whole line waits, and more bytes of the next are there than the limit, `next` answers `LongLine` in the place of its
-/// row. So no more is kept than the limit and the piece that was pushed last, where `next` is called until it answers None before
+/// Where no whole line waits, and more bytes of the next are there than the limit, `next` returns `LongLine` in the place of its
+/// row. So no more is kept than the limit and the piece that was pushed last, where `next` is called until it returns None before
 /// another piece is pushed. A line that came whole is given, however long it is. Bytes are counted up to `u64::MAX`; once so many
 /// were pushed no line is refused any more (PostgreSQL documentation, page COPY, "Text Format").
 #[derive(Drop)]
@@ -69,7 +71,7 @@ impl LimitedTextReader {
         &self.reader
     }
 
-    /// Takes the next piece of the file, all of it, and drops it after the end mark. A fault that was found is answered again.
+    /// Takes the next piece of the file, all of it, and drops it after the end mark. A fault that was found is returned again.
     /// After Memory nothing of the piece was taken and the reader is unchanged.
     pub fn push(&mut self, piece: &[u8]) -> Result<(), LimitedTextFault>
         requires { self.old.reader.ended ≡ false }
@@ -91,8 +93,8 @@ impl LimitedTextReader {
         }
     }
 
-    /// The next row, or None where no whole line waits or the end mark was read. A fault is answered once all rows before it were
-    /// given, and then for good: LongLine where no whole line waits, and more bytes are kept than the limit. Memory is answered only
+    /// The next row, or None where no whole line waits or the end mark was read. A fault is returned once all rows before it were
+    /// given, and then for good: LongLine where no whole line waits, and more bytes are kept than the limit. Memory is returned only
     /// where a row waits, and leaves the reader unchanged (PostgreSQL documentation, page COPY, "Text Format").
     pub fn next(&mut self) -> Result<Option<Row>, LimitedTextFault>
         requires { self.old.reader.ended ≡ false }
@@ -124,7 +126,7 @@ impl LimitedTextReader {
     }
 
     /// Says that the input has ended, and gives the next row that is left, or None where none is: the last line is then whole, and
-    /// no longer refused for its length. It is to be called until it answers None. A fault that was found is answered again. Memory
+    /// no longer refused for its length. It is to be called until it returns None. A fault that was found is returned again. Memory
     /// is answered only where a row is left, and leaves the reader unchanged (PostgreSQL documentation, page COPY, "Text Format").
     pub fn finish(&mut self) -> Result<Option<Row>, LimitedTextFault>
         ensures read { (pushed : List ℕ) (given : List Row) → HasReadLimited self.old pushed given
@@ -154,14 +156,14 @@ impl LimitedTextReader {
         limited(found)
     }
 
-    /// Whether more bytes were pushed than the limit that stand after the rows that were given, and after no end mark.
+    // Whether more bytes were pushed than the limit that stand after the rows that were given, and after no end mark.
     fn is_long(&self) -> bool
         ensures { result ≡ is_long self.now }
     {
         !self.reader.done() && self.pushed.saturating_sub(self.reader.offset()) > self.limit as u64
     }
 
-    /// What is answered where the reader without the limit answered this. Where it found no row, the next line is judged.
+    // What is answered where the reader without the limit answered this. Where it found no row, the next line is judged.
     fn judge(
         &mut self,
         found: Result<Option<Row>, TextFault>,
@@ -183,7 +185,7 @@ impl LimitedTextReader {
     }
 }
 
-/// What is answered where the reader without the limit answered this, and no line is too long.
+// What is answered where the reader without the limit answered this, and no line is too long.
 fn limited(found: Result<Option<Row>, TextFault>) -> Result<Option<Row>, LimitedTextFault>
     ensures { result ≡ limited found }
 {

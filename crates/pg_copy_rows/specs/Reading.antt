@@ -37,7 +37,7 @@ IsGood ending = Unit {0}
 
 -- What `next` answers for this file, where the rows `given` were given before and the reader then
 -- stands at `ending`: None only where the file has no more rows, a fault only where it stands after
--- them, or want of memory (`memory`).
+-- them, or that memory ran out (`memory`).
 abbrev pub AnswersNext : {F : Type 0} → F → RowsRead F → List Row → RowsEnding F
     → Result (Option Row) F
     → Type 0

@@ -10,13 +10,13 @@ use std::alloc::AllocError;
 use thiserror::Error;
 
 /// What stands in the place of a row of a text file: the first of these that holds. After any of them but Memory the reader
-/// answers it for good; after Memory it is unchanged (PostgreSQL documentation, page COPY, "Text Format").
+/// returns it for good; after Memory it is unchanged (PostgreSQL documentation, page COPY, "Text Format").
 #[derive(Clone, Copy, Debug, Drop, PartialEq, Eq, Error)]
 pub enum TextFault {
     /// The line has a carriage return that isn't escaped, in a file whose lines don't end by it alone.
     #[error("T1 RawReturn")]
     RawReturn,
-    /// The input ends in a backslash that begins an escape. Only `finish` answers it.
+    /// The input ends in a backslash that begins an escape. Only `finish` returns it.
     #[error("T2 LoneBackslash")]
     LoneBackslash,
     /// The line has this many fields, which isn't the number of columns, or is above 32,767 where none was given.
@@ -25,7 +25,7 @@ pub enum TextFault {
     /// The line has a newline that isn't escaped, in a file whose lines don't end by it alone.
     #[error("T5 RawNewline")]
     RawNewline,
-    /// Memory was refused.
+    /// Memory ran out.
     #[error("T4 Memory")]
     Memory,
 }
@@ -49,7 +49,7 @@ pub enum OptionFault {
     /// lone backslash.
     #[error("O2 NullMark")]
     NullMark,
-    /// Memory was refused.
+    /// Memory ran out.
     #[error("O3 Memory")]
     Memory,
 }
@@ -63,7 +63,7 @@ impl From<AllocError> for OptionFault {
 }
 
 /// What stands in the place of a part of a binary file: the first of these that holds. After any of them but Memory the
-/// reader answers it for good; after Memory it is unchanged (PostgreSQL documentation, page COPY, "Binary Format").
+/// reader returns it for good; after Memory it is unchanged (PostgreSQL documentation, page COPY, "Binary Format").
 #[derive(Clone, Copy, Debug, Drop, PartialEq, Eq, Error)]
 pub enum BinaryFault {
     /// The first eleven bytes of the file aren't the signature.
@@ -81,13 +81,13 @@ pub enum BinaryFault {
     /// The length of a field, this number, is below -1 or above the reader's limit.
     #[error("B5 FieldLength {0}")]
     FieldLength(i32),
-    /// The input ends before the trailer. Only `finish` answers it.
+    /// The input ends before the trailer. Only `finish` returns it.
     #[error("B6 Truncated")]
     Truncated,
     /// A byte stands after the trailer.
     #[error("B7 AfterTrailer")]
     AfterTrailer,
-    /// Memory was refused.
+    /// Memory ran out.
     #[error("B8 Memory")]
     Memory,
 }

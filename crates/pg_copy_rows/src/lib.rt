@@ -2,6 +2,11 @@
 //! that it tells (PostgreSQL documentation, page COPY, "File Formats").
 //!
 //! It is the lowest layer of `pg_copy`. Users name `pg_copy`, which passes on what they need of it.
+//!
+//! | File | Definitions in `specs/` | What it has |
+//! |---|---|---|
+//! | `fault.rt`, `format.rt` | `Row` | rows, and why one can't be written |
+//! | `counts.rt`, `row_buffer.rt` | `Reading`, `Lent` | rows and what comes after them; what a call may return that looks for the next row, or lends it; the numbers that a reader tells |
 #![tactic(auto)]
 
 pub mod counts;

@@ -1,6 +1,7 @@
 //! The bytes that a reader of rows keeps, in front of which a row may still stand that was given.
 
-ghost use Rattle.std.specs.Prelude.{◌≡◌, ◌≤◌, ◌++◌, [], None, Some, length, drop, option_copied, OnOk, OnErr, IsOk};
+ghost use Rattle.std.specs.Prelude.{◌≡◌, ◌≤◌, ◌++◌, [], None, Some, length, drop, option_copied};
+ghost use Rattle.std.specs.Prelude.{OnOk, OnErr, IsOk};
 ghost use Rattle.pg_copy_rows.specs.Private.RowBuffer.{held_len};
 
 use pg_seq::Buffer;
@@ -22,7 +23,10 @@ impl Model for RowBuffer {
 
     ghost Value = { RowBytes };
 
-    ghost view = { λ b. record { front = front_of b.held b.bytes; kept = drop (held_len b.held) b.bytes } };
+    ghost view = { λ b. record {
+      front = front_of b.held b.bytes;
+      kept = drop (held_len b.held) b.bytes;
+    } };
 
     ghost invariant = { λ b. held_len b.held ≤ length b.bytes };
 }
@@ -65,7 +69,7 @@ impl RowBuffer {
         kept
     }
 
-    /// Adds a piece, which is all taken or, where memory is refused, not at all. A piece without bytes wants no memory.
+    /// Adds a piece, which is all taken or, where memory runs out, not at all. A piece without bytes needs no memory.
     pub fn push(&mut self, piece: &[u8]) -> Result<(), AllocError>
         ensures ok { OnOk result (self.new
             ≡ record { front = None; kept = self.old.kept ++ piece.now }) }

@@ -113,7 +113,7 @@ held-finish old mid new (Err fault) (inl t) e = inl (ap (λ (f : TextFault). Err
 held-finish old mid new (Err fault) (inr t) (inl e) = inr (ap (λ (s : TextState). s.held) e.1 ∙ ap (λ (s : TextState). s.held) t.2)
 held-finish old mid new (Err fault) (inr t) (inr e) = inr (ap (λ (s : TextState). s.held) e.1 ∙ ap (λ (s : TextState). s.held) t.2)
 
--- ---- memory was refused
+-- ---- memory ran out
 
 pub waits-lent : (old new : TextState) (e : LineEnd) (len taken : ℕ) (answer : Result Bool TextFault) → old.stage ≡ Lines → IsFirstLine old.line_end old.kept e len taken → LendsLine len taken (Some e) (let_go old) answer new → answer ≡ Err Memory → (new ≡ let_go old) × RowWaits (text_left old [])
 waits-lent old new e len taken (Ok lent) among at t is = absurd cc

@@ -60,7 +60,7 @@ pub record TextRoundTrip : Type 0 where
   pub by_default : (v : Option (List ℕ)) → is_like_null default_options v ≡ false
 
 -- These fields were written to a buffer one after the other, with these options and after n fields
--- of their row, and each call answered Ok.
+-- of their row, and each call returned Ok.
 abbrev pub WritesTextFields : Options → ℕ → Row → List ℕ → List ℕ → Type 0
 WritesTextFields o n [] old new = new ≡ old
 WritesTextFields o n (field ∷ fields) old new = (mid : List ℕ)

@@ -44,7 +44,8 @@ abbrev pub text_stage_reading : TextStage → Options → Option ℕ → Option 
     → RowsRead TextFault
 text_stage_reading stages.Lines o columns before bytes = reading_after o columns before bytes
 text_stage_reading stages.Marked o columns before bytes = record { rows = []; ending = Done }
-text_stage_reading (stages.Failed fault) o columns before bytes = record { rows = []; ending = Bad fault }
+text_stage_reading (stages.Failed fault) o columns before bytes =
+    record { rows = []; ending = Bad fault }
 
 -- what the reader still gives, if these bytes are pushed next
 abbrev pub text_left : TextState → List ℕ → RowsRead TextFault
@@ -106,7 +107,7 @@ abbrev pub kept_after : TextState → List ℕ → TextState
 kept_after s piece = kept_at s.stage s piece
 
 -- A push takes the whole piece, or refuses it and changes nothing: by the fault that was found
--- before, or for want of memory, but never a piece without bytes or after the end mark.
+-- before, or because memory ran out, but never a piece without bytes or after the end mark.
 abbrev pub PushesText : TextState → List ℕ → Result Unit TextFault → TextState → Type 0
 PushesText old piece (Ok x) new = ((f : TextFault) → old.stage ≡ stages.Failed f → ⊥)
     × (new ≡ kept_after old piece)

@@ -43,7 +43,7 @@ pub fn is_break(byte: u8) -> bool
     byte == b'\n' || byte == b'\r'
 }
 
-/// What a newline is, where lines before it ended so.
+// What a newline is, where lines before it ended so.
 fn at_newline(before: Option<LineEnd>) -> LineBreak
     ensures { result ≡ at_newline before }
 {
@@ -53,7 +53,7 @@ fn at_newline(before: Option<LineEnd>) -> LineBreak
     }
 }
 
-/// What a return is with these bytes after it, where lines before it ended so.
+// What a return is with these bytes after it, where lines before it ended so.
 fn at_return(before: Option<LineEnd>, after: &[u8]) -> LineBreak
     ensures { result ≡ at_return before after.now }
 {

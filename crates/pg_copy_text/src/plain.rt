@@ -22,7 +22,7 @@ pub fn is_plain(byte: u8, delimiter: u8) -> bool
     byte > b'\r' && byte != b'\\' && byte != delimiter
 }
 
-/// The bytes of a block that are at most so great: a bit for each, the lowest for the first.
+// The bytes of a block that are at most so great: a bit for each, the lowest for the first.
 #[inline(always)]
 fn bits_up_to(block: u8x16, most: u8) -> u64
     ensures { (k : ℕ) → k < 16 → bit_at result k ≡ 0 → most < slice_index block k }
@@ -30,7 +30,7 @@ fn bits_up_to(block: u8x16, most: u8) -> u64
     block.simd_le(u8x16::splat(most)).to_bitmask()
 }
 
-/// Those that are this byte.
+// Those that are this byte.
 #[inline(always)]
 fn bits_of(block: u8x16, byte: u8) -> u64
     ensures { (k : ℕ) → k < 16 → bit_at result k ≡ 0 → slice_index block k ≢ byte }
@@ -38,7 +38,7 @@ fn bits_of(block: u8x16, byte: u8) -> u64
     block.simd_eq(u8x16::splat(byte)).to_bitmask()
 }
 
-/// Those that may not be plain.
+// Those that may not be plain.
 #[inline(always)]
 fn special_bits(block: u8x16, delimiter: u8) -> u64
     ensures { (k : ℕ) → k < 16 → bit_at result k ≡ 0 → IsPlain delimiter (slice_index block k) }
@@ -46,7 +46,7 @@ fn special_bits(block: u8x16, delimiter: u8) -> u64
     bits_up_to(block, b'\r') | bits_of(block, b'\\') | bits_of(block, delimiter)
 }
 
-/// The place of the lowest bit, or the place after those of the block, which this mark has.
+// The place of the lowest bit, or the place after those of the block, which this mark has.
 #[inline(always)]
 fn lowest(bits: u64, mark: u64, end: usize) -> usize
     requires { bit_at mark end ≡ 1 }
@@ -56,7 +56,7 @@ fn lowest(bits: u64, mark: u64, end: usize) -> usize
     (bits | mark).trailing_zeros() as usize
 }
 
-/// How many bytes of a block are plain, up to the first that may not be.
+// How many bytes of a block are plain, up to the first that may not be.
 fn plain_in_block(bytes: &[u8], from: usize, delimiter: u8) -> usize
     requires { from + 16 ≤ length bytes.now }
     ensures within { result ≤ 16 }
@@ -67,7 +67,7 @@ fn plain_in_block(bytes: &[u8], from: usize, delimiter: u8) -> usize
     lowest(special_bits(block, delimiter), 65_536, BLOCK)
 }
 
-/// How many of eight bytes are plain, up to the first that may not be. They stand in the block twice.
+// How many of eight bytes are plain, up to the first that may not be. They stand in the block twice.
 fn plain_in_half(bytes: &[u8], from: usize, delimiter: u8) -> usize
     requires { from + 8 ≤ length bytes.now }
     ensures within { result ≤ 8 }
@@ -79,7 +79,7 @@ fn plain_in_half(bytes: &[u8], from: usize, delimiter: u8) -> usize
     lowest(special_bits(twice, delimiter), 256, HALF)
 }
 
-/// How many of four bytes are plain, up to the first that may not be. They stand in the block four times.
+// How many of four bytes are plain, up to the first that may not be. They stand in the block four times.
 fn plain_in_quarter(bytes: &[u8], from: usize, delimiter: u8) -> usize
     requires { from + 4 ≤ length bytes.now }
     ensures within { result ≤ 4 }
@@ -91,7 +91,7 @@ fn plain_in_quarter(bytes: &[u8], from: usize, delimiter: u8) -> usize
     lowest(special_bits(often, delimiter), 16, QUARTER)
 }
 
-/// Where the plain bytes end, of fewer than sixteen that are left, and more than seven: the last eight may be some of the first.
+// Where the plain bytes end, of fewer than sixteen that are left, and more than seven: the last eight may be some of the first.
 fn end_in_halves(bytes: &[u8], from: usize, delimiter: u8) -> usize
     requires few { length bytes.now < from + 16 }
     requires some { from + 8 ≤ length bytes.now }
@@ -107,7 +107,7 @@ fn end_in_halves(bytes: &[u8], from: usize, delimiter: u8) -> usize
     last + plain_in_half(bytes, last, delimiter)
 }
 
-/// Where the plain bytes end, of fewer than eight that are left, and more than three: the last four may be some of the first.
+// Where the plain bytes end, of fewer than eight that are left, and more than three: the last four may be some of the first.
 fn end_in_quarters(bytes: &[u8], from: usize, delimiter: u8) -> usize
     requires few { length bytes.now < from + 8 }
     requires some { from + 4 ≤ length bytes.now }
@@ -123,7 +123,7 @@ fn end_in_quarters(bytes: &[u8], from: usize, delimiter: u8) -> usize
     last + plain_in_quarter(bytes, last, delimiter)
 }
 
-/// Whether a byte of a block may be a backslash.
+// Whether a byte of a block may be a backslash.
 fn is_backslash_in_block(bytes: &[u8], from: usize) -> bool
     requires { from + 16 ≤ length bytes.now }
     ensures { result ≡ false → (i : ℕ) → from ≤ i → i < from + 16 → slice_index bytes.now i ≢ 92 }
@@ -131,7 +131,7 @@ fn is_backslash_in_block(bytes: &[u8], from: usize) -> bool
     bits_of(u8x16::from_slice(&bytes[from..]), b'\\') != 0
 }
 
-/// Whether a byte may be a backslash, looked at one by one.
+// Whether a byte may be a backslash, looked at one by one.
 fn is_backslash_among(bytes: &[u8]) -> bool
     ensures { result ≡ false → NoBackslash bytes.now }
 {

@@ -1,7 +1,9 @@
 //! The value of a field of a text file.
 
-ghost use Rattle.std.specs.Prelude.{◌≡◌, ◌≤◌, ◌<◌, ◌++◌, ℕ, [], length, true, MatchOption, IfOk, OnOk};
-ghost use Rattle.pg_copy_text.specs.Text.{letter_value, digits_at, octal_escape, hex_escape, escape_at, text_after, field_value};
+ghost use Rattle.std.specs.Prelude.{◌≡◌, ◌≤◌, ◌<◌, ◌++◌, ℕ, [], length, true, MatchOption, IfOk};
+ghost use Rattle.std.specs.Prelude.{OnOk};
+ghost use Rattle.pg_copy_text.specs.Text.{letter_value, digits_at, octal_escape, hex_escape};
+ghost use Rattle.pg_copy_text.specs.Text.{escape_at, text_after, field_value};
 ghost use Rattle.pg_copy_text.specs.Private.Units.{LeadsWith, NoBackslash};
 
 use crate::plain::{is_plain, plain_end};
@@ -9,7 +11,7 @@ use crate::text_options::TextOptions;
 use pg_seq::Seq;
 use std::alloc::{AllocError, Global};
 
-/// What a letter after a backslash stands for.
+// What a letter after a backslash stands for.
 fn letter_value(letter: u8) -> u8
     ensures { result ≡ letter_value letter }
 {
@@ -24,7 +26,7 @@ fn letter_value(letter: u8) -> u8
     }
 }
 
-/// The digit of the base that stands first.
+// The digit of the base that stands first.
 fn leading_digit(bytes: &[u8], base: u32) -> Option<u32>
     requires low { 2 ≤ base }
     requires high { base ≤ 36 }
@@ -37,7 +39,7 @@ fn leading_digit(bytes: &[u8], base: u32) -> Option<u32>
     }
 }
 
-/// The byte of 1 to 3 octal digits, and their number.
+// The byte of 1 to 3 octal digits, and their number.
 fn octal_escape(bytes: &[u8]) -> Option<(u8, usize)>
     ensures { MatchOption result (digits_at 8 3 bytes.now ≡ [])
         (λ x. (0 < x.1) × (x.1 ≡ length (digits_at 8 3 bytes.now)) × ((x.0, x.1) ≡ octal_escape (digits_at 8 3 bytes.now))) }
@@ -54,7 +56,7 @@ fn octal_escape(bytes: &[u8]) -> Option<(u8, usize)>
     Some(((((first * 8 + second) * 8 + third) % 256) as u8, 3))
 }
 
-/// The byte of 1 or 2 hexadecimal digits after an x, or the x.
+// The byte of 1 or 2 hexadecimal digits after an x, or the x.
 fn hex_escape(bytes: &[u8]) -> (u8, usize)
     ensures { (result.0, result.1) ≡ hex_escape (digits_at 16 2 bytes.now) }
 {
@@ -67,7 +69,7 @@ fn hex_escape(bytes: &[u8]) -> (u8, usize)
     ((first * 16 + second) as u8, 3)
 }
 
-/// The byte that an escape stands for, and how many bytes follow its backslash.
+// The byte that an escape stands for, and how many bytes follow its backslash.
 fn escape_at(bytes: &[u8]) -> (u8, usize)
     ensures value { (result.0, result.1) ≡ escape_at bytes.now }
     ensures len { result.1 ≤ length bytes.now }
@@ -82,7 +84,7 @@ fn escape_at(bytes: &[u8]) -> (u8, usize)
     }
 }
 
-/// Appends bytes as they are. Between two escapes there is often none or one.
+// Appends bytes as they are. Between two escapes there is often none or one.
 #[inline(always)]
 fn put_run(bytes: &[u8], text: &mut Vec<u8>) -> Result<(), AllocError>
     ensures { OnOk result (text.new.items ≡ text.old.items ++ bytes.now) }
@@ -120,7 +122,7 @@ pub fn put_text_of(bytes: &[u8], text: &mut Vec<u8>) -> Result<(), AllocError>
     text.extend_from_slice(&bytes[start..])
 }
 
-/// The text that the bytes spell.
+// The text that the bytes spell.
 fn text_of(alloc: Global, bytes: &[u8]) -> Result<Vec<u8>, AllocError>
     ensures { IfOk result (λ text. text.items ≡ text_after 0 bytes.now) }
 {

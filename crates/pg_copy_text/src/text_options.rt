@@ -3,7 +3,8 @@
 ghost use Rattle.std.specs.Prelude.{◌≡◌, false};
 ghost use Rattle.std.specs.List.{list_any};
 ghost use Rattle.pg_copy_text.specs.Text.{default_options};
-ghost use Rattle.pg_copy_text.specs.TextOptions.{is_no_delimiter, ends_field, is_no_mark, AreOptions, MakesOptions};
+ghost use Rattle.pg_copy_text.specs.TextOptions.{is_no_delimiter, ends_field, is_no_mark};
+ghost use Rattle.pg_copy_text.specs.TextOptions.{AreOptions, MakesOptions};
 ghost use Rattle.pg_copy_text.specs.Text.{ends_escaped};
 
 use crate::format::{DELIMITER, END_MARK, NULL_MARK};
@@ -29,7 +30,10 @@ impl Model for TextOptions {
 
     ghost view = { λ o. record { delimiter = o.delimiter; null_mark = mark_of o.null_mark } };
 
-    ghost invariant = { λ o. AreOptions (record { delimiter = o.delimiter; null_mark = mark_of o.null_mark }) };
+    ghost invariant = { λ o. AreOptions (record {
+      delimiter = o.delimiter;
+      null_mark = mark_of o.null_mark;
+    }) };
 }
 
 fn is_no_delimiter(byte: u8) -> bool
@@ -49,7 +53,7 @@ fn ends_field(delimiter: u8, byte: u8) -> bool
     byte == b'\n' || byte == b'\r' || byte == delimiter
 }
 
-/// Whether the bytes end in a backslash that begins a unit.
+// Whether the bytes end in a backslash that begins a unit.
 fn ends_escaped(bytes: &[u8]) -> bool
     ensures { result ≡ ends_escaped false bytes.now }
 {
@@ -77,7 +81,7 @@ fn is_no_mark(delimiter: u8, mark: &[u8]) -> bool
 }
 
 impl TextOptions {
-    /// Options with this delimiter and these bytes for null. Delimiter is answered for a newline, a return, a backslash, a dot, a
+    /// Options with this delimiter and these bytes for null. Delimiter is returned for a newline, a return, a backslash, a dot, a
     /// letter from `a` to `z` or a digit; then NullMark, where a newline, a return or the delimiter is among the bytes, they are
     /// `\.`, or they end in a backslash that begins an escape; and Memory, where they have neither fault.
     pub fn new(alloc: Global, delimiter: u8, null_mark: &[u8]) -> Result<TextOptions, OptionFault>

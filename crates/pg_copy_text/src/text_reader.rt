@@ -1,19 +1,24 @@
 //! Reading a text file that comes in pieces.
 
-ghost use Rattle.std.specs.Prelude.{◌≡◌, ◌++◌, ◌≤◌, ◌+◌, ◌^◌, ◌<◌, ◌↔◌, ℕ, List, Some, None, Ok, Err, [], true, false, length, IsTrue, OnOk, OnErr, IfSome, ◌⊎◌};
+ghost use Rattle.std.specs.Prelude.{◌≡◌, ◌++◌, ◌≤◌, ◌+◌, ◌^◌, ◌<◌, ◌↔◌, ℕ, List, Some, None, Ok};
+ghost use Rattle.std.specs.Prelude.{Err, [], true, false, length, IsTrue, OnOk, OnErr, IfSome, ◌⊎◌};
 ghost use Rattle.pg_copy_rows.specs.declared.fault.TextFault.{TextFault};
 ghost use Rattle.pg_copy_rows.specs.declared.fault.TextFault.TheVariants.{Memory};
 ghost use Rattle.pg_copy_text.specs.declared.line_end.LineEnd.{LineEnd};
-ghost use Rattle.pg_copy_text.specs.declared.text_stage.TextStage.TheVariants.{Lines, Marked, Failed};
+ghost use Rattle.pg_copy_text.specs.declared.text_stage.TextStage.TheVariants.{Lines, Marked};
+ghost use Rattle.pg_copy_text.specs.declared.text_stage.TextStage.TheVariants.{Failed};
 ghost use Rattle.pg_copy_rows.specs.Row.{Row};
 ghost use Rattle.pg_copy_rows.specs.Reading.{RowWaits, given_by, given_after, AnswersNext};
-ghost use Rattle.pg_copy_text.specs.Text.{end_len, default_options, text_reading, text_file_reading};
+ghost use Rattle.pg_copy_text.specs.Text.{end_len, default_options, text_reading};
+ghost use Rattle.pg_copy_text.specs.Text.{text_file_reading};
 ghost use Rattle.pg_copy_rows.specs.Lent.{as_next, Lends};
-ghost use Rattle.pg_copy_text.specs.TextReader.{HasReadText, PushesText, text_left, text_last, text_ending, last_text_ending};
+ghost use Rattle.pg_copy_text.specs.TextReader.{HasReadText, PushesText, text_left, text_last};
+ghost use Rattle.pg_copy_text.specs.TextReader.{text_ending, last_text_ending};
 ghost use Rattle.pg_copy_text.specs.TextOptions.{AreOptions};
 ghost use Rattle.pg_copy_text.specs.Private.Breaks.{IsFirstLine};
 ghost use Rattle.pg_copy_text.specs.Private.Units.{IsCounted, IsScanned, StandsAt};
-ghost use Rattle.pg_copy_text.specs.Private.TextLine.{let_go, lending, LendsLine, TakesLine, TakesLast, EndsInput};
+ghost use Rattle.pg_copy_text.specs.Private.TextLine.{let_go, lending, LendsLine, TakesLine};
+ghost use Rattle.pg_copy_text.specs.Private.TextLine.{TakesLast, EndsInput};
 
 use crate::line_end::LineEnd;
 use crate::scan::Scan;
@@ -33,7 +38,7 @@ use std::marker::Model;
 /// `push` keeps a piece, `next` gives the rows of the lines that are closed, one by one, and `finish` those that are left at the
 /// end of the input. All lines end alike: by a newline, by a return, or by a return and a newline directly after it, as the first
 /// newline or return decides that isn't escaped. While that is a return and stands last, its line isn't whole. A fault stands in the
-/// place of its row, and is answered for good from then on. The line `\.` ends the rows, and what follows it is dropped. Each byte
+/// place of its row, and is returned by each call from then on. The line `\.` ends the rows, and what follows it is dropped. Each byte
 /// is walked over once to find where its line ends, however the pieces are cut (PostgreSQL documentation, page COPY, "Text Format").
 #[derive(Drop)]
 pub struct TextReader {
@@ -138,7 +143,7 @@ impl TextReader {
         self.stage == TextStage::Marked
     }
 
-    /// Whether `finish` was called, calls that answered Memory left out. No more may then be pushed, and `next` not be called.
+    /// Whether `finish` was called, calls that returned Memory left out. No more may then be pushed, and `next` not be called.
     pub fn ended(&self) -> bool
         ensures { result ≡ self.now.ended }
     {
@@ -162,9 +167,9 @@ impl TextReader {
         self.offset
     }
 
-    /// Takes the next piece of the file, all of it, and drops it after the end mark. A fault that was found is answered again.
+    /// Takes the next piece of the file, all of it, and drops it after the end mark. A fault that was found is returned again.
     /// After Memory nothing of the piece was taken and the reader is unchanged; a piece without bytes, or one that is dropped,
-    /// wants no memory.
+    /// needs no memory.
     pub fn push(&mut self, piece: &[u8]) -> Result<(), TextFault>
         requires { self.old.ended ≡ false }
         ensures call { PushesText self.old piece.now result self.new }
@@ -182,8 +187,8 @@ impl TextReader {
         }
     }
 
-    /// The next row, or None where no whole line waits or the end mark was read. A fault is answered once all rows before it were
-    /// given, and then for good. Memory is answered only where a row waits, and leaves the reader unchanged. Where it gives a row,
+    /// The next row, or None where no whole line waits or the end mark was read. A fault is returned once all rows before it were
+    /// given, and then for good. Memory is returned only where a row waits, and leaves the reader unchanged. Where it gives a row,
     /// fewer bytes are kept, so that a loop over the rows comes to its end (PostgreSQL documentation, page COPY, "Text Format").
     pub fn next(&mut self) -> Result<Option<Row>, TextFault>
         requires { self.old.ended ≡ false }
@@ -224,7 +229,7 @@ impl TextReader {
 
     /// Whether a next row waits, which is then lent until the next change of the reader: [`TextReader::held`] gives it. It counts as
     /// given, and the reader has its bytes until then; the text of a field that has an escape is copied, into a block that the reader
-    /// uses again, and which gives much room back once no row needs it. A fault is answered as `next` answers it. Memory is answered
+    /// uses again, and which gives much room back once no row needs it. A fault is returned as `next` returns it. Memory is returned
     /// only where a row waits and that block could not grow, and leaves the reader unchanged, but that it lends none (PostgreSQL
     /// documentation, page COPY, "Text Format").
     pub fn next_lent(&mut self) -> Result<bool, TextFault>
@@ -264,8 +269,8 @@ impl TextReader {
         }
     }
 
-    /// The row that the last call of `next_lent` answered true for; None where another call of `push`, `next`, `next_lent` or
-    /// `finish` came after it, but for those of `push`, `next` and `finish` that answered Memory. It takes no memory.
+    /// The row that the last call of `next_lent` returned true for; None where another call of `push`, `next`, `next_lent` or
+    /// `finish` came after it, but for those of `push`, `next` and `finish` that returned Memory. It takes no memory.
     pub fn held(&self) -> Option<TextRow<'_>>
         ensures { result ≡ self.now.held }
     {
@@ -280,7 +285,7 @@ impl TextReader {
 
     /// Says that the input has ended, and gives the next row that is left, or None where none is: the last line need not be
     /// closed, and no line stands there where it is empty; a return that stands last ends its line, where it is the first newline or
-    /// return that isn't escaped. It is to be called until it answers None. Memory is answered only where a row is left, and leaves
+    /// return that isn't escaped. It is to be called until it returns None. Memory is returned only where a row is left, and leaves
     /// the reader unchanged (PostgreSQL documentation, page COPY, "Text Format").
     pub fn finish(&mut self) -> Result<Option<Row>, TextFault>
         ensures read { (pushed : List ℕ) (given : List Row) → HasReadText self.old pushed given
@@ -320,7 +325,7 @@ impl TextReader {
         }
     }
 
-    /// Walks on over the first line, and says how far it goes and how the line ends, if it does.
+    // Walks on over the first line, and says how far it goes and how the line ends, if it does.
     fn walk(&mut self) -> (Scan, Option<LineEnd>)
         ensures scanned { IsScanned self.old.options.delimiter self.old.line_end self.old.kept
             result.0 }
@@ -337,7 +342,7 @@ impl TextReader {
         (self.scan, found)
     }
 
-    /// Answers for the first line, which was walked over, and takes so many bytes with what ends it. Lines end so from then on.
+    // Answers for the first line, which was walked over, and takes so many bytes with what ends it. Lines end so from then on.
     fn take_line(
         &mut self,
         scan: Scan,
@@ -375,7 +380,7 @@ impl TextReader {
         }
     }
 
-    /// Answers for the first line as `take_line` does, but lends its row.
+    // Answers for the first line as `take_line` does, but lends its row.
     fn lend_line(
         &mut self,
         scan: Scan,
@@ -406,7 +411,7 @@ impl TextReader {
         }
     }
 
-    /// Takes a line off of so many bytes, with what ends it, and lends its row. Lines end so from then on.
+    // Takes a line off of so many bytes, with what ends it, and lends its row. Lines end so from then on.
     fn hold(
         &mut self,
         len: usize,
@@ -430,7 +435,7 @@ impl TextReader {
         Ok(())
     }
 
-    /// Lends no row any more, and keeps no large block for the texts of one.
+    // Lends no row any more, and keeps no large block for the texts of one.
     fn let_go(&mut self)
         ensures { self.new ≡ let_go self.old }
     {
@@ -438,7 +443,7 @@ impl TextReader {
         empty_texts(&mut self.texts, 0);
     }
 
-    /// Reads no more.
+    // Reads no more.
     fn stop(&mut self, stage: TextStage)
         requires { stage ≡ Failed Memory → ⊥ }
         ensures { self.new ≡ record self.old { kept = []; stage = stage; held = None } }
@@ -449,7 +454,7 @@ impl TextReader {
         self.stage = stage;
     }
 
-    /// Answers for the next line, where the last one may be open.
+    // Answers for the next line, where the last one may be open.
     fn last_line(&mut self) -> Result<Option<Row>, TextFault>
         requires { self.old.stage ≡ Lines }
         ensures { TakesLast self.old result self.new }
@@ -465,7 +470,7 @@ impl TextReader {
         self.open_line(scan)
     }
 
-    /// Answers for the last line, which is open and was walked over, but for a return that stands last.
+    // Answers for the last line, which is open and was walked over, but for a return that stands last.
     fn open_line(&mut self, scan: Scan) -> Result<Option<Row>, TextFault>
         requires lines { self.old.stage ≡ Lines }
         requires options { AreOptions self.old.options }
@@ -488,7 +493,7 @@ impl TextReader {
         }
     }
 
-    /// The input has ended, unless memory was refused.
+    // The input has ended, unless memory ran out.
     fn end(&mut self, answer: &Result<Option<Row>, TextFault>)
         ensures { EndsInput answer.now self.old self.new }
     {

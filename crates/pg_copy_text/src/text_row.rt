@@ -1,11 +1,13 @@
 //! A row of a text file, read in place: the text of a field that has an escape is copied, into one block, and nothing else is.
 
-ghost use Rattle.std.specs.Prelude.{◌≡◌, ◌≤◌, ◌+◌, ◌++◌, ℕ, List, [], length, take, drop, true, false, option_copied, OnOk};
+ghost use Rattle.std.specs.Prelude.{◌≡◌, ◌≤◌, ◌+◌, ◌++◌, ℕ, List, [], length, take, drop, true};
+ghost use Rattle.std.specs.Prelude.{false, option_copied, OnOk};
 ghost use Rattle.std.specs.Int.{w64, to_le_bytes};
 ghost use Rattle.std.specs.Iterator.{YieldsFirstBy, item_count};
 ghost use Rattle.pg_copy_text.specs.Text.{field_value, text_after};
 ghost use Rattle.pg_copy_text.specs.Private.Units.{NoBackslash, has_backslash};
-ghost use Rattle.pg_copy_text.specs.Private.TextRow.{counted, field_text, line_texts, line_values, values_left};
+ghost use Rattle.pg_copy_text.specs.Private.TextRow.{counted, field_text, line_texts, line_values};
+ghost use Rattle.pg_copy_text.specs.Private.TextRow.{values_left};
 
 use crate::plain::may_have_backslash;
 use crate::text_field::put_text_of;
@@ -20,7 +22,7 @@ const KEPT_ROOM: usize = 64 * 1024;
 // The length in front of a text takes so many bytes. So whoever reads the text needn't count it again.
 const LENGTH: usize = 8;
 
-/// Writes the length of a text where it stands in a block.
+// Writes the length of a text where it stands in a block.
 fn set_length(texts: &mut [u8], at: usize, len: u64)
     requires { at + 8 ≤ length texts.old }
     ensures { texts.new
@@ -29,7 +31,7 @@ fn set_length(texts: &mut [u8], at: usize, len: u64)
     texts[at..at + LENGTH].copy_from_slice(&len.to_le_bytes());
 }
 
-/// Appends the text that a field spells, after its length.
+// Appends the text that a field spells, after its length.
 fn put_counted_text(field: &[u8], texts: &mut Vec<u8>) -> Result<(), AllocError>
     ensures { OnOk result (texts.new.items
         ≡ texts.old.items ++ counted (text_after 0 field.now)) }
@@ -46,7 +48,7 @@ fn put_counted_text(field: &[u8], texts: &mut Vec<u8>) -> Result<(), AllocError>
     Ok(())
 }
 
-/// The text that stands first in a block, and what stands after it.
+// The text that stands first in a block, and what stands after it.
 fn first_text(texts: &[u8]) -> (&[u8], &[u8])
     requires { (text : List ℕ) × (more : List ℕ) × (texts.now ≡ counted text ++ more) }
     ensures { (text more : List ℕ) → texts.now ≡ counted text ++ more
@@ -59,7 +61,7 @@ fn first_text(texts: &[u8]) -> (&[u8], &[u8])
     rest.split_at(len as usize)
 }
 
-/// Appends the text of a field that has an escape, where it isn't null, after its length.
+// Appends the text of a field that has an escape, where it isn't null, after its length.
 fn put_field_text(
     field: &[u8],
     plain: bool,
@@ -77,7 +79,7 @@ fn put_field_text(
     put_counted_text(field, texts)
 }
 
-/// The line after the nulls that stand first in it, each with the delimiter after it: no text is copied of them.
+// The line after the nulls that stand first in it, each with the delimiter after it: no text is copied of them.
 fn after_nulls<'a>(line: &'a [u8], options: &TextOptions) -> &'a [u8]
     ensures texts { line_texts options.now result.now ≡ line_texts options.now line.now }
     ensures no_longer { length result.now ≤ length line.now }
@@ -96,7 +98,7 @@ fn after_nulls<'a>(line: &'a [u8], options: &TextOptions) -> &'a [u8]
     rest
 }
 
-/// Appends the texts of a line's fields that have an escape, each after its length.
+// Appends the texts of a line's fields that have an escape, each after its length.
 fn put_texts(line: &[u8], options: &TextOptions, texts: &mut Vec<u8>) -> Result<(), AllocError>
     ensures { OnOk result (texts.new.items
         ≡ texts.old.items ++ line_texts options.now line.now) }
@@ -131,7 +133,7 @@ pub fn empty_texts(texts: &mut Vec<u8>, line_len: usize)
     }
 }
 
-/// Puts the texts of a line's fields that have an escape in place of those that stand in a block. Where memory is refused, it is left
+/// Puts the texts of a line's fields that have an escape in place of those that stand in a block. Where memory runs out, it is left
 /// without much room.
 pub fn replace_texts(
     line: &[u8],
@@ -150,7 +152,7 @@ pub fn replace_texts(
     }
 }
 
-/// The value of a field, whose text stands first among the texts, where it has one there; and the texts after it.
+// The value of a field, whose text stands first among the texts, where it has one there; and the texts after it.
 fn value_of<'a>(
     field: &'a [u8],
     plain: bool,

@@ -1,6 +1,7 @@
 //! The canonical line of a row, written field by field.
 
-ghost use Rattle.std.specs.Prelude.{◌≡◌, ◌++◌, ◌∷◌, ◌≤◌, [], suc, length, option_copied, take, OnOk, OnErr};
+ghost use Rattle.std.specs.Prelude.{◌≡◌, ◌++◌, ◌∷◌, ◌≤◌, [], suc, length, option_copied, take};
+ghost use Rattle.std.specs.Prelude.{OnOk, OnErr};
 ghost use Rattle.pg_copy_rows.specs.Row.{Writes};
 ghost use Rattle.pg_copy_text.specs.Text.{default_options, newline};
 ghost use Rattle.pg_copy_text.specs.TextWriter.{next_fault, next_written, end_fault};
@@ -48,7 +49,7 @@ impl TextRowWriter {
         TextRowWriter { options, fields: 0 }
     }
 
-    /// Appends the next field of the row, after the delimiter, where it isn't the first. None is null. Width is answered where the
+    /// Appends the next field of the row, after the delimiter, where it isn't the first. None is null. Width is returned where the
     /// row has 32,767 fields already; then LikeNull with the field's number, where it is a text that would be written as the null
     /// mark is; and Memory where it has neither fault and the buffer could not grow. A refusal leaves `buf` and the row as they were
     /// (PostgreSQL documentation, page COPY, "Text Format").
@@ -78,7 +79,7 @@ impl TextRowWriter {
         }
     }
 
-    /// Appends the newline that ends the row; the next field is then the first of a row. Width is answered where the row has no
+    /// Appends the newline that ends the row; the next field is then the first of a row. Width is returned where the row has no
     /// field, and Memory where it has one and the buffer could not grow. A refusal leaves `buf` and the row as they were (PostgreSQL
     /// documentation, page COPY, "Text Format").
     pub fn end(&mut self, buf: &mut Vec<u8>) -> Result<(), RowFault>
@@ -106,7 +107,7 @@ impl TextRowWriter {
         self.fields = 0;
     }
 
-    /// Why the field can't be the next of the row.
+    // Why the field can't be the next of the row.
     fn next_fault(&self, field: Option<&[u8]>) -> Option<RowFault>
         ensures { result
             ≡ next_fault self.now.options self.now.fields (option_copied field.entry) }

@@ -1,11 +1,13 @@
 //! The canonical line of a row.
 
-ghost use Rattle.std.specs.Prelude.{◌≡◌, ◌++◌, ◌<◌, true, None, length, option_copied, take, OnOk, OnErr};
+ghost use Rattle.std.specs.Prelude.{◌≡◌, ◌++◌, ◌<◌, true, None, length, option_copied, take, OnOk};
+ghost use Rattle.std.specs.Prelude.{OnErr};
 ghost use Rattle.std.specs.List.{flat_map, position_from};
 ghost use Rattle.std.specs.Str.{bytes_eq};
 ghost use Rattle.pg_copy_rows.specs.Row.{Writes};
 ghost use Rattle.pg_copy_text.specs.Private.Units.{IsWrittenFirst};
-ghost use Rattle.pg_copy_text.specs.Text.{default_options, letter_for, written_byte, written_field, written_row, is_like_null, text_fault};
+ghost use Rattle.pg_copy_text.specs.Text.{default_options, letter_for, written_byte, written_field};
+ghost use Rattle.pg_copy_text.specs.Text.{written_row, is_like_null, text_fault};
 
 use crate::plain::{is_plain, plain_end};
 use crate::text_options::TextOptions;
@@ -14,7 +16,7 @@ use pg_copy_rows::{Row, RowFault};
 use pg_seq::Seq;
 use std::alloc::AllocError;
 
-/// The letter that is written for a byte, after a backslash.
+// The letter that is written for a byte, after a backslash.
 fn letter_for(byte: u8, delimiter: u8) -> Option<u8>
     ensures { result ≡ letter_for delimiter byte }
 {
@@ -30,7 +32,7 @@ fn letter_for(byte: u8, delimiter: u8) -> Option<u8>
     }
 }
 
-/// Appends the bytes of a text, runs of which are copied at once.
+// Appends the bytes of a text, runs of which are copied at once.
 fn put_text(text: &[u8], delimiter: u8, buf: &mut Vec<u8>) -> Result<(), AllocError>
     ensures ok { OnOk result (buf.new.items
         ≡ buf.old.items ++ flat_map (written_byte delimiter) text.now) }
@@ -89,7 +91,7 @@ fn put_row(
     Ok(())
 }
 
-/// Appends the line of a row, or nothing.
+// Appends the line of a row, or nothing.
 fn write_fields(
     fields: &[Option<Seq<u8>>],
     options: &TextOptions,
@@ -108,7 +110,7 @@ fn write_fields(
     }
 }
 
-/// How many of these bytes are the byte as it is written, if they begin with it.
+// How many of these bytes are the byte as it is written, if they begin with it.
 fn written_len(byte: u8, delimiter: u8, bytes: &[u8]) -> Option<usize>
     ensures { IsWrittenFirst (written_byte delimiter byte) bytes.now result }
 {
@@ -124,7 +126,7 @@ fn written_len(byte: u8, delimiter: u8, bytes: &[u8]) -> Option<usize>
     }
 }
 
-/// Whether a text is written as these bytes.
+// Whether a text is written as these bytes.
 fn is_written_as(text: &[u8], delimiter: u8, bytes: &[u8]) -> bool
     ensures { result ≡ bytes_eq (flat_map (written_byte delimiter) text.now) bytes.now }
 {
@@ -150,7 +152,7 @@ pub fn is_like_null(field: Option<&[u8]>, options: &TextOptions) -> bool
     }
 }
 
-/// The first field that is like null.
+// The first field that is like null.
 fn first_like_null(fields: &[Option<Seq<u8>>], options: &TextOptions) -> Option<usize>
     ensures { result ≡ position_from (is_like_null options.now) 0 fields.now }
 {
@@ -164,7 +166,7 @@ fn first_like_null(fields: &[Option<Seq<u8>>], options: &TextOptions) -> Option<
 
 /// Appends one field as a line has it: null is `\N`, the bytes 08 to 0D are written by their letters, a backslash is doubled, and all
 /// other bytes are written as they are. A caller whose values don't stand in a `Row` writes a line by a
-/// [`TextRowWriter`](crate::TextRowWriter) (PostgreSQL documentation, page COPY, "Text Format"). Memory is answered where the buffer
+/// [`TextRowWriter`](crate::TextRowWriter) (PostgreSQL documentation, page COPY, "Text Format"). Memory is returned where the buffer
 /// could not grow, and leaves `buf` as it was.
 pub fn write_text_field(field: Option<&[u8]>, buf: &mut Vec<u8>) -> Result<(), RowFault>
     ensures { Writes None (written_field default_options (option_copied field.entry)) buf.old.items
@@ -182,7 +184,7 @@ pub fn write_text_field(field: Option<&[u8]>, buf: &mut Vec<u8>) -> Result<(), R
 
 /// Appends the canonical line of the row: null is `\N`, the bytes 08 to 0D are written by their letters, a backslash is
 /// doubled, all other bytes are written as they are, a tab parts two fields, and a newline ends the line (PostgreSQL
-/// documentation, page COPY, "Text Format"). Width is answered where the row has no field or more than 32,767, and Memory
+/// documentation, page COPY, "Text Format"). Width is returned where the row has no field or more than 32,767, and Memory
 /// where it has neither and the buffer could not grow. A refusal leaves `buf` as it was.
 pub fn write_text_row(row: &Row, buf: &mut Vec<u8>) -> Result<(), RowFault>
     ensures { Writes (text_fault default_options row.now)
@@ -197,7 +199,7 @@ pub fn write_text_row(row: &Row, buf: &mut Vec<u8>) -> Result<(), RowFault>
 
 /// Appends the canonical line of the row with these options: as `write_text_row` does, but null is their mark, their delimiter
 /// parts two fields, and it stands in a text after a backslash, unless it has a letter there (PostgreSQL documentation, page COPY,
-/// "Text Format"). Width is answered where the row has no field or more than 32,767; then LikeNull, where a text would be written
+/// "Text Format"). Width is returned where the row has no field or more than 32,767; then LikeNull, where a text would be written
 /// as the null mark is; and Memory where it has neither fault and the buffer could not grow. A refusal leaves `buf` as it was.
 pub fn write_text_row_with(
     row: &Row,

@@ -9,7 +9,7 @@ use Rattle.pg_drive.specs.declared.answer.DrivenEarly.TheVariants as driven
 use Rattle.pg_drive.specs.Drive.{connected}
 use Rattle.pg_drive.specs.Early.{DrivesEarly, EarlyAnswers, EarlyConnection, EarlyTurnsOn, Finds, IsInPhase, Looks, LooksAt, early_kind}
 use Rattle.pg_drive.specs.Private.Turning.{Receives}
-use Rattle.pg_drive.specs.Sending.{Sends}
+use Rattle.pg_wire.specs.Sending.{Sends}
 use Rattle.pg_drive.proofs.Turning.{WentOn, takes_turns_so, went_one_more}
 
 -- a look that found nothing left the client as it was

@@ -8,7 +8,7 @@ use Rattle.pg_drive.specs.declared.answer.DriveFault.{DriveFault}
 use Rattle.pg_drive.specs.declared.answer.Driven.{Driven}
 use Rattle.pg_drive.specs.declared.answer.Driven.TheVariants as driven
 use Rattle.pg_drive.specs.Drive.{Answers, ClientKind, Connection, Drives, IsSeen, LastTurn, Linked, TakesTurns, Turn, TurnsOn, client_kind, connected}
-use Rattle.pg_drive.specs.Sending.{Sends}
+use Rattle.pg_wire.specs.Sending.{Sends}
 use Rattle.pg_client.specs.Client.{phase_of}
 use Rattle.pg_drive.specs.Private.Turning.{Receives, TakesTurn}
 

@@ -15,7 +15,7 @@ use Rattle.pg_drive.specs.declared.answer.DriveFault.{DriveFault}
 use Rattle.pg_drive.specs.declared.answer.DriveFault.TheVariants as fault
 use Rattle.pg_drive.specs.declared.answer.Driven.{Driven}
 use Rattle.pg_drive.specs.declared.answer.Driven.TheVariants as driven
-use Rattle.pg_drive.specs.Sending.{FailsToSend, Sends}
+use Rattle.pg_wire.specs.Sending.{FailsToSend, Sends}
 
 -- The code of the fault with which a client can't be driven.
 abbrev pub drive_code : DriveFault → List ℕ

@@ -1,8 +1,9 @@
--- What a reader must believe: how bytes are sent over a link, and what `drive` and `drive_early`
--- do.
-pub mod Sending
+-- What a reader must believe: what `drive` and `drive_early` do, and what a session does.
 pub mod Drive
 pub mod Early
+pub mod Session
+pub mod Lent
+pub mod Group
 -- What becomes of the history of a client that is driven.
 pub mod Carried
 -- Words of private functions, which no public contract cites.

@@ -40,7 +40,7 @@ pub enum DrivenEarly {
 /// Why a client can't be driven.
 #[derive(Clone, Debug, PartialEq, Eq, Drop, Error)]
 pub enum DriveFault {
-    /// The client answered this fault to what the server sent, and is closed.
+    /// The client returned this fault to what the server sent, and is closed.
     #[error("D1 Feed {0}")]
     Feed(FeedFault),
     /// The link failed. The client is closed, and hands back what is lost.

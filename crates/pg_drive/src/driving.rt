@@ -7,9 +7,8 @@ ghost use Rattle.pg_drive.specs.Private.Turning.{TakesTurn};
 
 use crate::answer::{DriveFault, Driven};
 use crate::receiving::{PIECE, receive};
-use crate::sending::send;
 use pg_client::{Client, Phase};
-use pg_wire::{Sink, Source};
+use pg_wire::{Sink, Source, send_out};
 
 /// Drives a client: sends all of `out` over a link, then receives pieces of at most 4,096 bytes, at most `turns` times, feeds each to the
 /// client and sends what it put out. What was sent is taken off the front of `out`.
@@ -31,7 +30,7 @@ pub fn drive<L: Source + Sink>(
         (connected link.new client.new out.new.items) }
 {
     let began = client.phase();
-    let Ok(()) = send(out, link) else {
+    let Ok(()) = send_out(out, link) else {
         return Err(DriveFault::Link(client.lost()));
     };
     let mut piece = [0u8; PIECE];

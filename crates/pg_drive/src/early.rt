@@ -7,9 +7,8 @@ ghost use Rattle.pg_drive.specs.Private.Turning.{Receives};
 
 use crate::answer::{DriveFault, DrivenEarly};
 use crate::receiving::{PIECE, receive};
-use crate::sending::send;
 use pg_client::{EarlyClient, Loss, Phase};
-use pg_wire::{Sink, Source};
+use pg_wire::{Sink, Source, send_out};
 
 /// Drives an early client: sends all of `out` over a link, then looks whether there is something for the caller. Where there is nothing
 /// it receives a piece of at most 4,096 bytes, feeds it, sends what the client put out, and looks again, at most `turns` times. What was
@@ -34,7 +33,7 @@ pub fn drive_early<L: Source + Sink>(
         (connected link.new client.new out.new.items) }
 {
     let began = client.phase();
-    let Ok(()) = send(out, link) else {
+    let Ok(()) = send_out(out, link) else {
         return Err(DriveFault::Link(client.lost()));
     };
     for _ in 0..turns {

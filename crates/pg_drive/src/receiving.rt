@@ -5,9 +5,8 @@ ghost use Rattle.pg_drive.specs.Drive.{ClientKind, connected, longest_piece};
 ghost use Rattle.pg_drive.specs.Private.Turning.{Receives};
 
 use crate::answer::DriveFault;
-use crate::sending::send;
 use pg_client::{Client, EarlyClient, FeedFault, Loss};
-use pg_wire::{Sink, Source};
+use pg_wire::{Sink, Source, send_out};
 
 // How many bytes are received at once.
 pub(crate) const PIECE: usize = 4_096;
@@ -73,7 +72,7 @@ pub(crate) fn receive<C: Drivable, L: Source + Sink>(
         return Ok(Some(client.lost()));
     }
     client.feed(&piece[..count], out)?;
-    let Ok(()) = send(out, link) else {
+    let Ok(()) = send_out(out, link) else {
         return Err(DriveFault::Link(client.lost()));
     };
     Ok(None)

@@ -2,7 +2,9 @@
 
 ghost use Rattle.std.specs.Prelude.{◌≡◌, option_copied};
 ghost use Rattle.std.specs.Int.{w32};
-ghost use Rattle.pg_layout.specs.Private.Reader.{choice_at, copy_head_at, counted_at, name_at, signed_at, status_of_byte, string_at, terminated_at, times_at};
+ghost use Rattle.pg_layout.specs.Private.Reader.{choice_at, copy_head_at, counted_at, name_at};
+ghost use Rattle.pg_layout.specs.Private.Reader.{signed_at, status_of_byte, string_at};
+ghost use Rattle.pg_layout.specs.Private.Reader.{terminated_at, times_at};
 ghost use Rattle.pg_layout.specs.Private.Lent.{left_after};
 
 use crate::field::ReadField;
@@ -49,7 +51,7 @@ pub fn after_status(bytes: &[u8]) -> Option<&[u8]>
     }
 }
 
-/// The bytes after so many fields.
+// The bytes after so many fields.
 fn after_times<T: ReadField>(count: u16, bytes: &[u8]) -> Option<&[u8]>
     ensures { option_copied result ≡ left_after (times_at T.reading count bytes.now) }
 {

@@ -20,7 +20,10 @@ impl Model for Appender {
 
     ghost Value = { Appended };
 
-    ghost view = { λ a. record { before = take a.start a.buf.items; added = drop a.start a.buf.items } };
+    ghost view = { λ a. record {
+      before = take a.start a.buf.items;
+      added = drop a.start a.buf.items;
+    } };
 
     ghost invariant = { λ a. a.start ≤ vec_len a.buf };
 }
@@ -67,7 +70,7 @@ pub fn begin(buf: &mut Vec<u8>) -> Appender
     Appender::new(mem::replace(buf, Vec::new(alloc)))
 }
 
-/// Gives the buffer its bytes back, with what was added unless memory was refused.
+/// Gives the buffer its bytes back, with what was added unless memory ran out.
 pub fn settle(
     buf: &mut Vec<u8>,
     out: Appender,

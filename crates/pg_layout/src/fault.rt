@@ -52,7 +52,7 @@ impl<T: Drop> From<AllocFailed<T>> for EncodeFault {
 pub enum BodyFault {
     /// No message has this tag and this body.
     Bad,
-    /// Memory was refused.
+    /// Memory ran out.
     Memory,
 }
 

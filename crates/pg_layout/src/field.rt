@@ -1,12 +1,14 @@
 //! Fields that stand in lists: how each is judged, written and read.
 
-ghost use Rattle.std.specs.Prelude.{◌≡◌, ◌<◌, ◌^◌, ◌++◌, ℕ, List, length, Option, OnOk, option_copied};
+ghost use Rattle.std.specs.Prelude.{◌≡◌, ◌<◌, ◌^◌, ◌++◌, ℕ, List, length, Option, OnOk};
+ghost use Rattle.std.specs.Prelude.{option_copied};
 ghost use Rattle.std.specs.Int.{w16, w32};
 ghost use Rattle.pg_layout.specs.Field.{Body, int16, oid, value};
 ghost use Rattle.pg_layout.specs.Value.{column, parameter};
 ghost use Rattle.pg_layout.specs.Private.Writer.{LeavesRoom};
 ghost use Rattle.pg_layout.specs.Private.Lent.{left_after};
-ghost use Rattle.pg_layout.specs.Private.Reader.{Gives, number_at, signed_at, value_at, column_at, error_field_at, parameter_at};
+ghost use Rattle.pg_layout.specs.Private.Reader.{Gives, number_at, signed_at, value_at, column_at};
+ghost use Rattle.pg_layout.specs.Private.Reader.{error_field_at, parameter_at};
 
 use crate::after::{after_i32, after_name, after_text};
 use crate::appender::Appender;

@@ -1,7 +1,20 @@
-//! What the bodies of messages are made of: fields and parts, each judged, written and read; the values that messages carry; and
-//! why a message was not written or not read.
+//! How the bodies of messages are coded: the data types of the protocol and the values that messages carry, each judged, written and
+//! read; and why a message can't be written or read (PostgreSQL documentation, "Message Data Types", "Message Formats").
 //!
-//! It is the lowest layer of `pg_wire`. Users name `pg_wire`, which passes on what they need of it.
+//! It is a layer of `pg_wire`. Users name `pg_wire`, which passes on what they need of it.
+//!
+//! # Files
+//!
+//! | File | Definitions in `specs/` | What it has |
+//! |---|---|---|
+//! | `field.rt`, `value.rt`, `writer.rt`, `reader.rt` | `Field`, `Value` | the parts of a body: how each data type, and each value that messages carry, is spelled, and what keeps it from having a spelling |
+//! | `part.rt`, `appender.rt`, `fault.rt` | `Part` | how a message is put together of its tag and body, and what appending it does with the buffer |
+//! | `lent.rt` | | a value and a field that are read in place |
+//! | `after.rt` | | what is left of a body after a value, for judging it without making the value |
+//!
+//! **An encoder** takes a message apart into parts (`part`): a String, bytes, a number, a list after its count, and pairs of these. A
+//! body of parts is judged first (the first fault, then the length) and then written once, in order. Each part of the code
+//! (`BodyPart`) says which part of a message's definition it writes.
 #![tactic(auto)]
 
 mod after;

@@ -1,8 +1,11 @@
 //! The parts of a body, lent to an encoder: how each is judged and written.
 
-ghost use Rattle.std.specs.Prelude.{◌≡◌, ◌<◌, ◌^◌, ◌+◌, ◌++◌, false, length, OnOk, IfOk, MatchResult, None, Some};
-ghost use Rattle.pg_layout.specs.Field.{Body, ◌⨾◌, int32, byte1, byte4, byten, string, counted, terminated};
-ghost use Rattle.pg_layout.specs.Part.{tagged, packet_of, body_fault, content_fault, Appends, AppendsPacket};
+ghost use Rattle.std.specs.Prelude.{◌≡◌, ◌<◌, ◌^◌, ◌+◌, ◌++◌, false, length, OnOk, IfOk};
+ghost use Rattle.std.specs.Prelude.{MatchResult, None, Some};
+ghost use Rattle.pg_layout.specs.Field.{Body, ◌⨾◌, int32, byte1, byte4, byten, string, counted};
+ghost use Rattle.pg_layout.specs.Field.{terminated};
+ghost use Rattle.pg_layout.specs.Part.{tagged, packet_of, body_fault, content_fault, Appends};
+ghost use Rattle.pg_layout.specs.Part.{AppendsPacket};
 ghost use Rattle.pg_layout.specs.Private.Writer.{LeavesRoom};
 
 use crate::appender::{Appender, begin, settle};
@@ -240,7 +243,7 @@ impl<A: BodyPart, B: BodyPart> BodyPart for Pair<A, B> {
     }
 }
 
-/// The length field of a message with this body, or why it has no spelling.
+// The length field of a message with this body, or why it has no spelling.
 fn judge<P: BodyPart>(body: &P) -> Result<u32, EncodeFault>
     ensures fault { MatchResult result (λ n. body_fault (P.layout body.now) ≡ None)
         (λ f. body_fault (P.layout body.now) ≡ Some f) }
@@ -259,7 +262,7 @@ fn judge<P: BodyPart>(body: &P) -> Result<u32, EncodeFault>
     }
 }
 
-/// Writes a message whose body was judged.
+// Writes a message whose body was judged.
 fn write_message<P: BodyPart>(
     tag: u8,
     size: u32,
@@ -291,7 +294,7 @@ pub fn append<P: BodyPart>(tag: u8, body: &P, buf: &mut Vec<u8>) -> Result<(), E
 /// The greatest length of a first packet.
 pub const LONGEST_PACKET: u32 = 10_000;
 
-/// The length of a first packet with this content, or why it has no spelling.
+// The length of a first packet with this content, or why it has no spelling.
 fn judge_packet<P: BodyPart>(has_no_name: bool, content: &P) -> Result<u32, EncodeFault>
     ensures fault { MatchResult result
         (λ n. content_fault has_no_name (P.layout content.now) ≡ None)
@@ -310,7 +313,7 @@ fn judge_packet<P: BodyPart>(has_no_name: bool, content: &P) -> Result<u32, Enco
     }
 }
 
-/// Writes a first packet whose content was judged.
+// Writes a first packet whose content was judged.
 fn write_packet<P: BodyPart>(
     code: u32,
     size: u32,

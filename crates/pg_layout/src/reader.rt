@@ -1,9 +1,13 @@
 //! Reading at the beginning of a body: a value and the bytes after it.
 
-ghost use Rattle.std.specs.Prelude.{◌≡◌, ◌<◌, ◌==◌, if◌then◌else◌, length, position, Some, None, MatchOption, IfSome, IsOkUnless};
+ghost use Rattle.std.specs.Prelude.{◌≡◌, ◌<◌, ◌==◌, if◌then◌else◌, length, position, Some, None};
+ghost use Rattle.std.specs.Prelude.{MatchOption, IfSome, IsOkUnless};
 ghost use Rattle.pg_layout.specs.declared.fault.BodyFault.TheVariants.{Bad};
 ghost use Rattle.std.specs.Int.{w16, w32};
-ghost use Rattle.pg_layout.specs.Private.Reader.{Gives, name_at, number_at, signed_at, nonzero_at, string_at, counted_at, times_at, after_zero, terminated_at, choice_at, status_of_byte, binary_of_byte, copy_head_at};
+ghost use Rattle.pg_layout.specs.Private.Reader.{Gives, name_at, number_at, signed_at, nonzero_at};
+ghost use Rattle.pg_layout.specs.Private.Reader.{string_at, counted_at, times_at, after_zero};
+ghost use Rattle.pg_layout.specs.Private.Reader.{terminated_at, choice_at, status_of_byte};
+ghost use Rattle.pg_layout.specs.Private.Reader.{binary_of_byte, copy_head_at};
 
 use crate::fault::BodyFault;
 use crate::field::ReadField;
@@ -105,7 +109,7 @@ pub fn copy_of(alloc: Global, bytes: &[u8]) -> Result<Seq<u8>, BodyFault>
     Ok(Seq::from_slice(alloc, bytes)?)
 }
 
-/// So many fields, one after the other.
+// So many fields, one after the other.
 fn times<T: ReadField>(
     alloc: Global,
     count: u16,

@@ -1,2 +1,3 @@
 -- Lemmas, by the subject.
 pub mod Patience
+pub mod Sent

@@ -1,14 +1,22 @@
-//! Where bytes come from and go to: a [`Source`] gives them, a [`Sink`] takes them, and [`Over`] makes a source of a reader and a
-//! sink of a writer. A [`Patient`] reader or writer makes what was interrupted again.
+//! Where bytes come from and go to: a [`Source`] gives them, a [`Sink`] takes them.
+//!
+//! [`Over`] makes a source of a reader and a sink of a writer. A [`Patient`] reader or writer repeats calls that were interrupted.
+//! [`send_all`] and [`send_out`] send all of some bytes (`specs/Sending.antt`). Each counts the calls that failed, so that a contract can say
+//! whether a fault is true (`specs/Link.antt`).
+//!
+//! It is the lowest layer of `pg_wire`. Users name `pg_wire`, which passes it on.
 #![tactic(auto)]
 
-ghost use Rattle.std.specs.Prelude.{◌≡◌, ◌<◌, ◌≤◌, ◌↔◌, ℕ, List, [], length, Some, Ok, IfOk, IsNone};
+ghost use Rattle.std.specs.Prelude.{◌≡◌, ◌<◌, ◌≤◌, ◌↔◌, ℕ, List, [], length, Some, Ok, IfOk};
+ghost use Rattle.std.specs.Prelude.{IsNone};
 ghost use Rattle.std.specs.Io.KnownBytes.{Appends, Consumes, IsAtEnd};
 ghost use Rattle.pg_link.specs.Link.{Counts, HasRisen, passed_on};
 
 mod patient;
+mod sending;
 
 pub use patient::{PATIENCE, Patient};
+pub use sending::{send_all, send_out};
 use std::io::{self, ErrorKind, Read, Write};
 use std::marker::Model;
 use thiserror::Error;
@@ -29,7 +37,7 @@ pub trait Source {
     // The last call found the end.
     ghost has_ended: { Self → Type 0 };
 
-    /// Puts bytes at the beginning of `into`, and answers how many, at most as many as there is room for. 0 is the end,
+    /// Puts bytes at the beginning of `into`, and returns how many, at most as many as there is room for. 0 is the end,
     /// where there was room. A fault gives nothing and is counted; the source may be asked again.
     fn receive(&mut self, into: &mut [u8]) -> Result<usize, LinkFault>
         ensures bound { IfOk result (λ n. n ≤ length into.new) }
@@ -46,7 +54,7 @@ pub trait Sink {
     // A call may take these bytes and leave the sink so. Where it fails it takes none.
     ghost takes: { Self → List ℕ → Self → Type 0 };
 
-    /// Takes bytes from the beginning of `piece`, and answers how many: at most its length, and at least 1 unless it is
+    /// Takes bytes from the beginning of `piece`, and returns how many: at most its length, and at least 1 unless it is
     /// empty. A fault takes nothing and is counted; the sink may be asked again.
     fn send(&mut self, piece: &[u8]) -> Result<usize, LinkFault>
         ensures bound { IfOk result (λ n. n ≤ length piece.now) }

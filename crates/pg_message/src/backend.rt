@@ -10,8 +10,18 @@ mod kind;
 mod reading;
 
 ghost use Rattle.std.specs.Prelude.{◌≡◌};
-ghost use Rattle.pg_message.specs.declared.message.BackMessage.TheVariants.{AuthOther, ParameterStatus, RowDescription, DataRow, CommandComplete, ParameterDescription, ErrorResponse, NoticeResponse, Notification, CopyIn, CopyOut, CopyData};
-ghost use Rattle.pg_message.specs.Backend.{backend, tag, status_byte, format_byte, copy_head, is_reserved};
+ghost use Rattle.pg_message.specs.declared.message.BackMessage.TheVariants.{AuthOther};
+ghost use Rattle.pg_message.specs.declared.message.BackMessage.TheVariants.{ParameterStatus};
+ghost use Rattle.pg_message.specs.declared.message.BackMessage.TheVariants.{RowDescription};
+ghost use Rattle.pg_message.specs.declared.message.BackMessage.TheVariants.{DataRow};
+ghost use Rattle.pg_message.specs.declared.message.BackMessage.TheVariants.{CommandComplete};
+ghost use Rattle.pg_message.specs.declared.message.BackMessage.TheVariants.{ParameterDescription};
+ghost use Rattle.pg_message.specs.declared.message.BackMessage.TheVariants.{ErrorResponse};
+ghost use Rattle.pg_message.specs.declared.message.BackMessage.TheVariants.{NoticeResponse};
+ghost use Rattle.pg_message.specs.declared.message.BackMessage.TheVariants.{Notification, CopyIn};
+ghost use Rattle.pg_message.specs.declared.message.BackMessage.TheVariants.{CopyOut, CopyData};
+ghost use Rattle.pg_message.specs.Backend.{backend, tag, status_byte, format_byte, copy_head};
+ghost use Rattle.pg_message.specs.Backend.{is_reserved};
 ghost use Rattle.pg_message.specs.Encoder.{Appends, Encodes};
 ghost use Rattle.pg_message.specs.Private.BackReader.{back_reading};
 ghost use Rattle.pg_message.specs.Private.Reading.{ReadsWhole};
@@ -44,14 +54,14 @@ fn format_byte(binary: bool) -> u8
     if binary { 1 } else { 0 }
 }
 
-/// Whether a message of its own has this code.
+// Whether a message of its own has this code.
 fn is_reserved(code: i32) -> bool
     ensures { result ≡ is_reserved code }
 {
     code == 0 || code == 3 || code == 5
 }
 
-/// An authentication request that has no message of its own.
+// An authentication request that has no message of its own.
 fn encode_other(code: i32, rest: &[u8], buf: &mut Vec<u8>) -> Result<(), EncodeFault>
     ensures { Encodes backend (AuthOther code rest.now) buf.old.items result buf.new.items }
 {
@@ -61,7 +71,7 @@ fn encode_other(code: i32, rest: &[u8], buf: &mut Vec<u8>) -> Result<(), EncodeF
     append(b'R', &Pair(Int32(&code), Bytes(rest)), buf)
 }
 
-/// A CopyIn or a CopyOut, by its tag.
+// A CopyIn or a CopyOut, by its tag.
 fn encode_copy_head(tag: u8, head: &CopyHead, buf: &mut Vec<u8>) -> Result<(), EncodeFault>
     ensures { Appends tag (copy_head head.now) buf.old.items result buf.new.items }
 {
@@ -234,7 +244,7 @@ impl BackMessage {
     }
 }
 
-/// The message of this kind and this body. Want of memory is a fault of a message alone, and one that holds a list.
+// The message of this kind and this body. Memory is a fault of a message alone, and one that holds a list.
 fn read_whole(alloc: Global, kind: BackKind, body: &[u8]) -> Result<BackMessage, BodyFault>
     ensures { ReadsWhole backend.holds_list result ((back_reading kind).message body.now) }
 {

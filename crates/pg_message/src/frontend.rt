@@ -10,7 +10,12 @@ mod kind;
 mod reading;
 
 ghost use Rattle.std.specs.Prelude.{◌≡◌, false, option_copied};
-ghost use Rattle.pg_message.specs.declared.message.FrontMessage.TheVariants.{Query, Parse, Bind, Describe, Close, Execute, Sync, Flush, Terminate, CopyData, CopyDone, CopyFail, Password};
+ghost use Rattle.pg_message.specs.declared.message.FrontMessage.TheVariants.{Query, Parse, Bind};
+ghost use Rattle.pg_message.specs.declared.message.FrontMessage.TheVariants.{Describe, Close};
+ghost use Rattle.pg_message.specs.declared.message.FrontMessage.TheVariants.{Execute, Sync, Flush};
+ghost use Rattle.pg_message.specs.declared.message.FrontMessage.TheVariants.{Terminate, CopyData};
+ghost use Rattle.pg_message.specs.declared.message.FrontMessage.TheVariants.{CopyDone, CopyFail};
+ghost use Rattle.pg_message.specs.declared.message.FrontMessage.TheVariants.{Password};
 ghost use Rattle.pg_message.specs.declared.message.First.TheVariants.{Startup, Cancel, Ssl, Gss};
 ghost use Rattle.pg_message.specs.Frontend.{frontend, tag, target_byte};
 ghost use Rattle.pg_message.specs.First.{startup_parameters};
@@ -39,7 +44,7 @@ fn target_byte(target: Target) -> u8
     }
 }
 
-/// Appends the first packet of the protocol's version 3.0.
+// Appends the first packet of the protocol's version 3.0.
 fn append_startup<P: BodyPart>(
     has_no_name: bool,
     content: &P,
@@ -292,7 +297,7 @@ impl FrontMessage {
     }
 }
 
-/// The message of this kind and this body. Want of memory is a fault of a message alone, and one that holds a list.
+// The message of this kind and this body. Memory is a fault of a message alone, and one that holds a list.
 fn read_whole(alloc: Global, kind: FrontKind, body: &[u8]) -> Result<FrontMessage, BodyFault>
     ensures { ReadsWhole frontend.holds_list result ((front_reading kind).message body.now) }
 {

@@ -1,7 +1,25 @@
-//! The messages of the PostgreSQL Frontend/Backend Protocol 3.0 and the first packets of a connection, one by one: each is written
-//! as its one spelling, and a message is read from its tag and its body.
+//! The messages of the PostgreSQL Frontend/Backend Protocol 3.0 and the first packets of a connection, one by one: each is written as
+//! its one spelling, and read from its tag and its body (PostgreSQL documentation, "Message Formats").
 //!
-//! It is the middle layer of `pg_wire`, which reads streams. Users name `pg_wire`, which passes on what they need of it.
+//! It is a layer of `pg_wire`, which reads streams. Users name `pg_wire`, which passes on what they need of it.
+//!
+//! # Files
+//!
+//! | File | Definitions in `specs/` | What it has |
+//! |---|---|---|
+//! | `direction.rt` | `Direction`, `Message` | what the messages of a direction have in common: tag, length field, body, which have no spelling and why |
+//! | `backend.rt`, `frontend.rt`, `message.rt` | `Backend`, `Frontend`, `First` | the messages of each direction as a table: a row has the tag and the body of a message; first packets as bytes |
+//! | `lent.rt` | `Lent` | a row, an error or a notice that is read in place |
+//! | `judging.rt` | | whether a body is one of its tag, without making the message |
+//! | `backend.rt`, `frontend.rt` | `Encoder` | what an encoder does with the buffer |
+//!
+//! **The definitions are a table**, with a row for each message: its tag and its body, put together of the protocol's data types
+//! (`back_row (ParameterStatus name text) = row 83 (string name ⨾ string text)`). All else that is said of a message follows from its row:
+//! its bytes, whether a text holds a zero byte, whether a list is too long for its count. No definition says how reading goes; two laws
+//! tie the readers to the table: what is read is spelled so, and what is spelled so is read.
+//!
+//! **Judging a body** makes no message and needs no memory: `Message::is_message` says whether a body is one of its tag. `of_body` judges
+//! a body after memory ran out for its message, so that out of memory is returned for messages alone.
 #![tactic(auto)]
 
 pub mod backend;

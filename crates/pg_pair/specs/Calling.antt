@@ -22,7 +22,7 @@ IsAllowedIn (call.Fail reason) p = p ≡ phase.CopyingIn
 IsAllowedIn call.Terminate p = IsOpenPhase p
 
 -- The client has this reason to refuse the call: C1 or C2 in another phase, and C3 where what it
--- would send has no spelling or memory was refused.
+-- would send has no spelling or memory ran out.
 abbrev pub RefusesCall : ClientView → Call → CallFault → Type 0
 RefusesCall c call.Start f = RefusesUnless phase.New c call.Start f
 RefusesCall c (call.Request r) f = RefusesUnless phase.Ready c (call.Request r) f

@@ -35,7 +35,7 @@ abbrev pub KeepsMore : Event → Type 0
 KeepsMore (event.Call c) = Unit {0}
 KeepsMore _ = ⊥
 
--- What `apply` does: the event happens and is answered; or it is dropped for want of memory (P1),
+-- What `apply` does: the event happens and is answered; or it is dropped because memory ran out (P1),
 -- and both ways break.
 abbrev pub Applies : {C : Type 0}
     → Carrying C → Event → PairView C → Result Applied PairFault → PairView C → Type 0

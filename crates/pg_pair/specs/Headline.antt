@@ -88,6 +88,6 @@ pub record Headline {C : Type 0} (p : PairView C) : Type 0 where
   -- of the requests that were made at most one isn't settled
   pub one_at_most : length p.handed ≤ suc (length p.settled)
   -- where the client's phase is Ready, so is the backend's, with copy messages alone left to drop,
-  -- unless the way to the backend is broken or a step of the backend was refused memory
+  -- unless the way to the backend is broken or a step of the backend ran out of memory
   pub ready : client.phase_of p.client ≡ client_phase.Ready
       → p.to_backend.broken ≡ false → had_memory p.backend.stage ≡ true → StandsReady p

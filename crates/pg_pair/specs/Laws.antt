@@ -106,7 +106,7 @@ GivesWhole {C} carries =
     (old : C) (w : Way) (piece : List ℕ) (came : Result (List ℕ) CarryFault) (new : C)
     → carries old w piece came new → came ≡ Ok piece
 
--- Law: with a carrier that gives each piece whole, a delivery that answers Done or Nothing, along a
+-- Law: with a carrier that gives each piece whole, a delivery that returns Done or Nothing, along a
 -- way that isn't shut, moves the lesser of what was asked for and what waited.
 abbrev pub WholeMoves : {C : Type 0} → Carrying C → Type 0
 WholeMoves {C} carries = GivesWhole carries

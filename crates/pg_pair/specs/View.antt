@@ -39,7 +39,7 @@ pub record PairView (C : Type 0) : Type 0 where
   pub settled : List Settled
   -- for each request that the client made, the chunks that its caller handed over for its copies
   pub handed : List (List (List ℕ))
-  -- what the client's `lost` answered when the way to it broke; None before that, and where the
+  -- what the client's `lost` returned when the way to it broke; None before that, and where the
   -- client was closed already
   pub loss : Option Loss
 

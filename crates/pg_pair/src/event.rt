@@ -44,9 +44,9 @@ pub enum Applied {
         /// Why it was refused.
         fault: CallFault,
     },
-    /// The client answered this fault (F1 to F7) to the bytes that reached it last, and is closed.
+    /// The client returned this fault (F1 to F7) to the bytes that reached it last, and is closed.
     Client(FeedFault),
-    /// The backend answered this fault: K1, K2 or K4 to a step, after which it is closed; or K2 to
+    /// The backend returned this fault: K1, K2 or K4 to a step, after which it is closed; or K2 to
     /// bytes that were delivered, which haven't reached it then.
     Backend(BackendFault),
     /// The carrier failed or gave other bytes, and the receiving end answered no fault. The way is broken.

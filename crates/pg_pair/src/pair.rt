@@ -89,7 +89,7 @@ impl<C: Carry> Pair<C> {
     ghost use Rattle.pg_pair.specs.View.{way_state};
 
     /// A new client with these settings, whose limit is from 64 to 1,073,741,823, and a new backend
-    /// that plays this script, whose `check` has answered Ok. Nothing is sent yet. It takes no
+    /// that plays this script, whose `check` has returned Ok. Nothing is sent yet. It takes no
     /// memory.
     pub fn new(alloc: Global, settings: Settings, script: Script, carrier: C) -> Pair<C>
         requires limit { IsLimit settings.limit }
@@ -110,8 +110,8 @@ impl<C: Carry> Pair<C> {
         }
     }
 
-    /// Applies an event. A call that the client refuses is answered Refused; a delivery goes in pieces of at most 4,096 bytes,
-    /// and ends where the carrier gives fewer than its piece or where the end answers a fault. What the client puts out as it is fed
+    /// Applies an event. A call that the client refuses returns Refused; a delivery goes in pieces of at most 4,096 bytes,
+    /// and ends where the carrier gives fewer than its piece or where the end returns a fault. What the client puts out as it is fed
     /// is sent to the backend. Steps, deliveries and breaks for a closed end or a broken way do nothing.
     ///
     /// P1 Memory: memory for what the pair keeps of a call was refused. Both ways break as by the two break events, the call is
@@ -182,7 +182,7 @@ impl<C: Carry> Pair<C> {
         self.handed.as_slice()
     }
 
-    /// What the client's `lost` answered when the way to it broke: the request in doubt, if there
+    /// What the client's `lost` returned when the way to it broke: the request in doubt, if there
     /// is one. None before that, and where the client was closed already.
     pub fn loss(&self) -> Option<&Loss>
         ensures { option_copied result ≡ self.now.loss }

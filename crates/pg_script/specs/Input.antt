@@ -158,7 +158,7 @@ end_phase Asking = phase.Password
 end_phase Refusal = phase.Closed
 end_phase (At place) = place_phase place
 
--- the phase that this input leads to, if neither want of memory nor the loss of the connection
+-- the phase that this input leads to, if neither running out of memory nor the loss of the connection
 -- closes the backend
 abbrev pub input_phase : Script → Input → BackPhase
 input_phase s i = if i.faulty then phase.Closed else end_phase (input_end s i)

@@ -19,7 +19,7 @@ fn is_copy_in(part: &ScriptPart) -> bool
     matches!(part, ScriptPart::CopyIn { .. })
 }
 
-/// Whether an answer has at most one copy from the client.
+// Whether an answer has at most one copy from the client.
 fn has_one_copy(answer: &Answer) -> bool
     ensures { result ≡ has_one_copy answer.now }
 {
@@ -27,14 +27,14 @@ fn has_one_copy(answer: &Answer) -> bool
     parts.iter().filter(|part| is_copy_in(part)).count() <= 1
 }
 
-/// Whether each answer has.
+// Whether each answer has.
 fn all_have_one_copy(answers: &[Answer]) -> bool
     ensures { result ≡ list_all has_one_copy answers.now }
 {
     answers.iter().all(|answer| has_one_copy(answer))
 }
 
-/// What a part stands for.
+// What a part stands for.
 fn tell_part(part: &ScriptPart, out: &mut Vec<u8>) -> Result<(), EncodeFault>
     ensures { EncodesAll (part_messages part.now) out.old.items result out.new.items }
 {
@@ -72,7 +72,7 @@ impl Tell for Answer {
     }
 }
 
-/// What a script stands for.
+// What a script stands for.
 fn tell_script(script: &Script, out: &mut Vec<u8>) -> Result<(), EncodeFault>
     ensures { EncodesAll (script_messages script.now) out.old.items result out.new.items }
 {
@@ -98,7 +98,7 @@ fn script_fault(fault: EncodeFault) -> ScriptFault
 impl Script {
     /// Whether the script can be played: no answer has two copies from the client (else Copies), and each message that the
     /// script stands for has a spelling (else Encode), in an answer that fits its request or not. It writes all of them once;
-    /// Memory is answered where that was refused and no message is without a spelling.
+    /// Memory is returned where that was refused and no message is without a spelling.
     pub fn check(&self, alloc: Global) -> Result<(), ScriptFault>
         ensures { Checks self.now result }
     {

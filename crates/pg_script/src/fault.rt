@@ -15,7 +15,7 @@ pub enum ScriptFault {
     /// A message of the script has no spelling, be it in an answer that fits its request or not.
     #[error("S2 Encode")]
     Encode,
-    /// Memory was refused, and neither of the others holds.
+    /// Memory ran out, and neither of the others holds.
     #[error("S3 Memory")]
     Memory,
 }

@@ -7,7 +7,7 @@ ghost use Rattle.pg_script.specs.Fitting.{answers_query, answers_step, answers_s
 use crate::script::{Answer, ScriptPart};
 use pg_wire::{Request, Step, Target};
 
-/// Whether the part may answer a Query: it is a result.
+// Whether the part may answer a Query: it is a result.
 fn answers_query(part: &ScriptPart) -> bool
     ensures { result ≡ answers_query part.now }
 {
@@ -21,14 +21,14 @@ fn answers_query(part: &ScriptPart) -> bool
     }
 }
 
-/// Whether all of the parts may answer a Query.
+// Whether all of the parts may answer a Query.
 fn answer_query(parts: &[ScriptPart]) -> bool
     ensures { result ≡ list_all answers_query parts.now }
 {
     parts.iter().all(|part| answers_query(part))
 }
 
-/// Whether the part may answer the step.
+// Whether the part may answer the step.
 fn answers_step(step: &Step, part: &ScriptPart) -> bool
     ensures { result ≡ answers_step step.now part.now }
 {
@@ -46,7 +46,7 @@ fn answers_step(step: &Step, part: &ScriptPart) -> bool
     }
 }
 
-/// Whether part i answers step i. Only an error lets steps go without an answer.
+// Whether part i answers step i. Only an error lets steps go without an answer.
 fn answers_steps(error: bool, steps: &[Step], parts: &[ScriptPart]) -> bool
     ensures { result ≡ answers_steps error steps.now parts.now }
 {

@@ -72,7 +72,7 @@ pub fn copy_of_load(load: &Load) -> Result<Load, AllocError>
     }
 }
 
-/// The part once it is complete, which a copy that is refused never is.
+// The part once it is complete, which a copy that is refused never is.
 fn complete_part(alloc: Global, part: &ScriptPart) -> Result<Option<Part>, AllocError>
     ensures { IfOk result (λ o. option_to_list o ≡ complete part.now) }
 {
@@ -113,7 +113,7 @@ fn complete_part(alloc: Global, part: &ScriptPart) -> Result<Option<Part>, Alloc
     }
 }
 
-/// The parts that are complete.
+// The parts that are complete.
 fn complete_parts(alloc: Global, parts: &[ScriptPart]) -> Result<Seq<Part>, AllocError>
     ensures { IfOk result (λ ps. ps ≡ parts_of parts.now) }
 {

@@ -11,7 +11,7 @@ use std::alloc::{AllocError, Global};
 /// The most bytes of a client's reason that are told.
 const SHOWN: usize = 200;
 
-/// An error with this severity, SQLSTATE code and message ("Error and Notice Message Fields").
+// An error with this severity, SQLSTATE code and message ("Error and Notice Message Fields").
 fn error_of(
     alloc: Global,
     severity: &[u8],
@@ -46,7 +46,7 @@ pub fn no_answer(alloc: Global) -> Result<Answer, AllocError>
     })
 }
 
-/// What is told of a client's reason.
+// What is told of a client's reason.
 fn shown(reason: &[u8]) -> &[u8]
     ensures { result.now ≡ take 200 reason.now }
 {

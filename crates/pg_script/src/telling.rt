@@ -1,6 +1,6 @@
 //! Writing what a script says, as messages.
 //!
-//! All messages are judged, also after one that memory was refused for: so a message without a spelling is found in any case.
+//! All messages are judged, also after one that memory ran out for: so a message without a spelling is found in any case.
 
 ghost use Rattle.std.specs.Prelude.{◌≡◌, ◌∷◌, [], ◌++◌, List, map};
 ghost use Rattle.std.specs.List.{flat_map};
@@ -8,7 +8,8 @@ ghost use Rattle.pg_wire.specs.message.BackMessage.{BackMessage};
 ghost use Rattle.pg_wire.specs.message.BackMessage.TheVariants.{DataRow, CopyData};
 ghost use Rattle.pg_wire.specs.declared.session.Part.TheVariants.{Rows, CopyOut, CopyIn, Described};
 ghost use Rattle.pg_wire.specs.declared.session.Part.TheVariants.{Executed};
-ghost use Rattle.pg_wire.specs.Segment.{messages_of, parameters_sent, columns_sent, execute_end_sent};
+ghost use Rattle.pg_wire.specs.Segment.{messages_of, parameters_sent, columns_sent};
+ghost use Rattle.pg_wire.specs.Segment.{execute_end_sent};
 ghost use Rattle.pg_script.specs.Outcome.{complete};
 ghost use Rattle.pg_script.specs.Replies.{aside_message, error_sent};
 ghost use Rattle.pg_script.specs.Opening.{pair_message, key_messages};
@@ -21,7 +22,7 @@ use pg_wire::backend::{
 };
 use pg_wire::{Aside, BackMessage, Column, CopyHead, EncodeFault, ExecEnd, Fields, Seq, Values};
 
-/// What two attempts come to: the first fault, but want of memory only where there is no other.
+/// What two attempts come to: the first fault, but Memory only where there is no other.
 pub fn both(
     first: Result<(), EncodeFault>,
     second: Result<(), EncodeFault>,
@@ -104,7 +105,7 @@ impl Tell for Aside {
     }
 }
 
-/// Rows of a query.
+// Rows of a query.
 fn tell_rows(
     columns: &[Column],
     rows: &[Values],
@@ -119,7 +120,7 @@ fn tell_rows(
     both(body, command_complete(tag, out))
 }
 
-/// A copy to the client.
+// A copy to the client.
 fn tell_copy_out(
     head: &CopyHead,
     chunks: &[Seq<u8>],
@@ -135,7 +136,7 @@ fn tell_copy_out(
     both(body, command_complete(tag, out))
 }
 
-/// A copy from the client that is complete.
+// A copy from the client that is complete.
 fn tell_copy_in(head: &CopyHead, tag: &[u8], out: &mut Vec<u8>) -> Result<(), EncodeFault>
     ensures { EncodesAll (messages_of (CopyIn head.now tag.now))
         out.old.items result out.new.items }

@@ -10,7 +10,7 @@ use std::alloc::AllocError;
 pub enum ReadFault {
     /// The message, which has this tag, may not stand there.
     Unexpected(u8),
-    /// Memory was refused.
+    /// Memory ran out.
     Memory,
 }
 

@@ -10,7 +10,8 @@ ghost use Rattle.std.specs.Prelude.{◌≡◌, OnErr, OnOk};
 ghost use Rattle.pg_wire.specs.message.BackMessage.TheVariants.{DataRow};
 ghost use Rattle.pg_segment.specs.Kind.{IsResult};
 ghost use Rattle.pg_segment.specs.Segment.{stage_failed, with_aside};
-ghost use Rattle.pg_segment.specs.SegmentCalls.{answering, awaits_data, may_end_segment, ReadsAs, segment_of, settled_by, with_error};
+ghost use Rattle.pg_segment.specs.SegmentCalls.{answering, awaits_data, may_end_segment, ReadsAs};
+ghost use Rattle.pg_segment.specs.SegmentCalls.{segment_of, settled_by, with_error};
 
 use crate::fault::ReadFault;
 use collected::Collected;
@@ -46,7 +47,8 @@ impl Model for Segment {
 
     ghost view = { λ s. segment_with s.request s.collected s.place.answer };
 
-    ghost invariant = { λ s. s.place ≡ place_in (segment_with s.request s.collected s.place.answer) };
+    ghost invariant = { λ s. s.place
+        ≡ place_in (segment_with s.request s.collected s.place.answer) };
 }
 
 impl Segment {

@@ -23,7 +23,7 @@ impl Model for Buffer {
     ghost invariant = { λ b. b.start ≤ vec_len b.bytes };
 }
 
-/// Takes the first n bytes off. It moves those that stay.
+// Takes the first n bytes off. It moves those that stay.
 fn drop_first(bytes: &mut Vec<u8>, n: usize)
     requires { n ≤ vec_len bytes.old }
     ensures { bytes.new.items ≡ drop n bytes.old.items }
@@ -58,7 +58,7 @@ impl Buffer {
         &self.bytes[self.start..]
     }
 
-    /// Adds a piece, which is all taken or, where memory is refused, not at all. A piece without bytes wants no memory. A byte is
+    /// Adds a piece, which is all taken or, where memory runs out, not at all. A piece without bytes needs no memory. A byte is
     /// moved once on average, however small the pieces.
     pub fn push(&mut self, piece: &[u8]) -> Result<(), AllocError>
         ensures ok { OnOk result (self.new ≡ self.old ++ piece.now) }

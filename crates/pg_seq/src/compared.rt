@@ -2,7 +2,9 @@
 //!
 //! Both sides of a comparison have one type. So a list is compared with a slice as `list.as_slice() == slice`, and with an array as
 //! `list[..] == [1, 2]`.
-ghost use Rattle.std.specs.Cmp.Lexicographic.{pointwise, slice_cmp, slice_partial_cmp, lists_agrees, lists_equiv, lists_per, lists_po, lists_ties, lists_total};
+ghost use Rattle.std.specs.Cmp.Lexicographic.{pointwise, slice_cmp, slice_partial_cmp};
+ghost use Rattle.std.specs.Cmp.Lexicographic.{lists_agrees, lists_equiv, lists_per, lists_po};
+ghost use Rattle.std.specs.Cmp.Lexicographic.{lists_ties, lists_total};
 ghost use Rattle.std.specs.Hash as fed;
 ghost use Rattle.std.specs.Hash.{items_Alike};
 

@@ -1,4 +1,15 @@
-//! `Seq<T>`: a list that contracts see by its elements alone. [`Buffer`]: a queue of bytes.
+//! [`Seq<T>`](Seq): the list that the library's values are made of. A contract sees its elements and no capacity, so two are equal where their
+//! elements are. [`Buffer`]: a queue of bytes, which a contract sees as bytes.
+//!
+//! Text of the protocol is bytes, a `Seq<u8>`: PostgreSQL doesn't say that it is UTF-8. What takes memory can fail: `Seq::from_slice`, `push`
+//! and `Clone` of lists return an error where memory ran out, and leave the list as it was.
+//!
+//! | File | Definitions in `specs/` | What it has |
+//! |---|---|---|
+//! | `lib.rt` | | `Seq<T>`, its conversions and iterators |
+//! | `buffer.rt` | | `Buffer` |
+//! | `compared.rt`, `lent.rt` | | comparing with slices; lending the elements |
+//! | `show.rt` | `Text` | `{:?}`, as a derived form writes a list |
 #![tactic(auto)]
 
 mod buffer;
@@ -6,7 +17,8 @@ mod compared;
 mod lent;
 mod show;
 
-ghost use Rattle.std.specs.Prelude.{◌≡◌, ◌↔◌, [], ◌∷◌, ◌++◌, length, slice_get, IsTrue, IfOk, IfErr, IsOk, OnOk, OnErr};
+ghost use Rattle.std.specs.Prelude.{◌≡◌, ◌↔◌, [], ◌∷◌, ◌++◌, length, slice_get, IsTrue, IfOk};
+ghost use Rattle.std.specs.Prelude.{IfErr, IsOk, OnOk, OnErr};
 ghost use Rattle.std.specs.Iterator.Runs.{EveryRun, ItemsAre, ItemsMapTo};
 ghost use Rattle.std.specs.List.{AllZip};
 ghost use Rattle.std.specs.Option.{option_copied};
@@ -183,7 +195,8 @@ impl<T: Drop> IntoIterator for Seq<T> {
     type IntoIter = vec::IntoIter<T>;
 
     ghost into_iter_gives = { λ list it. (into_iter_items it ≡ list)
-        × EveryRun (into_iter_steps {X = T} {Z = Global}) (λ p. ItemsAre p (into_iter_items p.from)) };
+        × EveryRun (into_iter_steps {X = T} {Z = Global})
+        (λ p. ItemsAre p (into_iter_items p.from)) };
 
     fn into_iter(self) -> vec::IntoIter<T> {
         self.into_vec().into_iter()

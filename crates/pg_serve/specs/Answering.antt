@@ -12,7 +12,7 @@ use Rattle.pg_serve.specs.declared.answered.AnswerFault.{AnswerFault}
 use Rattle.pg_serve.specs.declared.answered.AnswerFault.TheVariants as fault
 use Rattle.pg_serve.specs.declared.answered.Answered.{Answered}
 use Rattle.pg_serve.specs.declared.answered.Answered.TheVariants as answered
-use Rattle.pg_serve.specs.Sending.{FailsToSend, Sends}
+use Rattle.pg_wire.specs.Sending.{FailsToSend, Sends}
 
 -- The most bytes that are received at once.
 abbrev pub longest_piece : ℕ
@@ -92,7 +92,7 @@ module _ {L : Type 0} (gives takes : L → List ℕ → L → Type 0) (has_ended
     pub ended : has_ended new.link
     pub lost : IsLost old.backend new.backend
 
-  -- A step of a backend that wasn't closed answered this fault, and all that was put out for it was
+  -- A step of a backend that wasn't closed returned this fault, and all that was put out for it was
   -- sent.
   pub record Breaks (old : Connection L) (f : BackendFault) (new : Connection L) : Type 0 where
     pub reply : List ℕ
@@ -126,7 +126,9 @@ module _ {L : Type 0} (gives takes : L → List ℕ → L → Type 0) (has_ended
     -- the backend that made the step, before it was told that the link failed
     pub backend : BackendState
     pub stepped : HasStepped old.backend answer reply backend
-    pub sent : FailsToSend takes send_failures old.link reply new.link
+    -- the end of the reply, which wasn't sent
+    pub left : List ℕ
+    pub sent : FailsToSend takes send_failures old.link reply left new.link
     pub lost : IsLost backend new.backend
 
   -- The last turn, by what was answered in it. TurnsUsed isn't answered in a turn.

@@ -1,5 +1,4 @@
--- What a reader must believe: how bytes are sent over a link, and what `answer` does.
-pub mod Sending
+-- What a reader must believe: what `answer` does.
 pub mod Answering
 -- What becomes of the history of a backend that answers.
 pub mod Carried

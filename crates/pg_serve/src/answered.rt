@@ -20,7 +20,7 @@ pub enum Answered {
 /// Why a client can't be answered. The backend is closed.
 #[derive(Clone, Copy, Debug, PartialEq, Eq, Error)]
 pub enum AnswerFault {
-    /// The backend answered this fault to what the client sent. What it replied is sent.
+    /// The backend returned this fault to what the client sent. What it replied is sent.
     #[error("A1 Backend {0}")]
     Backend(BackendFault),
     /// The link failed, and the backend was told that it is gone.

@@ -5,9 +5,8 @@ ghost use Rattle.pg_serve.specs.Private.Turning.{SendsReply, TakesTurn};
 ghost use Rattle.pg_backend.specs.Stage.{IsWaiting};
 
 use crate::answered::{AnswerFault, Answered};
-use crate::sending::send_all;
 use pg_backend::{Backend, BackendFault};
-use pg_wire::{Sink, Source};
+use pg_wire::{Sink, Source, send_all};
 use std::alloc::Global;
 
 // How many bytes are received at once.

@@ -122,7 +122,7 @@ no_field_comes bytes e = none (length bytes)
 
 -- ---- the view of a whole body
 
--- a fault that isn't want of memory says that nothing is read
+-- a fault that isn't Memory says that nothing is read
 pub read_bad : {A : Type 0} (e : BodyFault) (o : Option A) → e ≡ faults.Bad → Fails e o → o ≡ None
 read_bad faults.Bad o is f = f
 read_bad faults.Memory o is f = absurd cc

@@ -1,6 +1,8 @@
 //! The fields of an error or a notice, in one block of memory.
 
-ghost use Rattle.std.specs.Prelude.{◌≡◌, ◌↔◌, ◌<◌, ◌≤◌, ◌+◌, [], ◌∷◌, ◌++◌, length, map, option_copied, nat_eq, OnOk, OnErr, IfOk, IfErr, IsTrue, Err, ◌⊎◌};
+ghost use Rattle.std.specs.Prelude.{◌≡◌, ◌↔◌, ◌<◌, ◌≤◌, ◌+◌, [], ◌∷◌, ◌++◌, length, map};
+ghost use Rattle.std.specs.Prelude.{option_copied, nat_eq, OnOk, OnErr, IfOk, IfErr, IsTrue, Err};
+ghost use Rattle.std.specs.Prelude.{◌⊎◌};
 ghost use Rattle.std.specs.Cmp.{and_equiv, partial_equiv_from_equiv};
 ghost use Rattle.std.specs.Cmp.Lexicographic.{pointwise, lists_per, lists_equiv, nat_list_eq_equiv};
 ghost use Rattle.std.specs.Iterator.{YieldsFirstBy, item_count};
@@ -10,7 +12,8 @@ ghost use Rattle.pg_layout.specs.Value.{error_field};
 ghost use Rattle.pg_layout.specs.declared.fault.EncodeFault.TheVariants.{TooLong, Memory};
 ghost use Rattle.pg_layout.specs.Private.Lent.{lent_field};
 ghost use Rattle.pg_layout.specs.Private.Reader.{Gives, error_field_at, terminated_at};
-ghost use Rattle.pg_values.specs.Fields.{field_text, code_text, severity_text, message_text, fields_spelled};
+ghost use Rattle.pg_values.specs.Fields.{field_text, code_text, severity_text, message_text};
+ghost use Rattle.pg_values.specs.Fields.{fields_spelled};
 ghost use Rattle.pg_values.specs.Private.Block.{longest_block};
 ghost use Rattle.pg_values.specs.Private.Kept.{fields_kept, IsKept};
 
@@ -45,7 +48,7 @@ impl Model for Fields {
     ghost invariant = { λ f. IsKept f.lengths.items f.block.items };
 }
 
-/// Puts a field at the end of a block, or leaves the block as it was where memory is refused.
+// Puts a field at the end of a block, or leaves the block as it was where memory runs out.
 fn put(block: &mut Vec<u8>, code: u8, text: &[u8]) -> Result<(), AllocError>
     requires { length text.now ≤ longest_block }
     ensures ok { OnOk result (block.new.items
@@ -60,8 +63,8 @@ fn put(block: &mut Vec<u8>, code: u8, text: &[u8]) -> Result<(), AllocError>
     Ok(())
 }
 
-/// The fields at the beginning of the bytes, up to the zero byte that closes them, and the bytes after it: they are read once, and
-/// copied at once.
+// The fields at the beginning of the bytes, up to the zero byte that closes them, and the bytes after it: they are read once, and
+// copied at once.
 fn kept_at(alloc: Global, bytes: &[u8]) -> Result<(Fields, &[u8]), BodyFault>
     requires short { length bytes.now ≤ longest_block + 1 }
     ensures { Gives (λ x. (x.0, x.1.now)) result (terminated_at error_field_at bytes.now) }
@@ -113,7 +116,8 @@ impl Fields {
     /// Copies fields that are lent. Its faults are TooLong, where no message could hold them, and Memory.
     pub fn of_view(alloc: Global, view: &FieldsView<'_>) -> Result<Fields, EncodeFault>
         ensures ok { IfOk result (λ fields. fields ≡ view.now) }
-        ensures too_long { (result ≡ Err TooLong) ↔ (longest_block < length (fields_spelled view.now)) }
+        ensures too_long { (result ≡ Err TooLong)
+            ↔ (longest_block < length (fields_spelled view.now)) }
         ensures faults { IfErr result (λ fault. (fault ≡ TooLong) ⊎ (fault ≡ Memory)) }
     {
         let body = view.body();
@@ -197,7 +201,7 @@ impl Fields {
     }
 
     /// Adds a field at the end. Any code and any text are taken, also those that no message can have. TooLong says that no message could
-    /// hold the fields any more, and Memory that memory was refused; the list then stays as it was.
+    /// hold the fields any more, and Memory that memory ran out; the list then stays as it was.
     pub fn push(&mut self, code: u8, text: &[u8]) -> Result<(), EncodeFault>
         ensures ok { OnOk result (self.new
             ≡ self.old ++ record { code = code; value = text.now } ∷ []) }
@@ -232,9 +236,11 @@ impl Clone for Fields {
 
 /// Two lists of fields are equal where their codes and their texts are, place by place.
 impl PartialEq for Fields {
-    ghost eq = { pointwise (eq_of_both (on (λ f. f.code) nat_eq) (on (λ f. f.value) (pointwise nat_eq))) };
+    ghost eq = { pointwise (eq_of_both (on (λ f. f.code) nat_eq)
+        (on (λ f. f.value) (pointwise nat_eq))) };
 
-    ghost laws = { lists_per (partial_equiv_from_equiv (and_equiv (on_equiv (λ f. f.code) nat_eq_equiv)
+    ghost laws = { lists_per (partial_equiv_from_equiv
+        (and_equiv (on_equiv (λ f. f.code) nat_eq_equiv)
         (on_equiv (λ f. f.value) nat_list_eq_equiv))) };
 
     fn eq(&self, other: &Self) -> bool {

@@ -1,7 +1,19 @@
-//! The values of rows and parameters, and the fields of errors and notices: lent by the body of the message that they stand in, or kept
-//! in one block of memory.
+//! The values of rows and parameters, and the fields of errors and notices: read in place in the body of a message, or kept in one
+//! block of memory.
 //!
-//! It stands between `pg_layout` and `pg_message`. Users name `pg_wire`, which passes on what they need of it.
+//! It is a layer of `pg_wire`. Users name `pg_wire`, which passes on what they need of it.
+//!
+//! # Files
+//!
+//! | File | Definitions in `specs/` | What it has |
+//! |---|---|---|
+//! | `view.rt` | | rows, errors and notices read in place ([`RowView`], [`FieldsView`]), and their iterators |
+//! | `values.rt`, `places.rt`, `part.rt`, `parameters.rt` | | values in one block ([`Values`]), and what an encoder takes as values ([`ValueList`]) and as parameters ([`ParameterList`]) |
+//! | `fields.rt`, `text_lengths.rt`, `terminated_fields.rt` | `Fields` | the fields of an error or a notice in one block ([`Fields`]), what each code means, and how a message spells them |
+//!
+//! **A row that is owned** stands in one block: the bytes after its count, as the message spells them, and where each value begins. So
+//! it is read in one walk over its lengths, copied at once, and written by one append. A contract sees the list of values. The fields of an
+//! error stand in a block likewise, with the length of each text.
 #![tactic(auto)]
 
 mod fields;
@@ -9,6 +21,7 @@ mod parameters;
 mod part;
 mod places;
 mod terminated_fields;
+mod text;
 mod text_lengths;
 mod values;
 mod view;
@@ -17,5 +30,6 @@ pub use fields::{Fields, KeptFields, fields_at};
 pub use parameters::{ParameterList, TerminatedParameters};
 pub use part::{CountedValues, ValueList};
 pub use terminated_fields::TerminatedFields;
+pub use text::Text;
 pub use values::{Values, values_at};
 pub use view::{FieldsView, LentFields, LentValues, RowView};

@@ -75,7 +75,7 @@ impl<const N: usize> ParameterList for &[(Seq<u8>, Seq<u8>); N] {
     }
 }
 
-/// Whether a name that is lent is empty.
+// Whether a name that is lent is empty.
 fn any_is_unnamed(pairs: &[(&[u8], &[u8])]) -> bool
     ensures { result ≡ list_any (λ p. length p.0.now == 0) pairs.now }
 {

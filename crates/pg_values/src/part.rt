@@ -1,6 +1,7 @@
 //! Values that an encoder writes after their count.
 
-ghost use Rattle.std.specs.Prelude.{◌≡◌, ◌<◌, ◌^◌, ◌++◌, List, Option, ℕ, false, length, map, option_copied, OnOk};
+ghost use Rattle.std.specs.Prelude.{◌≡◌, ◌<◌, ◌^◌, ◌++◌, List, Option, ℕ, false, length, map};
+ghost use Rattle.std.specs.Prelude.{option_copied, OnOk};
 ghost use Rattle.pg_layout.specs.Field.{counted, exceeds_count, value};
 ghost use Rattle.pg_layout.specs.Private.Writer.{LeavesRoom};
 

@@ -12,7 +12,7 @@ use std::alloc::AllocError;
 #[derive(Drop)]
 pub struct TerminatedFields<'a>(pub &'a Fields);
 
-/// Whether a code is 0, or a text has a zero byte.
+// Whether a code is 0, or a text has a zero byte.
 fn any_has_zero(fields: &Fields) -> bool
     ensures { result ≡ (listed error_field fields.now).has_zero }
 {

@@ -1,18 +1,23 @@
 //! The values of a row or a Bind, in one block of memory.
 
-ghost use Rattle.std.specs.Prelude.{◌≡◌, ◌↔◌, ◌<◌, ◌+◌, ◌≤◌, [], ◌∷◌, ◌++◌, length, map, option_copied, option_map, slice_get, vec_len, OnOk, OnErr, IfOk, IfErr, IfSome, IsTrue, Err};
+ghost use Rattle.std.specs.Prelude.{◌≡◌, ◌↔◌, ◌<◌, ◌+◌, ◌≤◌, [], ◌∷◌, ◌++◌, length, map};
+ghost use Rattle.std.specs.Prelude.{option_copied, option_map, slice_get, vec_len, OnOk, OnErr};
+ghost use Rattle.std.specs.Prelude.{IfOk, IfErr, IfSome, IsTrue, Err};
 ghost use Rattle.std.specs.Prelude.{nat_eq};
 ghost use Rattle.std.specs.Option.{option_eq};
-ghost use Rattle.std.specs.Cmp.Lexicographic.{pointwise, lists_per, lists_equiv, options_equiv, nat_list_eq_equiv};
+ghost use Rattle.std.specs.Cmp.Lexicographic.{pointwise, lists_per, lists_equiv, options_equiv};
+ghost use Rattle.std.specs.Cmp.Lexicographic.{nat_list_eq_equiv};
 ghost use Rattle.std.specs.Cmp.{partial_equiv_from_equiv};
 ghost use Rattle.pg_layout.specs.Field.{value_bytes};
 ghost use Rattle.pg_layout.specs.declared.fault.EncodeFault.TheVariants.{TooLong, Memory};
 ghost use Rattle.pg_layout.specs.Private.Reader.{Gives, counted_at, times_at, value_at};
 ghost use Rattle.pg_values.specs.Private.Block.{IsBlock, IsRow, spelled, longest_block};
 ghost use Rattle.pg_values.specs.Private.View.{values_left};
+ghost use Rattle.pg_values.specs.Text.{IsTextAt};
 
 use crate::part::ValueList;
 use crate::places::places_at;
+use crate::text::Text;
 use crate::view::{LentValues, RowView};
 use pg_layout::{BodyFault, EncodeFault, LONGEST, lent_value_at, u16_at};
 use pg_seq::{AsText, ByElement, DebugElement, DebugForm};
@@ -42,7 +47,7 @@ impl Model for Values {
     ghost invariant = { λ v. IsBlock v.places.items v.block.items };
 }
 
-/// Puts a value at the end of a block, or leaves the block as it was where memory is refused.
+// Puts a value at the end of a block, or leaves the block as it was where memory runs out.
 fn put(block: &mut Vec<u8>, value: Option<&[u8]>) -> Result<(), AllocError>
     requires { IfSome value (λ bytes. length bytes.now ≤ longest_block) }
     ensures ok { OnOk result (block.new.items
@@ -58,7 +63,7 @@ fn put(block: &mut Vec<u8>, value: Option<&[u8]>) -> Result<(), AllocError>
     block.extend_from_slice(bytes)
 }
 
-/// How many bytes these values take in a block, or 0 where no block can hold them.
+// How many bytes these values take in a block, or 0 where no block can hold them.
 fn room_for(list: &[Option<&[u8]>]) -> usize
     ensures fits { length (spelled (map option_copied list.now)) ≤ longest_block
         → result ≡ length (spelled (map option_copied list.now)) }
@@ -72,7 +77,7 @@ fn room_for(list: &[Option<&[u8]>]) -> usize
     }
 }
 
-/// So many values and the bytes after them.
+// So many values and the bytes after them.
 fn block_at(alloc: Global, count: u16, bytes: &[u8]) -> Result<(Values, &[u8]), BodyFault>
     requires short { length bytes.now ≤ longest_block }
     ensures { Gives (λ x. (x.0, x.1.now)) result (times_at value_at count bytes.now) }
@@ -107,7 +112,7 @@ impl Values {
         }
     }
 
-    /// No values yet, and room for `count` of them, which take `room` bytes in all. It asks for that memory now, and for none where `room` is 0.
+    // No values yet, and room for `count` of them, which take `room` bytes in all. It asks for that memory now, and for none where `room` is 0.
     fn with_room(alloc: Global, count: usize, room: usize) -> Result<Values, AllocError>
         ensures { IfOk result (λ values. values ≡ []) }
     {
@@ -180,6 +185,14 @@ impl Values {
         Some(value)
     }
 
+    /// The value at `index` as text, or `None` past the end.
+    pub fn text(&self, index: usize) -> Option<Text<'_>>
+        ensures { IsTextAt result self.now index }
+    {
+        let value = self.get(index)?;
+        Some(Text::of(value))
+    }
+
     /// Goes over the values in their order.
     pub fn iter(&self) -> LentValues<'_>
         ensures { result ≡ self.now }
@@ -187,7 +200,7 @@ impl Values {
         LentValues::new(self.places.len(), self.block.as_slice())
     }
 
-    /// Adds a value at the end. TooLong says that no message could hold the values any more, and Memory that memory was refused; the list
+    /// Adds a value at the end. TooLong says that no message could hold the values any more, and Memory that memory ran out; the list
     /// then stays as it was.
     pub fn push(&mut self, value: Option<&[u8]>) -> Result<(), EncodeFault>
         ensures ok { OnOk result (self.new ≡ self.old ++ option_copied value.entry ∷ []) }

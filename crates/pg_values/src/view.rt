@@ -1,13 +1,15 @@
 //! The bodies of rows, errors and notices, read in place: nothing of them is copied, and no memory is asked for.
 
-ghost use Rattle.std.specs.Prelude.{◌≡◌, Some, is_some, option_copied, IsSome};
+ghost use Rattle.std.specs.Prelude.{◌≡◌, Some, is_some, option_copied, option_map, slice_get, IsSome};
 ghost use Rattle.std.specs.Iterator.{YieldsFirstBy, item_count};
 ghost use Rattle.pg_layout.specs.Private.Lent.{lent_field};
 ghost use Rattle.pg_values.specs.Fields.{field_text, code_text, severity_text, message_text};
 ghost use Rattle.pg_values.specs.Private.View.{row_of, fields_of, values_left, fields_left};
 ghost use Rattle.pg_values.specs.Private.Block.{IsRow};
 ghost use Rattle.pg_values.specs.Private.Kept.{IsFields};
+ghost use Rattle.pg_values.specs.Text.{IsTextAt};
 
+use crate::text::Text;
 use pg_layout::{
     ErrorField, after_counted, after_terminated, lent_field_at, lent_value_at, u16_at,
 };
@@ -68,6 +70,21 @@ impl<'a> RowView<'a> {
         ensures { result ≡ self.now }
     {
         LentValues::new(usize::from(self.count), self.values)
+    }
+
+    /// The value at `index`, or `None` past the end: the values before it are passed over. A value that is None is null.
+    pub fn get(&self, index: usize) -> Option<Option<&'a [u8]>>
+        ensures { option_map option_copied result ≡ slice_get self.now index }
+    {
+        self.values().nth(index)
+    }
+
+    /// The value at `index` as text, or `None` past the end: the values before it are passed over.
+    pub fn text(&self, index: usize) -> Option<Text<'a>>
+        ensures { IsTextAt result self.now index }
+    {
+        let value = self.get(index)?;
+        Some(Text::of(value))
     }
 }
 

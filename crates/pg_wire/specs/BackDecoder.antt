@@ -16,7 +16,7 @@ pub record BackState : Type 0 where
   pub stream : DecoderState
   pub held : Option Lent
 
--- A call of `push` or `next` ends the holding, but where memory was refused, which changes nothing.
+-- A call of `push` or `next` ends the holding, but where memory ran out, which changes nothing.
 abbrev pub LetsGo : {A : Type 0} → Option Lent → Result A WireFault → Option Lent → Type 0
 LetsGo old (Ok x) new = new ≡ None
 LetsGo old (Err wire.Memory) new = new ≡ old
@@ -30,8 +30,8 @@ as_next (Ok cut.Held) (Some lent) = Ok (Some (message_of lent))
 as_next (Ok (cut.Other m)) held = Ok (Some m)
 as_next (Err f) held = Err f
 
--- What is held after a call of `next_lent`: the message that it answered Held for, and else
--- nothing, but where memory was refused, which changes nothing. No row, error or notice is Other.
+-- What is held after a call of `next_lent`: the message that it returned Held for, and else
+-- nothing, but where memory ran out, which changes nothing. No row, error or notice is Other.
 abbrev pub Holds : Option Lent → Result Cut WireFault → Option Lent → Type 0
 Holds old (Ok cut.Nothing) new = new ≡ None
 Holds old (Ok cut.Held) new = (lent : Lent) × (new ≡ Some lent)

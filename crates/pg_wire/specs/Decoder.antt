@@ -12,7 +12,7 @@ pub record DecoderState : Type 0 where
   pub limit : ℕ
   pub fault : Option WireFault
 
--- A decoder may store this fault, as it is answered for good. Want of memory passes and is never
+-- A decoder may store this fault, as it is answered for good. Out of memory passes and is never
 -- stored.
 abbrev pub IsLasting : Option WireFault → Type 0
 IsLasting None = Unit {0}
@@ -32,7 +32,7 @@ pub record HasTaken {M : Type 0} (d : Direction M) (s : DecoderState) (pushed : 
   pub fault : HasStoredFault d s.limit s.kept s.fault
 
 -- A push keeps the whole piece, or refuses it and changes nothing: by the fault that was found
--- before, or for want of memory, but never a piece without bytes.
+-- before, or because memory ran out, but never a piece without bytes.
 abbrev pub Pushes : DecoderState → List ℕ → Result Unit WireFault → DecoderState → Type 0
 Pushes old piece (Ok x) new = (old.fault ≡ None) × (new ≡ record old { kept = old.kept ++ piece })
 Pushes old piece (Err wire.Memory) new = (old.fault ≡ None) × (0 < length piece) × (new ≡ old)

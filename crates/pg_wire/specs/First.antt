@@ -7,8 +7,11 @@ use Rattle.pg_wire.specs.declared.fault.WireFault.{WireFault}
 use Rattle.pg_wire.specs.declared.fault.WireFault.TheVariants as wire
 use Rattle.pg_message.specs.declared.message.First.{First}
 use Rattle.pg_message.specs.declared.message.First.TheVariants as first
-pub use Rattle.pg_message.specs.First.{parameter, code, content_body, content, packet_length, longest_packet, packet}
-pub use Rattle.pg_message.specs.First.{has_no_name, packet_holds_list, packet_has_zero, packet_has_no_name, packet_fault_of, packet_fault, PacketIsOfType, IsPacket}
+pub use Rattle.pg_message.specs.First.{parameter, code, content_body, content}
+pub use Rattle.pg_message.specs.First.{packet_length, longest_packet, packet}
+pub use Rattle.pg_message.specs.First.{has_no_name, packet_holds_list, packet_has_zero}
+pub use Rattle.pg_message.specs.First.{packet_has_no_name, packet_fault_of, packet_fault}
+pub use Rattle.pg_message.specs.First.{PacketIsOfType, IsPacket}
 pub use Rattle.pg_message.specs.First.{database_pair, startup_parameters}
 
 -- whether no first packet may come after this one: a Startup or a Cancel

@@ -25,14 +25,14 @@ pub record HasBegun (s : FirstState) (pushed : List ℕ) (given : List First) : 
   pub fault : PacketFaultHolds s s.fault
 
 -- A push keeps the whole piece, or refuses it and changes nothing: by the fault that was found
--- before, or for want of memory, but never a piece without bytes.
+-- before, or because memory ran out, but never a piece without bytes.
 abbrev pub FirstPushes : FirstState → List ℕ → Result Unit WireFault → FirstState → Type 0
 FirstPushes old piece (Ok x) new = (old.fault ≡ None)
     × (new ≡ record old { kept = old.kept ++ piece })
 FirstPushes old piece (Err wire.Memory) new = (old.fault ≡ None) × (0 < length piece) × (new ≡ old)
 FirstPushes old piece (Err f) new = (old.fault ≡ Some f) × (new ≡ old)
 
--- Why `next` answers None: a Startup or a Cancel was given (true), or the rest is open, with fewer
+-- Why `next` returns None: a Startup or a Cancel was given (true), or the rest is open, with fewer
 -- bytes than the longest packet has.
 abbrev pub NoMorePackets : Bool → List ℕ → Type 0
 NoMorePackets true rest = Unit {0}

@@ -41,7 +41,7 @@ abbrev pub OneFault : {M : Type 0} → Direction M → Type 0
 OneFault d = (limit : ℕ) (rest : List ℕ) (f g : WireFault) → 64 ≤ limit → IsFaulty d limit rest f
     → IsFaulty d limit rest g → f ≡ g
 
--- A fault that `next` answers is want of memory, and nothing has changed; or it was found before; or
+-- A fault that `next` answers is Memory, and nothing has changed; or it was found before; or
 -- the rest has it, and it is answered for good.
 abbrev pub FaultOfNext : {M : Type 0} → Direction M → Type 0
 FaultOfNext {M} d = (old : DecoderState) (f : WireFault) (new : DecoderState)

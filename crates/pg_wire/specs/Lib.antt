@@ -16,6 +16,8 @@ pub mod Private
 -- What the crates below define and the contracts here speak of. Who uses pg_wire names it through
 -- these lines.
 pub use Rattle.pg_layout.specs.Field
+pub use Rattle.pg_values.specs.Fields
+pub use Rattle.pg_values.specs.Text
 pub use Rattle.pg_message.specs.Direction
 pub use Rattle.pg_message.specs.Backend
 pub use Rattle.pg_message.specs.Frontend
@@ -24,6 +26,7 @@ pub use Rattle.pg_message.specs.Lent
 pub use Rattle.pg_message.specs.Encoder
 pub use Rattle.pg_message.specs.Shown
 pub use Rattle.pg_link.specs.Link
+pub use Rattle.pg_link.specs.Sending
 -- Their types.
 pub use Rattle.pg_layout.specs.declared.fault
 pub use Rattle.pg_layout.specs.declared.value

@@ -11,14 +11,14 @@ pub record SpellingsState : Type 0 where
   pub stream : DecoderState
   pub held : List ℕ
 
--- After a call no bytes are held, but where memory was refused, which changes nothing.
+-- After a call no bytes are held, but where memory ran out, which changes nothing.
 abbrev pub LetsBytes : {A : Type 0} → List ℕ → Result A WireFault → List ℕ → Type 0
 LetsBytes old (Ok x) new = new ≡ []
 LetsBytes old (Err wire.Memory) new = new ≡ old
 LetsBytes old (Err f) new = new ≡ []
 
 -- What `next` answers: whether there is a next message, which is taken as a decoder takes it, and
--- its bytes are held. It asks for no memory.
+-- its bytes are held. It needs no memory.
 abbrev pub TakesSpelling : {M : Type 0} → Direction M → DecoderState → Result Bool WireFault
     → SpellingsState → Type 0
 TakesSpelling {M} d old (Ok true) new = (m : M) × Takes d old (Ok (Some m)) new.stream

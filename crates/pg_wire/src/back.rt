@@ -27,8 +27,8 @@ pub enum Cut {
 
 /// Takes what a backend sends in any pieces, and gives exactly its messages ("Overview", "Message Formats").
 ///
-/// `push` keeps a piece, and `next` gives the messages one by one. What is kept is bounded: after `next` has answered None
-/// fewer than `limit + 1` bytes are. A fault stands in the place of a message, and is answered for good from then on.
+/// `push` keeps a piece, and `next` gives the messages one by one. What is kept is bounded: after `next` has returned None
+/// fewer than `limit + 1` bytes are. A fault stands in the place of a message, and is returned by each call from then on.
 ///
 /// `next_lent` gives the same messages, but leaves a row, an error or a notice where it stands, so that it isn't copied.
 #[derive(Drop)]
@@ -82,8 +82,8 @@ impl BackDecoder {
         self.stream.kept()
     }
 
-    /// Takes the next piece of the stream, all of it. A fault that `next` has found is answered, and after Memory nothing of
-    /// the piece was taken and the decoder is unchanged. A piece without bytes wants no memory.
+    /// Takes the next piece of the stream, all of it. A fault that `next` has found is returned, and after Memory nothing of
+    /// the piece was taken and the decoder is unchanged. A piece without bytes needs no memory.
     pub fn push(&mut self, piece: &[u8]) -> Result<(), WireFault>
         ensures call { Pushes self.old.stream piece.now result self.new.stream }
         ensures held { LetsGo self.old.held result self.new.held }
@@ -95,7 +95,7 @@ impl BackDecoder {
     }
 
     /// The next message, or None where more bytes are to come. A fault is found where no more messages stand before it, and
-    /// is then answered for good. Memory is answered only for a message that is whole and holds a text or another list, and leaves
+    /// is then returned for good. Memory is returned only for a message that is whole and holds a text or another list, and leaves
     /// the decoder unchanged.
     pub fn next(&mut self) -> Result<Option<BackMessage>, WireFault>
         ensures call { Takes backend self.old.stream result self.new.stream }
@@ -108,7 +108,7 @@ impl BackDecoder {
     }
 
     /// The next message, as `next` gives it, but a row, an error or a notice is Held: it counts as given, and `held` lends it
-    /// until the next call of `push`, `next` or `next_lent` that doesn't answer Memory. For such a message no memory is taken.
+    /// until the next call of `push`, `next` or `next_lent` that doesn't return Memory. For such a message no memory is taken.
     #[inline(always)]
     pub fn next_lent(&mut self) -> Result<Cut, WireFault>
         ensures call { TakesLent self.old result self.new }
@@ -120,8 +120,8 @@ impl BackDecoder {
         self.stream.next_lent()
     }
 
-    /// The row, error or notice that the last call of `next_lent` answered Held for; None where another call came after it, but
-    /// for those that answered Memory. It takes no memory.
+    /// The row, error or notice that the last call of `next_lent` returned Held for; None where another call came after it, but
+    /// for those that returned Memory. It takes no memory.
     pub fn held(&self) -> Option<Lent<'_>>
         ensures { result ≡ self.now.held }
     {

@@ -13,8 +13,8 @@ use std::marker::Model;
 
 /// Takes a stream of one direction in any pieces, and gives exactly its messages ("Overview", "Message Formats").
 ///
-/// `push` keeps a piece, and `next` gives the messages one by one. What is kept is bounded: after `next` has answered None
-/// fewer than `limit + 1` bytes are. A fault stands in the place of a message, and is answered for good from then on.
+/// `push` keeps a piece, and `next` gives the messages one by one. What is kept is bounded: after `next` has returned None
+/// fewer than `limit + 1` bytes are. A fault stands in the place of a message, and is returned by each call from then on.
 #[derive(Drop)]
 pub struct Decoder<M: Message> {
     stream: Stream<M>,
@@ -32,7 +32,7 @@ impl<M: Message> Model for Decoder<M> {
 }
 
 impl<M: Message> Decoder<M> {
-    /// A decoder of what is kept already, which answers this fault for good if there is one.
+    /// A decoder of what is kept already, which returns this fault for good if there is one.
     pub(crate) fn resume(
         alloc: Global,
         buffer: BytesMut,
@@ -79,8 +79,8 @@ impl<M: Message> Decoder<M> {
         self.stream.kept()
     }
 
-    /// Takes the next piece of the stream, all of it. A fault that `next` has found is answered, and after Memory nothing of
-    /// the piece was taken and the decoder is unchanged. A piece without bytes wants no memory.
+    /// Takes the next piece of the stream, all of it. A fault that `next` has found is returned, and after Memory nothing of
+    /// the piece was taken and the decoder is unchanged. A piece without bytes needs no memory.
     pub fn push(&mut self, piece: &[u8]) -> Result<(), WireFault>
         ensures call { Pushes self.old piece.now result self.new }
         ensures taken { OnOk result ((pushed : List ℕ) (given : List M)
@@ -91,7 +91,7 @@ impl<M: Message> Decoder<M> {
     }
 
     /// The next message, or None where more bytes are to come. A fault is found where no more messages stand before it, and
-    /// is then answered for good. Memory is answered only for a message that is whole and holds a text or another list, and leaves
+    /// is then returned for good. Memory is returned only for a message that is whole and holds a text or another list, and leaves
     /// the decoder unchanged.
     pub fn next(&mut self) -> Result<Option<M>, WireFault>
         ensures call { Takes M.direction self.old result self.new }

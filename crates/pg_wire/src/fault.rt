@@ -9,7 +9,7 @@ use thiserror::Error;
 
 /// Why the bytes of a stream can't be read as a next message: the first of these that holds
 /// ("Overview" and "Message Formats" say what a message is). After any of them but Memory the
-/// decoder answers it for good; after Memory it is unchanged.
+/// decoder returns it for good; after Memory it is unchanged.
 #[derive(Clone, Copy, Debug, PartialEq, Eq, Error)]
 pub enum WireFault {
     /// Five bytes are there, and no message has this tag. First packets have no tag.
@@ -27,7 +27,7 @@ pub enum WireFault {
     /// The message of this tag is whole, and its body isn't of the layout. The tag of a first packet is 0.
     #[error("W4 BadBody {0}")]
     BadBody(u8),
-    /// Memory was refused.
+    /// Memory ran out.
     #[error("W6 Memory")]
     Memory,
 }

@@ -18,7 +18,7 @@ pub enum Judged {
     Whole(u8, usize),
 }
 
-/// The tag and the length field, once five bytes are there.
+// The tag and the length field, once five bytes are there.
 fn head(rest: &[u8]) -> Option<(u8, i32)>
     ensures { MatchOption result (length rest.now < 5) (λ h. Head rest.now h.0 h.1) }
 {
@@ -41,7 +41,7 @@ fn judge<M: Message>(limit: u32, rest: &[u8]) -> Judged
     judge_length::<M>(limit, rest, tag, len)
 }
 
-/// What the length field of a head says, whose tag is that of some message.
+// What the length field of a head says, whose tag is that of some message.
 fn judge_length<M: Message>(limit: u32, rest: &[u8], tag: u8, len: i32) -> Judged
     requires limit { IsLimit limit }
     requires head { Head rest.now tag len }

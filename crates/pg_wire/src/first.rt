@@ -2,7 +2,8 @@
 
 mod kind;
 
-ghost use Rattle.std.specs.Prelude.{◌≡◌, ◌<◌, ◌≤◌, ◌++◌, [], List, ℕ, length, None, Some, OnOk, MatchOption, is_some, true, false};
+ghost use Rattle.std.specs.Prelude.{◌≡◌, ◌<◌, ◌≤◌, ◌++◌, [], List, ℕ, length, None, Some, OnOk};
+ghost use Rattle.std.specs.Prelude.{MatchOption, is_some, true, false};
 ghost use Rattle.pg_message.specs.declared.message.First.{First};
 ghost use Rattle.pg_message.specs.First.{packet_holds_list};
 ghost use Rattle.pg_message.specs.Private.Reading.{AsksFor, ReadsWhole};
@@ -34,7 +35,7 @@ pub enum JudgedPacket {
     Whole(FirstKind, usize),
 }
 
-/// The length, once four bytes are there.
+// The length, once four bytes are there.
 fn head(rest: &[u8]) -> Option<i32>
     ensures { MatchOption result (length rest.now < 4) (PacketHead rest.now) }
 {
@@ -44,7 +45,7 @@ fn head(rest: &[u8]) -> Option<i32>
     }
 }
 
-/// The code, once eight bytes are there.
+// The code, once eight bytes are there.
 fn code(rest: &[u8]) -> Option<i32>
     ensures { MatchOption result (length rest.now < 8) (PacketCode rest.now) }
 {
@@ -80,7 +81,7 @@ fn judge(rest: &[u8]) -> JudgedPacket
     }
 }
 
-/// The packet of this kind with this content, all of it. Memory is asked for where it holds a list.
+// The packet of this kind with this content, all of it. Memory is asked for where it holds a list.
 fn packet(alloc: Global, kind: FirstKind, content: &[u8]) -> Result<First, BodyFault>
     ensures read { Gives (λ p. p) result (first_of kind content.now) }
     ensures memory { AsksFor packet_holds_list result (first_of kind content.now) }
@@ -100,7 +101,7 @@ fn packet(alloc: Global, kind: FirstKind, content: &[u8]) -> Result<First, BodyF
     }
 }
 
-/// Whether this is the content of a packet of this kind. No packet is made, and no memory is asked for.
+// Whether this is the content of a packet of this kind. No packet is made, and no memory is asked for.
 fn is_packet(kind: FirstKind, content: &[u8]) -> bool
     ensures { result ≡ is_some (first_of kind content.now) }
 {
@@ -114,7 +115,7 @@ fn is_packet(kind: FirstKind, content: &[u8]) -> bool
     }
 }
 
-/// The packet of this kind with this content. Want of memory is a fault of a packet alone, and one that holds a list.
+// The packet of this kind with this content. Memory is a fault of a packet alone, and one that holds a list.
 fn read_whole(alloc: Global, kind: FirstKind, content: &[u8]) -> Result<First, BodyFault>
     ensures { ReadsWhole packet_holds_list result (first_of kind content.now) }
 {
@@ -131,7 +132,7 @@ fn read_whole(alloc: Global, kind: FirstKind, content: &[u8]) -> Result<First, B
     }
 }
 
-/// The packet at the beginning of a rest, and how many bytes it takes.
+// The packet at the beginning of a rest, and how many bytes it takes.
 fn find(alloc: Global, rest: &[u8]) -> Result<Option<(First, usize)>, WireFault>
     ensures { FindsPacket rest.now result }
 {
@@ -146,7 +147,7 @@ fn find(alloc: Global, rest: &[u8]) -> Result<Option<(First, usize)>, WireFault>
     }
 }
 
-/// Whether no first packet comes after this one.
+// Whether no first packet comes after this one.
 fn is_last(packet: &First) -> bool
     ensures { result ≡ is_last packet.now }
 {
@@ -157,7 +158,7 @@ fn is_last(packet: &First) -> bool
 /// then a Startup or a Cancel ("Start-up", "Canceling Requests in Progress").
 ///
 /// What comes after those is kept for [`into_front`](FirstDecoder::into_front). Until the last packet was given, fewer than
-/// 10,000 bytes are kept after each None. A fault stands in the place of a packet, and is answered for good from then on.
+/// 10,000 bytes are kept after each None. A fault stands in the place of a packet, and is returned by each call from then on.
 #[derive(Drop)]
 pub struct FirstDecoder {
     alloc: Global,
@@ -198,8 +199,8 @@ impl FirstDecoder {
         self.buffer.len()
     }
 
-    /// Takes the next piece, all of it. A fault that `next` has found is answered, and after Memory nothing of the piece was
-    /// taken and the decoder is unchanged. A piece without bytes wants no memory.
+    /// Takes the next piece, all of it. A fault that `next` has found is returned, and after Memory nothing of the piece was
+    /// taken and the decoder is unchanged. A piece without bytes needs no memory.
     pub fn push(&mut self, piece: &[u8]) -> Result<(), WireFault>
         ensures call { FirstPushes self.old piece.now result self.new }
         ensures begun { OnOk result ((pushed : List ℕ) (given : List First)
@@ -212,7 +213,7 @@ impl FirstDecoder {
     }
 
     /// The next packet, or None where more bytes are to come or the last packet was given. A fault is found where no more
-    /// packets stand before it, and is then answered for good. Memory is answered only for a Startup that is whole, and leaves
+    /// packets stand before it, and is then returned for good. Memory is returned only for a Startup that is whole, and leaves
     /// the decoder unchanged.
     pub fn next(&mut self) -> Result<Option<First>, WireFault>
         ensures call { FirstTakes self.old result self.new }
@@ -241,7 +242,7 @@ impl FirstDecoder {
     }
 
     /// A decoder of the messages after the first packets, which takes messages with a length field of at most `limit`, from
-    /// 64 to 1,073,741,823. It has the bytes that are kept, and answers the fault that was found, if one was. It takes no
+    /// 64 to 1,073,741,823. It has the bytes that are kept, and returns the fault that was found, if one was. It takes no
     /// memory.
     pub fn into_front(self, limit: u32) -> FrontDecoder
         requires { IsLimit limit }

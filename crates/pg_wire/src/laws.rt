@@ -1,6 +1,9 @@
 //! Laws of the formats: each function does nothing, and its contract is the law.
 
-ghost use Rattle.pg_wire.specs.Laws.{OneSpelling, OneReading, FaultyBeginsNone, FaultOfNext, OneFault, RoundTrip, OnePacket, OneBeginning, FaultyBeginsNoPacket, OnePacketFault, PacketsAgain, OneOutcome, OneCut, AnswerIsSpelled};
+ghost use Rattle.pg_wire.specs.Laws.{OneSpelling, OneReading, FaultyBeginsNone, FaultOfNext};
+ghost use Rattle.pg_wire.specs.Laws.{OneFault, RoundTrip, OnePacket, OneBeginning};
+ghost use Rattle.pg_wire.specs.Laws.{FaultyBeginsNoPacket, OnePacketFault, PacketsAgain};
+ghost use Rattle.pg_wire.specs.Laws.{OneOutcome, OneCut, AnswerIsSpelled};
 
 use pg_message::Message;
 
@@ -28,8 +31,8 @@ pub fn one_fault<M: Message>()
     ensures { OneFault M.direction }
 {}
 
-/// A fault that a decoder's `next` answers, by cases: want of memory, with nothing changed; one that was found before; or one that the rest
-/// has, which is then answered for good.
+/// A fault that a decoder's `next` returns, by cases: Memory, with nothing changed; one that was found before; or one that the rest
+/// has, which is then returned for good.
 pub fn fault_of_next<M: Message>()
     ensures { FaultOfNext M.direction }
 {}

@@ -37,14 +37,17 @@ impl<M: Message> Model for Stream<M> {
 
     ghost Value = { StreamState };
 
-    ghost view = { λ s. record { front = take s.held s.buffer.items; rest = record { kept = drop s.held s.buffer.items; limit = s.limit; fault = s.fault } } };
+    ghost view = { λ s. record {
+      front = take s.held s.buffer.items;
+      rest = record { kept = drop s.held s.buffer.items; limit = s.limit; fault = s.fault };
+    } };
 
     ghost invariant = { λ s. (s.held ≤ length s.buffer.items) × (64 ≤ s.limit)
         × (s.limit ≤ 1073741823) × IsLasting s.fault };
 }
 
 impl<M: Message> Stream<M> {
-    /// A stream of which these bytes are there already, and which answers this fault for good if there is one.
+    /// A stream of which these bytes are there already, and which returns this fault for good if there is one.
     pub fn resume(
         alloc: Global,
         buffer: BytesMut,
@@ -81,7 +84,7 @@ impl<M: Message> Stream<M> {
         front
     }
 
-    /// The bytes that are kept.
+    // The bytes that are kept.
     fn rest(&self) -> &[u8]
         ensures { result.now ≡ self.now.rest.kept }
     {
@@ -89,11 +92,12 @@ impl<M: Message> Stream<M> {
         rest
     }
 
-    /// Ends the holding, and takes so many bytes off what is kept.
+    // Ends the holding, and takes so many bytes off what is kept.
     fn take_off(&mut self, count: usize)
         requires { count ≤ length self.old.rest.kept }
         ensures front { self.new.front ≡ [] }
-        ensures rest { self.new.rest ≡ record self.old.rest { kept = drop count self.old.rest.kept } }
+        ensures rest { self.new.rest
+            ≡ record self.old.rest { kept = drop count self.old.rest.kept } }
     {
         let left = self.kept() - count;
         let len = self.buffer.len();
@@ -101,7 +105,7 @@ impl<M: Message> Stream<M> {
         self.held = 0;
     }
 
-    /// Ends the holding.
+    // Ends the holding.
     fn let_go(&mut self)
         ensures front { self.new.front ≡ [] }
         ensures rest { self.new.rest ≡ self.old.rest }
@@ -111,7 +115,7 @@ impl<M: Message> Stream<M> {
         }
     }
 
-    /// Ends the holding, and holds so many bytes of what is kept.
+    // Ends the holding, and holds so many bytes of what is kept.
     fn hold(&mut self, count: usize)
         requires { count ≤ length self.old.rest.kept }
         ensures front { self.new.front ≡ take count self.old.rest.kept }
@@ -144,7 +148,7 @@ impl<M: Message> Stream<M> {
         buffer
     }
 
-    /// Takes a piece, all of it or, where memory is refused, nothing.
+    /// Takes a piece, all of it or, where memory runs out, nothing.
     pub fn push(&mut self, piece: &[u8]) -> Result<(), WireFault>
         ensures call { Pushes self.old.rest piece.now result self.new.rest }
         ensures front { LetsBytes self.old.front result self.new.front }

@@ -5,7 +5,7 @@ ghost use Rattle.pg_wire.specs.Password.{hex_digest, md5_text};
 
 use md5::{Digest, Md5};
 
-/// Writes the digest of `first` with `second` after it, in lower-case hexadecimal digits.
+// Writes the digest of `first` with `second` after it, in lower-case hexadecimal digits.
 fn write_digest(first: &[u8], second: &[u8], digits: &mut [u8])
     requires { length digits.old ≡ 32 }
     ensures { digits.new ≡ hex_digest (first.now ++ second.now) }

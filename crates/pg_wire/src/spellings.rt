@@ -31,7 +31,7 @@ impl<M: Message> Model for Spellings<M> {
 }
 
 impl<M: Message> Spellings<M> {
-    /// A reader of what is kept already, which answers this fault for good if there is one.
+    /// A reader of what is kept already, which returns this fault for good if there is one.
     pub(crate) fn resume(
         alloc: Global,
         buffer: BytesMut,
@@ -65,8 +65,8 @@ impl<M: Message> Spellings<M> {
         self.stream.kept()
     }
 
-    /// Takes the next piece of the stream, all of it. A fault that `next` has found is answered, and after Memory nothing of the piece was
-    /// taken and the reader is unchanged. A piece without bytes wants no memory.
+    /// Takes the next piece of the stream, all of it. A fault that `next` has found is returned, and after Memory nothing of the piece was
+    /// taken and the reader is unchanged. A piece without bytes needs no memory.
     pub fn push(&mut self, piece: &[u8]) -> Result<(), WireFault>
         ensures call { Pushes self.old.stream piece.now result self.new.stream }
         ensures held { LetsBytes self.old.held result self.new.held }
@@ -75,7 +75,7 @@ impl<M: Message> Spellings<M> {
     }
 
     /// Whether a next message is whole, which [`spelling`](Self::spelling) then lends, and which counts as given; false where more bytes are to
-    /// come. A fault is found where no more messages stand before it, and is then answered for good; it is never Memory.
+    /// come. A fault is found where no more messages stand before it, and is then returned for good; it is never Memory.
     pub fn next(&mut self) -> Result<bool, WireFault>
         ensures { TakesSpelling M.direction self.old.stream result self.new }
     {
@@ -83,7 +83,7 @@ impl<M: Message> Spellings<M> {
     }
 
     /// The bytes of the message that the last call of `next` said is there: its tag, its length field and its body. None after another call,
-    /// but a `push` that answered Memory.
+    /// but a `push` that returned Memory.
     pub fn spelling(&self) -> &[u8]
         ensures { result.now ≡ self.now.held }
     {

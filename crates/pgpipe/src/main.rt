@@ -8,9 +8,9 @@ use pg_pair::{Carry, Direct};
 use pg_wire::{Over, Patient};
 use pgpipe_places::Tracked;
 use pgpipe_words::{
-    Asked, Disk, Failure, Listening, NotedDisk, Reason, Serving, Subject, Task, Telling, Watched,
-    asked_of, connect_to_itself, do_task, exit_code, explain, file_failure, file_reason,
-    serve_file, stream_reason, task_reason, words_failure,
+    Asked, Disk, Failure, Listening, NotedDisk, Reason, Serving, Showing, Subject, Task, Telling,
+    Watched, asked_of, connect_to_itself, do_both, do_task, exit_code, explain, file_failure,
+    file_reason, serve_file, stream_reason, task_reason, words_failure,
 };
 use standard_streams::{ClosedStream, all_open};
 use std::io::Read;
@@ -90,15 +90,19 @@ fn words<R: Env + AllocGlobal>(rt: &R) -> Result<Vec<String>, Failure> {
 
 // Whether a task opens a file, a connection or a port before anything is printed, and then prints.
 fn opens_first(task: &Task) -> bool {
-    matches!(task, Task::Serve(_)) || task.is_over_tcp() || task.input_file().is_some()
+    match task {
+        Task::Serve(_) => true,
+        Task::Show(showing) => showing.names_sides() || showing.file.is_some(),
+        _ => task.is_over_tcp() || task.input_file().is_some(),
+    }
 }
 
-// The file that is read in the place of standard input, opened, if the task names one. If it can't be: how that ends, and why.
-fn open_input<R: Files + AllocGlobal>(
+// The file of this path, opened, if there is a path. If it can't be: how that ends, and why.
+fn open_named<R: Files + AllocGlobal>(
     rt: &R,
-    task: &Task,
+    path: Option<&str>,
 ) -> Result<Option<R::File>, (Failure, Option<Reason>)> {
-    let Some(path) = task.input_file() else {
+    let Some(path) = path else {
         return Ok(None);
     };
     match fs::open(rt, path) {
@@ -113,6 +117,39 @@ fn open_input<R: Files + AllocGlobal>(
     }
 }
 
+// The file of one side of a connection, opened.
+fn open_side<R: Files + AllocGlobal>(
+    rt: &R,
+    path: Option<&str>,
+) -> Result<R::File, (Failure, Option<Reason>)> {
+    match open_named(rt, path)? {
+        Some(file) => Ok(file),
+        None => Err((Failure::Sides, None)),
+    }
+}
+
+// Prints both sides of a connection, from a file each.
+fn run_both<R: Files + Print + AllocGlobal>(rt: &R, showing: &Showing, telling: Telling) -> Ended {
+    if !showing.names_both() {
+        return failed(telling, Failure::Sides, None);
+    }
+    let front = match open_side(rt, showing.front_path()) {
+        Ok(front) => front,
+        Err((failure, reason)) => return failed(telling, failure, reason),
+    };
+    let back = match open_side(rt, showing.back_path()) {
+        Ok(back) => back,
+        Err((failure, reason)) => return failed(telling, failure, reason),
+    };
+    let mut front = Over::new(Patient::new(front));
+    let mut back = Over::new(Patient::new(back));
+    let mut sink = Over::new(Patient::new(io::writer(rt)));
+    match do_both(rt.alloc(), &mut front, &mut back, &mut sink) {
+        Ok(()) => plainly(Ok(ExitCode::SUCCESS)),
+        Err(failure) => plainly(Err(failure)),
+    }
+}
+
 // Does a task other than that of serving clients.
 fn run_task<R: Files + Net + Clock + Input + Print + Eprint + AllocGlobal>(
     rt: &R,
@@ -121,7 +158,12 @@ fn run_task<R: Files + Net + Clock + Input + Print + Eprint + AllocGlobal>(
 ) -> Ended
     requires { IsTask task }
 {
-    let file = match open_input(rt, &task) {
+    if let Task::Show(showing) = &task {
+        if showing.names_sides() {
+            return run_both(rt, showing, telling);
+        }
+    }
+    let file = match open_named(rt, task.input_file()) {
         Ok(file) => file,
         Err((failure, reason)) => return failed(telling, failure, reason),
     };

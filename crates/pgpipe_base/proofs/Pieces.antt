@@ -6,6 +6,7 @@ use Rattle.std.proofs.lemmas.Bool.{cases_lt}
 use Rattle.std.proofs.lemmas.List.{length-take, take_all, take-append-le}
 use Rattle.pg_wire.specs.link.LinkFault.{LinkFault}
 use Rattle.pg_wire.specs.Link.{HasRisen}
+use Rattle.pg_wire.specs.Sending.{SendsAll}
 use Rattle.hex.specs.Hex.{encode_lower, encode_with, lower_digits}
 use Rattle.pgpipe_base.specs.Receiving.{longest_piece, IsSentAtOnce}
 use Rattle.pgpipe_base.specs.Outbox.{most_collected, IsSentBut, Puts}
@@ -181,6 +182,16 @@ module _ {K : Type 0} (takes : K → List ℕ → K → Type 0) (failures : K �
   -- the sink failed at once
   pub puts_nothing : (c : List ℕ) (s : K) (f : LinkFault) (c' : List ℕ) (s' : K) → takes s [] s' → HasRisen (failures s) (failures s') → Puts {A = Unit {0}} takes failures c s [] (Err f) c' s'
   puts_nothing c s f c' s' t n = record { pieces = [] ∷ []; calls = (s', t, refl); sent = (c, sym (append-nil c)); counted = n }
+
+  -- bytes that were sent, all of them or until the sink failed
+  pub puts_all_sent : (bytes : List ℕ) (s : K) (result : Result Unit LinkFault) (s' : K) → SendsAll takes failures s bytes result s' → Puts {A = Unit {0}} takes failures bytes s [] result [] s'
+  puts_all_sent bytes s (Ok x) s' p = record { pieces = p.pieces; calls = p.calls; sent = append-nil bytes ∙ sym p.whole ∙ sym (append-nil (concat p.pieces)); counted = p.none_failed }
+  puts_all_sent bytes s (Err f) s' (left, p) = record {
+    pieces = p.was_sent.pieces ++ [] ∷ [];
+    calls = one_more takes s p.was_sent.pieces p.before [] s' p.was_sent.calls p.took_none;
+    sent = (left, ap (λ (l : List ℕ). l ++ left) (sym (joined p.was_sent.pieces []) ∙ append-nil (concat p.was_sent.pieces) ∙ p.was_sent.whole) ∙ sym p.split ∙ sym (append-nil bytes));
+    counted = subst (λ (n : ℕ). HasRisen n (failures s')) p.was_sent.none_failed p.counted;
+  }
 
   -- some of the bytes are put in hexadecimal, and the rest is left
   pub record PutsSome (c : List ℕ) (s : K) (bytes rest c' : List ℕ) (s' : K) : Type 0 where

@@ -1,6 +1,7 @@
 //! Bytes in hexadecimal, sixteen at a time.
 
-ghost use Rattle.std.specs.Prelude.{◌≡◌, ◌<◌, ◌≤◌, ◌+◌, ◌*◌, ◌/◌, ◌%◌, ◌++◌, ℕ, length, slice_index, take, drop};
+ghost use Rattle.std.specs.Prelude.{◌≡◌, ◌<◌, ◌≤◌, ◌+◌, ◌*◌, ◌/◌, ◌%◌, ◌++◌, ℕ, length};
+ghost use Rattle.std.specs.Prelude.{slice_index, take, drop};
 ghost use Rattle.hex.specs.Hex.{encode_lower, lower_digits};
 
 use std::simd::prelude::*;
@@ -11,7 +12,7 @@ const BLOCK: usize = 16;
 /// The digits by their numbers.
 const DIGITS: [u8; 16] = *b"0123456789abcdef";
 
-/// The digit of each number.
+// The digit of each number.
 #[inline(always)]
 fn digits_of(numbers: u8x16) -> u8x16
     requires { (k : ℕ) → k < 16 → slice_index numbers k < 16 }
@@ -22,7 +23,7 @@ fn digits_of(numbers: u8x16) -> u8x16
     u8x16::from_array(DIGITS).swizzle_dyn(numbers)
 }
 
-/// The digits of each byte's high four bits, and of its low four.
+// The digits of each byte's high four bits, and of its low four.
 #[inline(always)]
 fn two_digits_of(bytes: u8x16) -> (u8x16, u8x16)
     ensures long { (length result.0 ≡ 16) × (length result.1 ≡ 16) }
@@ -36,7 +37,7 @@ fn two_digits_of(bytes: u8x16) -> (u8x16, u8x16)
     (high, low)
 }
 
-/// Writes the digits of the sixteen bytes from a place on, over those that stand there.
+// Writes the digits of the sixteen bytes from a place on, over those that stand there.
 fn write_block(bytes: &[u8], at: usize, digits: &mut [u8])
     requires block { at + 16 ≤ length bytes.now }
     requires room { length digits.old ≡ 2 * length bytes.now }

@@ -20,12 +20,7 @@ const LONGEST_HEAD: usize = 7 + 1 + 10 + 1;
 pub fn send_all<K: Sink>(bytes: &[u8], sink: &mut K) -> Result<(), LinkFault>
     ensures { Puts K.takes K.failures bytes.now sink.old [] result [] sink.new }
 {
-    let mut rest = bytes;
-    while !rest.is_empty() {
-        let count = sink.send(rest)?;
-        rest = rest.split_at(count).1;
-    }
-    Ok(())
+    pg_wire::send_all(bytes, sink)
 }
 
 /// Sends all that stands in a buffer, and empties it. Where the sink fails a prefix of it was sent.

@@ -1,13 +1,19 @@
 //! Converting a file, over any source and any sink.
 
-ghost use Rattle.std.specs.Prelude.{◌≡◌, ◌<◌, ◌≤◌, ◌++◌, ℕ, List, [], length, false, true, IfOk, OnOk};
+ghost use Rattle.std.specs.Prelude.{◌≡◌, ◌<◌, ◌≤◌, ◌++◌, ℕ, List, [], length, false, true, IfOk};
+ghost use Rattle.std.specs.Prelude.{OnOk};
 ghost use Rattle.std.specs.List.{FoldsTo, concat};
 ghost use Rattle.pg_wire.specs.Link.{HasRisen};
-ghost use Rattle.pgpipe_base.specs.Receiving.{longest_piece, HasStopped, CountsNoFailure, IsSentAtOnce};
+ghost use Rattle.pgpipe_base.specs.Receiving.{longest_piece, HasStopped, CountsNoFailure};
+ghost use Rattle.pgpipe_base.specs.Receiving.{IsSentAtOnce};
 ghost use Rattle.pg_copy.specs.Text.{default_options};
-ghost use Rattle.pgpipe_convert.specs.Convert.{FileReading, file_of, file_with, writing_with, AreAllConverted, ConvertAnswers, ConversionAnswers, EndsFile};
+ghost use Rattle.pgpipe_convert.specs.Convert.{FileReading, file_of, file_with, writing_with};
+ghost use Rattle.pgpipe_convert.specs.Convert.{AreAllConverted, ConvertAnswers, ConversionAnswers};
+ghost use Rattle.pgpipe_convert.specs.Convert.{EndsFile};
 ghost use Rattle.pgpipe_convert.specs.Private.Values.{writing_by};
-ghost use Rattle.pgpipe_convert.specs.Private.Converting.{file_by, ended_of, HasReadBy, HasWidth, HasConverted, IsAtStep, StepConverts, StepsSource, EndConverts, HasRun};
+ghost use Rattle.pgpipe_convert.specs.Private.Converting.{file_by, ended_of, HasReadBy, HasWidth};
+ghost use Rattle.pgpipe_convert.specs.Private.Converting.{HasConverted, IsAtStep, StepConverts};
+ghost use Rattle.pgpipe_convert.specs.Private.Converting.{StepsSource, EndConverts, HasRun};
 
 use crate::copy_rows::{RowReader, put_rows, send_rows};
 use crate::format::{Format, RowWriter};

@@ -1,6 +1,7 @@
 //! The rows of a file of either format, read from pieces and written after what is to be sent.
 
-ghost use Rattle.std.specs.Prelude.{◌≡◌, ◌<◌, ◌≤◌, [], ℕ, List, Some, false, true, length, IfOk, OnOk};
+ghost use Rattle.std.specs.Prelude.{◌≡◌, ◌<◌, ◌≤◌, [], ℕ, List, Some, false, true, length, IfOk};
+ghost use Rattle.std.specs.Prelude.{OnOk};
 ghost use Rattle.std.specs.Iterator.{IsFinite};
 ghost use Rattle.pg_copy.specs.Row.{Row};
 ghost use Rattle.pg_copy.specs.BinaryReader.{HasReadBinary};
@@ -8,7 +9,10 @@ ghost use Rattle.pg_copy.specs.TextReader.{HasReadText};
 ghost use Rattle.pgpipe_convert.specs.Convert.{file_with};
 ghost use Rattle.pgpipe_convert.specs.declared.copy_rows.RowReader.TheVariants.{Text, Binary};
 ghost use Rattle.pgpipe_convert.specs.Private.Values.{AreGiven, writing_by};
-ghost use Rattle.pgpipe_convert.specs.Private.Converting.{file_by, ended_of, HasReadBy, HasWidth, text_stop, binary_stop, row_stop, TakesPiece, WritesRow, PutsNext, SendsMuch, PutsRows};
+ghost use Rattle.pgpipe_convert.specs.Private.Converting.{file_by, ended_of, HasReadBy, HasWidth};
+ghost use Rattle.pgpipe_convert.specs.Private.Converting.{text_stop, binary_stop, row_stop};
+ghost use Rattle.pgpipe_convert.specs.Private.Converting.{TakesPiece, WritesRow, PutsNext};
+ghost use Rattle.pgpipe_convert.specs.Private.Converting.{SendsMuch, PutsRows};
 
 use crate::convert::Converted;
 use crate::format::{Format, RowWriter, copy_of};

@@ -4,7 +4,8 @@ ghost use Rattle.std.specs.Prelude.{◌≡◌, ◌<◌, ◌≤◌, None, length,
 ghost use Rattle.std.specs.Iterator.{IsFinite};
 ghost use Rattle.pg_copy.specs.Row.{Row, Writes};
 ghost use Rattle.pgpipe_convert.specs.Convert.{writing_with};
-ghost use Rattle.pgpipe_convert.specs.Private.Values.{AreGiven, WritesInPart, WritesOrNot, writing_by};
+ghost use Rattle.pgpipe_convert.specs.Private.Values.{AreGiven, WritesInPart, WritesOrNot};
+ghost use Rattle.pgpipe_convert.specs.Private.Values.{writing_by};
 
 use crate::values::{Progress, put_line, put_values};
 use pg_copy::{

@@ -6,7 +6,9 @@ ghost use Rattle.pg_copy.specs.Row.{Row, is_long, binary_fault};
 ghost use Rattle.pg_copy.specs.Binary.{binary_row};
 ghost use Rattle.pg_copy.specs.Text.{Options, written_row, text_fault};
 ghost use Rattle.pgpipe_convert.specs.declared.values.Progress.TheVariants.{Written};
-ghost use Rattle.pgpipe_convert.specs.Private.Values.{AreGiven, WritesInPart, progress_of, judged_at, LineStands, LineGoesOn, RowStands, RowGoesOn};
+ghost use Rattle.pgpipe_convert.specs.Private.Values.{AreGiven, WritesInPart, progress_of};
+ghost use Rattle.pgpipe_convert.specs.Private.Values.{judged_at, LineStands, LineGoesOn, RowStands};
+ghost use Rattle.pgpipe_convert.specs.Private.Values.{RowGoesOn};
 
 use pg_copy::laws::{fields_are_line, fields_are_row};
 use pg_copy::{RowFault, TextOptions, TextRowWriter, write_binary_count, write_binary_field};

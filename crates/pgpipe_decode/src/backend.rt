@@ -4,7 +4,10 @@ ghost use Rattle.std.specs.Prelude.{◌≡◌, ◌++◌, codes, option_copied, O
 ghost use Rattle.std.specs.Fmt.{signed_decimal};
 ghost use Rattle.std.specs.List.{flat_map};
 ghost use Rattle.hex.specs.Hex.{encode_lower};
-ghost use Rattle.pgpipe_decode.specs.Backend.{back_text, column_format, column_text, column_type, key_text, mechanisms, named_request, notification_text, copy_text, of_mechanism, request_name, request_text, value_text, without_ends};
+ghost use Rattle.pgpipe_decode.specs.Backend.{back_text, column_format, column_text, column_type};
+ghost use Rattle.pgpipe_decode.specs.Backend.{key_text, mechanisms, named_request};
+ghost use Rattle.pgpipe_decode.specs.Backend.{notification_text, copy_text, of_mechanism};
+ghost use Rattle.pgpipe_decode.specs.Backend.{request_name, request_text, value_text, without_ends};
 ghost use Rattle.pgpipe_decode.specs.Text.{listed, parted, quoted, whole};
 
 use crate::text::{Readable, put_byte, put_number, put_quoted, put_whole};

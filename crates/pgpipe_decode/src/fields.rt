@@ -2,7 +2,8 @@
 
 ghost use Rattle.std.specs.Prelude.{◌≡◌, ◌++◌, option_copied, OnOk};
 ghost use Rattle.std.specs.List.{flat_map};
-ghost use Rattle.pgpipe_decode.specs.Fields.{field_name, fields_text, first_field, further_field, stands_first};
+ghost use Rattle.pgpipe_decode.specs.Fields.{field_name, fields_text, first_field, further_field};
+ghost use Rattle.pgpipe_decode.specs.Fields.{stands_first};
 
 use crate::text::{Readable, put_byte, put_quoted, put_whole};
 use pg_wire::Fields;

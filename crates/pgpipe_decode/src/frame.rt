@@ -3,7 +3,8 @@
 ghost use Rattle.std.specs.Prelude.{◌≡◌, ◌≤◌, ◌++◌, ℕ, List, length, OnOk};
 ghost use Rattle.pgpipe_frames.specs.Frames.{fewest};
 ghost use Rattle.pgpipe_decode.specs.Backend.{back_text};
-ghost use Rattle.pgpipe_decode.specs.Frame.{IsBackText, IsFrontText, IsMessageText, IsPacketText, IsTextOf, text_or};
+ghost use Rattle.pgpipe_decode.specs.Frame.{IsBackText, IsFrontText, IsMessageText, IsPacketText};
+ghost use Rattle.pgpipe_decode.specs.Frame.{IsTextOf, text_or};
 ghost use Rattle.pgpipe_decode.specs.Frontend.{front_text};
 ghost use Rattle.pgpipe_decode.specs.Other.{other_back, other_front, other_packet};
 ghost use Rattle.pgpipe_decode.specs.Packet.{packet_text};

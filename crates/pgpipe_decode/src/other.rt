@@ -1,9 +1,14 @@
 //! What frames are shown as that aren't of the tables of this library.
 
-ghost use Rattle.std.specs.Prelude.{◌≡◌, ◌≤◌, ◌-◌, ◌==◌, ◌||◌, ◌++◌, codes, length, drop, slice_index, option_copied, OnOk};
+ghost use Rattle.std.specs.Prelude.{◌≡◌, ◌≤◌, ◌-◌, ◌==◌, ◌||◌, ◌++◌, codes, length, drop};
+ghost use Rattle.std.specs.Prelude.{slice_index, option_copied, OnOk};
 ghost use Rattle.std.specs.Fmt.{decimal};
 ghost use Rattle.std.specs.List.{list_any};
-ghost use Rattle.pgpipe_decode.specs.Other.{answer_name, back_name, data_back_name, front_name, other_back, other_front, other_packet, other_text, packet_name, plain_back_name, plain_front_name, request_of_code, shown_or_hidden, tag_text, version_text};
+ghost use Rattle.pgpipe_decode.specs.Other.{answer_name, back_name, data_back_name, front_name};
+ghost use Rattle.pgpipe_decode.specs.Other.{other_back, other_front, other_packet, other_text};
+ghost use Rattle.pgpipe_decode.specs.Other.{packet_name, plain_back_name, plain_front_name};
+ghost use Rattle.pgpipe_decode.specs.Other.{request_of_code, shown_or_hidden, tag_text};
+ghost use Rattle.pgpipe_decode.specs.Other.{version_text};
 
 use crate::text::{put_digits, put_number, put_quoted};
 use pgpipe_frames::code_of;
@@ -53,8 +58,8 @@ fn data_back_name(tag: u8) -> Option<&'static str>
     }
 }
 
-// The name of a message of the backend.
-fn back_name(tag: u8) -> &'static str
+/// The name that the documentation has for a tag of the backend, or `Unknown`.
+pub fn back_name(tag: u8) -> &'static str
     ensures { result.now ≡ back_name tag }
 {
     if let Some(name) = plain_back_name(tag) {
@@ -108,8 +113,8 @@ fn answer_name(body: &[u8]) -> &'static str
     }
 }
 
-// The name of a message of the frontend.
-fn front_name(tag: u8, body: &[u8]) -> &'static str
+/// The name that the documentation has for a tag of the frontend, or `Unknown`; with the tag p it is told by the body.
+pub fn front_name(tag: u8, body: &[u8]) -> &'static str
     ensures { result.now ≡ front_name tag body.now }
 {
     match plain_front_name(tag) {
@@ -209,9 +214,9 @@ pub fn put_other_front(frame: &[u8], line: &mut Vec<u8>) -> Result<(), AllocErro
 // The code of a request to cancel.
 const CANCEL: u32 = 80_877_102;
 
-// The requests by their codes.
+/// The name of a request of a client's first packets, by its code.
 #[tactic(auto, unfolding(crate::specs::Other::request_of_code))]
-fn request_of_code(code: u32) -> Option<&'static str>
+pub fn request_of_code(code: u32) -> Option<&'static str>
     ensures { option_copied result ≡ request_of_code code }
 {
     match code {

@@ -1,10 +1,13 @@
 //! How texts are shown: escaped, in quotes, and cut at a width.
 
-ghost use Rattle.std.specs.Prelude.{◌≡◌, ◌<◌, ◌≤◌, ◌∷◌, ◌++◌, true, false, length, take, IfOk, OnOk};
+ghost use Rattle.std.specs.Prelude.{◌≡◌, ◌<◌, ◌≤◌, ◌∷◌, ◌++◌, true, false, length, take, IfOk};
+ghost use Rattle.std.specs.Prelude.{OnOk};
 ghost use Rattle.std.specs.Fmt.{is_char_start};
 ghost use Rattle.std.specs.List.{list_all};
 ghost use Rattle.std.specs.Str.{is_utf8};
-ghost use Rattle.pgpipe_decode.specs.Text.{cut_mark, digits_escape, escaped, is_boundary, is_high_control, is_plain, listed, parted, quoted, shown_byte, shown_part, whole};
+ghost use Rattle.pgpipe_decode.specs.Text.{cut_mark, digits_escape, escaped, is_boundary};
+ghost use Rattle.pgpipe_decode.specs.Text.{is_high_control, is_plain, listed, parted, quoted};
+ghost use Rattle.pgpipe_decode.specs.Text.{shown_byte, shown_part, whole};
 ghost use Rattle.pgpipe_decode.specs.Private.Parts.{PutsSome, control_end, is_unescaped};
 
 use pg_seq::Seq;

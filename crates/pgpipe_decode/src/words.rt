@@ -1,15 +1,16 @@
 //! Words for the numbers of the protocol.
 
 ghost use Rattle.std.specs.Prelude.{◌≡◌, ◌++◌, option_copied, OnOk};
-ghost use Rattle.pgpipe_decode.specs.Words.{array_type, format_text, other_type, plain_type, status_text, target_text, type_text};
+ghost use Rattle.pgpipe_decode.specs.Words.{array_type, format_text, other_type, plain_type};
+ghost use Rattle.pgpipe_decode.specs.Words.{status_text, target_text, type_text};
 
 use crate::text::{Readable, put_number};
 use pg_wire::{Status, Target};
 use std::alloc::AllocError;
 
-// The types of numbers, texts and bytes.
+/// The names of the types of numbers, texts and bytes, by their object ids.
 #[tactic(auto, unfolding(crate::specs::Words::plain_type))]
-fn plain_type(oid: u32) -> Option<&'static str>
+pub fn plain_type(oid: u32) -> Option<&'static str>
     ensures { option_copied result ≡ plain_type oid }
 {
     match oid {
@@ -30,9 +31,9 @@ fn plain_type(oid: u32) -> Option<&'static str>
     }
 }
 
-// The types of times, documents, addresses and what has no type of its own.
+/// The names of the types of times, documents, addresses and what has no type of its own.
 #[tactic(auto, unfolding(crate::specs::Words::other_type))]
-fn other_type(oid: u32) -> Option<&'static str>
+pub fn other_type(oid: u32) -> Option<&'static str>
     ensures { option_copied result ≡ other_type oid }
 {
     match oid {
@@ -53,9 +54,9 @@ fn other_type(oid: u32) -> Option<&'static str>
     }
 }
 
-// The types of arrays.
+/// The names of the types of arrays.
 #[tactic(auto, unfolding(crate::specs::Words::array_type))]
-fn array_type(oid: u32) -> Option<&'static str>
+pub fn array_type(oid: u32) -> Option<&'static str>
     ensures { option_copied result ≡ array_type oid }
 {
     match oid {

@@ -1,7 +1,10 @@
 //! Reading the lines of SCRIPT that stand in an answer.
 
 ghost use Rattle.std.specs.Prelude.{◌≡◌, option_map};
-ghost use Rattle.pgpipe_files.specs.AnswerFile.{answer_line, begins_part, begins_alone, described, end_of, load_of, new_answer, part_line, says_before, text_column, text_columns, with_part, whole_answer};
+ghost use Rattle.pgpipe_files.specs.AnswerFile.{answer_line, begins_part, begins_alone, described};
+ghost use Rattle.pgpipe_files.specs.AnswerFile.{end_of, load_of, new_answer, part_line};
+ghost use Rattle.pgpipe_files.specs.AnswerFile.{says_before, text_column, text_columns, with_part};
+ghost use Rattle.pgpipe_files.specs.AnswerFile.{whole_answer};
 ghost use Rattle.pgpipe_lines.specs.Reads.{ReadsAs, Leaves};
 
 use pg_backend::{Answer, Load, ScriptPart};

@@ -1,9 +1,13 @@
 //! Reading CALLS: what a client is made with, and what happens to it and to its backend.
 
-ghost use Rattle.std.specs.Prelude.{◌≡◌, ◌<◌, ℕ, ◌+◌, length, Some, Ok, Err, IfOk, OnOk, OnErr, IsSome};
+ghost use Rattle.std.specs.Prelude.{◌≡◌, ◌<◌, ℕ, ◌+◌, length, Some, Ok, Err, IfOk, OnOk, OnErr};
+ghost use Rattle.std.specs.Prelude.{IsSome};
 ghost use Rattle.std.specs.Option.{option_copied};
 ghost use Rattle.pgpipe_lines.specs.declared.fault.LineFault.TheVariants.{Line};
-ghost use Rattle.pgpipe_files.specs.CallsFile.{Happens, call_line, asks_for_event, calls_line, calls_of, calls_said, if_before_start, in_group, in_no_group, line_said, no_calls, path, with_line, what_is_said};
+ghost use Rattle.pgpipe_files.specs.CallsFile.{Happens, call_line, asks_for_event, calls_line};
+ghost use Rattle.pgpipe_files.specs.CallsFile.{calls_of, calls_said, if_before_start, in_group};
+ghost use Rattle.pgpipe_files.specs.CallsFile.{in_no_group, line_said, no_calls, path, with_line};
+ghost use Rattle.pgpipe_files.specs.CallsFile.{what_is_said};
 ghost use Rattle.pgpipe_lines.specs.Arguments.{nothing_of};
 ghost use Rattle.pgpipe_files.specs.Filling.{chunk_lines, filled, files, next_file};
 ghost use Rattle.pgpipe_files.specs.Private.Files.{file_place, path_of};

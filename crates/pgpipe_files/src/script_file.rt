@@ -7,7 +7,9 @@ ghost use Rattle.pgpipe_files.specs.AnswerFile.{if_none};
 ghost use Rattle.pgpipe_files.specs.Private.Begun.{row_left_open};
 ghost use Rattle.pgpipe_files.specs.Private.Reads.{ReadsFileAs};
 ghost use Rattle.pgpipe_lines.specs.Reads.{ReadsAs, Leaves};
-ghost use Rattle.pgpipe_files.specs.ScriptFile.{auth_of, closed, in_answer, key_of, no_script, own_line, salt_of, script_line, script_of, script_said, status_named};
+ghost use Rattle.pgpipe_files.specs.ScriptFile.{auth_of, closed, in_answer, key_of, no_script};
+ghost use Rattle.pgpipe_files.specs.ScriptFile.{own_line, salt_of, script_line, script_of};
+ghost use Rattle.pgpipe_files.specs.ScriptFile.{script_said, status_named};
 
 use crate::answer_file::OpenAnswer;
 use hex::FromHex;

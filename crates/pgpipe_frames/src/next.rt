@@ -21,7 +21,7 @@ const CANCEL: u32 = 80_877_102;
 // The codes of requests, 1234 and any lower half.
 const REQUESTS: u32 = 1_234;
 
-/// What stands after a first packet of this code.
+// What stands after a first packet of this code.
 fn after_code(code: u32) -> Next
     ensures { result ≡ after_code code }
 {

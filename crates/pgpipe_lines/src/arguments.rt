@@ -3,7 +3,10 @@
 ghost use Rattle.std.specs.Prelude.{◌≡◌, ◌≢◌, ◌↔◌, ◌⊎◌, [], IsTrue, IfOk, OnErr, Some, slice_index};
 ghost use Rattle.std.specs.Str.{IsUtf8};
 ghost use Rattle.pgpipe_lines.specs.declared.fault.Refusal.TheVariants.{Memory};
-ghost use Rattle.pgpipe_lines.specs.Arguments.{byte_of, copy_head, copy_head_at, error_fields_of, nothing_of, number, number_of, numbers_of, pair_at, pair_of, read_at, short_number, signed_number, text_at, text_of, texts_of};
+ghost use Rattle.pgpipe_lines.specs.Arguments.{byte_of, copy_head, copy_head_at, error_fields_of};
+ghost use Rattle.pgpipe_lines.specs.Arguments.{nothing_of, number, number_of, numbers_of, pair_at};
+ghost use Rattle.pgpipe_lines.specs.Arguments.{pair_of, read_at, short_number, signed_number};
+ghost use Rattle.pgpipe_lines.specs.Arguments.{text_at, text_of, texts_of};
 ghost use Rattle.pgpipe_lines.specs.Reads.{ReadsAs, TakesOff};
 
 use crate::fault::Refusal;

@@ -1,7 +1,8 @@
 //! The verbs of the lines of SCRIPT and CALLS.
 
 ghost use Rattle.std.specs.Prelude.{◌≡◌};
-ghost use Rattle.pgpipe_lines.specs.Verb.{answer_verb, auth_way, call_verb, end_way, format_of, load_way, script_verb, step_verb, target_of};
+ghost use Rattle.pgpipe_lines.specs.Verb.{answer_verb, auth_way, call_verb, end_way, format_of};
+ghost use Rattle.pgpipe_lines.specs.Verb.{load_way, script_verb, step_verb, target_of};
 
 use pg_wire::Target;
 

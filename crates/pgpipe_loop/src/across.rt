@@ -11,7 +11,7 @@ use std::marker::Model;
 
 /// Carries over two ends, the client's and the backend's. A piece is sent whole at the end that it comes from, and received whole at
 /// the other. Where an end fails, or the input ends before the piece is whole, the call fails.
-#[derive(Debug, Drop)]
+#[derive(Drop)]
 pub struct Across<A, B> {
     client: A,
     backend: B,

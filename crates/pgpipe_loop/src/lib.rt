@@ -1,6 +1,17 @@
-//! Running a loop: a client's calls against a scripted backend, over any carrier ([`run_loop`]), and the lines of what comes of them
-//! ([`event_lines`]). [`Across`] is a carrier over two ends, each of which sends and receives, as those of a connection do. A loop can
-//! be run again for each byte, with its way broken after it ([`break_everywhere`]).
+//! A loop run: a client's calls against a scripted backend, over any carrier, and the lines of what comes of them.
+//!
+//! - [`run_loop`](run_loop::run_loop) gives the events of CALLS to a pair, one by one, and sends the lines of each before the next happens;
+//!   [`trace_loop`](run_loop::trace_loop) sends what each event moved besides.
+//! - [`break_everywhere`] runs a loop again for each byte of each way, with the way cut after it.
+//! - [`event_lines`] are the lines of an event of any pair; [`turn_lines`] those of a backend's turn.
+//! - [`Across`] is a carrier over two ends, each of which sends and receives, as those of a connection do.
+//!
+//! | File | Definitions in `specs/` | What it has |
+//! |---|---|---|
+//! | `run_loop.rt`, `run_loop/telling.rt` | `RunLoop`, `Trace` | what happens as a list of events, each with how often it may happen again; what is told of each |
+//! | `run_loop/everywhere.rt`, `places.rt`, `wire.rt` | `Everywhere` | the places where a loop is broken, a wire that is cut there, and the line of each |
+//! | `lines.rt`, `lines/` | `Lines` | the lines, field by field, in one buffer |
+//! | `across.rt` | `Across` | the carrier over two ends |
 #![tactic(auto)]
 
 mod across;

@@ -14,8 +14,10 @@ ghost use Rattle.pg_pair.specs.Beginning.{IsBegun};
 ghost use Rattle.pg_pair.specs.View.{PairView};
 ghost use Rattle.pg_pair.specs.declared.event.Event.TheVariants as event;
 ghost use Rattle.pgpipe_files.specs.Filling.{next_file};
-ghost use Rattle.pgpipe_loop.specs.RunLoop.{PlannedEvent, times, most_times, flow_once, line_events, planned_events, is_carrier, LoopAnswers};
-ghost use Rattle.pgpipe_loop.specs.Private.Running.{at, delivery, SendsLines, Prints, HasDone, DoesAll, DoesOnce, Closes, EndsLoop};
+ghost use Rattle.pgpipe_loop.specs.RunLoop.{PlannedEvent, times, most_times, flow_once};
+ghost use Rattle.pgpipe_loop.specs.RunLoop.{line_events, planned_events, is_carrier, LoopAnswers};
+ghost use Rattle.pgpipe_loop.specs.Private.Running.{at, delivery, SendsLines, Prints, HasDone};
+ghost use Rattle.pgpipe_loop.specs.Private.Running.{DoesAll, DoesOnce, Closes, EndsLoop};
 ghost use Rattle.pgpipe_base.specs.Receiving.{CountsNoFailure};
 
 use crate::lines::closing_lines;

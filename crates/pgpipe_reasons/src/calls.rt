@@ -2,7 +2,9 @@
 
 ghost use Rattle.std.specs.Prelude.{◌≡◌};
 ghost use Rattle.pgpipe_lines.specs.Lines.{with_file};
-ghost use Rattle.pgpipe_reasons.specs.Calls.{call_fields, calls_search, calls_searched, is_setting, judge_alone, judge_call, judge_calls, judge_grouped, passed_calls, step_fields};
+ghost use Rattle.pgpipe_reasons.specs.Calls.{call_fields, calls_search, calls_searched, is_setting};
+ghost use Rattle.pgpipe_reasons.specs.Calls.{judge_alone, judge_call, judge_calls, judge_grouped};
+ghost use Rattle.pgpipe_reasons.specs.Calls.{passed_calls, step_fields};
 ghost use Rattle.pgpipe_reasons.specs.Fields.{IsReasonOf};
 
 use crate::fields::{Tail, judge_fields};

@@ -1,7 +1,8 @@
 //! What was expected where each fault stands.
 
 ghost use Rattle.std.specs.Prelude.{◌≡◌};
-ghost use Rattle.pgpipe_reasons.specs.Faults.{back_rule, binary_rule, front_rule, option_rule, row_rule, script_rule, text_rule};
+ghost use Rattle.pgpipe_reasons.specs.Faults.{back_rule, binary_rule, front_rule, option_rule};
+ghost use Rattle.pgpipe_reasons.specs.Faults.{row_rule, script_rule, text_rule};
 
 use crate::rule::Rule;
 use pg_backend::ScriptFault;

@@ -2,7 +2,8 @@
 
 ghost use Rattle.std.specs.Prelude.{◌≡◌, ◌+◌, ◌<◌, ◌^◌, drop, option_copied, true};
 ghost use Rattle.std.specs.List.{slice_get};
-ghost use Rattle.pgpipe_reasons.specs.Fields.{judge_all, judge_at, judge_codes, judge_field, judge_fields, judge_from, judge_tail, word_of};
+ghost use Rattle.pgpipe_reasons.specs.Fields.{judge_all, judge_at, judge_codes, judge_field};
+ghost use Rattle.pgpipe_reasons.specs.Fields.{judge_fields, judge_from, judge_tail, word_of};
 
 use crate::kind::Kind;
 use crate::reason::LineReason;

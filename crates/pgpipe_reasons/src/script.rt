@@ -3,7 +3,11 @@
 ghost use Rattle.std.specs.Prelude.{◌≡◌};
 ghost use Rattle.pgpipe_lines.specs.Lines.{with_file};
 ghost use Rattle.pgpipe_reasons.specs.Fields.{IsReasonOf};
-ghost use Rattle.pgpipe_reasons.specs.Script.{answer_fields, answer_place, before_script, copy_in_fields, judge_answer, judge_own, judge_script, own_fields, own_place, passed_answer, passed_own, passed_script, script_search, script_searched};
+ghost use Rattle.pgpipe_reasons.specs.Script.{answer_fields, answer_place, before_script};
+ghost use Rattle.pgpipe_reasons.specs.Script.{copy_in_fields, judge_answer, judge_own};
+ghost use Rattle.pgpipe_reasons.specs.Script.{judge_script, own_fields, own_place, passed_answer};
+ghost use Rattle.pgpipe_reasons.specs.Script.{passed_own, passed_script, script_search};
+ghost use Rattle.pgpipe_reasons.specs.Script.{script_searched};
 
 use crate::fields::{Tail, judge_fields, word_at};
 use crate::kind::Kind;

@@ -4,6 +4,12 @@
 //! clients come from is a trait ([`Clients`]), as nothing here opens a socket.
 //!
 //! `serving.rt` has the turns of a connection, `clients.rt` the clients.
+//!
+//! [`serve`] makes a backend of the script and takes turns of `pg_serve::answer`, one at a time, so that the lines of
+//! what was decided in a turn are sent before the next one waits for the client. They are written from the new entries
+//! of the backend's log, where these stand. `serve_all` has `Clients` give it one link after another, and reads the
+//! script anew for each. It knows no socket: a listener is one kind of `Clients` (`pgpipe_words`). `Serving` of
+//! `specs/` says what a connection comes to and which lines it has, `Clients` what one client after another comes to.
 #![tactic(auto)]
 
 mod clients;

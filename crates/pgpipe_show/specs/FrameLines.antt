@@ -11,6 +11,7 @@ use Rattle.pgpipe_frames.specs.declared.next.Next.{Next}
 use Rattle.pgpipe_frames.specs.declared.next.Next.TheVariants as next
 use Rattle.pgpipe_frames.specs.Frames.{Frame, AreFramed}
 use Rattle.pgpipe_frames.specs.Reading.{IsReadAs, IsPacketReadAs}
+use Rattle.pgpipe_json.specs.Frame.{IsJsonText}
 use Rattle.pgpipe_show.specs.Messages.{line}
 use Rattle.pgpipe_show.specs.Packets.{packet_line}
 use Rattle.pgpipe_show.specs.declared.form.Line.{Line}
@@ -54,13 +55,15 @@ IsHexLine front next.Packet bytes text = (p : Option First) × IsPacketReadAs by
 IsHexLine front next.Message bytes text = IsSideLine front bytes text
 IsHexLine front next.Nothing bytes text = IsSideLine front bytes text
 
--- ---- in either form
+-- ---- in each form
 
--- the line of a frame; where it is decoded, its text and a newline
+-- the line of a frame; where it is decoded or a JSON object, its text and a newline
 abbrev pub IsLine : Line → Bool → Frame → List ℕ → Type 0
 IsLine lines_of.Hexadecimal front f text = IsHexLine front f.kind f.bytes text
 IsLine lines_of.Decoded front f text = (words : List ℕ) × IsTextOf front f.kind f.bytes words
     × (text ≡ words ++ codes "\n")
+IsLine lines_of.Json front f text = (json : List ℕ) × IsJsonText front f.kind f.bytes json
+    × (text ≡ json ++ codes "\n")
 
 -- The text is a line for each of these frames, in order.
 abbrev pub AreLines : Line → Bool → List Frame → List ℕ → Type 0

@@ -1,9 +1,11 @@
 //! How far the reading has come.
 
-ghost use Rattle.std.specs.Prelude.{◌≡◌, ◌<◌, ◌+◌, ◌^◌, ◌++◌, [], length, true, false, None, ℕ, List, OnOk};
+ghost use Rattle.std.specs.Prelude.{◌≡◌, ◌<◌, ◌+◌, ◌^◌, ◌++◌, [], length, true, false, None, ℕ};
+ghost use Rattle.std.specs.Prelude.{List, OnOk};
 ghost use Rattle.pgpipe_show.specs.declared.decoding.Decoding.TheVariants.{First};
 ghost use Rattle.pgpipe_show.specs.Way.{messages_of};
-ghost use Rattle.pgpipe_show.specs.Private.Showing.{way_of, unshown, AreAt, IsSoundAt, HasShown, StepShows, LeavesSource};
+ghost use Rattle.pgpipe_show.specs.Private.Showing.{way_of, unshown, AreAt, IsSoundAt, HasShown};
+ghost use Rattle.pgpipe_show.specs.Private.Showing.{StepShows, LeavesSource};
 
 use crate::form::{Form, Line};
 use crate::framing::{Framing, take_frames};

@@ -17,4 +17,6 @@ pub enum Line {
     Hexadecimal,
     /// Its name and its fields, as a person reads them.
     Decoded,
+    /// A JSON object of its name, its length field and its fields.
+    Json,
 }

@@ -4,8 +4,9 @@ ghost use Rattle.std.specs.Prelude.{◌≤◌, ◌^◌, true, length, None, OnOk
 ghost use Rattle.pgpipe_base.specs.Outbox.{line_of};
 ghost use Rattle.pgpipe_frames.specs.Frames.{fewest};
 ghost use Rattle.pgpipe_frames.specs.declared.next.Next.TheVariants.{Packet};
-ghost use Rattle.pgpipe_show.specs.declared.form.Line.TheVariants.{Decoded};
-ghost use Rattle.pgpipe_show.specs.FrameLines.{IsHexLine, IsLine, IsMessageLine, IsSideLine, first_line, other_line};
+ghost use Rattle.pgpipe_show.specs.declared.form.Line.TheVariants.{Decoded, Json};
+ghost use Rattle.pgpipe_show.specs.FrameLines.{IsHexLine, IsLine, IsMessageLine, IsSideLine};
+ghost use Rattle.pgpipe_show.specs.FrameLines.{first_line, other_line};
 ghost use Rattle.pgpipe_show.specs.Private.Showing.{LeavesSource, PutsFrames, PutsLine, PutsLineOf};
 
 use crate::form::Line;
@@ -187,6 +188,43 @@ fn put_decoded<K: Sink>(
     }
 }
 
+// Writes the line of a frame as a JSON object.
+fn write_json(
+    alloc: Global,
+    front: bool,
+    kind: Next,
+    frame: &[u8],
+    line: &mut Vec<u8>,
+) -> Result<(), AllocError>
+    requires { fewest kind ≤ length frame.now }
+    ensures { OnOk result (IsLine Json front (record { kind = kind; bytes = frame.now })
+        line.new.items) }
+{
+    line.clear();
+    pgpipe_json::put_frame(alloc, front, kind, frame, line)?;
+    line.extend_from_slice(b"\n")
+}
+
+// Puts the line of a frame as a JSON object, which is written whole first.
+fn put_json<K: Sink>(
+    alloc: Global,
+    front: bool,
+    kind: Next,
+    frame: &[u8],
+    line: &mut Vec<u8>,
+    outbox: &mut Outbox,
+    sink: &mut K,
+) -> Result<(), Stop<Shown>>
+    requires { fewest kind ≤ length frame.now }
+    ensures { PutsLineOf K.takes K.failures outbox.old sink.old
+        (IsLine Json front (record { kind = kind; bytes = frame.now })) result outbox.new sink.new }
+{
+    match write_json(alloc, front, kind, frame, line) {
+        Ok(()) => put_text(line, outbox, sink),
+        Err(_) => Err(Stop::Memory),
+    }
+}
+
 // Puts the line of a frame.
 fn put_frame<K: Sink>(
     alloc: Global,
@@ -205,6 +243,7 @@ fn put_frame<K: Sink>(
     match line {
         Line::Hexadecimal => put_hexadecimal(alloc, front, kind, frame, spelled, outbox, sink),
         Line::Decoded => put_decoded(alloc, front, kind, frame, spelled, outbox, sink),
+        Line::Json => put_json(alloc, front, kind, frame, spelled, outbox, sink),
     }
 }
 

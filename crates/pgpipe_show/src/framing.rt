@@ -4,7 +4,8 @@ ghost use Rattle.std.specs.Prelude.{◌≡◌, ◌++◌, [], List, ℕ};
 ghost use Rattle.pgpipe_show.specs.declared.decoding.Decoding.TheVariants.{Framed};
 ghost use Rattle.pgpipe_show.specs.declared.form.Form.TheVariants as forms;
 ghost use Rattle.pgpipe_show.specs.FrameLines.{first_of};
-ghost use Rattle.pgpipe_show.specs.Private.Showing.{HasShown, LeavesSource, StepShows, AreAt, way_of};
+ghost use Rattle.pgpipe_show.specs.Private.Showing.{HasShown, LeavesSource, StepShows, AreAt};
+ghost use Rattle.pgpipe_show.specs.Private.Showing.{way_of};
 
 use crate::decoding::Decoding;
 use crate::form::Line;

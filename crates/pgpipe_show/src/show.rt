@@ -3,10 +3,12 @@
 ghost use Rattle.std.specs.Prelude.{◌≡◌, ◌<◌, ◌≤◌, ◌+◌, ◌^◌, ◌++◌, ℕ, List, [], length, IfOk, OnOk};
 ghost use Rattle.std.specs.List.{FoldsTo, concat};
 ghost use Rattle.pg_wire.specs.Link.{HasRisen};
-ghost use Rattle.pgpipe_base.specs.Receiving.{longest_piece, HasStopped, CountsNoFailure, IsSentAtOnce};
+ghost use Rattle.pgpipe_base.specs.Receiving.{longest_piece, HasStopped, CountsNoFailure};
+ghost use Rattle.pgpipe_base.specs.Receiving.{IsSentAtOnce};
 ghost use Rattle.pgpipe_show.specs.Show.{AreAllShown, ShowAnswers, EndsStream};
 ghost use Rattle.pgpipe_show.specs.Way.{messages_of};
-ghost use Rattle.pgpipe_show.specs.Private.Showing.{way_of, unshown, IsSoundAt, HasShown, StepShows, StepsSource, HasRun};
+ghost use Rattle.pgpipe_show.specs.Private.Showing.{way_of, unshown, IsSoundAt, HasShown};
+ghost use Rattle.pgpipe_show.specs.Private.Showing.{StepShows, StepsSource, HasRun};
 
 use crate::decoding::Decoding;
 use crate::form::Form;
@@ -107,7 +109,7 @@ fn begin(alloc: Global) -> Result<Showing, AllocError>
 }
 
 /// Shows a stream as [`show`] does, in one of several forms: its messages and packets of the tables, as `show` itself; or its frames, whatever
-/// they are ("Message Formats", "Start-up"), with a line of hexadecimal or of words for each. A frame is told by its length field alone: of a
+/// they are ("Message Formats", "Start-up"), with a line of hexadecimal, of words or of JSON for each. A frame is told by its length field alone: of a
 /// message 4 to 1,073,741,823, of a first packet 8 to 10,000. A client's first packets go on up to one that is no request, of any version, or
 /// to a request to cancel; messages follow, or nothing that is read.
 ///

@@ -26,7 +26,7 @@ module _ (names : Bor (List (Bor (List ℕ)))) where
   abbrev shown : List Text → Showing → Type 0
   shown words showing = IsAskedFor (met words) (task.Show showing)
 
-  pub no_words : (t : Task) → IsAskedFor (met (codes "pgpipe" ∷ [])) t → t ≡ task.Show (record { front = false; form = forms.Messages; file = None })
+  pub no_words : (t : Task) → IsAskedFor (met (codes "pgpipe" ∷ [])) t → t ≡ task.Show (record { front = false; form = forms.Messages; summary = false; file = None; front_file = None; back_file = None })
   unfolding clap_on_literals
   no_words t asked = asked
 
@@ -41,6 +41,10 @@ module _ (names : Bor (List (Bor (List ℕ)))) where
   pub a_file_is_shown : (s : Showing) → shown (codes "pgpipe" ∷ codes "show" ∷ codes "--decode" ∷ codes "f" ∷ []) s → option_map string_bytes s.file ≡ Some (codes "f")
   unfolding clap_on_literals
   a_file_is_shown s asked = (asked.show refl).file
+
+  pub both_sides_are_shown : (s : Showing) → shown (codes "pgpipe" ∷ codes "show" ∷ codes "--front-file" ∷ codes "f" ∷ codes "--back-file" ∷ codes "b" ∷ []) s → (option_map string_bytes s.front_file ≡ Some (codes "f")) × (option_map string_bytes s.back_file ≡ Some (codes "b"))
+  unfolding clap_on_literals
+  both_sides_are_shown s asked = let named = asked.show refl in (named.front_file, named.back_file)
 
   abbrev conversion : List Text
   conversion = codes "pgpipe" ∷ codes "convert" ∷ codes "--from" ∷ codes "text" ∷ codes "--to" ∷ codes "binary" ∷ codes "--columns" ∷ codes "2" ∷ []

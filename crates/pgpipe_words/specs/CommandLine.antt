@@ -43,11 +43,14 @@ progress = flag (codes "progress")
 abbrev pub file : Rule
 file = new_rule (codes "FILE")
 
--- the subcommand `show`: the flags `--front`, `--frames`, `--decode`, `--explain` and `--progress`,
--- and the path FILE
+-- the subcommand `show`: the flags `--front`, `--frames`, `--decode`, `--json` and `--summary`, the
+-- options `--front-file` and `--back-file`, the flags `--explain` and `--progress`, and the path FILE
 abbrev pub show : Shape
-show = (with_rule (with_rule (with_rule (with_rule (with_rule (with_rule (new_app (codes "show"))
-    (flag (codes "front"))) (flag (codes "frames"))) (flag (codes "decode"))) explain) progress)
+show = (with_rule (with_rule (with_rule (with_rule (with_rule (with_rule (with_rule (with_rule
+    (with_rule (with_rule (new_app (codes "show"))
+    (flag (codes "front"))) (flag (codes "frames"))) (flag (codes "decode")))
+    (flag (codes "json"))) (flag (codes "summary")))
+    (text_option (codes "front-file"))) (text_option (codes "back-file"))) explain) progress)
     file).top
 
 -- the option `--columns`, from 1 to 32,767

@@ -11,6 +11,8 @@ use Rattle.pg_pair.specs.Carrying.{Carrying}
 use Rattle.pg_pair.specs.View.{PairView}
 use Rattle.pgpipe_base.specs.declared.fault.ToolFault.{ToolFault}
 use Rattle.pgpipe_base.specs.Receiving.{HasStopped, CountsNoFailure}
+use Rattle.pgpipe_both.specs.Both.{ShowsBoth}
+use Rattle.pgpipe_both.specs.declared.turn.Ends.{Ends}
 use Rattle.pgpipe_convert.specs.declared.convert.Converted.{Converted}
 use Rattle.pgpipe_convert.specs.declared.format.Format.{Format}
 use Rattle.pgpipe_convert.specs.Convert as convert
@@ -23,13 +25,14 @@ use Rattle.pgpipe_loop.specs.RunLoop as loop
 use Rattle.pgpipe_show.specs.declared.show.Shown.{Shown}
 use Rattle.pgpipe_show.specs.Show as show
 use Rattle.pgpipe_show.specs.Way.{Way}
+use Rattle.pgpipe_summary.specs.Summary.{SumsUp}
 use Rattle.pgpipe_words.specs.declared.failure.Failure.{Failure}
 use Rattle.pgpipe_words.specs.declared.failure.Failure.TheVariants as failure
 use Rattle.pgpipe_words.specs.declared.tasks.Conversion.{Conversion}
 use Rattle.pgpipe_words.specs.declared.tasks.LoopTask.{LoopTask}
 use Rattle.pgpipe_words.specs.declared.tasks.Task.{Task}
 use Rattle.pgpipe_words.specs.declared.tasks.Task.TheVariants as task
-use Rattle.pgpipe_words.specs.Failure.{BreakResults, ShowResults, ConversionResults, LoopResults, check_failure}
+use Rattle.pgpipe_words.specs.Failure.{BothResults, BreakResults, ShowResults, ConversionResults, LoopResults, check_failure}
 use Rattle.pgpipe_words.specs.LoopFiles.{ReadsScript, ReadsCalls, KeepsScript, KeepsCalls}
 use Rattle.pgpipe_words.specs.TextOptions.{only_byte, ReadsOptions}
 
@@ -194,7 +197,26 @@ module _ {C K : Type 0} (carries : Carrying C) (takes : K → List ℕ → K →
   abbrev pub DoesLoop : Type 0
   DoesLoop = DoesLoopIf task.breaks task.tcp task.trace
 
+-- ---- both sides of a connection
+
+-- `show_both` was run, and the result is what its answer means for the program.
+abbrev pub DoesBoth : {F B K : Type 0} → (F → List ℕ → F → Type 0) → (F → ℕ) → (F → Type 0)
+    → (B → List ℕ → B → Type 0) → (B → ℕ) → (B → Type 0) → (K → List ℕ → K → Type 0) → (K → ℕ)
+    → F → B → K → Result Unit Failure → F → B → K → Type 0
+DoesBoth front_gives front_failures front_ended back_gives back_failures back_ended takes failures
+    front back sink result front' back' sink' =
+    (answer : Result Ends ToolFault)
+    × ShowsBoth front_gives front_failures front_ended back_gives back_failures back_ended takes failures
+    front back sink answer front' back' sink'
+    × BothResults answer result
+
 -- ---- a task
+
+-- `summarize` was run, and the task's result is what its answer means for the program.
+abbrev pub DoesSummary : {S K : Type 0} → (S → List ℕ → S → Type 0) → (K → List ℕ → K → Type 0) → Bool
+    → S → K → Result Unit Failure → S → K → Type 0
+DoesSummary gives takes front source sink result source' sink' = (answer : Result Shown ToolFault)
+    × SumsUp gives takes front source sink answer source' sink' × ShowResults answer result
 
 module _ {S K : Type 0} (gives : S → List ℕ → S → Type 0) (source_failures : S → ℕ) (has_ended : S
     → Type 0) (takes : K → List ℕ → K → Type 0) (failures : K → ℕ) where
@@ -204,6 +226,13 @@ module _ {S K : Type 0} (gives : S → List ℕ → S → Type 0) (source_failur
       × WasShown gives source_failures has_ended takes failures way source sink answer source'
       sink'
       × ShowResults answer result
+
+  -- A stream was summed up (true), or shown.
+  abbrev pub DoesShowing : Bool → Way → S → K → Result Unit Failure → S → K → Type 0
+  DoesShowing true way source sink result source' sink' =
+      DoesSummary gives takes way.front source sink result source' sink'
+  DoesShowing false way source sink result source' sink' =
+      DoesShow way source sink result source' sink'
 
   -- By what came of the options: `convert_with` was run with them, and the task's result is what its
   -- answer means for the program; or their failure is the result, and nothing was received or sent.
@@ -229,7 +258,8 @@ module _ {S K : Type 0} (gives : S → List ℕ → S → Type 0) (source_failur
     -- be read.
     abbrev pub DoesTask : Task → S → K → Result Unit Failure → S → K → Type 0
     DoesTask (task.Show s) source sink result source' sink' =
-        DoesShow (record { form = s.form; front = s.front }) source sink result source' sink'
+        DoesShowing s.summary (record { form = s.form; front = s.front }) source sink result source'
+        sink'
     DoesTask (task.Convert c) source sink result source' sink' =
         DoesConvert c source sink result source' sink'
     DoesTask (task.Loop l) source sink result source' sink' = (source' ≡ source)

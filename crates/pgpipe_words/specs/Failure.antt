@@ -6,6 +6,9 @@ use Rattle.clap.specs.declared.error.kind.ErrorKind.{ErrorKind}
 use Rattle.clap.specs.declared.error.kind.ErrorKind.TheVariants as kind
 use Rattle.pgpipe_words.specs.declared.failure.Failure.{Failure}
 use Rattle.pgpipe_words.specs.declared.failure.Failure.TheVariants as failure
+use Rattle.pgpipe_both.specs.declared.turn.Ended.{Ended}
+use Rattle.pgpipe_both.specs.declared.turn.Ended.TheVariants as ending
+use Rattle.pgpipe_both.specs.declared.turn.Ends.{Ends}
 use Rattle.pgpipe_convert.specs.declared.convert.Converted.{Converted}
 use Rattle.pgpipe_convert.specs.declared.convert.Converted.TheVariants as converted
 use Rattle.pg_backend.specs.fault.ScriptFault.{ScriptFault}
@@ -28,9 +31,15 @@ failure_status failure.NotUtf8 = 1
 failure_status failure.Delimiter = 1
 failure_status failure.BreaksOverTcp = 1
 failure_status failure.BreaksTraced = 1
+failure_status failure.Sides = 1
 failure_status (failure.Options f) = 2
 failure_status (failure.Rest n) = 2
 failure_status (failure.Fault f) = 2
+failure_status (failure.FrontRest n) = 2
+failure_status (failure.FrontFault f) = 2
+failure_status (failure.BackRest n) = 2
+failure_status (failure.BackFault f) = 2
+failure_status failure.Encrypted = 2
 failure_status (failure.Text f) = 2
 failure_status (failure.Binary f) = 2
 failure_status (failure.Row f) = 2
@@ -49,6 +58,30 @@ ShowResults (Ok (shown.Rest n)) r = r ≡ Err (failure.Rest n)
 ShowResults (Ok (shown.Fault f)) r = r ≡ Err (failure.Fault f)
 ShowResults (Err fault.Device) r = r ≡ Err failure.Device
 ShowResults (Err fault.Memory) r = r ≡ Err failure.Memory
+
+-- How the program ends, by how the server's stream ended, where the client's has no fault. After a
+-- request to cancel nothing is missing.
+abbrev pub back_result : Ended → Result Unit Failure
+back_result ending.Whole = Ok tt
+back_result (ending.Rest n) = Err (failure.BackRest n)
+back_result (ending.Fault f) = Err (failure.BackFault f)
+back_result ending.Canceled = Ok tt
+back_result ending.Encrypted = Err failure.Encrypted
+
+-- How the program ends, by how both streams ended: the client's fault comes first.
+abbrev pub ends_result : Ended → Ended → Result Unit Failure
+ends_result ending.Whole back = back_result back
+ends_result (ending.Rest n) back = Err (failure.FrontRest n)
+ends_result (ending.Fault f) back = Err (failure.FrontFault f)
+ends_result ending.Canceled back = back_result back
+ends_result ending.Encrypted back = Err failure.Encrypted
+
+-- What the answer of `show_both` means for the program: success where both streams are whole, and else
+-- a failure.
+abbrev pub BothResults : Result Ends ToolFault → Result Unit Failure → Type 0
+BothResults (Ok ends) r = r ≡ ends_result ends.front ends.back
+BothResults (Err fault.Device) r = r ≡ Err failure.Device
+BothResults (Err fault.Memory) r = r ≡ Err failure.Memory
 
 -- What the answer of `convert_with` means for the program: success where the file is whole, and else a
 -- failure.

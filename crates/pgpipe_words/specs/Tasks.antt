@@ -1,5 +1,5 @@
 -- The task that the words of a command line ask for.
-use Rattle.std.specs.Prelude.{◌≡◌, ◌<◌, ◌≤◌, ℕ, true, false, Bool, List, [], ◌∷◌, Option, Some, None, Result, IfOk, ◌&&◌, not, if◌then◌else◌, codes, option_map, unwrap_or, string_bytes}
+use Rattle.std.specs.Prelude.{◌≡◌, ◌<◌, ◌≤◌, ℕ, true, false, Bool, ◌&&◌, ◌||◌, not, List, [], ◌∷◌, Option, Some, None, Result, IfOk, if◌then◌else◌, codes, is_some, option_map, unwrap_or, string_bytes}
 use Rattle.std.specs.Str.{bytes_eq}
 use Rattle.std.specs.Str.Parse.{IsNumeral, digits_value, without_leading_plus}
 use Rattle.clap.specs.Words.{FailsBy, Row, Text, fault_of, first_of, one_of, subcommand_of}
@@ -60,19 +60,42 @@ pub record IsFlag (found : Option Text) (given : Bool) : Type 0 where
 
 -- ---- the task of a subcommand, by what was found for its arguments
 
--- How a stream is shown, by whether `--decode` and `--frames` were given: of both the first counts.
-abbrev pub form_of : Bool → Bool → Form
-form_of true frames = forms.Frames line.Decoded
-form_of false true = forms.Frames line.Hexadecimal
-form_of false false = forms.Messages
+-- How a stream is shown, by whether `--json`, `--decode` and `--frames` were given: of several the
+-- first counts.
+abbrev pub form_of : Bool → Bool → Bool → Form
+form_of true decode frames = forms.Frames line.Json
+form_of false true frames = forms.Frames line.Decoded
+form_of false false true = forms.Frames line.Hexadecimal
+form_of false false false = forms.Messages
+
+-- whether both sides of a connection can be shown in this form: as messages are, or decoded
+abbrev pub is_of_both : Form → Bool
+is_of_both forms.Messages = true
+is_of_both (forms.Frames line.Decoded) = true
+is_of_both (forms.Frames _) = false
+
+-- whether both sides of a connection, from a file each, or one of them are asked for
+abbrev pub names_sides : Showing → Bool
+names_sides s = is_some s.front_file || is_some s.back_file
+
+-- Whether both are, and nothing that can't go with them: `--front`, `--frames` without `--decode`,
+-- `--json`, `--summary`, or a file of one stream.
+abbrev pub names_both : Showing → Bool
+names_both s = (is_some s.front_file && is_some s.back_file) && not s.front && is_of_both s.form
+    && not s.summary && not (is_some s.file)
 
 -- A client's stream is shown, if `--front` was given, and else a backend's, in the form that was
--- asked for; it is in the file that was given, or without one on standard input.
+-- asked for, or summed up, if `--summary` was given; it is in the file that was given, or without one
+-- on standard input. Or both sides of a connection are shown, each in the file that was given for it.
 pub record HasShowing (found : List Row) (s : Showing) : Type 0 where
   pub front : IsFlag (one_of (codes "front") found) s.front
-  pub form : (decode frames : Bool) × IsFlag (one_of (codes "decode") found) decode
-      × IsFlag (one_of (codes "frames") found) frames × (s.form ≡ form_of decode frames)
+  pub form : (json decode frames : Bool) × IsFlag (one_of (codes "json") found) json
+      × IsFlag (one_of (codes "decode") found) decode
+      × IsFlag (one_of (codes "frames") found) frames × (s.form ≡ form_of json decode frames)
+  pub summary : IsFlag (one_of (codes "summary") found) s.summary
   pub file : option_map string_bytes s.file ≡ first_of (codes "FILE") found
+  pub front_file : option_map string_bytes s.front_file ≡ first_of (codes "front-file") found
+  pub back_file : option_map string_bytes s.back_file ≡ first_of (codes "back-file") found
 
 -- The task is to show a stream as it was asked for.
 abbrev pub IsShowOf : List Row → Task → Type 0
@@ -143,7 +166,14 @@ pub record IsNamed (name : Text) (found : List Row) (t : Task) : Type 0 where
 -- comes on standard input.
 abbrev pub IsAskedFor : Option (Text × List Row) → Task → Type 0
 IsAskedFor None t = t
-    ≡ task.Show (record { front = false; form = forms.Messages; file = None })
+    ≡ task.Show (record {
+      front = false;
+      form = forms.Messages;
+      summary = false;
+      file = None;
+      front_file = None;
+      back_file = None;
+    })
 IsAskedFor (Some subcommand) t = IsNamed subcommand.0 subcommand.1 t
 
 -- What is told of a task, by what was found for the flags of its subcommand.

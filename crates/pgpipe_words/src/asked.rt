@@ -11,7 +11,7 @@ use clap::{ArgMatches, Error};
 use std::alloc::Global;
 
 /// What is told on standard error beside a fault's own line.
-#[derive(Clone, Copy, Debug, PartialEq, Eq)]
+#[derive(Clone, Copy)]
 pub struct Telling {
     /// Whether a second line says where a fault stands, and what was expected.
     pub explain: bool,
@@ -20,7 +20,7 @@ pub struct Telling {
 }
 
 /// What the program is asked for.
-#[derive(Debug, PartialEq, Eq, Drop)]
+#[derive(Drop)]
 pub struct Asked {
     /// The task.
     pub task: Task,

@@ -2,7 +2,9 @@
 
 ghost use Rattle.std.specs.Prelude.{◌≡◌, IfOk, [], codes};
 ghost use Rattle.clap.specs.Words.{Rule, Shape, app_of, new_app, new_rule, with_rule};
-ghost use Rattle.pgpipe_words.specs.CommandLine.{flag, show, columns, cut, convert, explain, file, loop, command_line, program, progress, text_option, option, required, without_serve};
+ghost use Rattle.pgpipe_words.specs.CommandLine.{flag, show, columns, cut, convert, explain, file};
+ghost use Rattle.pgpipe_words.specs.CommandLine.{loop, command_line, program, progress};
+ghost use Rattle.pgpipe_words.specs.CommandLine.{text_option, option, required, without_serve};
 ghost use Rattle.pgpipe_words.specs.Private.CommandLine.{IsArg, IsCommand, IsProgram};
 
 use crate::help;
@@ -115,8 +117,14 @@ fn show_command<'a>(alloc: Global) -> Result<Command<'a>, AllocError>
     let front = flag_arg(alloc, "front", help::FRONT);
     let frames = flag_arg(alloc, "frames", help::FRAMES);
     let decode = flag_arg(alloc, "decode", help::DECODE);
+    let json = flag_arg(alloc, "json", help::JSON);
+    let summary = flag_arg(alloc, "summary", help::SUMMARY);
+    let front_file = text_arg(alloc, "front-file", "F", help::FRONT_FILE);
+    let back_file = text_arg(alloc, "back-file", "B", help::BACK_FILE);
     let command = bare_show_command(alloc);
     let command = with_arg(with_arg(with_arg(command, front)?, frames)?, decode)?;
+    let command = with_arg(with_arg(command, json)?, summary)?;
+    let command = with_arg(with_arg(command, front_file)?, back_file)?;
     let command = with_arg(command, explain_arg(alloc))?;
     let command = with_arg(command, progress_arg(alloc))?;
     with_arg(command, file_arg(alloc))

@@ -1,12 +1,13 @@
 //! Comments in the files of a loop.
 
 ghost use Rattle.std.specs.Prelude.{◌≡◌, ◌++◌, ◌∷◌, [], true, false, IfOk, OnOk};
-ghost use Rattle.pgpipe_words.specs.Comments.{after, after_in_line, ends_line, left_of, uncommented};
+ghost use Rattle.pgpipe_words.specs.Comments.{after, after_in_line, ends_line, left_of};
+ghost use Rattle.pgpipe_words.specs.Comments.{uncommented};
 
 use std::alloc::{AllocError, Global};
 
 /// Where a byte of a file with comments stands.
-#[derive(Clone, Copy, Debug, PartialEq, Eq)]
+#[derive(Clone, Copy)]
 pub enum BytePlace {
     /// At the beginning of a line.
     Start,

@@ -4,12 +4,13 @@ ghost use Rattle.std.specs.Prelude.{◌≡◌, MatchResult};
 ghost use Rattle.std.specs.Process.{exit_status};
 ghost use Rattle.clap.specs.Words.{kind_of};
 ghost use Rattle.pgpipe_show.specs.Way.{Way};
-ghost use Rattle.pgpipe_words.specs.Doing.{DoesTask, DoesShow, DoesConvert, DoesLoop};
+ghost use Rattle.pgpipe_words.specs.Doing.{DoesBoth, DoesTask, DoesShow, DoesShowing, DoesSummary};
+ghost use Rattle.pgpipe_words.specs.Doing.{DoesConvert, DoesLoop};
 ghost use Rattle.pgpipe_words.specs.Failure.{failure_status, Explains};
 ghost use Rattle.pgpipe_words.specs.Tasks.{IsTask};
 ghost use Rattle.pgpipe_words.specs.declared.tasks.Task.TheVariants as task;
 
-use crate::failure::{Failure, conversion_result_of, show_result_of};
+use crate::failure::{Failure, both_result_of, conversion_result_of, show_result_of};
 use crate::files::FileStore;
 use crate::loop_files::{break_files, run_files};
 use crate::tasks::{Conversion, LoopTask, Task};
@@ -17,9 +18,11 @@ use crate::text_options::options_of;
 use clap::error::ErrorKind;
 use pg_pair::Carry;
 use pg_wire::{Sink, Source};
+use pgpipe_both::show_both;
 use pgpipe_convert::convert_with;
 use pgpipe_show::Form;
 use pgpipe_show::show::show_as;
+use pgpipe_summary::summarize;
 use std::alloc::Global;
 use std::process::ExitCode;
 
@@ -35,6 +38,50 @@ fn do_show<S: Source, K: Sink>(
         (record { form = form; front = front }) source.old sink.old result source.new sink.new }
 {
     show_result_of(show_as(alloc, form, front, source, sink))
+}
+
+// Sums up what the source gives.
+fn do_summary<S: Source, K: Sink>(
+    alloc: Global,
+    front: bool,
+    source: &mut S,
+    sink: &mut K,
+) -> Result<(), Failure>
+    ensures { DoesSummary S.gives K.takes front source.old sink.old result source.new sink.new }
+{
+    show_result_of(summarize(alloc, front, source, sink))
+}
+
+// Shows or sums up what the source gives.
+fn do_showing<S: Source, K: Sink>(
+    alloc: Global,
+    summary: bool,
+    form: Form,
+    front: bool,
+    source: &mut S,
+    sink: &mut K,
+) -> Result<(), Failure>
+    ensures { DoesShowing S.gives S.failures S.has_ended K.takes K.failures summary
+        (record { form = form; front = front }) source.old sink.old result source.new sink.new }
+{
+    if summary {
+        do_summary(alloc, front, source, sink)
+    } else {
+        do_show(alloc, form, front, source, sink)
+    }
+}
+
+/// Prints both sides of a connection together.
+pub fn do_both<F: Source, B: Source, K: Sink>(
+    alloc: Global,
+    front: &mut F,
+    back: &mut B,
+    sink: &mut K,
+) -> Result<(), Failure>
+    ensures { DoesBoth F.gives F.failures F.has_ended B.gives B.failures B.has_ended K.takes
+        K.failures front.old back.old sink.old result front.new back.new sink.new }
+{
+    both_result_of(show_both(alloc, front, back, sink))
 }
 
 // Converts what the source gives, once the options are judged.
@@ -99,7 +146,14 @@ pub fn do_task<F: FileStore, C: Carry, S: Source, K: Sink>(
         (F.fails files.now) C.carries carrier task source.old sink.old result source.new sink.new }
 {
     match task {
-        Task::Show(showing) => do_show(alloc, showing.form, showing.front, source, sink),
+        Task::Show(showing) => do_showing(
+            alloc,
+            showing.summary,
+            showing.form,
+            showing.front,
+            source,
+            sink,
+        ),
         Task::Convert(conversion) => do_convert(alloc, conversion, source, sink),
         Task::Loop(task) => do_loop(alloc, &task, files, carrier, sink),
         Task::Serve(_) => Err(Failure::Device),

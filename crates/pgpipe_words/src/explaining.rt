@@ -1,7 +1,10 @@
 //! Why a task failed, by what its streams and files came to.
 
 ghost use Rattle.std.specs.Prelude.{◌≡◌};
-ghost use Rattle.pgpipe_words.specs.Explaining.{carrier_reason, clients_reason, convert_reason, fault_rule, message_reason, rest_rule, row_reason, row_rule_of, rule_of, show_reason, stream_rule, subject_reason, task_reason};
+ghost use Rattle.pgpipe_words.specs.Explaining.{carrier_reason, clients_reason, convert_reason};
+ghost use Rattle.pgpipe_words.specs.Explaining.{fault_rule, message_reason, rest_rule, row_reason};
+ghost use Rattle.pgpipe_words.specs.Explaining.{row_rule_of, rule_of, show_reason, stream_rule};
+ghost use Rattle.pgpipe_words.specs.Explaining.{subject_reason, task_reason};
 ghost use Rattle.pgpipe_words.specs.Subject.{input_of, output_of, subject_of};
 
 use crate::comments::without_comments;
@@ -20,7 +23,7 @@ use std::alloc::Global;
 use std::io;
 
 /// What a task is about, without its words.
-#[derive(Clone, Copy, Debug, PartialEq, Eq)]
+#[derive(Clone, Copy)]
 pub enum Subject {
     /// A stream is shown.
     Show {

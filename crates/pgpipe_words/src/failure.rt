@@ -2,12 +2,16 @@
 
 ghost use Rattle.std.specs.Prelude.{◌≡◌, ◌≢◌};
 ghost use Rattle.std.specs.IoError.{error_kind};
-ghost use Rattle.pgpipe_words.specs.Failure.{failure_status, BreakResults, ShowResults, ConversionResults, LoopResults, script_failure, calls_failure, check_failure};
+ghost use Rattle.pgpipe_words.specs.Failure.{failure_status, BothResults, BreakResults};
+ghost use Rattle.pgpipe_words.specs.Failure.{back_result, ends_result, ShowResults};
+ghost use Rattle.pgpipe_words.specs.Failure.{ConversionResults, LoopResults, script_failure};
+ghost use Rattle.pgpipe_words.specs.Failure.{calls_failure, check_failure};
 
 use pg_backend::ScriptFault;
 use pg_copy::{BinaryFault, OptionFault, RowFault, TextFault};
 use pg_wire::WireFault;
 use pgpipe_base::ToolFault;
+use pgpipe_both::{Ended, Ends};
 use pgpipe_convert::convert::Converted;
 use pgpipe_files::LineFault;
 use pgpipe_loop::Place;
@@ -32,6 +36,9 @@ pub enum Failure {
     /// Of a loop that is broken everywhere there is no trace.
     #[error("--break-everywhere can't go with --trace")]
     BreaksTraced,
+    /// Of the files of both sides one is missing, or another word can't go with them.
+    #[error("--front-file and --back-file go together, and with --decode alone")]
+    Sides,
     /// There are no such options of COPY text, for this reason.
     #[error("{0}")]
     Options(OptionFault),
@@ -41,6 +48,21 @@ pub enum Failure {
     /// The stream has this fault.
     #[error("{0}")]
     Fault(WireFault),
+    /// The client's stream ends with so many bytes that are no whole message.
+    #[error("front-file: rest {0}")]
+    FrontRest(usize),
+    /// The client's stream has this fault.
+    #[error("front-file: {0}")]
+    FrontFault(WireFault),
+    /// The server's stream ends with so many bytes that are no whole message.
+    #[error("back-file: rest {0}")]
+    BackRest(usize),
+    /// The server's stream has this fault.
+    #[error("back-file: {0}")]
+    BackFault(WireFault),
+    /// The streams go on encrypted.
+    #[error("encrypted")]
+    Encrypted,
     /// The COPY text file has this fault.
     #[error("{0}")]
     Text(TextFault),
@@ -83,9 +105,15 @@ impl Failure {
             Failure::Delimiter => 1,
             Failure::BreaksOverTcp => 1,
             Failure::BreaksTraced => 1,
+            Failure::Sides => 1,
             Failure::Options(_) => 2,
             Failure::Rest(_) => 2,
             Failure::Fault(_) => 2,
+            Failure::FrontRest(_) => 2,
+            Failure::FrontFault(_) => 2,
+            Failure::BackRest(_) => 2,
+            Failure::BackFault(_) => 2,
+            Failure::Encrypted => 2,
             Failure::Text(_) => 2,
             Failure::Binary(_) => 2,
             Failure::Row(_) => 2,
@@ -118,6 +146,43 @@ pub fn show_result_of(answer: Result<Shown, ToolFault>) -> Result<(), Failure>
         Ok(Shown::Whole) => Ok(()),
         Ok(Shown::Rest(count)) => Err(Failure::Rest(count)),
         Ok(Shown::Fault(fault)) => Err(Failure::Fault(fault)),
+        Err(ToolFault::Device) => Err(Failure::Device),
+        Err(ToolFault::Memory) => Err(Failure::Memory),
+    }
+}
+
+// How the program ends, by how the server's stream ended, where the client's has no fault.
+fn back_result(back: Ended) -> Result<(), Failure>
+    ensures { result ≡ back_result back }
+{
+    match back {
+        Ended::Whole => Ok(()),
+        Ended::Rest(count) => Err(Failure::BackRest(count)),
+        Ended::Fault(fault) => Err(Failure::BackFault(fault)),
+        Ended::Canceled => Ok(()),
+        Ended::Encrypted => Err(Failure::Encrypted),
+    }
+}
+
+// How the program ends, by how both streams ended: the client's fault comes first.
+fn ends_result(front: Ended, back: Ended) -> Result<(), Failure>
+    ensures { result ≡ ends_result front back }
+{
+    match front {
+        Ended::Whole => back_result(back),
+        Ended::Rest(count) => Err(Failure::FrontRest(count)),
+        Ended::Fault(fault) => Err(Failure::FrontFault(fault)),
+        Ended::Canceled => back_result(back),
+        Ended::Encrypted => Err(Failure::Encrypted),
+    }
+}
+
+/// What an answer of `show_both` means for the program: only two whole streams are a success.
+pub fn both_result_of(answer: Result<Ends, ToolFault>) -> Result<(), Failure>
+    ensures { BothResults answer result }
+{
+    match answer {
+        Ok(ends) => ends_result(ends.front, ends.back),
         Err(ToolFault::Device) => Err(Failure::Device),
         Err(ToolFault::Memory) => Err(Failure::Memory),
     }

@@ -1,7 +1,7 @@
 //! What the help says beside the words: ranges, statuses, examples, and where more is told.
 
 /// The version of the program, and what it is proved with.
-pub const VERSION: &str = "0.1.0, proved with rattle-kit-13f logic dac8208d650f15bf";
+pub const VERSION: &str = "0.1.0, proved with rattle-kit-13b logic dac8208d650f15bf";
 
 /// What a conversion does with types.
 pub const CONVERT: &str = "Convert a COPY file between the text and the binary format
@@ -34,6 +34,23 @@ pub const FRAMES: &str =
 pub const DECODE: &str =
     "Print each message by its name with its fields, passwords and keys hidden, \
 and go on over one that isn't of the profile";
+
+/// What a program reads.
+pub const JSON: &str =
+    "Print each message as a JSON object on a line, passwords and keys hidden, and go on over \
+one that isn't of the profile";
+
+/// What is counted.
+pub const SUMMARY: &str =
+    "Print a table at the end instead: how many messages of each name there are, and how many bytes";
+
+/// Both sides of a connection.
+pub const FRONT_FILE: &str =
+    "The file that has the client's side, to be printed together with the server's, decoded";
+
+/// Both sides of a connection.
+pub const BACK_FILE: &str =
+    "The file that has the server's side, to be printed together with the client's, decoded";
 
 /// Where the input is.
 pub const FILE: &str = "The file to read [default: standard input]";
@@ -115,7 +132,7 @@ pub const AFTER_SHOW: &str =
     "The stream is one direction of one connection, as tcpflow writes it. Length fields are at most 1,073,741,823.
 A line has a message's tag, its length field, and its body in hexadecimal, or - where it is empty.
 
-With --decode or --frames only a length that can't be ends it before.
+With --decode, --json, --summary or --frames only a length that can't be ends it before.
 
 Exit status:
   0  the stream ends with a whole message, or is empty

@@ -1,5 +1,17 @@
-//! The program pgpipe without its streams: the task that its words ask for, the task done, and how the program ends; and the files and
-//! the connections of a loop and of a server.
+//! The program pgpipe without its streams: the task that its words ask for, the task done, how the program ends, and what it tells of that.
+//!
+//! | File | Definitions in `specs/` | What it has |
+//! |---|---|---|
+//! | `command_line.rt`, `help.rt`, `asked.rt`, `tasks.rt`, `showing.rt`, `input_file.rt` | `CommandLine`, `Tasks` | the command line as data, and the task that its words ask for |
+//! | `doing.rt`, `text_options.rt`, `loop_files.rt`, `comments.rt`, `serving.rt` | `Doing`, `TextOptions`, `LoopFiles`, `Comments`, `Serving` | each task done over a source, a sink, a carrier and a `FileStore` |
+//! | `files.rt`, `network.rt`, `listening.rt` | | the disk, the connection of a loop to itself, the port of a server: nothing is assumed of what they answer |
+//! | `failure.rt` | `Failure` | how the program ends, with its status |
+//! | `explaining.rt`, `reason.rt`, `noted_files.rt`, `watched.rt` | `Subject`, `Explaining` | with `--explain` why a task failed, with `--progress` how far it is |
+//!
+//! **Reasons and progress stand beside the task**, which is done alike with them and without: `main` puts source and sink into wrappers that pass on all
+//! that comes. `Tracked` (`pgpipe_places`) follows the bytes: the part that a fault stands in is the next line or row of the output, and its place is looked
+//! for in the last piece that was received. `Watched` keeps the first 8 bytes, for a guess, and tells how far the work is. `NotedDisk` keeps what came
+//! of the last file that was read.
 #![tactic(auto)]
 
 mod asked;
@@ -23,7 +35,7 @@ mod text_options;
 mod watched;
 
 pub use asked::{Asked, Telling, asked_of};
-pub use doing::{do_task, exit_code, explain};
+pub use doing::{do_both, do_task, exit_code, explain};
 pub use explaining::{Subject, file_reason, stream_reason, task_reason};
 pub use failure::{Failure, file_failure, words_failure};
 pub use files::{Disk, FileStore};

@@ -3,7 +3,9 @@
 ghost use Rattle.std.specs.Prelude.{◌≡◌, IfErr, IfOk, string_bytes};
 ghost use Rattle.pgpipe_files.specs.Filling.{next_file};
 ghost use Rattle.pgpipe_words.specs.Doing.{BreaksFiles, BreaksPlayable, RunsFiles, RunsCalls};
-ghost use Rattle.pgpipe_words.specs.LoopFiles.{FailsText, HasText, KeepsCalls, KeepsNamed, KeepsScript, SaysAll, SaysCalls, SaysScript, ReadsScript, ReadsCalls, ReadsFiles, calls_limit};
+ghost use Rattle.pgpipe_words.specs.LoopFiles.{FailsText, HasText, KeepsCalls, KeepsNamed};
+ghost use Rattle.pgpipe_words.specs.LoopFiles.{KeepsScript, SaysAll, SaysCalls, SaysScript};
+ghost use Rattle.pgpipe_words.specs.LoopFiles.{ReadsScript, ReadsCalls, ReadsFiles, calls_limit};
 
 use crate::comments::without_comments;
 use crate::failure::{

@@ -2,7 +2,8 @@
 
 ghost use Rattle.std.specs.Prelude.{◌≡◌, option_copied, IfOk};
 ghost use Rattle.clap.specs.Words.{first_value, found_of, rows_of, subcommand_rows_of};
-ghost use Rattle.pgpipe_words.specs.Tasks.{IsTask, IsAskedFor, IsShowOf, IsConversionOf, IsLoopOf, IsServingOf, format_named, input_file, is_over_tcp};
+ghost use Rattle.pgpipe_words.specs.Tasks.{IsTask, IsAskedFor, IsShowOf, IsConversionOf, IsLoopOf};
+ghost use Rattle.pgpipe_words.specs.Tasks.{IsServingOf, format_named, input_file, is_over_tcp};
 
 use crate::input_file::{file_of, lent};
 use crate::showing::{Showing, showing_of};
@@ -12,7 +13,7 @@ use pgpipe_show::Form;
 use std::alloc::{AllocError, Global};
 
 /// A conversion of a COPY file.
-#[derive(Debug, PartialEq, Eq, Drop)]
+#[derive(Drop)]
 pub struct Conversion {
     /// The format that is read.
     pub from: Format,
@@ -29,7 +30,7 @@ pub struct Conversion {
 }
 
 /// A loop of two files.
-#[derive(Debug, PartialEq, Eq, Drop)]
+#[derive(Drop)]
 pub struct LoopTask {
     /// Whether it is carried over TCP; else it is carried directly.
     pub tcp: bool,
@@ -48,7 +49,7 @@ pub struct LoopTask {
 }
 
 /// Clients to be served from a script.
-#[derive(Debug, PartialEq, Eq, Drop)]
+#[derive(Drop)]
 pub struct Serving {
     /// The port of 127.0.0.1 to listen at; 0 is any free one.
     pub port: u16,
@@ -59,7 +60,7 @@ pub struct Serving {
 }
 
 /// What the program is asked to do.
-#[derive(Debug, PartialEq, Eq, Drop)]
+#[derive(Drop)]
 pub enum Task {
     /// Show a stream.
     Show(Showing),
@@ -178,7 +179,10 @@ pub fn named_task(alloc: Global, matches: &ArgMatches<'_>) -> Result<Task, Alloc
         None => Ok(Task::Show(Showing {
             front: false,
             form: Form::Messages,
+            summary: false,
             file: None,
+            front_file: None,
+            back_file: None,
         })),
     }
 }

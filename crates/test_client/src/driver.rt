@@ -2,16 +2,16 @@
 
 ghost use Rattle.std.specs.Prelude.{◌≡◌, None, IfOk, OnOk};
 ghost use Rattle.pg_wire.specs.Direction.{IsLimit};
-ghost use Rattle.pg_wire.specs.Link.{Counts};
 ghost use Rattle.pg_client.specs.Calls.{RefusesUnless};
 ghost use Rattle.pg_client.specs.Client.{phase_of};
 ghost use Rattle.pg_client.specs.declared.call.Call.TheVariants as call;
 ghost use Rattle.test_client.specs.declared.driver.DriverFault.TheVariants as faults;
-ghost use Rattle.test_client.specs.Driver.{AwaitsRequest, Connects, Drives, HasHistory, HasReceived, never, with_asked, with_start};
+ghost use Rattle.test_client.specs.Driver.{AwaitsRequest, Connects, Drives, HasHistory};
+ghost use Rattle.test_client.specs.Driver.{HasReceived, never, with_asked, with_start};
 
 use pg_client::laws::{feeding_goes_on, requests_of_the_calls};
 use pg_client::{CallFault, Client, FeedFault, Phase, Settings, Settled};
-use pg_wire::{LinkFault, Request, Sink, Source};
+use pg_wire::{LinkFault, Request, Sink, Source, send_all};
 use std::alloc::Global;
 use thiserror::Error;
 
@@ -72,18 +72,6 @@ impl From<LinkFault> for DriverFault {
     fn from(failed: LinkFault) -> DriverFault {
         DriverFault::Link(failed)
     }
-}
-
-// Sends all of these bytes.
-fn send_all<K: Sink>(bytes: &[u8], sink: &mut K) -> Result<(), LinkFault>
-    ensures { Counts (K.failures sink.old) result (K.failures sink.new) }
-{
-    let mut rest = bytes;
-    while !rest.is_empty() {
-        let count = sink.send(rest)?;
-        rest = rest.split_at(count).1;
-    }
-    Ok(())
 }
 
 // Sends what was put out, and feeds one piece of what comes.

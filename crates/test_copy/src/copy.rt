@@ -181,7 +181,7 @@ fn ask<R: Reader>(reader: &mut R, call: Call) -> Answer {
     }
 }
 
-/// Whether a reader answers each call so.
+// Whether a reader answers each call so.
 fn answers<R: Reader>(reader: &mut R, steps: &[(Call, Answer)]) -> bool {
     for (call, wanted) in steps {
         if ask(reader, *call) != *wanted {
@@ -193,7 +193,7 @@ fn answers<R: Reader>(reader: &mut R, steps: &[(Call, Answer)]) -> bool {
 
 // ---- files, however they are cut
 
-/// Writes the row that an answer gives as a canonical line.
+// Writes the row that an answer gives as a canonical line.
 fn written(answer: Result<Option<Row>, Fault>, lines: &mut Vec<u8>) -> Answer {
     match answer {
         Ok(Some(row)) => match write_text_row(&row, lines) {
@@ -205,7 +205,7 @@ fn written(answer: Result<Option<Row>, Fault>, lines: &mut Vec<u8>) -> Answer {
     }
 }
 
-/// Writes the rows that wait, of which there are no more than `most`, and gives the fault after them, if there is one.
+// Writes the rows that wait, of which there are no more than `most`, and gives the fault after them, if there is one.
 fn write_waiting<R: Reader>(reader: &mut R, most: usize, lines: &mut Vec<u8>) -> Option<Fault> {
     for _ in 0..=most {
         match written(reader.next(), lines) {
@@ -217,8 +217,8 @@ fn write_waiting<R: Reader>(reader: &mut R, most: usize, lines: &mut Vec<u8>) ->
     None
 }
 
-/// Writes the rows that are left at the end of the input, of which there are no more than `most`, and gives the fault after them, if
-/// there is one.
+// Writes the rows that are left at the end of the input, of which there are no more than `most`, and gives the fault after them, if
+// there is one.
 fn write_left<R: Reader>(reader: &mut R, most: usize, lines: &mut Vec<u8>) -> Option<Fault> {
     for _ in 0..=most {
         match written(reader.finish(), lines) {
@@ -230,7 +230,7 @@ fn write_left<R: Reader>(reader: &mut R, most: usize, lines: &mut Vec<u8>) -> Op
     None
 }
 
-/// Pushes a piece, and writes the rows that wait then.
+// Pushes a piece, and writes the rows that wait then.
 fn write_piece<R: Reader>(
     reader: &mut R,
     piece: &[u8],
@@ -243,8 +243,8 @@ fn write_piece<R: Reader>(
     }
 }
 
-/// Reads a file in pieces, the first of `first` bytes and each other one of `size`, writes its rows as canonical lines, and gives
-/// the fault after them, if there is one.
+// Reads a file in pieces, the first of `first` bytes and each other one of `size`, writes its rows as canonical lines, and gives
+// the fault after them, if there is one.
 fn write_file<R: Reader>(
     reader: &mut R,
     file: &[u8],
@@ -280,7 +280,7 @@ fn value(alloc: Global, bytes: Option<&[u8]>) -> Result<Option<Seq<u8>>, AllocEr
     }
 }
 
-/// A row of these values.
+// A row of these values.
 fn row(alloc: Global, values: &[Option<&[u8]>]) -> Result<Row, AllocError> {
     let mut row = Vec::new(alloc);
     for bytes in values {
@@ -300,7 +300,7 @@ fn write_row(
     }
 }
 
-/// Whether these rows are written so, one after the other, with these options or without any.
+// Whether these rows are written so, one after the other, with these options or without any.
 fn writes(
     alloc: Global,
     options: Option<&TextOptions>,
@@ -316,7 +316,7 @@ fn writes(
     Ok(true)
 }
 
-/// Whether each fault has this text.
+// Whether each fault has this text.
 fn are_told<F: Display>(alloc: Global, faults: &[(F, &str)]) -> Result<bool, AllocError> {
     for (fault, text) in faults {
         if fault.to_string(alloc)?.as_str() != *text {

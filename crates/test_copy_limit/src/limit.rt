@@ -23,7 +23,7 @@ fn reader(alloc: Global) -> LimitedTextReader {
     LimitedTextReader::new(alloc, Some(1), TextOptions::default(), 4)
 }
 
-/// Whether an answer gives a row, which is written as a canonical line. Where it gives none, the error is the fault, if there is one.
+// Whether an answer gives a row, which is written as a canonical line. Where it gives none, the error is the fault, if there is one.
 fn written(
     answer: Result<Option<Row>, LimitedTextFault>,
     lines: &mut Vec<u8>,
@@ -38,7 +38,7 @@ fn written(
     }
 }
 
-/// Writes the rows that wait, and says which fault comes after them.
+// Writes the rows that wait, and says which fault comes after them.
 fn write_waiting(reader: &mut LimitedTextReader, lines: &mut Vec<u8>) -> Option<LimitedTextFault> {
     for _ in 0..100 {
         if reader.reader().ended() {
@@ -51,7 +51,7 @@ fn write_waiting(reader: &mut LimitedTextReader, lines: &mut Vec<u8>) -> Option<
     None
 }
 
-/// Writes the rows that are left at the end of the input, and says which fault comes after them.
+// Writes the rows that are left at the end of the input, and says which fault comes after them.
 fn write_left(reader: &mut LimitedTextReader, lines: &mut Vec<u8>) -> Option<LimitedTextFault> {
     for _ in 0..100 {
         if let Err(end) = written(reader.finish(), lines) {
@@ -61,7 +61,7 @@ fn write_left(reader: &mut LimitedTextReader, lines: &mut Vec<u8>) -> Option<Lim
     None
 }
 
-/// Pushes a piece, and writes the rows that wait then.
+// Pushes a piece, and writes the rows that wait then.
 fn write_piece(
     reader: &mut LimitedTextReader,
     piece: &[u8],
@@ -76,7 +76,7 @@ fn write_piece(
     }
 }
 
-/// Writes the rows that come of a piece, or of the end of the input where there is none.
+// Writes the rows that come of a piece, or of the end of the input where there is none.
 fn write(
     reader: &mut LimitedTextReader,
     piece: Option<&[u8]>,
@@ -92,7 +92,7 @@ fn is_wanted(reader: &mut LimitedTextReader, lines: &mut Vec<u8>, piece: Piece) 
     write(reader, piece.bytes, lines) == piece.fault && lines.as_slice() == piece.lines
 }
 
-/// Whether after each piece its lines and its fault have come.
+// Whether after each piece its lines and its fault have come.
 fn comes(reader: &mut LimitedTextReader, lines: &mut Vec<u8>, pieces: &[Piece]) -> bool {
     for piece in pieces {
         if !is_wanted(reader, lines, *piece) {
@@ -102,7 +102,7 @@ fn comes(reader: &mut LimitedTextReader, lines: &mut Vec<u8>, pieces: &[Piece]) 
     true
 }
 
-/// Whether a new reader is given these pieces and each has what it must, and in all so many rows came, of so many bytes.
+// Whether a new reader is given these pieces and each has what it must, and in all so many rows came, of so many bytes.
 fn is_read(alloc: Global, pieces: &[Piece], rows: u64, offset: u64) -> bool {
     let mut reader = reader(alloc);
     let mut lines = Vec::new(alloc);

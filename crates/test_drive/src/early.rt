@@ -64,7 +64,7 @@ const MESSAGES: &[Told] = &[
     Told::Early(b'C'),
 ];
 
-/// The answer and its end.
+// The answer and its end.
 fn whole(alloc: Global) -> Result<Vec<u8>, AllocError> {
     let mut bytes = Vec::new(alloc);
     bytes.extend_from_slice(ANSWER)?;
@@ -80,7 +80,7 @@ const WHOLE: [Step; 5] = [
     Step::Gives(0, Told::TurnsUsed),
 ];
 
-/// Whether the whole answer is given, so many bytes at a time.
+// Whether the whole answer is given, so many bytes at a time.
 fn is_given_by(alloc: Global, most: usize) -> bool {
     holds(
         whole(alloc).ok(),

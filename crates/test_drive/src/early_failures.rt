@@ -14,7 +14,7 @@ const ANSWER: &[u8] =
     b"T\0\0\0\x1a\0\x01n\0\0\0\0\0\0\0\0\0\0\x17\0\x04\xff\xff\xff\xff\0\0D\0\0\0\x0e\0\x02\xff\xff\xff\xff\0\0\0\0\
     N\0\0\0\x05\0C\0\0\0\x0dSELECT 1\0Z\0\0\0\x05I";
 
-/// Whether a client with a password that is started, over a link that gives GIVEN a byte at a time, does what these steps say.
+// Whether a client with a password that is started, over a link that gives GIVEN a byte at a time, does what these steps say.
 fn startup_does(alloc: Global, steps: &[Step]) -> bool {
     password_does(alloc, &GIVEN, 1, steps)
 }
@@ -85,7 +85,7 @@ fn each_send_of_an_early_query(rt: HostRuntime) {
     }
 }
 
-/// Whether a query whose link fails once so many of these bytes were received gives these items, and then loses this.
+// Whether a query whose link fails once so many of these bytes were received gives these items, and then loses this.
 fn fails_after(
     alloc: Global,
     gives: &[u8],

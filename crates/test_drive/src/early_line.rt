@@ -47,22 +47,22 @@ pub(crate) const REQUEST_WITH_ERROR: Lost = Lost {
     error: true,
 };
 
-fn lost_told(loss: Loss) -> Lost {
+fn lost_told(loss: &Loss) -> Lost {
     Lost {
         request: loss.unsettled.is_some(),
         error: loss.seen_error,
     }
 }
 
-/// What of an item is told.
-fn item_told(item: Item) -> Told {
+// What of an item is told.
+fn item_told(item: &Item) -> Told {
     match item {
         Item::Early(message) => Told::Early(message.tag()),
         Item::Settled { .. } => Told::Settled,
     }
 }
 
-fn driven_told(driven: DrivenEarly) -> Told {
+fn driven_told(driven: &DrivenEarly) -> Told {
     match driven {
         DrivenEarly::Ready => Told::Ready,
         DrivenEarly::Item(item) => item_told(item),
@@ -72,10 +72,18 @@ fn driven_told(driven: DrivenEarly) -> Told {
     }
 }
 
-fn fault_told(fault: DriveFault) -> Told {
+fn fault_told(fault: &DriveFault) -> Told {
     match fault {
         DriveFault::Feed(_) => Told::Refused,
         DriveFault::Link(loss) => Told::Failed(lost_told(loss)),
+    }
+}
+
+// What of an answer is told.
+fn answer_told(answer: &Result<DrivenEarly, DriveFault>) -> Told {
+    match answer {
+        Ok(driven) => driven_told(driven),
+        Err(fault) => fault_told(fault),
     }
 }
 
@@ -112,7 +120,7 @@ pub(crate) enum Step {
     Failures(u64),
 }
 
-/// An early client of the user `u` and of this password, in phase New, over a link.
+// An early client of the user `u` and of this password, in phase New, over a link.
 fn fresh(
     alloc: Global,
     password: Option<Seq<u8>>,
@@ -136,27 +144,27 @@ struct Driving<'a> {
 }
 
 impl<'a> Driving<'a> {
-    /// A client of this password that was started, and whose startup packet waits to be sent.
-    fn started(alloc: Global, password: Option<Seq<u8>>, link: Line<'a>) -> Option<Driving<'a>> {
-        let mut it = fresh(alloc, password, link).ok()?;
-        if it.starts() { Some(it) } else { None }
-    }
-
-    /// A client that has made a query, whose message waits to be sent.
-    fn asked(alloc: Global, link: Line<'a>) -> Option<Driving<'a>> {
-        let query = Request::Query(Seq::from_slice(alloc, b"SELECT 1").ok()?);
-        let mut it = Driving::started(alloc, None, link)?;
-        if it.asks(query) { Some(it) } else { None }
-    }
-
     fn starts(&mut self) -> bool {
         self.client.start(&mut self.out).is_ok()
     }
 
-    fn asks(&mut self, query: Request) -> bool {
-        let welcomed = self.feeds(&WELCOME);
+    fn requests(&mut self, alloc: Global) -> bool {
+        match Seq::from_slice(alloc, b"SELECT 1") {
+            Ok(text) => self
+                .client
+                .request(Request::Query(text), &mut self.out)
+                .is_ok(),
+            Err(_) => false,
+        }
+    }
+
+    // Whether it starts, is let in, and makes a query, whose message alone waits to be sent then.
+    fn asks(&mut self, alloc: Global) -> bool {
+        if !self.starts() || !self.feeds(&WELCOME) {
+            return false;
+        }
         self.out.clear();
-        welcomed && self.client.request(query, &mut self.out).is_ok()
+        self.requests(alloc)
     }
 
     fn fails_at_receive(&mut self, number: u64) -> bool {
@@ -178,10 +186,7 @@ impl<'a> Driving<'a> {
     }
 
     fn drive(&mut self, turns: u32) -> Told {
-        match drive_early(&mut self.client, &mut self.out, &mut self.link, turns) {
-            Ok(driven) => driven_told(driven),
-            Err(fault) => fault_told(fault),
-        }
+        answer_told(&drive_early(&mut self.client, &mut self.out, &mut self.link, turns))
     }
 
     fn gives_all(&mut self, turns: u32, tolds: &[Told]) -> bool {
@@ -193,7 +198,7 @@ impl<'a> Driving<'a> {
         true
     }
 
-    /// Driven, it ends as the link fails, once, and gives no item.
+    // Driven, it ends as the link fails, once, and gives no item.
     fn fails(&mut self, lost: Lost) -> bool {
         self.drive(100) == Told::Failed(lost)
             && self.link.failures == 1
@@ -201,10 +206,10 @@ impl<'a> Driving<'a> {
             && self.take_item().is_none()
     }
 
-    /// What the item that is given without the link comes to.
+    // What the item that is given without the link comes to.
     fn take_item(&mut self) -> Option<Told> {
         match self.client.take_item() {
-            Some(item) => Some(item_told(item)),
+            Some(item) => Some(item_told(&item)),
             None => None,
         }
     }
@@ -221,7 +226,7 @@ impl<'a> Driving<'a> {
     }
 }
 
-/// Whether what a step says has come of the client and its link.
+// Whether what a step says has come of the client and its link.
 fn has_come(it: &Driving<'_>, step: Step) -> bool {
     match step {
         Step::Stands(phase) => it.client.phase() == phase,
@@ -234,7 +239,7 @@ fn has_come(it: &Driving<'_>, step: Step) -> bool {
     }
 }
 
-/// Does what a step says, and whether it was so.
+// Does what a step says, and whether it was so.
 fn is_so(it: &mut Driving<'_>, step: Step) -> bool {
     match step {
         Step::FailReceive(number) => it.fails_at_receive(number),
@@ -258,28 +263,37 @@ fn are_so(it: &mut Driving<'_>, steps: &[Step]) -> bool {
     true
 }
 
-/// Whether a client that was started, over a link that gives these bytes, so many at a time, does what these steps say.
-pub(crate) fn started_does(alloc: Global, gives: &[u8], most: usize, steps: &[Step]) -> bool {
-    let link = line_of(alloc, gives, most);
-    holds(Driving::started(alloc, None, link), |it| are_so(it, steps))
+// A client over a link that gives these bytes, so many at a time.
+fn over(alloc: Global, gives: &[u8], most: usize) -> Option<Driving<'_>> {
+    fresh(alloc, None, line_of(alloc, gives, most)).ok()
 }
 
-/// A client with the password `p` that was started, over a link that gives these bytes, so many at a time.
+// Such a client with the password `p`.
 fn over_with_password(alloc: Global, gives: &[u8], most: usize) -> Option<Driving<'_>> {
     let password = Seq::from_slice(alloc, b"p").ok()?;
-    Driving::started(alloc, Some(password), line_of(alloc, gives, most))
+    fresh(alloc, Some(password), line_of(alloc, gives, most)).ok()
 }
 
-/// Whether a client with the password `p` that was started, over such a link, does what these steps say.
-pub(crate) fn password_does(alloc: Global, gives: &[u8], most: usize, steps: &[Step]) -> bool {
+/// Whether a client that is started, over a link that gives these bytes, so many at a time, does what these steps say.
+pub(crate) fn started_does(alloc: Global, gives: &[u8], most: usize, steps: &[Step]) -> bool {
     holds(
-        over_with_password(alloc, gives, most),
-        |it| are_so(it, steps),
+        over(alloc, gives, most),
+        |it| it.starts() && are_so(it, steps),
     )
 }
 
-/// Whether a client that has made a query, over a link that gives these bytes, so many at a time, does what these steps say.
+/// Whether such a client with the password `p` does what these steps say.
+pub(crate) fn password_does(alloc: Global, gives: &[u8], most: usize, steps: &[Step]) -> bool {
+    holds(
+        over_with_password(alloc, gives, most),
+        |it| it.starts() && are_so(it, steps),
+    )
+}
+
+/// Whether a client that has made a query, over such a link, does what these steps say.
 pub(crate) fn asked_does(alloc: Global, gives: &[u8], most: usize, steps: &[Step]) -> bool {
-    let link = line_of(alloc, gives, most);
-    holds(Driving::asked(alloc, link), |it| are_so(it, steps))
+    holds(
+        over(alloc, gives, most),
+        |it| it.asks(alloc) && are_so(it, steps),
+    )
 }

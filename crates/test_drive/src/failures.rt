@@ -1,8 +1,7 @@
 //! A link that fails at one call, for each call of a drive: what was sent and received before stands.
 
-use crate::line::{Driving, STARTUP};
+use crate::line::{Driving, Lost, STARTUP, Told};
 use pg_client::{Cause, Phase};
-use pg_drive::{DriveFault, Driven};
 use pg_wire::Seq;
 use std::alloc::Global;
 use test_base::{Line, holds, line_of};
@@ -23,7 +22,7 @@ pub(crate) const ERROR: &[u8] = b"E\0\0\0\x05\0Z\0\0\0\x05I";
 /// The message of the query `SELECT 1`.
 pub(crate) const QUERY: &[u8] = b"Q\0\0\0\x0dSELECT 1\0";
 
-/// A link that gives these bytes, one at a time, and fails at this send and this receive, or at none where that is 0.
+// A link that gives these bytes, one at a time, and fails at this send and this receive, or at none where that is 0.
 fn failing(alloc: Global, gives: &[u8], send: u64, receive: u64) -> Line<'_> {
     let mut line = line_of(alloc, gives, 1);
     line.fails_at_send = send;
@@ -31,70 +30,58 @@ fn failing(alloc: Global, gives: &[u8], send: u64, receive: u64) -> Line<'_> {
     line
 }
 
-/// A drive that begins with the startup, and one that begins with a query.
+// A client for a drive that begins with the startup, and one for a drive that begins with a query.
 fn startup(alloc: Global, send: u64, receive: u64) -> Option<Driving<'static>> {
     let password = Seq::from_slice(alloc, b"p").ok()?;
-    Driving::started(alloc, Some(password), failing(alloc, &GIVEN, send, receive))
+    Driving::new(alloc, Some(password), failing(alloc, &GIVEN, send, receive))
 }
 
 fn query(alloc: Global, send: u64, receive: u64) -> Option<Driving<'static>> {
-    Driving::asked(alloc, failing(alloc, ERROR, send, receive))
-}
-
-/// Whether a drive ended by D2 Link, and then whether a request was lost, and whether an error for it was seen.
-fn is_failure(answer: Result<Driven, DriveFault>, lost: bool, error: bool) -> bool {
-    match answer {
-        Err(DriveFault::Link(loss)) => {
-            loss.unsettled.is_some() == lost && loss.seen_error == error
-        }
-        _ => false,
-    }
-}
-
-/// Whether a drive ended by Ready or Settled.
-fn is_well(answer: Result<Driven, DriveFault>) -> bool {
-    matches!(answer, Ok(Driven::Ready | Driven::Settled))
+    Driving::new(alloc, None, failing(alloc, ERROR, send, receive))
 }
 
 impl Driving<'_> {
-    /// Driven, it ends as the link fails, once.
-    fn is_failed(&mut self, lost: bool, error: bool) -> bool {
-        is_failure(self.drive(100), lost, error)
+    // Driven, it ends as the link fails, once.
+    fn is_failed(&mut self, lost: Lost) -> bool {
+        self.gives(100, Told::Failed(lost))
             && self.link.failures == 1
             && self.stands(Phase::Closed(Cause::Lost))
     }
 
-    /// Driven, it ends well.
-    fn ends_well(&mut self, phase: Phase) -> bool {
-        is_well(self.drive(100)) && self.link.failures == 0 && self.stands(phase)
+    // Driven, it ends well, and is ready.
+    fn ends_well(&mut self, told: Told) -> bool {
+        self.gives(100, told) && self.link.failures == 0 && self.stands(Phase::Ready)
     }
 
-    /// Just the first so many of these bytes were sent.
+    // Just the first so many of these bytes were sent.
     fn has_sent_of(&self, all: &[u8], sent: usize) -> bool {
         self.link.taken.len() == sent && all.starts_with(self.link.taken.as_slice())
     }
 
-    /// Just so many bytes wait to be sent, the last of these.
+    // Just so many bytes wait to be sent, the last of these.
     fn has_to_send_of(&self, all: &[u8], waiting: usize) -> bool {
         self.out.len() == waiting && all.ends_with(self.out.as_slice())
     }
 
-    /// Driven, it ends as the link fails, and leaves this of the bytes that are to be sent.
+    // Driven, it ends as the link fails, and leaves this of the bytes that are to be sent.
     fn leaves(&mut self, all: &[u8], left: Left) -> bool {
-        self.is_failed(left.lost, left.error)
+        self.is_failed(left.lost)
             && self.has_sent_of(all, left.sent)
             && self.has_to_send_of(all, left.waiting)
             && self.is_left(left.given)
+    }
+
+    // Driven, it ends well, and all of these bytes were sent, and all that are to be received.
+    fn ends_whole(&mut self, told: Told, all: &[u8]) -> bool {
+        self.ends_well(told) && self.has_sent(all) && self.has_to_send(b"") && self.is_left(0)
     }
 }
 
 /// What is left where a link has failed.
 #[derive(Clone, Copy)]
 struct Left {
-    /// Whether a request is lost.
-    lost: bool,
-    /// Whether an error came for it.
-    error: bool,
+    /// What is lost with it.
+    lost: Lost,
     /// How many bytes were sent.
     sent: usize,
     /// How many bytes wait to be sent.
@@ -103,22 +90,27 @@ struct Left {
     given: usize,
 }
 
-/// Whether a startup that fails at this send or this receive leaves this of the bytes that are to be sent.
+// Whether a startup that fails at this send or this receive leaves this of the bytes that are to be sent.
 fn startup_leaves(alloc: Global, send: u64, receive: u64, all: &[u8], left: Left) -> bool {
-    holds(startup(alloc, send, receive), |it| it.leaves(all, left))
+    holds(
+        startup(alloc, send, receive),
+        |it| it.starts() && it.leaves(all, left),
+    )
 }
 
-/// Whether a query that fails so leaves this of its message.
+// Whether a query that fails so leaves this of its message.
 fn query_leaves(alloc: Global, send: u64, receive: u64, left: Left) -> bool {
-    holds(query(alloc, send, receive), |it| it.leaves(QUERY, left))
+    holds(
+        query(alloc, send, receive),
+        |it| it.asks(alloc) && it.leaves(QUERY, left),
+    )
 }
 
 #[test]
 fn each_send_of_a_startup(rt: HostRuntime) {
     for sent in 0..16usize {
         let left = Left {
-            lost: false,
-            error: false,
+            lost: Lost::Nothing,
             sent,
             waiting: 16 - sent,
             given: 24,
@@ -133,8 +125,7 @@ fn each_send_of_a_password(rt: HostRuntime) {
     // it waits only once it was asked for
     for sent in 16..23usize {
         let left = Left {
-            lost: false,
-            error: false,
+            lost: Lost::Nothing,
             sent,
             waiting: 23 - sent,
             given: 15,
@@ -148,8 +139,7 @@ fn each_send_of_a_password(rt: HostRuntime) {
 fn each_receive_of_a_question(rt: HostRuntime) {
     for received in 0..9usize {
         let left = Left {
-            lost: false,
-            error: false,
+            lost: Lost::Nothing,
             sent: 16,
             waiting: 0,
             given: 24 - received,
@@ -163,8 +153,7 @@ fn each_receive_of_a_question(rt: HostRuntime) {
 fn each_receive_of_a_welcome(rt: HostRuntime) {
     for received in 9..24usize {
         let left = Left {
-            lost: false,
-            error: false,
+            lost: Lost::Nothing,
             sent: 23,
             waiting: 0,
             given: 24 - received,
@@ -178,8 +167,7 @@ fn each_receive_of_a_welcome(rt: HostRuntime) {
 fn each_send_of_a_query(rt: HostRuntime) {
     for sent in 0..14usize {
         let left = Left {
-            lost: true,
-            error: false,
+            lost: Lost::Query(false),
             sent,
             waiting: 14 - sent,
             given: 12,
@@ -193,9 +181,8 @@ fn each_send_of_a_query(rt: HostRuntime) {
 fn each_receive_of_a_query(rt: HostRuntime) {
     for received in 0..12usize {
         let left = Left {
-            lost: true,
-            // it is seen once its six bytes are there
-            error: received >= 6,
+            // the error is seen once its six bytes are there
+            lost: Lost::Query(received >= 6),
             sent: 14,
             waiting: 0,
             given: 12 - received,
@@ -207,16 +194,19 @@ fn each_receive_of_a_query(rt: HostRuntime) {
 
 #[test]
 fn past_the_last_call_of_a_startup(rt: HostRuntime) {
-    let held = holds(startup(rt.alloc(), 24, 25), |it| {
-        it.ends_well(Phase::Ready) && it.has_sent(&SENT) && it.has_to_send(b"") && it.is_left(0)
-    });
+    let held = holds(
+        startup(rt.alloc(), 24, 25),
+        |it| it.starts() && it.ends_whole(Told::Ready, &SENT),
+    );
     assert!(rt; held);
 }
 
 #[test]
 fn past_the_last_call_of_a_query(rt: HostRuntime) {
-    let held = holds(query(rt.alloc(), 15, 13), |it| {
-        it.ends_well(Phase::Ready) && it.has_sent(QUERY) && it.has_to_send(b"") && it.is_left(0)
-    });
+    let alloc = rt.alloc();
+    let held = holds(
+        query(alloc, 15, 13),
+        |it| it.asks(alloc) && it.ends_whole(Told::Settled, QUERY),
+    );
     assert!(rt; held);
 }

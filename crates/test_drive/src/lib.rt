@@ -16,4 +16,8 @@ mod line;
 #[cfg(test)]
 mod requests;
 #[cfg(test)]
+mod session_line;
+#[cfg(test)]
+mod sessions;
+#[cfg(test)]
 mod startup;

@@ -73,46 +73,58 @@ pub(crate) enum Step {
     Failures(u64),
 }
 
+/// What is asked for.
+const ASKED: &[u8] = b"SELECT 1";
+
 fn query(alloc: Global) -> Result<Request, AllocError> {
-    Ok(Request::Query(Seq::from_slice(alloc, b"SELECT 1")?))
+    Ok(Request::Query(Seq::from_slice(alloc, ASKED)?))
 }
 
-fn query_lost(alloc: Global, seen_error: bool) -> Result<Loss, AllocError> {
-    Ok(Loss {
-        unsettled: Some(query(alloc)?),
-        seen_error,
-    })
-}
-
-fn loss(alloc: Global, lost: Lost) -> Result<Loss, AllocError> {
-    match lost {
-        Lost::Nothing => Ok(nothing_lost()),
-        Lost::Query(seen_error) => query_lost(alloc, seen_error),
+fn is_query(request: &Request) -> bool {
+    match request {
+        Request::Query(text) => text.as_slice() == ASKED,
+        _ => false,
     }
 }
 
-fn driven_lost(alloc: Global, lost: Lost) -> Result<Result<Driven, DriveFault>, AllocError> {
-    Ok(Ok(Driven::Lost(loss(alloc, lost)?)))
-}
-
-fn link_failed(alloc: Global, lost: Lost) -> Result<Result<Driven, DriveFault>, AllocError> {
-    Ok(Err(DriveFault::Link(loss(alloc, lost)?)))
-}
-
-fn driven(alloc: Global, told: Told) -> Result<Result<Driven, DriveFault>, AllocError> {
-    match told {
-        Told::Ready => Ok(Ok(Driven::Ready)),
-        Told::Settled => Ok(Ok(Driven::Settled)),
-        Told::CopyIn => Ok(Ok(Driven::CopyIn)),
-        Told::TurnsUsed => Ok(Ok(Driven::TurnsUsed)),
-        Told::Lost(lost) => driven_lost(alloc, lost),
-        Told::Failed(lost) => link_failed(alloc, lost),
-        Told::Closed => Ok(Err(DriveFault::Feed(FeedFault::Closed))),
-        Told::Unexpected(tag) => Ok(Err(DriveFault::Feed(FeedFault::Unexpected(tag)))),
+// Whether just this is lost.
+fn is_loss(loss: &Loss, lost: Lost) -> bool {
+    match (lost, &loss.unsettled) {
+        (Lost::Nothing, None) => !loss.seen_error,
+        (Lost::Query(error), Some(request)) => loss.seen_error == error && is_query(request),
+        _ => false,
     }
 }
 
-/// A client of the user `u` and of this password, in phase New.
+fn is_driven(driven: &Driven, told: Told) -> bool {
+    match (told, driven) {
+        (Told::Ready, Driven::Ready) => true,
+        (Told::Settled, Driven::Settled) => true,
+        (Told::CopyIn, Driven::CopyIn) => true,
+        (Told::TurnsUsed, Driven::TurnsUsed) => true,
+        (Told::Lost(lost), Driven::Lost(loss)) => is_loss(loss, lost),
+        _ => false,
+    }
+}
+
+fn is_fault(fault: &DriveFault, told: Told) -> bool {
+    match (told, fault) {
+        (Told::Failed(lost), DriveFault::Link(loss)) => is_loss(loss, lost),
+        (Told::Closed, DriveFault::Feed(FeedFault::Closed)) => true,
+        (Told::Unexpected(tag), DriveFault::Feed(FeedFault::Unexpected(found))) => *found == tag,
+        _ => false,
+    }
+}
+
+// Whether driving came to this.
+fn comes_to(answer: &Result<Driven, DriveFault>, told: Told) -> bool {
+    match answer {
+        Ok(driven) => is_driven(driven, told),
+        Err(fault) => is_fault(fault, told),
+    }
+}
+
+// A client of the user `u` and of this password, in phase New.
 fn fresh(alloc: Global, password: Option<Seq<u8>>) -> Result<Client, AllocError> {
     let settings = Settings {
         user: Seq::from_slice(alloc, b"u")?,
@@ -133,7 +145,12 @@ pub(crate) struct Driving<'a> {
 }
 
 impl<'a> Driving<'a> {
-    fn new(alloc: Global, password: Option<Seq<u8>>, link: Line<'a>) -> Option<Driving<'a>> {
+    /// A client that is new.
+    pub(crate) fn new(
+        alloc: Global,
+        password: Option<Seq<u8>>,
+        link: Line<'a>,
+    ) -> Option<Driving<'a>> {
         Some(Driving {
             client: fresh(alloc, password).ok()?,
             out: Vec::new(alloc),
@@ -141,31 +158,25 @@ impl<'a> Driving<'a> {
         })
     }
 
-    /// A client that was started, and whose startup packet waits to be sent.
-    pub(crate) fn started(
-        alloc: Global,
-        password: Option<Seq<u8>>,
-        link: Line<'a>,
-    ) -> Option<Driving<'a>> {
-        let mut it = Driving::new(alloc, password, link)?;
-        if it.starts() { Some(it) } else { None }
-    }
-
-    fn starts(&mut self) -> bool {
+    /// Whether it starts. Its startup packet waits to be sent then.
+    pub(crate) fn starts(&mut self) -> bool {
         self.client.start(&mut self.out).is_ok()
     }
 
-    /// A client that has made a query, whose message waits to be sent.
-    pub(crate) fn asked(alloc: Global, link: Line<'a>) -> Option<Driving<'a>> {
-        let request = query(alloc).ok()?;
-        let mut it = Driving::started(alloc, None, link)?;
-        if it.asks(request) { Some(it) } else { None }
+    fn requests(&mut self, alloc: Global) -> bool {
+        match query(alloc) {
+            Ok(request) => self.client.request(request, &mut self.out).is_ok(),
+            Err(_) => false,
+        }
     }
 
-    fn asks(&mut self, request: Request) -> bool {
-        let welcomed = self.feeds(&WELCOME);
+    /// Whether it starts, is let in, and makes a query, whose message alone waits to be sent then.
+    pub(crate) fn asks(&mut self, alloc: Global) -> bool {
+        if !self.starts() || !self.feeds(&WELCOME) {
+            return false;
+        }
         self.out.clear();
-        welcomed && self.client.request(request, &mut self.out).is_ok()
+        self.requests(alloc)
     }
 
     fn fails_at_receive(&mut self, number: u64) -> bool {
@@ -187,16 +198,14 @@ impl<'a> Driving<'a> {
         true
     }
 
-    /// Drives the client, with at most so many receives.
-    pub(crate) fn drive(&mut self, turns: u32) -> Result<Driven, DriveFault> {
+    // Drives the client, with at most so many receives.
+    fn drive(&mut self, turns: u32) -> Result<Driven, DriveFault> {
         drive(&mut self.client, &mut self.out, &mut self.link, turns)
     }
 
-    pub(crate) fn gives(&mut self, alloc: Global, turns: u32, told: Told) -> bool {
-        match driven(alloc, told) {
-            Ok(answer) => self.drive(turns) == answer,
-            Err(_) => false,
-        }
+    /// Driven so, it comes to this.
+    pub(crate) fn gives(&mut self, turns: u32, told: Told) -> bool {
+        comes_to(&self.drive(turns), told)
     }
 
     fn settles(&mut self) -> bool {
@@ -243,7 +252,7 @@ pub(crate) fn nothing_lost() -> Loss {
 
 // ---- steps
 
-/// Whether what a step says has come of the client and its link.
+// Whether what a step says has come of the client and its link.
 fn has_come(it: &Driving<'_>, step: Step) -> bool {
     match step {
         Step::HasSettled(waits) => it.client.has_settled() == waits,
@@ -258,54 +267,59 @@ fn has_come(it: &Driving<'_>, step: Step) -> bool {
     }
 }
 
-/// Does what a step says, and whether it was so.
-fn is_so(alloc: Global, it: &mut Driving<'_>, step: Step) -> bool {
+// Does what a step says, and whether it was so.
+fn is_so(it: &mut Driving<'_>, step: Step) -> bool {
     match step {
         Step::FailReceive(number) => it.fails_at_receive(number),
         Step::FailSend(number) => it.fails_at_send(number),
         Step::Feed(piece) => it.feeds(piece),
         Step::Lose => it.is_lost(),
-        Step::Gives(turns, told) => it.gives(alloc, turns, told),
+        Step::Gives(turns, told) => it.gives(turns, told),
         Step::Settle => it.settles(),
         _ => has_come(it, step),
     }
 }
 
-fn are_so(alloc: Global, it: &mut Driving<'_>, steps: &[Step]) -> bool {
+fn are_so(it: &mut Driving<'_>, steps: &[Step]) -> bool {
     for step in steps {
-        if !is_so(alloc, it, *step) {
+        if !is_so(it, *step) {
             return false;
         }
     }
     true
 }
 
-/// A client that was started, over a link that gives these bytes, so many at a time.
+/// A client over a link that gives these bytes, so many at a time.
 pub(crate) fn over(alloc: Global, gives: &[u8], most: usize) -> Option<Driving<'_>> {
-    Driving::started(alloc, None, line_of(alloc, gives, most))
+    Driving::new(alloc, None, line_of(alloc, gives, most))
 }
 
-/// Such a client with the password `p`.
+// Such a client with the password `p`.
 fn over_with_password(alloc: Global, gives: &[u8], most: usize) -> Option<Driving<'_>> {
     let password = Seq::from_slice(alloc, b"p").ok()?;
-    Driving::started(alloc, Some(password), line_of(alloc, gives, most))
+    Driving::new(alloc, Some(password), line_of(alloc, gives, most))
 }
 
-/// Whether a client that was started, over a link that gives these bytes, so many at a time, does what these steps say.
+/// Whether a client that is started, over a link that gives these bytes, so many at a time, does what these steps say.
 pub(crate) fn started_does(alloc: Global, gives: &[u8], most: usize, steps: &[Step]) -> bool {
-    holds(over(alloc, gives, most), |it| are_so(alloc, it, steps))
+    holds(
+        over(alloc, gives, most),
+        |it| it.starts() && are_so(it, steps),
+    )
 }
 
 /// Whether such a client with the password `p` does what these steps say.
 pub(crate) fn password_does(alloc: Global, gives: &[u8], most: usize, steps: &[Step]) -> bool {
     holds(
         over_with_password(alloc, gives, most),
-        |it| are_so(alloc, it, steps),
+        |it| it.starts() && are_so(it, steps),
     )
 }
 
 /// Whether a client that has made a query, over such a link, does what these steps say.
 pub(crate) fn asked_does(alloc: Global, gives: &[u8], most: usize, steps: &[Step]) -> bool {
-    let link = line_of(alloc, gives, most);
-    holds(Driving::asked(alloc, link), |it| are_so(alloc, it, steps))
+    holds(
+        over(alloc, gives, most),
+        |it| it.asks(alloc) && are_so(it, steps),
+    )
 }

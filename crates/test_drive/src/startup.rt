@@ -86,11 +86,12 @@ fn a_receive_fails_before(rt: HostRuntime) {
 }
 
 impl Driving<'_> {
-    /// The send after so many bytes of the startup packet fails: these were sent, the others wait, and nothing was received.
-    fn fails_after(&mut self, alloc: Global, sent: usize) -> bool {
+    // It starts, and the send after so many bytes of the startup packet fails: these were sent, the others wait, and nothing was received.
+    fn fails_after(&mut self, sent: usize) -> bool {
         let (before, after) = STARTUP.as_slice().split_at(sent.min(STARTUP.len()));
         self.link.fails_at_send = (sent as u64).saturating_add(1);
-        self.gives(alloc, 20, Told::Failed(Lost::Nothing))
+        self.starts()
+            && self.gives(20, Told::Failed(Lost::Nothing))
             && self.stands(Phase::Closed(Cause::Lost))
             && self.has_sent(before)
             && self.has_to_send(after)
@@ -99,7 +100,7 @@ impl Driving<'_> {
 }
 
 fn send_fails_after(alloc: Global, sent: usize) -> bool {
-    holds(over(alloc, &WELCOME, 1), |it| it.fails_after(alloc, sent))
+    holds(over(alloc, &WELCOME, 1), |it| it.fails_after(sent))
 }
 
 #[test]

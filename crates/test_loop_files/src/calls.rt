@@ -71,7 +71,7 @@ fn makes(alloc: Global, calls: &Calls, wanted: TableSettings) -> Result<bool, Al
     Ok(calls.settings == settings(alloc, wanted)?)
 }
 
-/// Fills in the first file, if this is its path; otherwise nothing is changed.
+// Fills in the first file, if this is its path; otherwise nothing is changed.
 fn fill(alloc: Global, calls: &mut Calls, path: &str, bytes: &[u8]) -> Result<bool, AllocError> {
     match calls.next_file() {
         None => return Ok(false),

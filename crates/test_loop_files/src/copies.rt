@@ -33,7 +33,7 @@ fn copies_of_a_script(rt: HostRuntime) {
     assert!(rt; says(rt.alloc(), SCRIPT, PARTS));
 }
 
-/// Whether a file of so many crosses is handed over in chunks of these sizes.
+// Whether a file of so many crosses is handed over in chunks of these sizes.
 fn is_cut(alloc: Global, count: usize, sizes: &'static [usize]) -> Result<bool, AllocError> {
     let bytes = crosses(alloc, count)?;
     let claims = [

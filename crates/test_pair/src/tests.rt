@@ -34,7 +34,7 @@ fn perform<C: Carry>(
     pair.apply(event(alloc, happens)?).map_err(|_| AllocError)
 }
 
-/// Lets an event happen, and says whether it was done.
+// Lets an event happen, and says whether it was done.
 fn is_done<C: Carry>(
     alloc: Global,
     pair: &mut Pair<C>,
@@ -57,7 +57,7 @@ fn perform_all<C: Carry>(
     Ok(())
 }
 
-/// Lets an event happen until it isn't answered Done.
+// Lets an event happen until it isn't answered Done.
 fn exhaust<C: Carry>(
     alloc: Global,
     pair: &mut Pair<C>,
@@ -71,8 +71,8 @@ fn exhaust<C: Carry>(
     Ok(())
 }
 
-/// Lets an event happen, and then all that waits goes to the backend in deliveries of at most so many bytes, it steps, and all goes to
-/// the client.
+// Lets an event happen, and then all that waits goes to the backend in deliveries of at most so many bytes, it steps, and all goes to
+// the client.
 fn carry_out<C: Carry>(
     alloc: Global,
     pair: &mut Pair<C>,
@@ -117,7 +117,7 @@ fn conduct<C: Carry>(alloc: Global, pair: &mut Pair<C>, plan: Plan<'_>) -> Resul
     carry_out_all(alloc, pair, plan.last, plan.cut)
 }
 
-/// Whether the claims hold of a pair after what the plan says.
+// Whether the claims hold of a pair after what the plan says.
 fn comes_to<C: Carry>(
     alloc: Global,
     pair: &mut Pair<C>,
@@ -128,7 +128,7 @@ fn comes_to<C: Carry>(
     are_so(alloc, pair, claims)
 }
 
-/// Whether the claims hold of a new pair of these ends after what the plan says.
+// Whether the claims hold of a new pair of these ends after what the plan says.
 fn judge<C: Carry>(
     alloc: Global,
     ends: Ends<'_>,
@@ -142,7 +142,7 @@ fn judge<C: Carry>(
     )
 }
 
-/// The events are carried out.
+// The events are carried out.
 fn carried_out<'a>(list: &'a [TableEvent], cut: u32) -> Plan<'a> {
     Plan {
         lets_in: false,
@@ -153,7 +153,7 @@ fn carried_out<'a>(list: &'a [TableEvent], cut: u32) -> Plan<'a> {
     }
 }
 
-/// The client is let in, and then these events happen.
+// The client is let in, and then these events happen.
 fn started<'a>(list: &'a [TableEvent]) -> Plan<'a> {
     Plan {
         lets_in: true,
@@ -164,7 +164,7 @@ fn started<'a>(list: &'a [TableEvent]) -> Plan<'a> {
     }
 }
 
-/// These events happen.
+// These events happen.
 fn happened<'a>(list: &'a [TableEvent]) -> Plan<'a> {
     Plan {
         lets_in: false,

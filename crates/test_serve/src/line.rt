@@ -64,7 +64,7 @@ struct Serving<'a> {
     link: Line<'a>,
 }
 
-/// A new backend, over a link that gives these bytes, so many at a time, and doesn't fail.
+// A new backend, over a link that gives these bytes, so many at a time, and doesn't fail.
 fn over_link(alloc: Global, gives: &[u8], most: usize) -> Option<Serving<'_>> {
     Some(Serving {
         backend: backend(alloc)?,
@@ -96,7 +96,7 @@ impl Serving<'_> {
     }
 }
 
-/// Whether what a step says has come of the link.
+// Whether what a step says has come of the link.
 fn has_come(it: &Serving<'_>, step: Step) -> bool {
     match step {
         Step::Stands(phase) => it.backend.phase() == phase,
@@ -108,7 +108,7 @@ fn has_come(it: &Serving<'_>, step: Step) -> bool {
     }
 }
 
-/// Does what a step says, and whether it was so.
+// Does what a step says, and whether it was so.
 fn is_so(alloc: Global, it: &mut Serving<'_>, step: Step) -> bool {
     match step {
         Step::FailReceive(number) => it.fails_at_receive(number),

@@ -42,7 +42,7 @@ const PIECE: &[u8] = b"twenty bytes of text";
 /// What is received for it.
 const OTHER: &[u8] = b"TWENTY BYTES OF TEXT";
 
-/// A carrier between two ends. Each gives these bytes, so many at a time; this send of it fails, and this receive.
+// A carrier between two ends. Each gives these bytes, so many at a time; this send of it fails, and this receive.
 fn between(
     alloc: Global,
     gives: &[u8],
@@ -62,7 +62,7 @@ fn between(
     )
 }
 
-/// Carries the piece.
+// Carries the piece.
 fn carry(
     carrier: &mut Across<End<'_>, End<'_>>,
     way: Way,
@@ -72,7 +72,7 @@ fn carry(
     (answer, into)
 }
 
-/// Whether so many bytes were sent at this end, in so many sends, and nothing was received there.
+// Whether so many bytes were sent at this end, in so many sends, and nothing was received there.
 fn has_sent(end: &End<'_>, count: usize, sends: u64) -> bool {
     let text = end.takes.text.as_slice();
     text.len() == count
@@ -81,12 +81,12 @@ fn has_sent(end: &End<'_>, count: usize, sends: u64) -> bool {
         && end.gives.calls == 0
 }
 
-/// Whether so many receives were made at this end, and nothing was sent there.
+// Whether so many receives were made at this end, and nothing was sent there.
 fn has_received(end: &End<'_>, receives: u64) -> bool {
     end.gives.calls == receives && end.takes.calls == 0
 }
 
-/// Whether so many bytes were sent at the end where the way begins, in so many sends, and so many receives were made at the other.
+// Whether so many bytes were sent at the end where the way begins, in so many sends, and so many receives were made at the other.
 fn went(carrier: &Across<End<'_>, End<'_>>, way: Way, sent: (usize, u64), receives: u64) -> bool {
     let (count, sends) = sent;
     let (first, last) = match way {
@@ -96,14 +96,14 @@ fn went(carrier: &Across<End<'_>, End<'_>>, way: Way, sent: (usize, u64), receiv
     has_sent(first, count, sends) && has_received(last, receives)
 }
 
-/// Whether the piece comes whole, by so many receives.
+// Whether the piece comes whole, by so many receives.
 fn comes_whole(carrier: &mut Across<End<'_>, End<'_>>, way: Way, receives: u64) -> bool {
     let (answer, into) = carry(carrier, way);
     let whole = answer == Ok(20) && into.as_slice() == OTHER;
     whole && carrier.failures() == 0 && went(carrier, way, (20, 3), receives)
 }
 
-/// Whether a first call fails, when so many bytes were sent, in so many sends, and so many receives were made.
+// Whether a first call fails, when so many bytes were sent, in so many sends, and so many receives were made.
 fn fails(
     carrier: &mut Across<End<'_>, End<'_>>,
     way: Way,
@@ -114,7 +114,7 @@ fn fails(
     failed && carrier.failures() == 1 && went(carrier, way, sent, receives)
 }
 
-/// Whether a first call fails as an end has no more bytes, after so many receives; neither end has failed, and the next call fails as well.
+// Whether a first call fails as an end has no more bytes, after so many receives; neither end has failed, and the next call fails as well.
 fn ends(carrier: &mut Across<End<'_>, End<'_>>, way: Way, receives: u64) -> bool {
     let ended = fails(carrier, way, (20, 3), receives)
         && carrier.client().gives.failures == 0
@@ -122,7 +122,7 @@ fn ends(carrier: &mut Across<End<'_>, End<'_>>, way: Way, receives: u64) -> bool
     ended && carry(carrier, way).0 == Err(CarryFault) && carrier.failures() == 2
 }
 
-/// Whether the piece comes whole where an end gives so many bytes at a time.
+// Whether the piece comes whole where an end gives so many bytes at a time.
 fn is_whole(alloc: Global, way: Way, most: usize, receives: u64) -> bool {
     holds(
         Some(between(alloc, OTHER, most, (0, 0))),
@@ -130,7 +130,7 @@ fn is_whole(alloc: Global, way: Way, most: usize, receives: u64) -> bool {
     )
 }
 
-/// Whether the call fails where this send of an end fails, or this receive.
+// Whether the call fails where this send of an end fails, or this receive.
 fn is_failed(alloc: Global, way: Way, at: (u64, u64), sent: (usize, u64), receives: u64) -> bool {
     holds(
         Some(between(alloc, OTHER, 3, at)),
@@ -138,7 +138,7 @@ fn is_failed(alloc: Global, way: Way, at: (u64, u64), sent: (usize, u64), receiv
     )
 }
 
-/// Whether the call fails where an end gives only so many bytes, after so many receives.
+// Whether the call fails where an end gives only so many bytes, after so many receives.
 fn is_ended(alloc: Global, way: Way, count: usize, receives: u64) -> bool {
     let (gives, _) = OTHER.split_at(count.min(OTHER.len()));
     holds(

@@ -33,7 +33,7 @@ struct Flawed {
 }
 
 impl Flawed {
-    /// Counts bytes of a way, and answers how many were counted before.
+    // Counts bytes of a way, and answers how many were counted before.
     fn count(&mut self, way: Way, bytes: usize) -> usize
         ensures { self.new.failures ≡ self.old.failures }
     {
@@ -86,7 +86,7 @@ impl Carry for Flawed {
     }
 }
 
-/// How a loop of these files ends, where the carrier has this flaw; what it prints is sent to the sink.
+// How a loop of these files ends, where the carrier has this flaw; what it prints is sent to the sink.
 fn run_flawed(alloc: Global, files: Files, flaw: Flaw, sink: &mut Paper) -> Result<Ran, ToolFault> {
     let carrier = Flawed {
         flaw,
@@ -98,7 +98,7 @@ fn run_flawed(alloc: Global, files: Files, flaw: Flaw, sink: &mut Paper) -> Resu
     run(alloc, files, 4_096, carrier, sink)
 }
 
-/// What is printed before the line that tells of the carrier, if one does.
+// What is printed before the line that tells of the carrier, if one does.
 fn before_carrier(text: &[u8]) -> Option<&[u8]> {
     for at in 0..text.len() {
         let (before, rest) = text.split_at(at);
@@ -109,7 +109,7 @@ fn before_carrier(text: &[u8]) -> Option<&[u8]> {
     None
 }
 
-/// Whether these lines go on with a group, a fault, a refused call or the closing lines, so that no group is told in part before.
+// Whether these lines go on with a group, a fault, a refused call or the closing lines, so that no group is told in part before.
 fn begins_anew(lines: &[u8]) -> bool {
     for word in [
         b"settled\t".as_slice(),
@@ -125,7 +125,7 @@ fn begins_anew(lines: &[u8]) -> bool {
     false
 }
 
-/// Whether what is printed before the carrier's failure is a beginning of the whole, of whole groups.
+// Whether what is printed before the carrier's failure is a beginning of the whole, of whole groups.
 fn begins(text: &[u8], whole: &[u8]) -> bool {
     match before_carrier(text) {
         Some(before) => whole.starts_with(before) && begins_anew(whole.split_at(before.len()).1),
@@ -133,7 +133,7 @@ fn begins(text: &[u8], whole: &[u8]) -> bool {
     }
 }
 
-/// Whether the carrier's flaw is told at this place; where it has none there, the loop is whole. None: it is neither.
+// Whether the carrier's flaw is told at this place; where it has none there, the loop is whole. None: it is neither.
 fn is_told(alloc: Global, files: Files, flaw: Flaw, whole: &[u8]) -> Option<bool> {
     let mut sink = sheet(alloc, 0);
     let ran = run_flawed(alloc, files, flaw, &mut sink);
@@ -159,7 +159,7 @@ fn flaw_at(kind: Kind, place: usize) -> Flaw {
     }
 }
 
-/// At how many places, one after the other, the carrier's flaw is told, before one where the loop prints all of this.
+// At how many places, one after the other, the carrier's flaw is told, before one where the loop prints all of this.
 fn places_before(alloc: Global, files: Files, kind: Kind, whole: &[u8]) -> Option<usize> {
     for place in 0..1_000 {
         match is_told(alloc, files, flaw_at(kind, place), whole) {
@@ -171,7 +171,7 @@ fn places_before(alloc: Global, files: Files, kind: Kind, whole: &[u8]) -> Optio
     None
 }
 
-/// At how many places, one after the other, the carrier's flaw is told, before one where the loop is whole.
+// At how many places, one after the other, the carrier's flaw is told, before one where the loop is whole.
 fn places(alloc: Global, files: Files, kind: Kind) -> Option<usize> {
     let mut whole = sheet(alloc, 0);
     match run(alloc, files, 4_096, Direct, &mut whole) {
@@ -207,7 +207,7 @@ fn a_byte_that_is_inverted(rt: HostRuntime) {
     }
 }
 
-/// Whether a loop of a query with a row, where the carrier has this flaw, ends so and prints this.
+// Whether a loop of a query with a row, where the carrier has this flaw, ends so and prints this.
 fn prints(alloc: Global, flaw: Flaw, ran: Ran, text: &[u8]) -> bool {
     let mut sink = sheet(alloc, 0);
     run_flawed(alloc, ROW, flaw, &mut sink) == Ok(ran) && sink.text.as_slice() == text

@@ -45,7 +45,7 @@ const ONE_BINARY_TO_TEXT: Conversion = Conversion {
 /// What is done with which bytes, what comes of it, and what is written.
 type Row = (Work, &'static [u8], Converted, &'static [u8]);
 
-/// Whether this comes of these bytes, in pieces of each size up to 39.
+// Whether this comes of these bytes, in pieces of each size up to 39.
 fn becomes(alloc: Global, work: Work, bytes: &[u8], converted: Converted, written: &[u8]) -> bool {
     for most in 1..40 {
         let task = whole(work, bytes, most);
@@ -169,7 +169,7 @@ const LONG_TEXT: usize = 1_100_000;
 /// What stands before a long text, and what stands after it.
 type Large = (&'static [u8], &'static [u8]);
 
-/// What stands before a long text, the text, and what stands after it.
+// What stands before a long text, the text, and what stands after it.
 fn around_a_long_text(alloc: Global, ends: Large) -> Result<Vec<u8>, AllocError> {
     let (before, after) = ends;
     let mut bytes = Vec::new(alloc);
@@ -181,7 +181,7 @@ fn around_a_long_text(alloc: Global, ends: Large) -> Result<Vec<u8>, AllocError>
     Ok(bytes)
 }
 
-/// Whether this comes of these bytes, and these are written, in large pieces.
+// Whether this comes of these bytes, and these are written, in large pieces.
 fn gives_large(
     alloc: Global,
     conversion: Conversion,
@@ -193,7 +193,7 @@ fn gives_large(
     gives(alloc, task, Answer::Converted(converted), written)
 }
 
-/// Whether these bytes become this large text, whole.
+// Whether these bytes become this large text, whole.
 fn becomes_this(alloc: Global, conversion: Conversion, bytes: &[u8], written: Large) -> bool {
     holds(
         around_a_long_text(alloc, written).ok(),
@@ -201,7 +201,7 @@ fn becomes_this(alloc: Global, conversion: Conversion, bytes: &[u8], written: La
     )
 }
 
-/// Whether large text becomes this, whole.
+// Whether large text becomes this, whole.
 fn becomes_large(alloc: Global, conversion: Conversion, text: Large, written: Large) -> bool {
     holds(
         around_a_long_text(alloc, text).ok(),
@@ -236,7 +236,7 @@ fn large_rows(rt: HostRuntime) {
     }
 }
 
-/// Whether the row before a large text is written, and that one has a field like null at this place.
+// Whether the row before a large text is written, and that one has a field like null at this place.
 fn is_large_like_null(alloc: Global, text: Large, place: usize) -> bool {
     let fault = Converted::Row(RowFault::LikeNull(place));
     holds(
@@ -332,7 +332,7 @@ fn ends_of_a_text_file(rt: HostRuntime) {
     assert!(rt; all_become(rt.alloc(), &TEXT_ENDS));
 }
 
-/// A line of 100,000 bytes, and 20,000 short ones.
+// A line of 100,000 bytes, and 20,000 short ones.
 fn long_file(alloc: Global) -> Result<Vec<u8>, AllocError> {
     let mut bytes = Vec::new(alloc);
     for _ in 0..100_000 {
@@ -345,7 +345,7 @@ fn long_file(alloc: Global) -> Result<Vec<u8>, AllocError> {
     Ok(bytes)
 }
 
-/// Whether this text becomes a binary file of this length, and that one this text again.
+// Whether this text becomes a binary file of this length, and that one this text again.
 fn goes_and_comes(alloc: Global, text: &[u8], length: usize) -> bool {
     let gone = perform(
         alloc,

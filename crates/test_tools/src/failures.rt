@@ -27,7 +27,7 @@ struct Trial {
     wanted: &'static [u8],
 }
 
-/// Whether it is told that the receive after so many others failed, once a beginning of what is wanted was written.
+// Whether it is told that the receive after so many others failed, once a beginning of what is wanted was written.
 fn tells_of_receive(alloc: Global, trial: Trial, before: u64) -> bool {
     let task = failing_receive(trial.work, trial.bytes, before.saturating_add(1));
     let done = perform(alloc, task);
@@ -35,7 +35,7 @@ fn tells_of_receive(alloc: Global, trial: Trial, before: u64) -> bool {
     failed && trial.wanted.starts_with(done.sink.text.as_slice())
 }
 
-/// Whether it is told that the send after so many others failed, and just so much stands, which these took.
+// Whether it is told that the send after so many others failed, and just so much stands, which these took.
 fn tells_of_send(alloc: Global, trial: Trial, before: u64, taken: usize) -> bool {
     let task = failing_send(trial.work, trial.bytes, before.saturating_add(1));
     stops_at_send(alloc, task, taken, trial.wanted)
@@ -45,15 +45,15 @@ fn is_whole(answer: Answer) -> bool {
     answer == Answer::Converted(Converted::Whole) || answer == Answer::Shown(Shown::Whole)
 }
 
-/// Whether it makes just so many receives and sends, and then all that is wanted is written.
+// Whether it makes just so many receives and sends, and then all that is wanted is written.
 fn ends_after(alloc: Global, trial: Trial, receives: u64, sends: u64) -> bool {
     let done = perform(alloc, whole(trial.work, trial.bytes, 5));
     let written = is_whole(done.answer) && done.sink.text.as_slice() == trial.wanted;
     written && done.source.calls == receives && done.sink.calls == sends
 }
 
-/// Whether each of just so many receives of five bytes, the last of which finds the end, is told of where it fails; and each send, of which
-/// this is how much was taken after it. What a piece gave is sent before the next is received, at most seven bytes a send.
+// Whether each of just so many receives of five bytes, the last of which finds the end, is told of where it fails; and each send, of which
+// this is how much was taken after it. What a piece gave is sent before the next is received, at most seven bytes a send.
 fn tells_of_each(alloc: Global, trial: Trial, receives: u64, sends: &[usize]) -> bool {
     for before in 0..receives {
         if !tells_of_receive(alloc, trial, before) {

@@ -25,7 +25,7 @@ pub(crate) const CLIENT_LINES: &[u8] =
 /// CancelRequest, and a byte.
 const CANCEL: &[u8] = b"\0\0\0\x10\x04\xd2\x16\x2e\0\0\0\x01\0\0\0\x02\0";
 
-/// Whether these bytes, five at a time, are shown as these lines, with this answer.
+// Whether these bytes, five at a time, are shown as these lines, with this answer.
 fn shows(alloc: Global, front: bool, bytes: &[u8], answer: Shown, lines: &[u8]) -> bool {
     let task = whole(Work::Show(front), bytes, 5);
     gives(alloc, task, Answer::Shown(answer), lines)
@@ -141,7 +141,7 @@ fn a_sink_that_fails(rt: HostRuntime) {
     }
 }
 
-/// CopyData of 100,000 bytes.
+// CopyData of 100,000 bytes.
 fn long_message(alloc: Global) -> Result<Vec<u8>, AllocError> {
     let mut bytes = Vec::from_slice(alloc, b"d\0\x01\x86\xa4")?;
     for _ in 0..100_000 {
@@ -150,7 +150,7 @@ fn long_message(alloc: Global) -> Result<Vec<u8>, AllocError> {
     Ok(bytes)
 }
 
-/// Whether the line of that message is sent.
+// Whether the line of that message is sent.
 fn shows_whole(alloc: Global, message: &[u8]) -> bool {
     let done = perform(alloc, whole(Work::Show(false), message, 5));
     let text = done.sink.text.as_slice();

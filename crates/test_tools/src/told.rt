@@ -68,7 +68,7 @@ pub(crate) fn log(alloc: Global, counts: &[usize]) -> Result<Vec<Logged>, AllocE
 
 // ---- what else comes of an event
 
-/// So many fields of an error, of one byte each.
+// So many fields of an error, of one byte each.
 fn many_fields(alloc: Global, count: usize) -> Result<Fields, AllocError> {
     let mut fields = Fields::new(alloc);
     for _ in 0..count {

@@ -10,19 +10,19 @@ use std::hash::{DefaultHasher, Hash, Hasher};
 use std::mem;
 use test_base::holds;
 
-/// A list of these numbers.
+// A list of these numbers.
 fn numbers(alloc: Global, items: &[u32]) -> Option<Seq<u32>> {
     Seq::from_slice(alloc, items).ok()
 }
 
-/// A list of these bytes.
+// A list of these bytes.
 fn text(alloc: Global, bytes: &[u8]) -> Option<Seq<u8>> {
     Seq::from_slice(alloc, bytes).ok()
 }
 
 // ---- elements
 
-/// The list of 3 and 5, to which 8 was pushed.
+// The list of 3 and 5, to which 8 was pushed.
 fn pushed(alloc: Global) -> Result<Seq<u32>, AllocError> {
     let mut list = Seq::from_slice(alloc, &[3u32, 5])?;
     list.push(8)?;
@@ -66,7 +66,7 @@ fn is_doubled(alloc: Global, list: &Seq<u32>) -> bool {
     }
 }
 
-/// The last element of the list, which is taken apart.
+// The last element of the list, which is taken apart.
 fn last_taken(alloc: Global) -> Result<Option<u32>, AllocError> {
     Ok(pushed(alloc)?.into_iter().last())
 }
@@ -95,7 +95,7 @@ fn is_as_new(alloc: Global, list: &Seq<u8>) -> Result<bool, AllocError> {
     Ok(*list == Seq::new(vector(alloc)?))
 }
 
-/// Whether a list of these bytes is another one.
+// Whether a list of these bytes is another one.
 fn differs(alloc: Global, list: &Seq<u8>, bytes: &[u8]) -> Result<bool, AllocError> {
     Ok(*list != Seq::from_slice(alloc, bytes)?)
 }
@@ -173,12 +173,12 @@ fn count_of<L: AsSlice<u32>>(list: &L) -> usize {
     list.as_slice().len()
 }
 
-/// Whether the list of 3, 5 and 8 has the methods of a slice.
+// Whether the list of 3, 5 and 8 has the methods of a slice.
 fn has_methods(list: &Seq<u32>) -> bool {
     list.first().copied() == Some(3) && list.last().copied() == Some(8) && list.contains(&5)
 }
 
-/// Whether the list of 3, 5 and 8 is read by index.
+// Whether the list of 3, 5 and 8 is read by index.
 fn is_read_by_index(list: &Seq<u32>) -> bool {
     if list.len() != 3 {
         return false;
@@ -186,7 +186,7 @@ fn is_read_by_index(list: &Seq<u32>) -> bool {
     list[1] == 5 && list[1..] == [5, 8] && list[..] != [3, 5]
 }
 
-/// Whether the list of 3, 5 and 8 is taken where a slice is wanted.
+// Whether the list of 3, 5 and 8 is taken where a slice is wanted.
 fn is_taken(list: &Seq<u32>) -> bool {
     last_of(list) == Some(8) && count_of(list) == 3
 }
@@ -235,7 +235,7 @@ fn all_stand_so(alloc: Global, list: &Seq<u8>, rows: &[(&[u8], Ordering)]) -> bo
     true
 }
 
-/// A list of this number and of one that compares with none.
+// A list of this number and of one that compares with none.
 fn floats(alloc: Global, first: f64) -> Option<Seq<f64>> {
     Seq::from_slice(alloc, &[first, f64::NAN]).ok()
 }
@@ -272,7 +272,7 @@ fn hash_of<T: Hash>(value: &T) -> u64 {
     hasher.finish()
 }
 
-/// Whether a list is hashed as a slice of the same bytes, and another list otherwise.
+// Whether a list is hashed as a slice of the same bytes, and another list otherwise.
 fn is_hashed(one: &Seq<u8>, two: &Seq<u8>) -> bool {
     hash_of(one) == hash_of(&b"one".as_slice()) && hash_of(one) != hash_of(two)
 }
@@ -312,7 +312,7 @@ fn is_a_key(rt: HostRuntime) {
 
 // ---- a list that is emptied
 
-/// Takes the elements of a list and adds them again. Whether it was empty between.
+// Takes the elements of a list and adds them again. Whether it was empty between.
 fn is_emptied(list: &mut Seq<u32>) -> Result<bool, AllocError> {
     let taken = mem::try_take(list)?;
     let empty = list.is_empty();
@@ -320,7 +320,7 @@ fn is_emptied(list: &mut Seq<u32>) -> Result<bool, AllocError> {
     Ok(empty)
 }
 
-/// Whether the list of 3 and 5 was emptied, and what it has once it is filled again and 8 is added.
+// Whether the list of 3 and 5 was emptied, and what it has once it is filled again and 8 is added.
 fn filled(alloc: Global) -> Result<(bool, Vec<u32>), AllocError> {
     let mut list = Seq::from_slice(alloc, &[3u32, 5])?;
     let emptied = is_emptied(&mut list)?;
@@ -328,7 +328,7 @@ fn filled(alloc: Global) -> Result<(bool, Vec<u32>), AllocError> {
     Ok((emptied, list.into()))
 }
 
-/// The one list that the key 1 has, which was made empty and to which 13 was pushed.
+// The one list that the key 1 has, which was made empty and to which 13 was pushed.
 fn defaulted(alloc: Global) -> Result<BTreeMap<u8, Seq<u32>>, AllocError> {
     let mut lists: BTreeMap<u8, Seq<u32>> = BTreeMap::new(alloc);
     lists.entry(1)?.or_default().push(13)?;

@@ -14,7 +14,7 @@ const THREE: [Option<&[u8]>; 3] = [Some(b"a\x00"), None, Some(b"")];
 /// Others than these.
 const OTHER: [Option<&[u8]>; 3] = [Some(b"a\x00"), Some(b""), None];
 
-/// The values of `THREE`, pushed one by one.
+// The values of `THREE`, pushed one by one.
 fn three(alloc: Global) -> Result<Values, EncodeFault> {
     let mut values = Values::new(alloc);
     values.push(Some(b"a\x00"))?;
@@ -25,7 +25,7 @@ fn three(alloc: Global) -> Result<Values, EncodeFault> {
 
 // ---- values
 
-/// Whether each of these values stands at its index, and none stands after them.
+// Whether each of these values stands at its index, and none stands after them.
 fn are_found(values: &Values, list: &[Option<&[u8]>]) -> bool {
     for (index, value) in list.iter().enumerate() {
         if values.get(index) != Some(*value) {
@@ -35,7 +35,7 @@ fn are_found(values: &Values, list: &[Option<&[u8]>]) -> bool {
     values.get(list.len()).is_none()
 }
 
-/// Whether these values are lent, in their order, and none after them.
+// Whether these values are lent, in their order, and none after them.
 fn are_lent(values: &Values, list: &[Option<&[u8]>]) -> bool {
     let mut lent = values.iter();
     for value in list {
@@ -54,7 +54,7 @@ fn values_are_lent_as_they_were_pushed(rt: HostRuntime) {
     assert!(rt; held);
 }
 
-/// Whether these are the values.
+// Whether these are the values.
 fn are(alloc: Global, values: &Values, list: &[Option<&[u8]>]) -> Result<bool, EncodeFault> {
     Ok(*values == Values::from_slice(alloc, list)?)
 }
@@ -121,21 +121,21 @@ fn a_row_that_is_read_is_the_row_that_was_written(rt: HostRuntime) {
     assert!(rt; holds(three_in_a_row(alloc), |row| is_read_as_written(alloc, row)));
 }
 
-/// A decoder with the limit 1,024, to which these bytes were pushed.
+// A decoder with the limit 1,024, to which these bytes were pushed.
 fn wide(alloc: Global, bytes: &[u8]) -> Result<BackDecoder, WireFault> {
     let mut decoder = BackDecoder::new(alloc, 1_024);
     decoder.push(bytes)?;
     Ok(decoder)
 }
 
-/// The spelling of a row of these values.
+// The spelling of a row of these values.
 fn row_of<V: ValueList>(alloc: Global, values: V) -> Result<Vec<u8>, EncodeFault> {
     let mut bytes = Vec::new(alloc);
     backend::data_row(values, &mut bytes)?;
     Ok(bytes)
 }
 
-/// Whether these values, which are those of the list, are of the next row.
+// Whether these values, which are those of the list, are of the next row.
 fn gives_row(decoder: &mut BackDecoder, values: &Values, list: &[Option<&[u8]>]) -> bool {
     match decoder.next() {
         Ok(Some(BackMessage::DataRow(row))) => row == *values && are_found(&row, list),
@@ -150,21 +150,21 @@ fn row_is_read(alloc: Global, bytes: &[u8], values: &Values, list: &[Option<&[u8
     )
 }
 
-/// Whether these values, which are those of the list, are read as they are written.
+// Whether these values, which are those of the list, are read as they are written.
 fn are_read(alloc: Global, values: &Values, list: &[Option<&[u8]>]) -> bool {
     holds(row_of(alloc, values).ok(), |bytes| {
         row_is_read(alloc, bytes.as_slice(), values, list)
     })
 }
 
-/// Whether each value of a row of these is found, before it is written and after it was read.
+// Whether each value of a row of these is found, before it is written and after it was read.
 fn is_found(alloc: Global, list: &[Option<&[u8]>]) -> bool {
     holds(Values::from_slice(alloc, list).ok(), |values| {
         values.len() == list.len() && are_found(values, list) && are_read(alloc, values, list)
     })
 }
 
-/// Whether this is so of each beginning of the list.
+// Whether this is so of each beginning of the list.
 fn each_is_found(alloc: Global, list: &[Option<&[u8]>]) -> bool {
     for count in 0..=list.len() {
         if !is_found(alloc, &list[..count]) {
@@ -174,7 +174,7 @@ fn each_is_found(alloc: Global, list: &[Option<&[u8]>]) -> bool {
     true
 }
 
-/// A value of each letter, but each third, from the first on, is null.
+// A value of each letter, but each third, from the first on, is null.
 fn letters<'a>(alloc: Global, text: &'a [u8]) -> Result<Vec<Option<&'a [u8]>>, AllocError> {
     let mut list = Vec::new(alloc);
     for (index, letter) in text.chunks(1).enumerate() {
@@ -213,7 +213,7 @@ fn owned_is_row(alloc: Global, owned: &[Option<Seq<u8>>; 2]) -> bool {
     is_row(alloc, owned.as_slice()) && is_row(alloc, owned)
 }
 
-/// The spelling of a Bind of these values.
+// The spelling of a Bind of these values.
 fn bind_of<V: ValueList>(alloc: Global, values: V) -> Result<Vec<u8>, EncodeFault> {
     let mut bytes = Vec::new(alloc);
     frontend::bind(b"", b"", &[], values, &[], &mut bytes)?;
@@ -280,7 +280,7 @@ fn owned_is_startup(alloc: Global, owned: &[(Seq<u8>, Seq<u8>); 1]) -> bool {
     is_startup(alloc, owned.as_slice()) && is_startup(alloc, owned)
 }
 
-/// Why a Startup of these parameters has no spelling.
+// Why a Startup of these parameters has no spelling.
 fn refused<P: ParameterList>(alloc: Global, pairs: P) -> Option<EncodeFault> {
     match startup_of(alloc, pairs) {
         Ok(_) => None,
@@ -314,7 +314,7 @@ fn nulls(alloc: Global, count: u32) -> Result<Values, EncodeFault> {
     Ok(values)
 }
 
-/// Whether these values are too many for a row, and nothing is written.
+// Whether these values are too many for a row, and nothing is written.
 fn are_too_many(values: &Values, bytes: &mut Vec<u8>) -> bool {
     backend::data_row(values, bytes) == Err(EncodeFault::TooMany) && bytes.is_empty()
 }
@@ -328,7 +328,7 @@ fn too_many_values_have_no_spelling(rt: HostRuntime) {
     assert!(rt; held);
 }
 
-/// Whether the limit is 64, and a ReadyForQuery comes.
+// Whether the limit is 64, and a ReadyForQuery comes.
 fn gives_ready(decoder: &mut BackDecoder) -> bool {
     decoder.limit() == 64 && matches!(decoder.next(), Ok(Some(BackMessage::Ready(_))))
 }

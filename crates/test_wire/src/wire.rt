@@ -92,7 +92,7 @@ fn message_came(message: &BackMessage) -> Came {
     }
 }
 
-/// What the decoder gives by `next`.
+// What the decoder gives by `next`.
 fn next(decoder: &mut BackDecoder) -> Came {
     match decoder.next() {
         Ok(None) => Came::Nothing,
@@ -101,7 +101,7 @@ fn next(decoder: &mut BackDecoder) -> Came {
     }
 }
 
-/// Whether a byte is taken, and before it nothing comes, by `next_lent` or by `next`.
+// Whether a byte is taken, and before it nothing comes, by `next_lent` or by `next`.
 fn waits(decoder: &mut BackDecoder, by_lent: bool, byte: u8) -> bool {
     let came = if by_lent {
         next_lent(decoder)
@@ -142,7 +142,7 @@ fn are_so(decoder: &mut BackDecoder, steps: &[Step]) -> bool {
     true
 }
 
-/// Whether a new decoder with the limit 64 does what these steps say.
+// Whether a new decoder with the limit 64 does what these steps say.
 fn does(alloc: Global, steps: &[Step]) -> bool {
     holds(
         Some(BackDecoder::new(alloc, 64)),
@@ -150,7 +150,7 @@ fn does(alloc: Global, steps: &[Step]) -> bool {
     )
 }
 
-/// Whether a new decoder gives this first of these bytes.
+// Whether a new decoder gives this first of these bytes.
 fn comes_first(alloc: Global, bytes: &[u8], came: Came) -> bool {
     holds(pushed(alloc, bytes).ok(), |decoder| next(decoder) == came)
 }
@@ -272,7 +272,7 @@ fn is_spelled(alloc: Global, message: &BackMessage, bytes: &[u8]) -> Result<bool
     Ok(written.as_slice() == bytes)
 }
 
-/// Whether the decoder gives this message, which is spelled so.
+// Whether the decoder gives this message, which is spelled so.
 fn gives(alloc: Global, decoder: &mut BackDecoder, wanted: &BackMessage, bytes: &[u8]) -> bool {
     match decoder.next() {
         Ok(Some(message)) => {
@@ -282,7 +282,7 @@ fn gives(alloc: Global, decoder: &mut BackDecoder, wanted: &BackMessage, bytes: 
     }
 }
 
-/// Whether these bytes are read as this message, and it is written as they are.
+// Whether these bytes are read as this message, and it is written as they are.
 fn is_read_and_written(alloc: Global, bytes: &[u8], wanted: &BackMessage) -> bool {
     holds(
         pushed(alloc, bytes).ok(),
@@ -308,7 +308,7 @@ fn reserved_code(alloc: Global) -> BackMessage {
     BackMessage::AuthOther { code: 3, rest }
 }
 
-/// Whether the message is refused so, and leaves what stands in the buffer.
+// Whether the message is refused so, and leaves what stands in the buffer.
 fn is_refused(message: &BackMessage, fault: EncodeFault, buf: &mut Vec<u8>) -> bool {
     backend::encode(message, buf) == Err(fault) && buf.as_slice() == [7].as_slice()
 }

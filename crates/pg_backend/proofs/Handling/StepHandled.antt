@@ -203,7 +203,7 @@ memory_not_refused (Err faults.Closed) e is = cc
 memory_not_refused (Err (faults.Unexpected t)) e is = cc
 memory_not_refused (Ok x) e is = cc
 
--- a step that was refused memory
+-- a step that ran out of memory
 pub refused_done : (s : Script) (limit : ℕ) (left : List Answer) (log : List Logged) (st : BackStage) (mid new : BackendState) (before after : List ℕ) (r : Result Bool BackendFault)
     → r ≡ Err faults.Memory → record mid { stage = stage.Closed closed_by.Memory } ≡ at s limit left log (stage.Closed closed_by.Memory) → new ≡ record mid { stage = stage.Closed closed_by.Memory } → after ≡ before
     → (was : History) → IsHistoryOf was (at s limit left log st)

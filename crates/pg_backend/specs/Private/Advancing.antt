@@ -119,7 +119,7 @@ pub record Sends (sent : List Sent) (before after : List ℕ) : Type 0 where
   pub spelled : AllByRecursion IsSpelled sent
   pub appended : after ≡ before ++ flat_map sent_bytes sent
 
--- A step that may leave bytes after what was there, where memory was refused.
+-- A step that may leave bytes after what was there, where memory ran out.
 abbrev pub Advances : BackendState → List ℕ
     → Result Bool BackendFault → BackendState → List ℕ → Type 0
 Advances old before (Ok false) new after = IsWaiting old.stage × (new ≡ old) × (after ≡ before)
@@ -136,14 +136,14 @@ Advances old before (Err faults.Memory) new after = WantsMemory old.stage
     × IsPrefix before after
 Advances old before (Err faults.Closed) new after = ⊥
 
--- A faulty rest is refused with a last word, and want of memory as it is.
+-- A faulty rest is refused with a last word, and Memory as it is.
 abbrev pub BreaksOff : WireFault → List ℕ → Result Bool BackendFault → List ℕ → Type 0
 BreaksOff f before (Err (faults.Wire g)) after = (f ≡ g) × (g ≢ wire.Memory)
     × Sends (last_word true) before after
 BreaksOff f before (Err faults.Memory) after = IsPrefix before after
 BreaksOff f before r after = ⊥
 
--- The effect is there; or memory was refused, and but for the stage and some bytes after what was there nothing has changed.
+-- The effect is there; or memory ran out, and but for the stage and some bytes after what was there nothing has changed.
 abbrev pub TakesEffect : Effect → BackendState → List ℕ
     → Result Unit BackendFault → BackendState → List ℕ → Type 0
 TakesEffect e old before (Ok x) new after = (new ≡ applied old e) × Sends e.sent before after
@@ -159,7 +159,7 @@ AdvancesUnlessClosed old before (Err faults.Closed) new after =
     (phase_of old.stage ≡ phase.Closed) × (new ≡ old) × (after ≡ before)
 AdvancesUnlessClosed old before r new after = Advances old before r new after
 
--- the answer is want of memory
+-- the answer is that memory ran out
 abbrev pub is_refused : Result Bool BackendFault → Bool
 is_refused (Err faults.Memory) = true
 is_refused r = false

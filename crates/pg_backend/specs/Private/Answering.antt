@@ -21,7 +21,7 @@ use Rattle.pg_script.specs.Replies.{Whole, Copies, shape, Verdict, verdict, outc
 use Rattle.pg_backend.specs.Private.Moves.{load_of, parts_before, parts_after}
 use Rattle.pg_backend.specs.Private.Telling.{AreSent}
 
--- Memory was refused, and some bytes may stand after what was there.
+-- Memory ran out, and some bytes may stand after what was there.
 abbrev pub Refuses : List ℕ → BackendFault → List ℕ → Type 0
 Refuses old f new = (f ≡ faults.Memory) × IsPrefix old new
 

@@ -24,7 +24,7 @@ abbrev pub greeting : Script → Auth → List BackMessage
 greeting s Trust = welcome s
 greeting s auth = question auth
 
--- Both; or memory was refused, and some bytes may stand after what was there.
+-- Both; or memory ran out, and some bytes may stand after what was there.
 abbrev pub Greets : Script → List ℕ → List ℕ → Result Awaits BackendFault → List ℕ → Type 0
 Greets s user old (Ok awaits) new =
     (awaits ≡ awaits_first s.auth user) × AreSent (greeting s s.auth) old new

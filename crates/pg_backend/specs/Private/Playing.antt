@@ -17,12 +17,12 @@ pub record PlayingState : Type 0 where
   pub left : List Answer
   pub log : List Logged
 
--- A request is logged, and the next answer is the next one's; or memory was refused, and nothing has changed.
+-- A request is logged, and the next answer is the next one's; or memory ran out, and nothing has changed.
 abbrev pub Notes : Logged → PlayingState → Result Unit BackendFault → PlayingState → Type 0
 Notes l old (Ok x) new = new ≡ record old { left = others old.left; log = old.log ++ l ∷ [] }
 Notes l old (Err f) new = (f ≡ faults.Memory) × (new ≡ old)
 
--- What a message does is done; or memory was refused, and but for some bytes after what was there nothing has changed.
+-- What a message does is done; or memory ran out, and but for some bytes after what was there nothing has changed.
 abbrev pub Moves : Move → PlayingState → List ℕ
     → Result Next BackendFault → PlayingState → List ℕ → Type 0
 Moves v old before (Ok next) new after = (next ≡ v.next)

@@ -90,7 +90,7 @@ with_settled None settled = settled
 with_settled (Some t) settled = settled ++ t ∷ []
 
 -- What a ReadyForQuery with this transaction status does, by the answer, and the group that it
--- settles, if it settles one. Where memory was refused, the outstanding request is kept.
+-- settles, if it settles one. Where memory ran out, the outstanding request is kept.
 abbrev pub EndsBy : Stand → Status → Result Unit FeedFault → Option Settled → Stand → Type 0
 EndsBy old status (Ok x) ended new = HearsReady old status (Ok ended) new
 EndsBy old status (Err feeding.Memory) ended new = HasSameUnsettled old new × (ended ≡ None)

@@ -66,7 +66,7 @@ pub record HearsOne (m : BackMessage) (old new : ClientView) : Type 0 where
   pub moves : MovesBy (hear_with old.settings.password old.stand m) old new
   pub knows : Knows m old new
 
--- The client refuses the message with this fault: it may not come there, or memory was refused.
+-- The client refuses the message with this fault: it may not come there, or memory ran out.
 -- Nothing more is handled.
 abbrev pub Refuses : BackMessage → ClientView → FeedFault → ClientView → Type 0
 Refuses m old feeding.Memory new = HearsNothing old new × (new.closed ≡ old.closed)
@@ -95,7 +95,7 @@ PutsAnswer settings m before (Ok x) after =
 PutsAnswer settings m before (Err f) after = after ≡ before
 
 -- What is appended to the output for what is to be sent: nothing, or the password for this salt. It
--- fails where there is no password, and where memory was refused.
+-- fails where there is no password, and where memory ran out.
 abbrev pub SendsFor : Settings → ToSend → List ℕ → Result Unit FeedFault → List ℕ → Type 0
 SendsFor settings sends.Nothing before (Ok x) after = after ≡ before
 SendsFor settings sends.Nothing before (Err f) after = ⊥
@@ -118,7 +118,7 @@ leaving client kept = record client { kept = kept }
 
 -- What the client does with the bytes that it keeps. Ok false: no message is whole there. Ok true:
 -- it cuts the first message off and handles it. Wire: the bytes are no message and can't become
--- one. Memory: memory was refused for the first message. Another fault: that may not come there.
+-- one. Memory: memory ran out for the first message. Another fault: that may not come there.
 -- After each fault it is closed with its cause. The last two arguments are the output before and
 -- after.
 abbrev pub HearsNext : ClientView → Result Bool FeedFault → ClientView → List ℕ → List ℕ → Type 0

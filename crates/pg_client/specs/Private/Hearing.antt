@@ -71,7 +71,7 @@ of_read (reading.Unexpected t) = feeding.Unexpected t
 of_read reading.Memory = feeding.Memory
 
 -- What a message does that makes the client send nothing. Ok: the client stands where it leads.
--- Memory: memory was refused. Another fault: the message may not come there. After a fault the
+-- Memory: memory ran out. Another fault: the message may not come there. After a fault the
 -- outstanding request, and whether an ErrorResponse came for it, are kept.
 abbrev pub HearsAs : Stand → BackMessage → Result ToSend FeedFault → Stand → Type 0
 HearsAs old m (Ok sends.Nothing) new = hear old m ≡ Leads new
@@ -81,7 +81,7 @@ HearsAs old m (Err f) new = (hear old m ≡ Rejected) × (f ≡ fault_at old m)
     × HasSameUnsettled old new
 
 -- What a ParameterStatus does. Ok true: the client stands where it leads. Ok false: it may not
--- come, as the client wasn't started. A fault: memory was refused.
+-- come, as the client wasn't started. A fault: memory ran out.
 abbrev pub HearsParameter : Stand → BackMessage → Result Bool AllocError → Stand → Type 0
 HearsParameter old m (Err e) new = HasSameUnsettled old new
 HearsParameter old m (Ok true) new = hear old m ≡ Leads new

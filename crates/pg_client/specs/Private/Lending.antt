@@ -30,7 +30,7 @@ use Rattle.pg_client.specs.Private.Queue.{queued, row_of}
 -- ---- a piece
 
 -- What push does to a machine that is closed for this reason, or open (None). Ok: the piece is kept
--- whole. Memory: memory was refused, and the machine is closed.
+-- whole. Memory: memory ran out, and the machine is closed.
 abbrev pub KeepsPiece : Option Cause → MachineView Queue → List ℕ → Result Unit FeedFault
     → MachineView Queue → Type 0
 KeepsPiece (Some c) old piece result new = (result ≡ Err feeding.Closed) × (new ≡ old)

@@ -50,14 +50,14 @@ Puts messages before (Err encoding.Memory) after = (first_fault messages ≡ Non
     × Lengthens before after
 Puts messages before (Err f) after = (first_fault messages ≡ Some f) × Lengthens before after
 
--- Whether memory was refused so far, after one more message was put out: `starved` is whether it
+-- Whether memory ran out so far, after one more message was put out: `starved` is whether it
 -- was before. A fault of that message is kept as the answer.
 abbrev pub starved_after : Bool → Result Unit EncodeFault → Result Bool EncodeFault
 starved_after starved (Ok x) = Ok starved
 starved_after starved (Err encoding.Memory) = Ok true
 starved_after starved (Err f) = Err f
 
--- These messages have no fault, and all are appended (false). Or memory was refused for one (true),
+-- These messages have no fault, and all are appended (false). Or memory ran out for one (true),
 -- and any bytes may be appended.
 abbrev pub ArePut : List FrontMessage → List ℕ → Bool → List ℕ → Type 0
 ArePut messages before false now = AllByRecursion (HasSpelling frontend) messages

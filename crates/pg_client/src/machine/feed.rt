@@ -4,7 +4,8 @@ ghost use Rattle.std.specs.Prelude.{◌≡◌, ◌<◌, false, IfOk, length, Non
 ghost use Rattle.pg_wire.specs.message.BackMessage.TheVariants.{KeyData, ParameterStatus, Ready};
 ghost use Rattle.pg_client.specs.Closed.{cause_of};
 ghost use Rattle.pg_client.specs.Private.Feeding.{SendsFor};
-ghost use Rattle.pg_client.specs.Private.Machine.{FeedsMachine, Handles, HandlesAll, HandlesHeld, HandlesNext, HandlesWhole, IsOfSame};
+ghost use Rattle.pg_client.specs.Private.Machine.{FeedsMachine, Handles, HandlesAll, HandlesHeld};
+ghost use Rattle.pg_client.specs.Private.Machine.{HandlesNext, HandlesWhole, IsOfSame};
 
 use crate::collector::Collector;
 use crate::fault::FeedFault;

@@ -2,7 +2,9 @@
 
 ghost use Rattle.std.specs.Prelude.{◌≡◌, ◌≢◌, [], false, None, Some, true};
 ghost use Rattle.pg_wire.specs.lent.Lent.TheVariants.{Row};
-ghost use Rattle.pg_client.specs.Private.Lending.{GivesBy, HearsLent, IsOldest, IsStill, KeepsPiece, NextBy, TakesNext, TakesOldest, waiting};
+ghost use Rattle.pg_client.specs.Private.Lending.{GivesBy, HearsLent, IsOldest, IsStill};
+ghost use Rattle.pg_client.specs.Private.Lending.{KeepsPiece, NextBy, TakesNext, TakesOldest};
+ghost use Rattle.pg_client.specs.Private.Lending.{waiting};
 ghost use Rattle.pg_client.specs.Early.{Row as Values};
 ghost use Rattle.pg_client.specs.Private.Machine.{IsOfSame};
 ghost use Rattle.pg_client.specs.Private.Queue.{row_at, row_of};

@@ -27,8 +27,9 @@ abbrev pub LineEnds : Options → Option ℕ → List ℕ → Type 0
 LineEnds o columns line = (after : RowsRead TextFault)
     → line_reading o columns line after ≡ record { rows = []; ending = Done }
 
--- a fault of the line, which isn't want of memory
-pub record LineFails (o : Options) (columns : Option ℕ) (line : List ℕ) (fault : TextFault) : Type 0 where
+-- a fault of the line, which isn't Memory
+pub record LineFails (o : Options) (columns : Option ℕ) (line : List ℕ)
+    (fault : TextFault) : Type 0 where
   pub is : (after : RowsRead TextFault)
       → line_reading o columns line after ≡ record { rows = []; ending = Bad fault }
   pub not_memory : fault ≡ Memory → ⊥
@@ -63,13 +64,16 @@ lending len taken end s =
 -- A line of so many bytes is taken off, with what ends it, and lines end so from then on; or the
 -- reader stops at the end mark or at the line's fault; or memory for its row is refused, and
 -- nothing changes.
-abbrev pub TakesLine : ℕ → ℕ → Option LineEnd → TextState → Result (Option Row) TextFault → TextState → Type 0
-TakesLine len taken end old (Ok (Some row)) new = LineGives old.options old.columns (take len old.kept) row
+abbrev pub TakesLine : ℕ → ℕ → Option LineEnd → TextState → Result (Option Row) TextFault
+    → TextState → Type 0
+TakesLine len taken end old (Ok (Some row)) new =
+    LineGives old.options old.columns (take len old.kept) row
     × (new ≡ passed taken end old)
 TakesLine len taken end old (Ok None) new = LineEnds old.options old.columns (take len old.kept)
     × (new ≡ record old { kept = []; stage = stages.Marked; held = None })
 TakesLine len taken end old (Err fault) new =
-    ((fault ≡ Memory) × (new ≡ old) × (row : Row) × LineGives old.options old.columns (take len old.kept) row)
+    ((fault ≡ Memory) × (new ≡ old) × (row : Row)
+    × LineGives old.options old.columns (take len old.kept) row)
     ⊎ (LineFails old.options old.columns (take len old.kept) fault
     × (new ≡ record old { kept = []; stage = stages.Failed fault; held = None }))
 
@@ -79,16 +83,16 @@ abbrev pub LendsLine : ℕ → ℕ → Option LineEnd → TextState → Result B
 LendsLine len taken end old answer new =
     TakesLine len taken end old (as_next answer new.held) (let_go new) × Lends answer new.held
 
--- the reader after an answer of finish: the input has ended, unless memory was refused
+-- the reader after an answer of finish: the input has ended, unless memory ran out
 abbrev pub EndsInput : Result (Option Row) TextFault → TextState → TextState → Type 0
 EndsInput (Ok row) mid new = new ≡ record mid { ended = true }
 EndsInput (Err fault) mid new = ((fault ≡ Memory) × (new ≡ mid))
     ⊎ ((fault ≡ Memory → ⊥) × (new ≡ record mid { ended = true }))
 
--- what is kept of a reader: the first line is walked over so far, no fault is want of memory, a row
+-- what is kept of a reader: the first line is walked over so far, no fault is Memory, a row
 -- is lent only among the lines, and of its line these texts were copied
-pub record IsTextReader (o : Options) (line_end : Option LineEnd) (buffer : RowBytes) (scan : Scan) (stage : TextStage)
-    (held_len : ℕ) (texts : List ℕ) : Type 0 where
+pub record IsTextReader (o : Options) (line_end : Option LineEnd) (buffer : RowBytes) (scan : Scan)
+    (stage : TextStage) (held_len : ℕ) (texts : List ℕ) : Type 0 where
   pub scanned : IsScanned o.delimiter line_end buffer.kept scan
   pub not_memory : stage ≡ stages.Failed Memory → ⊥
   pub lends : (stage ≡ stages.Lines) ⊎ (buffer.front ≡ None)
@@ -116,7 +120,8 @@ TakesLast old (Ok (Some row)) new = (text_last old ≡ after_rows (row ∷ []) (
     × (length new.kept < length old.kept) × PassesLine old new
 TakesLast old (Ok None) new =
     (text_last old ≡ record { rows = []; ending = last_text_ending new.stage })
-    × IsGood (last_text_ending new.stage) × (new ≡ record old { kept = []; stage = new.stage; held = None })
+    × IsGood (last_text_ending new.stage)
+    × (new ≡ record old { kept = []; stage = new.stage; held = None })
     × (new.stage ≡ stages.Lines → old.kept ≡ [])
 TakesLast old (Err fault) new =
     ((fault ≡ Memory) × (new ≡ old) × RowWaits (text_last old))

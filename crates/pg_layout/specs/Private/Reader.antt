@@ -147,8 +147,9 @@ column_of_parts ((((((name, table_oid), attribute), type_oid), size), modifier),
 -- a column of RowDescription
 unfoldable pub column_at : List ℕ → Option (Column × List ℕ)
 column_at bytes = mapped_at column_of_parts
-    (pair_at (pair_at (pair_at (pair_at (pair_at (pair_at string_at (number_at w32)) (signed_at w16))
-    (number_at w32)) (signed_at w16)) (signed_at w32)) (signed_at w16)) bytes
+    (pair_at (pair_at (pair_at (pair_at (pair_at (pair_at string_at
+    (number_at w32)) (signed_at w16)) (number_at w32)) (signed_at w16)) (signed_at w32))
+    (signed_at w16)) bytes
 
 -- a field of an error or a notice
 unfoldable pub error_field_at : List ℕ → Option (ErrorField × List ℕ)

@@ -58,7 +58,7 @@ abbrev pub ends : Option (List ℕ) → Bool
 ends None = false
 ends (Some rest) = length rest == 0
 
--- Where memory was refused, the message that there is, if there is one, holds a list.
+-- Where memory ran out, the message that there is, if there is one, holds a list.
 abbrev pub AsksFor : {M : Type 0} → (M → Bool) → Result M BodyFault → Option M → Type 0
 AsksFor holds_list (Ok m) message = Unit {0}
 AsksFor holds_list (Err faults.Bad) message = Unit {0}

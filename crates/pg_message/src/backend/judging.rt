@@ -12,7 +12,7 @@ use pg_layout::{
 };
 use pg_seq::Seq;
 
-/// Whether this is the body of an authentication request, whose code says what may follow it.
+// Whether this is the body of an authentication request, whose code says what may follow it.
 fn is_auth(body: &[u8]) -> bool
     ensures { result ≡ is_some ((back_reading Auth).message body.now) }
 {
@@ -27,7 +27,7 @@ fn is_auth(body: &[u8]) -> bool
     }
 }
 
-/// What is left of the body after a message of this kind; None where the body begins none.
+// What is left of the body after a message of this kind; None where the body begins none.
 fn after_message(kind: BackKind, body: &[u8]) -> Option<&[u8]>
     ensures { option_copied result ≡ (back_reading kind).left body.now }
 {

@@ -12,7 +12,7 @@ use pg_layout::{BodyFault, copy_head_at, copy_of, counted, ended, i32_at, status
 use pg_values::{fields_at, values_at};
 use std::alloc::Global;
 
-/// An authentication request, whose code says which.
+// An authentication request, whose code says which.
 fn auth(alloc: Global, bytes: &[u8]) -> Result<BackMessage, BodyFault>
     ensures read { Gives (λ m. m) result ((back_reading Auth).message bytes.now) }
     ensures memory { AsksFor backend.holds_list result ((back_reading Auth).message bytes.now) }
@@ -32,7 +32,7 @@ fn auth(alloc: Global, bytes: &[u8]) -> Result<BackMessage, BodyFault>
     }
 }
 
-/// A row.
+// A row.
 fn row(alloc: Global, bytes: &[u8]) -> Result<BackMessage, BodyFault>
     ensures read { Gives (λ m. m) result ((back_reading DataRow).message bytes.now) }
     ensures memory { AsksFor backend.holds_list result ((back_reading DataRow).message bytes.now) }
@@ -55,7 +55,7 @@ pub fn back_message(alloc: Global, kind: BackKind, body: &[u8]) -> Result<BackMe
     }
 }
 
-/// The same, of the other kinds.
+// The same, of the other kinds.
 fn other_message(alloc: Global, kind: BackKind, body: &[u8]) -> Result<BackMessage, BodyFault>
     ensures read { Gives (λ m. m) result ((back_reading kind).message body.now) }
     ensures memory { AsksFor backend.holds_list result ((back_reading kind).message body.now) }

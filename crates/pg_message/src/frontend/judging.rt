@@ -12,7 +12,7 @@ use crate::judging::is_end;
 use pg_layout::{after_counted, after_i32, after_text};
 use pg_seq::Seq;
 
-/// The bytes after what a Describe or a Close names.
+// The bytes after what a Describe or a Close names.
 fn after_target(bytes: &[u8]) -> Option<&[u8]>
     ensures { option_copied result ≡ left_after (choice_at target_of_byte bytes.now) }
 {
@@ -22,7 +22,7 @@ fn after_target(bytes: &[u8]) -> Option<&[u8]>
     }
 }
 
-/// What is left of the body after a Bind.
+// What is left of the body after a Bind.
 fn after_bind(body: &[u8]) -> Option<&[u8]>
     ensures { option_copied result ≡ (front_reading Bind).left body.now }
 {
@@ -32,7 +32,7 @@ fn after_bind(body: &[u8]) -> Option<&[u8]>
     after_counted::<i16>(rest)
 }
 
-/// What is left of the body after a message of this kind; None where the body begins none.
+// What is left of the body after a message of this kind; None where the body begins none.
 fn after_message(kind: FrontKind, body: &[u8]) -> Option<&[u8]>
     ensures { option_copied result ≡ (front_reading kind).left body.now }
 {

@@ -99,7 +99,7 @@ impl<C: Carry> Pair<C> {
         Applied::Done
     }
 
-    // Both ways break for want of memory.
+    // Both ways break because memory ran out.
     pub(crate) fn give_up(&mut self) -> PairFault
         ensures broken { BreaksBoth self.old self.new }
         ensures fault { result ≡ PairFault.Memory }

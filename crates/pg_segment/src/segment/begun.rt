@@ -2,7 +2,10 @@
 
 ghost use Rattle.std.specs.Prelude.{◌≡◌, ◌++◌, ◌∷◌, [], IfOk, OnErr, OnOk};
 ghost use Rattle.pg_wire.specs.Segment.{asked};
-ghost use Rattle.pg_segment.specs.Private.Collecting.{command_part, completed_part, copied_out, described_part, empty_part, executed_part, first_row, is_next_result, whole_part, with_chunk, with_row};
+ghost use Rattle.pg_segment.specs.Private.Collecting.{command_part, completed_part, copied_out};
+ghost use Rattle.pg_segment.specs.Private.Collecting.{described_part, empty_part, executed_part};
+ghost use Rattle.pg_segment.specs.Private.Collecting.{first_row, is_next_result, whole_part};
+ghost use Rattle.pg_segment.specs.Private.Collecting.{with_chunk, with_row};
 
 use pg_wire::{BackMessage, Column, CopyHead, ExecEnd, Part, Request, RowView, Seq, Values};
 use std::alloc::{AllocError, Global};
@@ -55,7 +58,7 @@ impl Open {
     {
         match Values::of_row(alloc, row) {
             Ok(values) => self.add_row(alloc, values),
-            // Memory was refused: the other fault is that of a row longer than any message, and no decoder gives one.
+            // Memory ran out: the other fault is that of a row longer than any message, and no decoder gives one.
             Err(_) => Err(AllocError),
         }
     }

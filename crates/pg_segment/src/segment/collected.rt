@@ -2,7 +2,9 @@
 
 ghost use Rattle.std.specs.Prelude.{◌≡◌, OnErr, OnOk};
 ghost use Rattle.pg_wire.specs.Segment.{asked};
-ghost use Rattle.pg_segment.specs.Private.Collecting.{closed_by, collect, collected_with, noted_error, nothing_collected, outcome_of, with_columns, with_row};
+ghost use Rattle.pg_segment.specs.Private.Collecting.{closed_by, collect, collected_with};
+ghost use Rattle.pg_segment.specs.Private.Collecting.{noted_error, nothing_collected, outcome_of};
+ghost use Rattle.pg_segment.specs.Private.Collecting.{with_columns, with_row};
 
 use crate::segment::begun::Open;
 use pg_wire::{Aside, BackMessage, Column, Fields, Outcome, Part, Request, RowView, Seq, Status};
@@ -26,7 +28,12 @@ impl Model for Collected {
 
     ghost Value = { CollectedView };
 
-    ghost view = { λ c. record { parts = c.parts.items; begun = c.begun; error = c.error; asides = c.asides } };
+    ghost view = { λ c. record {
+      parts = c.parts.items;
+      begun = c.begun;
+      error = c.error;
+      asides = c.asides;
+    } };
 }
 
 impl Collected {
@@ -61,7 +68,7 @@ impl Collected {
         }
     }
 
-    /// Takes in a message of a result, or of the answer to a step, where it may come. Where memory is refused, nothing changes.
+    /// Takes in a message of a result, or of the answer to a step, where it may come. Where memory runs out, nothing changes.
     pub fn take(
         &mut self,
         alloc: Global,
@@ -96,7 +103,7 @@ impl Collected {
         }
     }
 
-    /// Takes in a row that is lent. Where memory is refused, nothing changes.
+    /// Takes in a row that is lent. Where memory runs out, nothing changes.
     pub fn take_row(&mut self, alloc: Global, row: &RowView<'_>) -> Result<(), AllocError>
         ensures ok { OnOk result (self.new ≡ record self.old {
           begun = with_row self.old.begun row.now;
@@ -113,7 +120,8 @@ impl Collected {
         request: &Request,
         columns: Seq<Column>,
     ) -> Result<(), AllocError>
-        ensures ok { OnOk result (self.new ≡ with_columns (asked request.now) self.old self.old.begun columns) }
+        ensures ok { OnOk result (self.new
+            ≡ with_columns (asked request.now) self.old self.old.begun columns) }
         ensures err { OnErr result (self.new ≡ self.old) }
     {
         if !self.begun.begins_result(request) {

@@ -1,7 +1,10 @@
 //! What kind of result or answer isn't whole, and which message may come next of it.
 
 ghost use Rattle.std.specs.Prelude.{◌≡◌};
-ghost use Rattle.pg_segment.specs.Place.{completes, ends_bind, ends_close, ends_description, ends_parse, follows_copy_in, follows_copy_out, follows_rows, opens_answer, opens_parameters, opens_result, runs};
+ghost use Rattle.pg_segment.specs.Place.{completes, ends_bind, ends_close, ends_description};
+ghost use Rattle.pg_segment.specs.Place.{ends_parse, follows_copy_in, follows_copy_out};
+ghost use Rattle.pg_segment.specs.Place.{follows_rows, opens_answer, opens_parameters};
+ghost use Rattle.pg_segment.specs.Place.{opens_result, runs};
 
 use crate::segment::CopyAnswer;
 use pg_wire::{BackMessage, Step, Target};

@@ -3,7 +3,9 @@
 ghost use Rattle.std.specs.Prelude.{◌≡◌, ℕ, List, Option, Some, false, true};
 ghost use Rattle.pg_wire.specs.message.BackMessage.TheVariants.{DataRow};
 ghost use Rattle.pg_wire.specs.Segment.{Asked, asked};
-ghost use Rattle.pg_segment.specs.Place.{all_answered, awaits_data_at, failed_at, follows_at, goes, led_to, may_end_at_place, one_more, opens, start, still_asked, told};
+ghost use Rattle.pg_segment.specs.Place.{all_answered, awaits_data_at, failed_at, follows_at, goes};
+ghost use Rattle.pg_segment.specs.Place.{led_to, may_end_at_place, one_more, opens, start};
+ghost use Rattle.pg_segment.specs.Place.{still_asked, told};
 
 use crate::segment::CopyAnswer;
 use crate::segment::pending::{

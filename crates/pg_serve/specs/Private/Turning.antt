@@ -4,7 +4,7 @@ use Rattle.pg_serve.specs.declared.answered.AnswerFault.{AnswerFault}
 use Rattle.pg_serve.specs.declared.answered.AnswerFault.TheVariants as fault
 use Rattle.pg_serve.specs.declared.answered.Answered.{Answered}
 use Rattle.pg_serve.specs.Answering.{Connection, IsLost, LastTurn, Passed, TurnsOn}
-use Rattle.pg_serve.specs.Sending.{FailsToSend, Sends}
+use Rattle.pg_wire.specs.Sending.{FailsToSend, Sends}
 
 -- A turn, by its result: it goes on (None), or this is answered.
 abbrev pub TakesTurn : {L : Type 0} (gives takes : L → List ℕ → L → Type 0)
@@ -25,4 +25,5 @@ abbrev pub SendsReply : {L : Type 0} (takes : L → List ℕ → L → Type 0) (
 SendsReply takes failures old reply (Ok x) new =
     Sends takes failures old.link reply new.link × (new.backend ≡ old.backend)
 SendsReply takes failures old reply (Err f) new = (f ≡ fault.Link)
-    × FailsToSend takes failures old.link reply new.link × IsLost old.backend new.backend
+    × ((left : List ℕ) × FailsToSend takes failures old.link reply left new.link)
+    × IsLost old.backend new.backend

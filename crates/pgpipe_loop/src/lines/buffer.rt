@@ -5,7 +5,8 @@ ghost use Rattle.std.specs.Fmt.{decimal, signed_decimal};
 ghost use Rattle.pg_copy.specs.Row.{Row};
 ghost use Rattle.pgpipe_base.specs.Outbox.{body_text};
 ghost use Rattle.pgpipe_loop.specs.Lines.{text_lines};
-ghost use Rattle.pgpipe_loop.specs.Private.Lines.{whole_lines, with_field, with_end, with_row, with_rows};
+ghost use Rattle.pgpipe_loop.specs.Private.Lines.{whole_lines, with_field, with_end, with_row};
+ghost use Rattle.pgpipe_loop.specs.Private.Lines.{with_rows};
 
 use pg_copy::laws::{fields_are_line, text_round_trip};
 use pg_copy::{RowFault, TextRowWriter};

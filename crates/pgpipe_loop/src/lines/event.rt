@@ -3,7 +3,10 @@
 ghost use Rattle.std.specs.Prelude.{◌≡◌, length, IfOk, OnOk, option_copied};
 ghost use Rattle.pg_backend.specs.Fault.{backend_code};
 ghost use Rattle.pg_client.specs.Fault.{feed_code};
-ghost use Rattle.pgpipe_loop.specs.Lines.{answer_rows, backend_details, backend_word, client_word, closing_rows, event_rows, fault_row, feed_details, loaded_row, loaded_rows, loaded_rows_of, lost_row, loss_rows, phase_rows, text_lines, unsettled_fields};
+ghost use Rattle.pgpipe_loop.specs.Lines.{answer_rows, backend_details, backend_word, client_word};
+ghost use Rattle.pgpipe_loop.specs.Lines.{closing_rows, event_rows, fault_row, feed_details};
+ghost use Rattle.pgpipe_loop.specs.Lines.{loaded_row, loaded_rows, loaded_rows_of, lost_row};
+ghost use Rattle.pgpipe_loop.specs.Lines.{loss_rows, phase_rows, text_lines, unsettled_fields};
 ghost use Rattle.pgpipe_loop.specs.Private.Lines.{with_fields, with_row, with_rows};
 
 use super::buffer::LineBuffer;

@@ -1,7 +1,10 @@
 //! The lines of a settled group, in the form of a script.
 
 ghost use Rattle.std.specs.Prelude.{◌≡◌, ◌∷◌, map, OnOk};
-ghost use Rattle.pgpipe_loop.specs.Lines.{aside_row, chunk_row, copy_in_row, copy_out_row, described_row, executed_row, logged_rows, outcome_error_rows, parameter_rows, part_rows, rows_row, settled_rows, status_letter, value_row};
+ghost use Rattle.pgpipe_loop.specs.Lines.{aside_row, chunk_row, copy_in_row, copy_out_row};
+ghost use Rattle.pgpipe_loop.specs.Lines.{described_row, executed_row, logged_rows};
+ghost use Rattle.pgpipe_loop.specs.Lines.{outcome_error_rows, parameter_rows, part_rows, rows_row};
+ghost use Rattle.pgpipe_loop.specs.Lines.{settled_rows, status_letter, value_row};
 ghost use Rattle.pgpipe_loop.specs.Private.Lines.{with_row, with_rows};
 
 use super::buffer::{LineBuffer, PutsLine, PutsLines};

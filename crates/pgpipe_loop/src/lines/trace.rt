@@ -1,10 +1,13 @@
 //! The lines of a trace: what an event is, and what was moved.
 
-ghost use Rattle.std.specs.Prelude.{◌≡◌, ◌<◌, ◌≤◌, [], ◌∷◌, Some, length, take, ◌+◌, true, false, IfOk, MatchOption, OnOk};
+ghost use Rattle.std.specs.Prelude.{◌≡◌, ◌<◌, ◌≤◌, [], ◌∷◌, Some, length, take, ◌+◌, true, false};
+ghost use Rattle.std.specs.Prelude.{IfOk, MatchOption, OnOk};
 ghost use Rattle.std.specs.Fmt.{decimal};
 ghost use Rattle.std.specs.Int.{w32, from_be_bytes};
 ghost use Rattle.pgpipe_loop.specs.Lines.{text_lines};
-ghost use Rattle.pgpipe_loop.specs.Trace.{begins_whole, call_fields, event_fields, event_row, lead_after, length_after, message_name, reached_rows, sent_row, sent_rows, sent_since, way_word};
+ghost use Rattle.pgpipe_loop.specs.Trace.{begins_whole, call_fields, event_fields, event_row};
+ghost use Rattle.pgpipe_loop.specs.Trace.{lead_after, length_after, message_name, reached_rows};
+ghost use Rattle.pgpipe_loop.specs.Trace.{sent_row, sent_rows, sent_since, way_word};
 ghost use Rattle.pgpipe_loop.specs.Private.Lines.{with_fields, with_row, with_rows};
 
 use super::buffer::LineBuffer;

@@ -4,7 +4,9 @@ ghost use Rattle.std.specs.Prelude.{◌≡◌, List, ℕ, IfOk};
 ghost use Rattle.std.specs.List.{FoldsTo, concat};
 ghost use Rattle.pg_wire.specs.Link.{HasRisen};
 ghost use Rattle.pgpipe_base.specs.Receiving.{CountsNoFailure};
-ghost use Rattle.pgpipe_loop.specs.Everywhere.{AreBroken, BreaksAnswer, FillsIn, IsBrokenEverywhere, IsLeftAt, IsLeftBy, IsPlayable, Says, broken_text};
+ghost use Rattle.pgpipe_loop.specs.Everywhere.{AreBroken, BreaksAnswer, FillsIn};
+ghost use Rattle.pgpipe_loop.specs.Everywhere.{IsBrokenEverywhere, IsLeftAt, IsLeftBy, IsPlayable};
+ghost use Rattle.pgpipe_loop.specs.Everywhere.{Says, broken_text};
 
 use super::places::{Broken, Place, break_of, broken_as, first_unseen, places_of, put_places_line};
 use super::wire::{CutWire, Unread};
@@ -18,7 +20,7 @@ use pgpipe_files::{Calls, read_calls, read_script};
 use std::alloc::{AllocError, Global};
 
 /// The bytes of a loop's files. They are read anew for each run.
-#[derive(Debug, Drop)]
+#[derive(Drop)]
 pub struct LoopFiles {
     /// SCRIPT.
     pub script: Seq<u8>,

@@ -3,7 +3,8 @@
 ghost use Rattle.std.specs.Prelude.{◌≡◌, ◌∷◌, ◌++◌, [], length, map, take, true, IfOk, OnOk};
 ghost use Rattle.pg_pair.specs.Headline.{answered_as, settled_as};
 ghost use Rattle.pg_pair.specs.Laws.{break_of};
-ghost use Rattle.pgpipe_loop.specs.Everywhere.{broken_as, broken_row, first_unseen, places_along, places_of, places_row, break_word};
+ghost use Rattle.pgpipe_loop.specs.Everywhere.{broken_as, broken_row, first_unseen, places_along};
+ghost use Rattle.pgpipe_loop.specs.Everywhere.{places_of, places_row, break_word};
 ghost use Rattle.pgpipe_loop.specs.Private.Lines.{with_fields, with_row};
 ghost use Rattle.std.specs.Fmt.{decimal};
 

@@ -4,7 +4,8 @@ ghost use Rattle.std.specs.Prelude.{◌≡◌, ◌≤◌, true, length, IfOk};
 ghost use Rattle.pg_pair.specs.View.{way_state};
 ghost use Rattle.pgpipe_loop.specs.Lines.{phase_rows, text_lines};
 ghost use Rattle.pgpipe_loop.specs.RunLoop.{is_nothing};
-ghost use Rattle.pgpipe_loop.specs.Private.Telling.{before_of, extent_of, moved_since, named_rows, rows_since, text_since};
+ghost use Rattle.pgpipe_loop.specs.Private.Telling.{before_of, extent_of, moved_since, named_rows};
+ghost use Rattle.pgpipe_loop.specs.Private.Telling.{rows_since, text_since};
 ghost use Rattle.pg_client.specs.Client as client;
 ghost use Rattle.pg_backend.specs.Backend as backend;
 
@@ -13,14 +14,14 @@ use pg_pair::{Applied, Carry, Event, Pair, Way};
 use std::alloc::{AllocError, Global};
 
 /// How many bytes of a way were sent, and how many of them have reached its end.
-#[derive(Clone, Copy, Debug, PartialEq, Eq)]
+#[derive(Clone, Copy)]
 pub struct Extent {
     pub sent: usize,
     pub reached: usize,
 }
 
 /// How far a pair had come before an event.
-#[derive(Clone, Copy, Debug, PartialEq, Eq)]
+#[derive(Clone, Copy)]
 pub struct Before {
     /// How many groups were settled.
     pub settled: usize,

@@ -8,7 +8,7 @@ use pg_pair::{Carry, CarryFault, Way};
 use pg_wire::{LinkFault, Sink};
 
 /// Carries each piece whole, but so many bytes alone along one way. After these its calls along that way fail.
-#[derive(Debug, Drop)]
+#[derive(Drop)]
 pub struct CutWire {
     way: Way,
     left: usize,
@@ -55,7 +55,7 @@ impl Carry for CutWire {
 }
 
 /// Takes all lines, and keeps none.
-#[derive(Debug, Drop)]
+#[derive(Drop)]
 pub struct Unread;
 
 impl Sink for Unread {

@@ -27,7 +27,7 @@ type File = (
     Option<BinaryFault>,
 );
 
-/// Reads such a file, as `write_file` does.
+// Reads such a file, as `write_file` does.
 fn write_column(
     alloc: Global,
     file: &[u8],
@@ -46,7 +46,7 @@ fn wanted(fault: Option<BinaryFault>) -> Option<Fault> {
     }
 }
 
-/// Whether these bytes give the file's lines and its fault, where the first piece has so many, and each other one so many.
+// Whether these bytes give the file's lines and its fault, where the first piece has so many, and each other one so many.
 fn gives_cut(alloc: Global, bytes: &[u8], first: usize, size: usize, file: File) -> bool {
     let (_, _, lines, fault) = file;
     let mut written = Vec::new(alloc);
@@ -54,7 +54,7 @@ fn gives_cut(alloc: Global, bytes: &[u8], first: usize, size: usize, file: File)
     found == wanted(fault) && written.as_slice() == lines
 }
 
-/// Whether these bytes give the file's lines and its fault, however they are cut.
+// Whether these bytes give the file's lines and its fault, however they are cut.
 fn gives(alloc: Global, bytes: &[u8], file: File) -> bool {
     for first in 0..=bytes.len() {
         for size in 1..=bytes.len() {
@@ -76,14 +76,14 @@ fn all_give(alloc: Global, files: &[File]) -> Result<bool, AllocError> {
     Ok(true)
 }
 
-/// Whether these bytes, which come one by one, give no more lines than these, and then are truncated.
+// Whether these bytes, which come one by one, give no more lines than these, and then are truncated.
 fn is_truncated(alloc: Global, bytes: &[u8], lines: &[u8]) -> bool {
     let mut written = Vec::new(alloc);
     let found = write_column(alloc, bytes, 0, 1, &mut written);
     found == wanted(TRUNCATED) && lines.starts_with(written.as_slice())
 }
 
-/// Whether the bytes are truncated wherever they are cut off before their end.
+// Whether the bytes are truncated wherever they are cut off before their end.
 fn is_truncated_everywhere(alloc: Global, bytes: &[u8], lines: &[u8]) -> bool {
     for place in 0..bytes.len() {
         let (before, _) = bytes.split_at_checked(place).unwrap_or((bytes, &[]));
@@ -222,7 +222,7 @@ fn values_have_their_faults(rt: HostRuntime) {
 
 // ---- a reader's calls, one by one
 
-/// Whether a new reader of one column, with values of at most one byte, answers each call so.
+// Whether a new reader of one column, with values of at most one byte, answers each call so.
 fn comes(alloc: Global, steps: &[(Call, Answer)]) -> bool {
     let mut reader = BinaryReader::new(alloc, 1, 1);
     answers(&mut reader, steps)
@@ -280,14 +280,14 @@ fn a_byte_after_the_trailer_is_refused_for_good(rt: HostRuntime) {
 
 // ---- what is written
 
-/// Appends a file of this row alone.
+// Appends a file of this row alone.
 fn write_one(row: &Row, file: &mut Vec<u8>) -> Result<(), RowFault> {
     write_binary_head(file)?;
     write_binary_row(row, file)?;
     write_binary_trailer(file)
 }
 
-/// Whether a file of one row of these values is a head and these bytes.
+// Whether a file of one row of these values is a head and these bytes.
 fn is_written(alloc: Global, values: &[Option<&[u8]>], rest: &[u8]) -> Result<bool, AllocError> {
     let mut file = Vec::new(alloc);
     let row = row(alloc, values)?;
@@ -300,7 +300,7 @@ fn files_are_written(rt: HostRuntime) {
     assert!(rt; is_written(rt.alloc(), &[Some(b"1"), None], rest) == Ok(true));
 }
 
-/// Whether a row of no values is refused, and nothing is written.
+// Whether a row of no values is refused, and nothing is written.
 fn refuses_none(alloc: Global) -> Result<bool, AllocError> {
     let mut file = Vec::new(alloc);
     let none = row(alloc, &[])?;

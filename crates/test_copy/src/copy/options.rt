@@ -15,7 +15,7 @@ const WRITTEN: [WrittenRow; 2] = [
     (&[Some(b"")], Err(RowFault::LikeNull(0)), b"a\\,b,,x\\t\n"),
 ];
 
-/// Whether the reader is left with this row alone, at the end of the input.
+// Whether the reader is left with this row alone, at the end of the input.
 fn gives_alone(reader: &mut TextReader, wanted: &Row) -> bool {
     let given = match reader.finish() {
         Ok(Some(row)) => row == *wanted,
@@ -24,7 +24,7 @@ fn gives_alone(reader: &mut TextReader, wanted: &Row) -> bool {
     given && reader.finish() == Ok(None)
 }
 
-/// Whether this line of three columns is read with these options as a row of these values.
+// Whether this line of three columns is read with these options as a row of these values.
 fn is_read(
     alloc: Global,
     options: TextOptions,
@@ -36,7 +36,7 @@ fn is_read(
     Ok(reader.push(line) == Ok(()) && gives_alone(&mut reader, &row))
 }
 
-/// Options of a comma and the empty null.
+// Options of a comma and the empty null.
 fn comma(alloc: Global) -> Result<TextOptions, AllocError> {
     match TextOptions::new(alloc, b',', b"") {
         Ok(options) => Ok(options),
@@ -54,7 +54,7 @@ fn rows_are_written_with_options(rt: HostRuntime) {
     assert!(rt; are_written(rt.alloc(), &WRITTEN) == Ok(true));
 }
 
-/// Whether the first of these rows is read of its line.
+// Whether the first of these rows is read of its line.
 fn is_read_again(alloc: Global, rows: &[WrittenRow]) -> Result<bool, AllocError> {
     let Some((values, _, line)) = rows.first() else {
         return Ok(false);
@@ -67,7 +67,7 @@ fn rows_are_read_with_options(rt: HostRuntime) {
     assert!(rt; is_read_again(rt.alloc(), &WRITTEN) == Ok(true));
 }
 
-/// Why there are no such options.
+// Why there are no such options.
 fn fault_of(alloc: Global, delimiter: u8, null_mark: &[u8]) -> Option<OptionFault> {
     match TextOptions::new(alloc, delimiter, null_mark) {
         Ok(_) => None,
@@ -75,7 +75,7 @@ fn fault_of(alloc: Global, delimiter: u8, null_mark: &[u8]) -> Option<OptionFaul
     }
 }
 
-/// Whether there are such options, or why not.
+// Whether there are such options, or why not.
 fn are_judged(alloc: Global, list: &[(u8, &[u8], Option<OptionFault>)]) -> bool {
     for (delimiter, null_mark, fault) in list {
         if fault_of(alloc, *delimiter, *null_mark) != *fault {
@@ -118,7 +118,7 @@ type File = (
     Option<TextFault>,
 );
 
-/// Whether a new reader writes these lines of the pieces.
+// Whether a new reader writes these lines of the pieces.
 fn writes_before(alloc: Global, piece: &[u8], wanted: &[u8]) -> bool {
     let mut reader = TextReader::new(alloc, Some(1));
     let mut lines = Vec::new(alloc);
@@ -133,7 +133,7 @@ fn wanted(fault: Option<TextFault>) -> Option<Fault> {
     }
 }
 
-/// Whether the file, which comes in two pieces, gives its lines and is answered its fault at the end.
+// Whether the file, which comes in two pieces, gives its lines and is answered its fault at the end.
 fn gives_in_two(alloc: Global, file: File, place: usize) -> bool {
     let (bytes, _, all, fault) = file;
     let mut reader = TextReader::new(alloc, Some(1));
@@ -145,7 +145,7 @@ fn gives_in_two(alloc: Global, file: File, place: usize) -> bool {
     found == wanted(fault) && lines.as_slice() == all
 }
 
-/// Whether the file gives its first lines before the end of the input; and in all the same, wherever it is cut.
+// Whether the file gives its first lines before the end of the input; and in all the same, wherever it is cut.
 fn gives(alloc: Global, file: File) -> bool {
     if !writes_before(alloc, file.0, file.1) {
         return false;

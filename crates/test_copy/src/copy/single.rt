@@ -5,7 +5,7 @@ use std::alloc::Global;
 
 // ---- rows that are lent
 
-/// Whether the reader lends a row of these values.
+// Whether the reader lends a row of these values.
 fn lends(reader: &TextReader, values: &[Option<&[u8]>]) -> bool {
     let Some(row) = reader.held() else {
         return false;
@@ -20,17 +20,17 @@ fn lends(reader: &TextReader, values: &[Option<&[u8]>]) -> bool {
     count == values.len()
 }
 
-/// Whether the next row that the reader lends has these values.
+// Whether the next row that the reader lends has these values.
 fn lends_next(reader: &mut TextReader, values: &[Option<&[u8]>]) -> bool {
     !reader.ended() && reader.next_lent() == Ok(true) && lends(reader, values)
 }
 
-/// Whether no row is left to be lent, and the reader is done.
+// Whether no row is left to be lent, and the reader is done.
 fn lends_no_more(reader: &mut TextReader) -> bool {
     !reader.ended() && reader.next_lent() == Ok(false) && reader.held().is_none() && reader.done()
 }
 
-/// Whether the reader lends these rows, one after the other, and then none.
+// Whether the reader lends these rows, one after the other, and then none.
 fn lends_all(reader: &mut TextReader, rows: &[&[Option<&[u8]>]]) -> bool {
     if lends(reader, &[]) {
         return false;
@@ -43,7 +43,7 @@ fn lends_all(reader: &mut TextReader, rows: &[&[Option<&[u8]>]]) -> bool {
     lends_no_more(reader)
 }
 
-/// Whether this file of four columns, whose end is marked, is lent as these rows.
+// Whether this file of four columns, whose end is marked, is lent as these rows.
 fn is_lent(alloc: Global, file: &[u8], rows: &[&[Option<&[u8]>]]) -> bool {
     let mut reader = TextReader::new(alloc, Some(4));
     reader.push(file) == Ok(()) && lends_all(&mut reader, rows)
@@ -84,7 +84,7 @@ fn make(writer: &mut TextRowWriter, call: Call, lines: &mut Vec<u8>) -> Result<(
 /// A call, what it answers, and all that is written then.
 type Step = (Call, Result<(), RowFault>, &'static [u8]);
 
-/// Whether the writer answers each call so, and writes these lines by it.
+// Whether the writer answers each call so, and writes these lines by it.
 fn writes(alloc: Global, writer: &mut TextRowWriter, steps: &[Step]) -> bool {
     let mut lines = Vec::new(alloc);
     for (made, answer, all) in steps {
@@ -122,7 +122,7 @@ const LIKE_NULL: [Step; 5] = [
     (Call::End, Err(RowFault::Width(0)), b"a\\,b,-"),
 ];
 
-/// Whether a writer whose fields are parted by commas, and whose null is a dash, answers and writes so.
+// Whether a writer whose fields are parted by commas, and whose null is a dash, answers and writes so.
 fn writes_with_dash(alloc: Global, steps: &[Step]) -> bool {
     match TextOptions::new(alloc, b',', b"-") {
         Ok(options) => {

@@ -5,7 +5,7 @@ use super::{Answer, Call, Fault, WrittenRow, answers, write_file, writes};
 use pg_copy::{RowFault, TextFault, TextReader, write_text_field};
 use std::alloc::Global;
 
-/// A reader of so many columns.
+// A reader of so many columns.
 fn reader(alloc: Global, columns: u16) -> TextReader {
     TextReader::new(alloc, Some(columns.clamp(1, 32_767)))
 }
@@ -22,7 +22,7 @@ fn wanted(fault: Option<TextFault>) -> Option<Fault> {
     }
 }
 
-/// Whether the file gives its lines and its fault, where the first piece has so many bytes, and each other one so many.
+// Whether the file gives its lines and its fault, where the first piece has so many bytes, and each other one so many.
 fn gives_cut(alloc: Global, file: File, first: usize, size: usize) -> bool {
     let (columns, bytes, lines, fault) = file;
     let mut reader = reader(alloc, columns);
@@ -31,7 +31,7 @@ fn gives_cut(alloc: Global, file: File, first: usize, size: usize) -> bool {
     found == wanted(fault) && written.as_slice() == lines
 }
 
-/// Whether the file gives its lines and its fault, however it is cut.
+// Whether the file gives its lines and its fault, however it is cut.
 fn gives(alloc: Global, file: File) -> bool {
     for first in 0..=file.1.len() {
         for size in 1..=file.1.len() {
@@ -97,13 +97,13 @@ fn faults_stand_in_the_place_of_rows(rt: HostRuntime) {
 
 // ---- a reader's calls, one by one
 
-/// Whether a new reader of one column answers each call so.
+// Whether a new reader of one column answers each call so.
 fn of_one(alloc: Global, steps: &[(Call, Answer)]) -> bool {
     let mut reader = reader(alloc, 1);
     answers(&mut reader, steps)
 }
 
-/// Whether a new reader of any number of columns answers each call so.
+// Whether a new reader of any number of columns answers each call so.
 fn of_any(alloc: Global, steps: &[(Call, Answer)]) -> bool {
     let mut reader = TextReader::new(alloc, None);
     answers(&mut reader, steps)
@@ -206,7 +206,7 @@ fn rows_are_written(rt: HostRuntime) {
     assert!(rt; writes(rt.alloc(), None, &ROWS) == Ok(true));
 }
 
-/// Whether these fields are written so, one after the other.
+// Whether these fields are written so, one after the other.
 fn write_fields(alloc: Global, fields: &[Option<&[u8]>], wanted: &[u8]) -> bool {
     let mut line = Vec::new(alloc);
     for field in fields {

@@ -176,7 +176,7 @@ fn executed(alloc: Global) -> Result<ScriptPart, AllocError> {
     })
 }
 
-/// Appends the answers to the other steps of a group.
+// Appends the answers to the other steps of a group.
 fn push_steps(alloc: Global, parts: &mut Vec<ScriptPart>) -> Result<(), AllocError> {
     parts.push(ScriptPart::Bound)?;
     parts.push(described(alloc)?)?;
@@ -243,7 +243,7 @@ fn auth(alloc: Global, question: Question) -> Result<Auth, AllocError> {
     }
 }
 
-/// A script that asks so, and whose answers are these, in their order.
+// A script that asks so, and whose answers are these, in their order.
 fn script(alloc: Global, question: Question, replies: &[Reply]) -> Result<Script, AllocError> {
     Ok(Script {
         auth: auth(alloc, question)?,

@@ -54,7 +54,7 @@ impl Carry for Flawed {
     }
 }
 
-/// A carrier with a flaw in this call.
+// A carrier with a flaw in this call.
 fn with_flaw(flaw: Flaw, at: u64) -> Flawed {
     Flawed {
         flaw,
@@ -64,7 +64,7 @@ fn with_flaw(flaw: Flaw, at: u64) -> Flawed {
     }
 }
 
-/// Whether this holds where the client asks, and all that waits goes to and fro, if this call of the carrier has a flaw.
+// Whether this holds where the client asks, and all that waits goes to and fro, if this call of the carrier has a flaw.
 fn comes_to(alloc: Global, flaw: Flaw, at: u64, claims: &[Claim<'_, '_>]) -> bool {
     judge(
         alloc,
@@ -84,7 +84,7 @@ fn fewer_bytes_break_nothing(rt: HostRuntime) {
     }
 }
 
-/// The way that breaks at this call of the four that carry the row: the calls go to the backend and to the client in turn.
+// The way that breaks at this call of the four that carry the row: the calls go to the backend and to the client in turn.
 fn broken_at(at: u64) -> [Claim<'static, 'static>; 2] {
     let to_backend = at % 2 == 1;
     [Claim::Broken(to_backend, !to_backend), Claim::Settled(0)]
@@ -104,7 +104,7 @@ fn a_failure_breaks_a_way(rt: HostRuntime) {
     }
 }
 
-/// Whether the delivery of the startup packet of 16 bytes is answered so with that flaw, and so many bytes of it come.
+// Whether the delivery of the startup packet of 16 bytes is answered so with that flaw, and so many bytes of it come.
 fn answers(alloc: Global, flaw: Flaw, answer: TableAnswer, reached: usize) -> bool {
     let claims = [
         Claim::Answer(&[TableEvent::ToBackend(100)], answer),

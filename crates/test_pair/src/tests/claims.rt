@@ -37,7 +37,7 @@ fn is_logged(group: &Settled, logged: &Logged) -> bool {
     group.request == logged.request && group.outcome == logged.outcome
 }
 
-/// Whether the groups are, in order, the first of what the backend has answered.
+// Whether the groups are, in order, the first of what the backend has answered.
 fn begins(groups: &[Settled], log: &[Logged]) -> bool {
     for (group, logged) in groups.iter().zip(log) {
         if !is_logged(group, logged) {
@@ -85,7 +85,7 @@ fn is_answered<C: Carry>(
     Ok(perform(alloc, pair, event)? == wanted)
 }
 
-/// Whether each of the events is answered so.
+// Whether each of the events is answered so.
 fn are_answered<C: Carry>(
     alloc: Global,
     pair: &mut Pair<C>,

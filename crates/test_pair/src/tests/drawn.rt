@@ -28,7 +28,7 @@ fn played(alloc: Global) -> Result<Pair<Direct>, AllocError> {
     }
 }
 
-/// Whether the answer settles once all of it is delivered.
+// Whether the answer settles once all of it is delivered.
 fn settles_then(pair: &mut Pair<Direct>) -> bool {
     answers_settled(pair) == 0
         && settled_when_ready(pair).is_none()

@@ -37,7 +37,7 @@ impl Carry for Short {
     }
 }
 
-/// A carrier of so many bytes of this way.
+// A carrier of so many bytes of this way.
 fn carrying(way: Way, left: usize) -> Short {
     Short {
         way,
@@ -46,20 +46,20 @@ fn carrying(way: Way, left: usize) -> Short {
     }
 }
 
-/// Whether what is settled begins what the backend has answered, where this way breaks after so many bytes.
+// Whether what is settled begins what the backend has answered, where this way breaks after so many bytes.
 fn is_cut_off(alloc: Global, ends: Ends<'_>, plan: Plan<'_>, way: Way, place: usize) -> bool {
     let claims = [Claim::CutOff(way, place)];
     judge(alloc, ends, carrying(way, place), plan, &claims)
 }
 
-/// Whether the way isn't broken where so many bytes of it are carried, which are all.
+// Whether the way isn't broken where so many bytes of it are carried, which are all.
 fn is_whole(alloc: Global, ends: Ends<'_>, plan: Plan<'_>, way: Way, count: usize) -> bool {
     let claims = [Claim::Broken(false, false), Claim::Reached(way, count)];
     judge(alloc, ends, carrying(way, count), plan, &claims)
 }
 
-/// Whether what is settled begins what the backend has answered where this way breaks after each of its bytes, of which there are so
-/// many. After all of them it isn't broken.
+// Whether what is settled begins what the backend has answered where this way breaks after each of its bytes, of which there are so
+// many. After all of them it isn't broken.
 fn one_way(alloc: Global, ends: Ends<'_>, plan: Plan<'_>, way: Way, count: usize) -> bool {
     for place in 0..count {
         if !is_cut_off(alloc, ends, plan, way, place) {
@@ -69,7 +69,7 @@ fn one_way(alloc: Global, ends: Ends<'_>, plan: Plan<'_>, way: Way, count: usize
     is_whole(alloc, ends, plan, way, count)
 }
 
-/// Whether it is so where the way to the backend breaks, and where the way to the client does, which have so many bytes.
+// Whether it is so where the way to the backend breaks, and where the way to the client does, which have so many bytes.
 fn both_ways(alloc: Global, ends: Ends<'_>, plan: Plan<'_>, counts: (usize, usize)) -> bool {
     let (to_backend, to_client) = counts;
     one_way(alloc, ends, plan, Way::ToBackend, to_backend)

@@ -16,7 +16,7 @@ fn ask(
     Ok(client.request(request(alloc, asked)?, out).is_ok())
 }
 
-/// Calls the client where the event is a call, and says whether it took it.
+// Calls the client where the event is a call, and says whether it took it.
 fn call(
     alloc: Global,
     client: &mut Client,
@@ -34,7 +34,7 @@ fn call(
     }
 }
 
-/// Makes these calls up to the first that isn't taken, and says which are left.
+// Makes these calls up to the first that isn't taken, and says which are left.
 fn call_on<'a>(
     alloc: Global,
     client: &mut Client,
@@ -49,7 +49,7 @@ fn call_on<'a>(
     Ok(&[])
 }
 
-/// Which of the wanted groups are left where the client has settled one or none: None where it has settled another.
+// Which of the wanted groups are left where the client has settled one or none: None where it has settled another.
 fn take_group<'a>(client: &mut Client, wanted: &'a [Settled]) -> Option<&'a [Settled]> {
     let Some(group) = client.take_settled() else {
         return Some(wanted);
@@ -60,7 +60,7 @@ fn take_group<'a>(client: &mut Client, wanted: &'a [Settled]) -> Option<&'a [Set
     }
 }
 
-/// Whether the client settles just these groups, where it is fed the bytes one by one and makes each call once it takes it.
+// Whether the client settles just these groups, where it is fed the bytes one by one and makes each call once it takes it.
 fn settles(
     alloc: Global,
     client: &mut Client,

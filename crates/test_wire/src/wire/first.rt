@@ -2,7 +2,7 @@ use pg_wire::{First, FirstDecoder, FrontDecoder, FrontMessage, WireFault};
 use std::alloc::Global;
 use test_base::holds;
 
-/// A decoder to which these bytes were pushed.
+// A decoder to which these bytes were pushed.
 fn pushed(alloc: Global, bytes: &[u8]) -> Result<FirstDecoder, WireFault> {
     let mut decoder = FirstDecoder::new(alloc);
     decoder.push(bytes)?;
@@ -20,7 +20,7 @@ enum Came {
     Fault(WireFault),
 }
 
-/// What the decoder gives.
+// What the decoder gives.
 fn next(decoder: &mut FirstDecoder) -> Came {
     match decoder.next() {
         Ok(None) => Came::Nothing,
@@ -31,7 +31,7 @@ fn next(decoder: &mut FirstDecoder) -> Came {
     }
 }
 
-/// Whether a new decoder gives this first of these bytes.
+// Whether a new decoder gives this first of these bytes.
 fn comes_first(alloc: Global, bytes: &[u8], came: Came) -> bool {
     holds(pushed(alloc, bytes).ok(), |first| next(first) == came)
 }
@@ -79,7 +79,7 @@ const OPENING: [u8; 22] = [
     0, 0, 0, 8, 0x04, 0xD2, 0x16, 0x30, 0, 0, 0, 9, 0, 3, 0, 0, 0, b'S', 0, 0, 0, 4,
 ];
 
-/// Whether it gives both packets, then nothing, and keeps the Sync once that is whole.
+// Whether it gives both packets, then nothing, and keeps the Sync once that is whole.
 fn gives_opening(first: &mut FirstDecoder) -> bool {
     next(first) == Came::Gss
         && next(first) == Came::Startup(0)
@@ -88,7 +88,7 @@ fn gives_opening(first: &mut FirstDecoder) -> bool {
         && first.kept() == 5
 }
 
-/// The decoder that goes on after the opening, with the limit 64.
+// The decoder that goes on after the opening, with the limit 64.
 fn after_opening(alloc: Global) -> Option<FrontDecoder> {
     let mut first = pushed(alloc, &OPENING[..19]).ok()?;
     if gives_opening(&mut first) {
@@ -107,12 +107,12 @@ fn what_comes_after_the_startup_is_passed_on(rt: HostRuntime) {
     assert!(rt; held);
 }
 
-/// Whether it has this fault, and takes no more.
+// Whether it has this fault, and takes no more.
 fn has_fault(first: &mut FirstDecoder, fault: WireFault) -> bool {
     next(first) == Came::Fault(fault) && first.push(&[1]) == Err(fault)
 }
 
-/// The decoder that goes on after this fault, with the limit 64.
+// The decoder that goes on after this fault, with the limit 64.
 fn after_fault(alloc: Global, bytes: &[u8], fault: WireFault) -> Option<FrontDecoder> {
     let mut first = pushed(alloc, bytes).ok()?;
     if has_fault(&mut first, fault) {

@@ -2,14 +2,14 @@ use pg_wire::{EncodeFault, Seq, frontend};
 use std::alloc::{AllocError, Global};
 use test_base::holds;
 
-/// A list with the one parameter `user`, whose value has so many bytes.
+// A list with the one parameter `user`, whose value has so many bytes.
 fn user_of_length(alloc: Global, length: usize) -> Result<Vec<(Seq<u8>, Seq<u8>)>, AllocError> {
     let name = Seq::from_slice(alloc, b"user")?;
     let value = Seq::new(vec![in alloc; b'u'; length]?);
     Ok(vec![in alloc; (name, value)]?)
 }
 
-/// So many values that are null.
+// So many values that are null.
 fn nulls(alloc: Global, count: u32) -> Result<Vec<Option<Seq<u8>>>, AllocError> {
     let mut values = Vec::new(alloc);
     for _ in 0..count {
@@ -18,7 +18,7 @@ fn nulls(alloc: Global, count: u32) -> Result<Vec<Option<Seq<u8>>>, AllocError> 
     Ok(values)
 }
 
-/// An empty buffer.
+// An empty buffer.
 fn buffer(alloc: Global) -> Option<Vec<u8>> {
     Some(Vec::new(alloc))
 }
@@ -60,7 +60,7 @@ fn a_startup_is_written_of_lent_parts(rt: HostRuntime) {
     assert!(rt; held);
 }
 
-/// A buffer with the Startup of a user of so many bytes.
+// A buffer with the Startup of a user of so many bytes.
 fn startup_of(alloc: Global, length: usize) -> Option<Vec<u8>> {
     let pairs = user_of_length(alloc, length).ok()?;
     let mut buf = Vec::new(alloc);
@@ -70,7 +70,7 @@ fn startup_of(alloc: Global, length: usize) -> Option<Vec<u8>> {
     }
 }
 
-/// Whether a Startup of these parameters is too long, and the buffer stays as it is.
+// Whether a Startup of these parameters is too long, and the buffer stays as it is.
 fn is_too_long(alloc: Global, pairs: &[(Seq<u8>, Seq<u8>)], buf: &mut Vec<u8>) -> bool {
     match Vec::from_slice(alloc, buf.as_slice()) {
         Ok(before) => {
@@ -92,7 +92,7 @@ fn a_startup_has_at_most_ten_thousand_bytes(rt: HostRuntime) {
     assert!(rt; held);
 }
 
-/// A buffer with a Bind of so many values that are null.
+// A buffer with a Bind of so many values that are null.
 fn bind_of(alloc: Global, count: u32) -> Option<Vec<u8>> {
     let values = nulls(alloc, count).ok()?;
     let mut buf = Vec::new(alloc);
@@ -102,7 +102,7 @@ fn bind_of(alloc: Global, count: u32) -> Option<Vec<u8>> {
     }
 }
 
-/// Whether these values are too many for a Bind, and the buffer stays as it is.
+// Whether these values are too many for a Bind, and the buffer stays as it is.
 fn are_too_many(alloc: Global, values: &[Option<Seq<u8>>], buf: &mut Vec<u8>) -> bool {
     match Vec::from_slice(alloc, buf.as_slice()) {
         Ok(before) => {

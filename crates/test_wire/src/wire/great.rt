@@ -20,7 +20,7 @@ fn piece(alloc: Global) -> Result<Vec<u8>, AllocError> {
     Ok(vec![in alloc; b'x'; PIECE]?)
 }
 
-/// Pushes what a great message carries, in pieces.
+// Pushes what a great message carries, in pieces.
 fn push_great(decoder: &mut BackDecoder, piece: &[u8]) -> Result<(), WireFault> {
     for _ in 0..GREAT / PIECE {
         decoder.push(piece)?;
@@ -28,7 +28,7 @@ fn push_great(decoder: &mut BackDecoder, piece: &[u8]) -> Result<(), WireFault> 
     Ok(())
 }
 
-/// Takes a message with this head, in pieces.
+// Takes a message with this head, in pieces.
 fn takes(alloc: Global, decoder: &mut BackDecoder, head: &[u8]) -> bool {
     holds(piece(alloc).ok(), |piece| {
         decoder.push(head).is_ok() && push_great(decoder, piece.as_slice()).is_ok()
@@ -46,12 +46,12 @@ fn gives_great_data(decoder: &mut BackDecoder) -> bool {
     }
 }
 
-/// Whether it keeps a CopyData, gives it whole, and keeps nothing then.
+// Whether it keeps a CopyData, gives it whole, and keeps nothing then.
 fn gives_data(decoder: &mut BackDecoder) -> bool {
     decoder.kept() == GREAT + 5 && gives_great_data(decoder) && decoder.kept() == 0
 }
 
-/// Whether it lends a row of a great value.
+// Whether it lends a row of a great value.
 fn lends_great(decoder: &BackDecoder) -> bool {
     let Some(Lent::Row(row)) = decoder.held() else {
         return false;
@@ -59,7 +59,7 @@ fn lends_great(decoder: &BackDecoder) -> bool {
     matches!(row.values().next(), Some(Some(value)) if value.len() == GREAT)
 }
 
-/// Whether it lends a row whole, keeps nothing then, and has no further message.
+// Whether it lends a row whole, keeps nothing then, and has no further message.
 fn lends_row(decoder: &mut BackDecoder) -> bool {
     matches!(decoder.next_lent(), Ok(Cut::Held))
         && lends_great(decoder)

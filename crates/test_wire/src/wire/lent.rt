@@ -25,7 +25,7 @@ pub fn next_lent(decoder: &mut BackDecoder) -> Came {
     }
 }
 
-/// Whether the decoder lends a row of a null and an empty text now.
+// Whether the decoder lends a row of a null and an empty text now.
 fn lends_null_and_empty(decoder: &BackDecoder) -> bool {
     let Some(Lent::Row(row)) = decoder.held() else {
         return false;
@@ -38,7 +38,7 @@ fn lends_null_and_empty(decoder: &BackDecoder) -> bool {
         && row.values().count() == 2
 }
 
-/// Whether the decoder lends the error now.
+// Whether the decoder lends the error now.
 fn lends_error(decoder: &BackDecoder) -> bool {
     let Some(Lent::Error(error)) = decoder.held() else {
         return false;
@@ -49,7 +49,7 @@ fn lends_error(decoder: &BackDecoder) -> bool {
         && fields.next().is_none()
 }
 
-/// Whether the decoder lends a notice without fields now.
+// Whether the decoder lends a notice without fields now.
 fn lends_bare_notice(decoder: &BackDecoder) -> bool {
     match decoder.held() {
         Some(Lent::Notice(notice)) => notice.fields().next().is_none(),

@@ -167,7 +167,7 @@ fn are_so<D: Device>(link: &mut Over<D>, steps: &[Step]) -> bool {
     true
 }
 
-/// Whether a link does what these steps say, and has made so many calls then.
+// Whether a link does what these steps say, and has made so many calls then.
 fn does<D: Device>(mut link: Over<D>, steps: &[Step], calls: u32) -> bool {
     let done = are_so(&mut link, steps) && link.get_ref().calls() == calls;
     done & (link.into_inner().into_calls() == calls)
@@ -339,7 +339,7 @@ fn what_would_block_is_a_failure(rt: HostRuntime) {
     assert!(rt; does(Over::new(would_block()), &WRITE_WOULD_BLOCK, 2));
 }
 
-/// Whether just these bytes are received, where there is room for two.
+// Whether just these bytes are received, where there is room for two.
 fn receives_slice(source: &mut Over<&[u8]>, bytes: &[u8]) -> bool {
     let mut into = [0u8; 2];
     source.receive(&mut into) == Ok(bytes.len()) && into.starts_with(bytes)

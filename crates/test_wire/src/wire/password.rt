@@ -36,7 +36,7 @@ fn an_answer_is_the_text_of_a_message(rt: HostRuntime) -> Result<(), Fail> {
     Ok(())
 }
 
-/// Whether this is what `{:?}` writes of a message.
+// Whether this is what `{:?}` writes of a message.
 fn is_shown_as(alloc: Global, message: &FrontMessage, text: &str) -> bool {
     match format!(in alloc; "{message:?}") {
         Ok(shown) => shown.as_str() == text,

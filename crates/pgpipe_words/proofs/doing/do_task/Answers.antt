@@ -2,7 +2,7 @@ use Rattle.std.proofs.Common.{refl}
 use Rattle.pgpipe_words.proofs.doing.do_task.Goals as goal
 
 pub returns-in-Show : goal.returns-in-Show
-returns-in-Show g c = rw c.in-Show.is c.do_show.ensures
+returns-in-Show g c = rw c.in-Show.is c.do_showing.ensures
 
 pub returns-in-Convert : goal.returns-in-Convert
 returns-in-Convert g c = rw c.in-Convert.is c.do_convert.ensures

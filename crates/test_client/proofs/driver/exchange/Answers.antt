@@ -7,7 +7,7 @@ use Rattle.test_client.proofs.driver.exchange.Goals as goal
 pub returns-in_err-send_all : goal.returns-in_err-send_all
 returns-in_err-send_all g c =
     let p = err_from_is_err_and c.from_residual.result c.from_residual.ensures.1 in
-    rw (p.1, p.2) (drives_none g.S.Source.gives {A = Unit {0}} _ _ _ _ _ _ _ _ _ (λ h r. r) (inr c.in_err-send_all.ensures), tt)
+    rw (p.1, p.2) (drives_none g.S.Source.gives {A = Unit {0}} _ _ _ _ _ _ _ _ _ (λ h r. r) (inr c.in_err-send_all.ensures.counted), tt)
 
 pub returns-in_err-count : goal.returns-in_err-count
 returns-in_err-count g c =
@@ -23,7 +23,7 @@ returns-then-count-eq0 g c =
     let given : gives c.args.source.now [] c.receive.new.self = subst (λ (bytes : List ℕ). gives c.args.source.now bytes c.receive.new.self) nothing c.in_ok-count.ensures.bytes in
     let room : 0 < length into = omega (arith, c.receive.auto.into) in
     let ended : g.S.Source.has_ended c.receive.new.self = c.in_ok-count.ensures.end (ap (λ (n : ℕ). Ok n) zero) room in
-    (drives_one gives {A = Unit {0}} _ _ _ _ _ _ _ [] _ _ _ given (λ h r. stays h c.args.client.now r) ((c.in_ok-count.ensures.counted, c.in_ok-send_all.ensures), ended), tt)
+    (drives_one gives {A = Unit {0}} _ _ _ _ _ _ _ [] _ _ _ given (λ h r. stays h c.args.client.now r) ((c.in_ok-count.ensures.counted, c.in_ok-send_all.ensures.counted), ended), tt)
 
 pub returns-in_err-feed : goal.returns-in_err-feed
 returns-in_err-feed g c =
@@ -32,7 +32,7 @@ returns-in_err-feed g c =
     let none = c.requires.is_open in
     let feeds = c.in_err-feed.ensures.feeds in
     let left = (law c.requires.history.0 _ _ _ _ _ _ c.requires.history.1 feeds).left none in
-    rw (p.1, p.2) (drives_one g.S.Source.gives {A = Unit {0}} _ _ _ _ _ _ _ _ _ _ _ c.in_ok-count.ensures.bytes (λ h r. fed_piece h c.args.client.now c.feed.new.self _ _ none (law h _ _ _ _ _ _ r feeds)) ((c.in_ok-count.ensures.counted, c.in_ok-send_all.ensures), left), tt)
+    rw (p.1, p.2) (drives_one g.S.Source.gives {A = Unit {0}} _ _ _ _ _ _ _ _ _ _ _ c.in_ok-count.ensures.bytes (λ h r. fed_piece h c.args.client.now c.feed.new.self _ _ none (law h _ _ _ _ _ _ r feeds)) ((c.in_ok-count.ensures.counted, c.in_ok-send_all.ensures.counted), left), tt)
 
 pub returns : goal.returns
 returns g c =
@@ -40,4 +40,4 @@ returns g c =
     let none = c.requires.is_open in
     let feeds = c.in_ok-feed.ensures.feeds in
     let left = (law c.requires.history.0 _ _ _ _ _ _ c.requires.history.1 feeds).left none in
-    (drives_one g.S.Source.gives {A = Unit {0}} _ _ _ _ _ _ _ _ _ _ _ c.in_ok-count.ensures.bytes (λ h r. fed_piece h c.args.client.now c.feed.new.self _ _ none (law h _ _ _ _ _ _ r feeds)) (c.in_ok-count.ensures.counted, c.in_ok-send_all.ensures), record { one = refl; is_open = left })
+    (drives_one g.S.Source.gives {A = Unit {0}} _ _ _ _ _ _ _ _ _ _ _ c.in_ok-count.ensures.bytes (λ h r. fed_piece h c.args.client.now c.feed.new.self _ _ none (law h _ _ _ _ _ _ r feeds)) (c.in_ok-count.ensures.counted, c.in_ok-send_all.ensures.counted), record { one = refl; is_open = left })

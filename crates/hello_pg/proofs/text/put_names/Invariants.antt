@@ -1,8 +1,0 @@
-use Rattle.std.proofs.Common.{◌≡◌, ◌++◌, map}
-use Rattle.std.specs.Slice.Iter.{iter_rest}
-use Rattle.hello_pg.specs.Text.{barred, name_value}
-use Rattle.hello_pg.proofs.text.put_names.Given as goal
-
--- with the names that are left, the text is that of all
-abbrev pub invariant-names : goal.invariant-names
-invariant-names l = l.text.items ++ barred (map name_value (iter_rest l.column-iterator)) ≡ l.initial.text.items ++ barred (map name_value (iter_rest l.initial.column-iterator))

@@ -1,2 +1,0 @@
--- What is printed, as bytes.
-pub mod Text

@@ -1,0 +1,218 @@
+-- What a session gives, one event at a time: it hears what has come, message by message, with the
+-- rows lent, and sends and receives where nothing of it is an event.
+use Rattle.std.specs.Prelude.{◌≡◌, ◌≢◌, ℕ, ◌<◌, ◌≤◌, ◌⊎◌, List, [], ◌++◌, length, Option, Some, None, Result, Ok, Err, IfErr, OnOk}
+use Rattle.std.specs.List.{FoldsTo}
+use Rattle.pg_wire.specs.message.BackMessage.TheVariants.{DataRow}
+use Rattle.pg_wire.specs.Sending.{FailsToSend, Sends}
+use Rattle.pg_client.specs.declared.call.Call.TheVariants as call
+use Rattle.pg_client.specs.declared.fault.FeedFault.{FeedFault}
+use Rattle.pg_client.specs.declared.item.Item.{Item}
+use Rattle.pg_client.specs.declared.item.Item.TheVariants as item
+use Rattle.pg_client.specs.declared.next.Next.{Next}
+use Rattle.pg_client.specs.declared.next.Next.TheVariants as next
+use Rattle.pg_client.specs.declared.phase.Cause.TheVariants as cause
+use Rattle.pg_client.specs.declared.phase.Phase.{Phase}
+use Rattle.pg_client.specs.declared.phase.Phase.TheVariants as phase
+use Rattle.pg_client.specs.declared.settled.Loss.{Loss}
+use Rattle.pg_client.specs.Calls.{RefusesUnless}
+use Rattle.pg_client.specs.Client.{ClientView, IsOpenPhase}
+use Rattle.pg_client.specs.Early.{EarlyAccepts, EarlyView, Row, StandsFor}
+use Rattle.pg_client.specs.EarlyLent.{ComesBefore, IsEarlyHistoryBefore, LosesBefore, Pushes, RefusesPiece, TakesLent}
+use Rattle.pg_client.specs.History.{History}
+use Rattle.pg_drive.specs.declared.answer.DrivenEarly.{DrivenEarly}
+use Rattle.pg_drive.specs.declared.answer.DrivenEarly.TheVariants as driven
+use Rattle.pg_drive.specs.declared.event.Event.{Event}
+use Rattle.pg_drive.specs.declared.event.Event.TheVariants as event
+use Rattle.pg_drive.specs.declared.event.SessionFault.{SessionFault}
+use Rattle.pg_drive.specs.declared.event.SessionFault.TheVariants as fault
+use Rattle.pg_drive.specs.Drive.{ClientKind, Ends, FailsToReceive, Refuses, Turn, connected}
+use Rattle.pg_drive.specs.Early.{DrivesEarly, EarlyConnection, IsEarlyLost, IsInPhase}
+use Rattle.pg_drive.specs.Session.{RefusesStart, StartsBy, TellsCame, TerminatesBy}
+
+-- ---- an early client that lends its rows
+
+-- A piece was pushed and this answered, so that its bytes are still to be heard after those that
+-- were. Nothing was put out.
+pub record PushesPiece (old : EarlyView) (piece : List ℕ) (result : Result Unit FeedFault)
+    (new : EarlyView) (before after : List ℕ) : Type 0 where
+  pub pushes : Pushes old piece result new
+  pub history : OnOk result ((unread : List ℕ) (h : History) (given : List Item)
+      → IsEarlyHistoryBefore unread h given old
+      → IsEarlyHistoryBefore (unread ++ piece) h given new)
+  pub refused : IfErr result (λ f. RefusesPiece old piece f new)
+  pub out : after ≡ before
+
+-- The early client's `lost` was called and answered this, also where bytes are still to be heard.
+pub record IsLentLost (old : EarlyView) (loss : Loss) (new : EarlyView) : Type 0 where
+  pub lost : IsEarlyLost old loss new
+  pub before : LosesBefore old loss new
+
+-- What an early client does as it is driven with its rows lent.
+abbrev pub lending_kind : ClientKind EarlyView
+lending_kind = record { feeds = PushesPiece; is_lost = IsLentLost }
+
+-- ---- what has come
+
+-- The next item was heard, or a row that is lent, and nothing of the link was touched.
+pub record HearsNext {L : Type 0} (old : EarlyConnection L) (heard : Next)
+    (new : EarlyConnection L) : Type 0 where
+  pub takes : TakesLent old.client (Ok heard) new.client old.out new.out
+  pub link : new.link ≡ old.link
+
+-- What had come was heard up to what the client refused, which handed back what is lost then.
+pub record HearsFault {L : Type 0} (old : EarlyConnection L) (f : FeedFault) (loss : Loss)
+    (new : EarlyConnection L) : Type 0 where
+  -- the client before it handed that back
+  pub client : EarlyView
+  pub takes : TakesLent old.client (Err f) client old.out new.out
+  pub lost : IsLentLost client loss new.client
+  pub link : new.link ≡ old.link
+
+-- `takes` and `send_failures` are those of the link as a sink.
+module _ {L : Type 0} (takes : L → List ℕ → L → Type 0) (send_failures : L → ℕ) where
+  -- All that had come was heard, and gave nothing. All that waited then was sent, and the client is
+  -- in this phase.
+  pub record HearsAll (old : EarlyConnection L) (now : Phase) (new : EarlyConnection L)
+      : Type 0 where
+    -- what waited to be sent
+    pub put : List ℕ
+    pub heard : TakesLent old.client (Ok next.Nothing) new.client old.out put
+    pub sent : Sends takes send_failures old.link put new.link
+    pub none_left : new.out ≡ []
+    pub in_phase : IsInPhase new.client now
+
+  -- All that had come was heard, and gave nothing, and then a call of `send` failed.
+  pub record FailsHeard (old : EarlyConnection L) (loss : Loss) (new : EarlyConnection L)
+      : Type 0 where
+    -- what waited to be sent, and the client before it was told that the link failed
+    pub put : List ℕ
+    pub client : EarlyView
+    pub heard : TakesLent old.client (Ok next.Nothing) client old.out put
+    pub sent : FailsToSend takes send_failures old.link put new.out new.link
+    pub lost : IsLentLost client loss new.client
+
+  -- What is found in what has come: a row, which is lent; a message; that the request is settled;
+  -- or, where nothing of it is an event, that the server awaits the data of a copy, or nothing
+  -- (None). All that waits is sent before these two.
+  abbrev pub Hears : EarlyConnection L → Result (Option Event) SessionFault → EarlyConnection L
+      → Type 0
+  Hears old (Ok None) new = (now : Phase) × (now ≢ phase.CopyingIn) × HearsAll old now new
+  Hears old (Ok (Some event.CopyIn)) new = HearsAll old phase.CopyingIn new
+  Hears old (Ok (Some event.Row)) new = HearsNext old next.Held new
+  Hears old (Ok (Some (event.Message m))) new = HearsNext old (next.Item (item.Early m)) new
+  Hears old (Ok (Some (event.Settled request status))) new =
+      HearsNext old (next.Item (item.Settled request status)) new
+  Hears old (Err (fault.Feed f loss)) new = HearsFault old f loss new
+  Hears old (Err (fault.Lost loss)) new = FailsHeard old loss new
+  Hears old (Err _) new = ⊥
+
+-- ---- what comes
+
+-- What is answered for an event that is to be owned, where this row is lent: a row as a message, or
+-- that memory for it was refused, and any other event as it is.
+abbrev pub Owns : Event → Option Row → Result Event SessionFault → Type 0
+Owns event.Row held (Ok owned) = (row : Row) × (held ≡ Some row)
+    × (owned ≡ event.Message (DataRow row))
+Owns event.Row held (Err f) = f ≡ fault.Memory
+Owns lent held result = result ≡ Ok lent
+
+-- `gives`, `has_ended` and `receive_failures` are those of the link as a source.
+module _ {L : Type 0} (gives takes : L → List ℕ → L → Type 0) (has_ended : L → Type 0)
+    (receive_failures send_failures : L → ℕ) where
+  -- A turn: nothing that had come was an event, all that waited was sent, and a piece was received
+  -- and pushed.
+  pub record LentTurn (old : EarlyConnection L) (piece : List ℕ) (new : EarlyConnection L)
+      : Type 0 where
+    pub between : EarlyConnection L
+    pub heard : Hears takes send_failures old (Ok None) between
+    pub turn : Turn lending_kind gives takes has_ended receive_failures send_failures between piece
+        new
+
+  -- Why no piece was pushed: the server's bytes have ended, or a call of `receive` failed; or the
+  -- client refused the piece, and handed back what is lost then.
+  abbrev pub PushesNone : EarlyConnection L → SessionFault → EarlyConnection L → Type 0
+  PushesNone old (fault.Lost loss) new =
+      Ends lending_kind gives takes has_ended receive_failures send_failures old loss new
+      ⊎ FailsToReceive lending_kind gives takes has_ended receive_failures send_failures old loss
+      new
+  PushesNone old (fault.Feed f loss) new = (client : EarlyView)
+      × Refuses lending_kind gives takes has_ended receive_failures send_failures old f
+      (connected new.link client new.out) × IsLentLost client loss new.client
+  PushesNone old _ new = ⊥
+
+  -- The last turn, in which no piece was pushed.
+  pub record FailsTurn (old : EarlyConnection L) (f : SessionFault) (new : EarlyConnection L)
+      : Type 0 where
+    pub between : EarlyConnection L
+    pub heard : Hears takes send_failures old (Ok None) between
+    pub failed : PushesNone between f new
+
+  -- After so many turns this was answered: an event that was found in what had come; that the
+  -- pieces are used, where nothing was found and as many were wanted; and else a fault, in what had
+  -- come or in one more turn.
+  abbrev pub LentAnswers : ℕ → ℕ → EarlyConnection L → Result Event SessionFault
+      → EarlyConnection L → Type 0
+  LentAnswers most count old (Ok found) new = (count ≤ most)
+      × Hears takes send_failures old (Ok (Some found)) new
+  LentAnswers most count old (Err fault.PiecesUsed) new = (count ≡ most)
+      × Hears takes send_failures old (Ok None) new
+  LentAnswers most count old (Err f) new =
+      ((count ≤ most) × Hears takes send_failures old (Err f) new)
+      ⊎ ((count < most) × FailsTurn old f new)
+
+  -- What `next_lent` does, where at most so many pieces are received: these were, one after the
+  -- other, each in a turn, and then this was answered.
+  pub record GivesLent (most : ℕ) (old : EarlyConnection L) (result : Result Event SessionFault)
+      (new : EarlyConnection L) : Type 0 where
+    pub pieces : List (List ℕ)
+    pub last : EarlyConnection L
+    pub went_on : FoldsTo LentTurn old pieces last
+    pub answered : LentAnswers most (length pieces) last result new
+
+  -- What `next` does: what `next_lent` does, and its event is owned; a fault is answered as it is.
+  abbrev pub Gives : ℕ → EarlyConnection L → Result Event SessionFault → EarlyConnection L → Type 0
+  Gives most old result new =
+      ((lent : Event) × GivesLent most old (Ok lent) new × Owns lent new.client.held result)
+      ⊎ ((f : SessionFault) × (result ≡ Err f) × GivesLent most old (Err f) new)
+
+-- ---- the start
+
+-- The startup packet waits to be sent. It was put out by this call, or the client stood in phase
+-- Starting, and nothing has changed. The lists are the output before and after.
+abbrev pub Begins : EarlyView → EarlyView → List ℕ → List ℕ → Type 0
+Begins old new before after =
+    (EarlyAccepts (λ p. p ≡ phase.New) phase.Starting call.Start old new before after
+    × ComesBefore call.Start old new)
+    ⊎ (IsInPhase old phase.Starting × (new ≡ old) × (after ≡ before))
+
+-- What an answer of `drive_early` is to `start`: that the startup has ended; that the connection is
+-- lost; and else that the pieces are used. In a startup no item comes, and no copy begins.
+abbrev pub start_told : DrivenEarly → Result Unit SessionFault
+start_told driven.Ready = Ok tt
+start_told (driven.Lost loss) = Err (fault.Lost loss)
+start_told _ = Err fault.PiecesUsed
+
+module _ {L : Type 0} (gives takes : L → List ℕ → L → Type 0) (has_ended : L → Type 0)
+    (receive_failures send_failures : L → ℕ) where
+  -- What `start` does, where at most so many pieces are received: it is refused, or the startup
+  -- packet waits, the client is driven as by `drive_early`, and this is answered.
+  abbrev pub Starts : ℕ → EarlyConnection L → Result Unit SessionFault → EarlyConnection L → Type 0
+  Starts most old result new =
+      RefusesStart (λ view f. (client : ClientView) → StandsFor view client
+      → RefusesUnless phase.New client call.Start f) old result new
+      ⊎ StartsBy Begins (DrivesEarly gives takes has_ended receive_failures send_failures most)
+      (TellsCame start_told IsLentLost) old result new
+
+-- ---- the end
+
+-- An early client accepts to terminate.
+abbrev pub AcceptsEnd : EarlyView → EarlyView → List ℕ → List ℕ → Type 0
+AcceptsEnd old new before after =
+    EarlyAccepts IsOpenPhase (phase.Closed cause.Terminated) call.Terminate old new before after
+    × ComesBefore call.Terminate old new
+
+-- What `end` does that isn't refused.
+abbrev pub Terminates : {L : Type 0} → (L → List ℕ → L → Type 0) → (L → ℕ) → EarlyConnection L
+    → Loss → EarlyConnection L → Type 0
+Terminates takes send_failures old loss new =
+    TerminatesBy AcceptsEnd IsLentLost takes send_failures old loss new

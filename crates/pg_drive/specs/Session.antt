@@ -1,0 +1,85 @@
+-- How a session begins and ends, of either kind of client. A session is a client, what it has put
+-- out, and its link.
+use Rattle.std.specs.Prelude.{◌≡◌, ℕ, List, codes, Result, Ok, Err}
+use Rattle.pg_wire.specs.link.LinkFault.{LinkFault}
+use Rattle.pg_wire.specs.Sending.{SendsOut}
+use Rattle.pg_client.specs.declared.fault.CallFault.{CallFault}
+use Rattle.pg_client.specs.declared.settled.Loss.{Loss}
+use Rattle.pg_drive.specs.declared.answer.DriveFault.{DriveFault}
+use Rattle.pg_drive.specs.declared.answer.DriveFault.TheVariants as drive
+use Rattle.pg_drive.specs.declared.event.SessionFault.{SessionFault}
+use Rattle.pg_drive.specs.declared.event.SessionFault.TheVariants as fault
+use Rattle.pg_drive.specs.Drive.{Linked, connected}
+
+-- The code of the fault with which a session gives nothing.
+abbrev pub session_code : SessionFault → List ℕ
+session_code (fault.Call f) = codes "N1"
+session_code (fault.Feed f loss) = codes "N2"
+session_code (fault.Lost loss) = codes "N3"
+session_code fault.PiecesUsed = codes "N4"
+session_code fault.Memory = codes "N5"
+
+-- ---- the start
+
+-- What a fault of driving is to a session: that the connection is lost; or that what came was
+-- refused, and then the client was told that the connection is gone, which handed this back.
+abbrev pub TellsFault : {C : Type 0} → (C → Loss → C → Type 0) → C → DriveFault → SessionFault → C
+    → Type 0
+TellsFault is_lost old (drive.Link loss) result new = (result ≡ fault.Lost loss) × (new ≡ old)
+TellsFault is_lost old (drive.Feed f) result new = (loss : Loss) × (result ≡ fault.Feed f loss)
+    × is_lost old loss new
+
+-- What is answered by what driving the client came to. The first two arguments say what an answer
+-- of driving is to a session, and what `lost` does.
+abbrev pub TellsCame : {A B C : Type 0} → (A → Result B SessionFault) → (C → Loss → C → Type 0)
+    → Result A DriveFault → C → Result B SessionFault → C → Type 0
+TellsCame told is_lost (Ok answer) old result new = (result ≡ told answer) × (new ≡ old)
+TellsCame told is_lost (Err f) old result new = (why : SessionFault) × (result ≡ Err why)
+    × TellsFault is_lost old f why new
+
+module _ {C L : Type 0} where
+  -- The client refused the call for this reason, and nothing has changed.
+  pub record RefusesStart (refuses : C → CallFault → Type 0) (old : Linked C L)
+      (result : Result Unit SessionFault) (new : Linked C L) : Type 0 where
+    pub reason : CallFault
+    pub is_fault : result ≡ Err (fault.Call reason)
+    pub refused : refuses old.client reason
+    pub same : new ≡ old
+
+  -- A client was driven, and this was answered by what that came to.
+  pub record Tells {A B : Type 0} (drives : Linked C L → Result A DriveFault → Linked C L → Type 0)
+      (told : Result A DriveFault → C → B → C → Type 0) (old : Linked C L) (result : B)
+      (new : Linked C L) : Type 0 where
+    pub came : Result A DriveFault
+    -- the client when it had been driven
+    pub client : C
+    pub driven : drives old came (connected new.link client new.out)
+    pub tells : told came client result new.client
+
+  -- What `start` does that isn't refused: the startup packet waits, the client is driven, and this
+  -- is answered.
+  pub record StartsBy {A : Type 0} (begins : C → C → List ℕ → List ℕ → Type 0)
+      (drives : Linked C L → Result A DriveFault → Linked C L → Type 0)
+      (told : Result A DriveFault → C → Result Unit SessionFault → C → Type 0) (old : Linked C L)
+      (result : Result Unit SessionFault) (new : Linked C L) : Type 0 where
+    -- the client and what waited to be sent when driving began
+    pub client : C
+    pub put : List ℕ
+    pub begun : begins old.client client old.out put
+    pub tells : Tells drives told (connected old.link client put) result new
+
+-- ---- the end
+
+-- What `end` does that isn't refused: the client accepts to terminate, all that waits is sent,
+-- unless a call of `send` fails, and then the client is told that the connection is gone, and hands
+-- this back.
+pub record TerminatesBy {C L : Type 0} (accepts : C → C → List ℕ → List ℕ → Type 0)
+    (is_lost : C → Loss → C → Type 0) (takes : L → List ℕ → L → Type 0) (send_failures : L → ℕ)
+    (old : Linked C L) (loss : Loss) (new : Linked C L) : Type 0 where
+  -- the client when it had put the message out, and what waited to be sent then
+  pub client : C
+  pub put : List ℕ
+  pub accepted : accepts old.client client old.out put
+  pub answer : Result Unit LinkFault
+  pub sent : SendsOut takes send_failures old.link put answer new.link new.out
+  pub lost : is_lost client loss new.client

@@ -1,0 +1,186 @@
+//! A client that is driven until a group is settled.
+
+ghost use Rattle.std.specs.Prelude.{◌≡◌, IfErr, OnErr, OnOk};
+ghost use Rattle.pg_client.specs.declared.call.Call.TheVariants as call;
+ghost use Rattle.pg_client.specs.Calls.{RefusesUnless};
+ghost use Rattle.pg_drive.specs.Drive.{Drives, IsLost, connected};
+ghost use Rattle.pg_drive.specs.Group.{AwaitsCopy, GivesGroup, GroupBegins, GroupStarts, GroupTells, group_start_told};
+ghost use Rattle.pg_drive.specs.Session.{Tells, TellsCame, TellsFault};
+
+use crate::answer::{DriveFault, Driven};
+use crate::driving::drive;
+use crate::event::{GroupEvent, SessionFault};
+use pg_client::{CallFault, Client, Loss, Phase};
+use pg_wire::{Sink, Source, send_out};
+
+/// Puts the startup packet out, unless it was before, and drives the client until the startup has ended.
+pub(crate) fn start_whole<L: Source + Sink>(
+    client: &mut Client,
+    out: &mut Vec<u8>,
+    link: &mut L,
+    pieces: u32,
+) -> Result<(), SessionFault>
+    ensures { GroupStarts L.gives L.takes L.has_ended L.Source.failures L.Sink.failures pieces
+        (connected link.old client.old out.old.items) result
+        (connected link.new client.new out.new.items) }
+{
+    match begin(client, out) {
+        Ok(()) => drive_start(client, out, link, pieces),
+        Err(refused) => Err(SessionFault::Call(refused)),
+    }
+}
+
+// Puts the startup packet out, unless it was before.
+fn begin(client: &mut Client, out: &mut Vec<u8>) -> Result<(), CallFault>
+    ensures begins { OnOk result
+        (GroupBegins client.old client.new out.old.items out.new.items) }
+    ensures refused { IfErr result (RefusesUnless Phase.New client.old call.Start) }
+    ensures err { OnErr result ((client.new ≡ client.old) × (out.new.items ≡ out.old.items)) }
+{
+    match client.phase() {
+        Phase::Starting => Ok(()),
+        _ => client.start(out),
+    }
+}
+
+// Drives the client until the startup has ended.
+fn drive_start<L: Source + Sink>(
+    client: &mut Client,
+    out: &mut Vec<u8>,
+    link: &mut L,
+    pieces: u32,
+) -> Result<(), SessionFault>
+    ensures { Tells (Drives L.gives L.takes L.has_ended L.Source.failures L.Sink.failures pieces)
+        (TellsCame group_start_told IsLost) (connected link.old client.old out.old.items) result
+        (connected link.new client.new out.new.items) }
+{
+    let came = drive(client, out, link, pieces);
+    tell_start(client, came)
+}
+
+// What driving came to, as `start` answers it.
+fn tell_start(client: &mut Client, came: Result<Driven, DriveFault>) -> Result<(), SessionFault>
+    ensures { TellsCame group_start_told IsLost came client.old result client.new }
+{
+    match came {
+        Ok(driven) => group_start_told(driven),
+        Err(fault) => Err(tell_fault(client, fault)),
+    }
+}
+
+// What an answer of driving is to `start`.
+fn group_start_told(driven: Driven) -> Result<(), SessionFault>
+    ensures { result ≡ group_start_told driven }
+{
+    match driven {
+        Driven::Ready => Ok(()),
+        Driven::Lost(loss) => Err(SessionFault::Lost(loss)),
+        Driven::Settled | Driven::CopyIn | Driven::TurnsUsed => Err(SessionFault::PiecesUsed),
+    }
+}
+
+// What a fault of driving is to a session.
+fn tell_fault(client: &mut Client, fault: DriveFault) -> SessionFault
+    ensures { TellsFault IsLost client.old fault result client.new }
+{
+    match fault {
+        DriveFault::Link(loss) => SessionFault::Lost(loss),
+        DriveFault::Feed(fault) => {
+            let loss = lose(client);
+            SessionFault::Feed { fault, loss }
+        }
+    }
+}
+
+// Says that the connection is gone.
+fn lose(client: &mut Client) -> Loss
+    ensures { IsLost client.old result client.new }
+{
+    client.lost()
+}
+
+/// Gives the settled group that waits, or that the server awaits the data of a copy, and else drives the client to one of these.
+pub(crate) fn next_group<L: Source + Sink>(
+    client: &mut Client,
+    out: &mut Vec<u8>,
+    link: &mut L,
+    pieces: u32,
+) -> Result<GroupEvent, SessionFault>
+    ensures { GivesGroup L.gives L.takes L.has_ended L.Source.failures L.Sink.failures pieces
+        (connected link.old client.old out.old.items) result
+        (connected link.new client.new out.new.items) }
+{
+    if let Some(group) = client.take_settled() {
+        return Ok(GroupEvent::Settled(group));
+    }
+    match client.phase() {
+        Phase::CopyingIn => await_copy(client, out, link),
+        _ => drive_on(client, out, link, pieces),
+    }
+}
+
+// Sends what waits, where the server awaits the data of a copy.
+fn await_copy<L: Source + Sink>(
+    client: &mut Client,
+    out: &mut Vec<u8>,
+    link: &mut L,
+) -> Result<GroupEvent, SessionFault>
+    ensures { AwaitsCopy L.gives L.takes L.has_ended L.Source.failures L.Sink.failures
+        (connected link.old client.old out.old.items) result
+        (connected link.new client.new out.new.items) }
+{
+    let Ok(()) = send_out(out, link) else {
+        return Err(SessionFault::Lost(lose(client)));
+    };
+    Ok(GroupEvent::CopyIn)
+}
+
+// Drives the client until a group is settled or the server awaits the data of a copy.
+fn drive_on<L: Source + Sink>(
+    client: &mut Client,
+    out: &mut Vec<u8>,
+    link: &mut L,
+    pieces: u32,
+) -> Result<GroupEvent, SessionFault>
+    ensures { Tells (Drives L.gives L.takes L.has_ended L.Source.failures L.Sink.failures pieces)
+        GroupTells (connected link.old client.old out.old.items) result
+        (connected link.new client.new out.new.items) }
+{
+    let came = drive(client, out, link, pieces);
+    tell_group(client, came)
+}
+
+// What driving came to, as `next` answers it.
+fn tell_group(
+    client: &mut Client,
+    came: Result<Driven, DriveFault>,
+) -> Result<GroupEvent, SessionFault>
+    ensures { GroupTells came client.old result client.new }
+{
+    match came {
+        Ok(driven) => tell_driven(client, driven),
+        Err(fault) => Err(tell_fault(client, fault)),
+    }
+}
+
+// What an answer of driving is to `next`. Where a group is settled, it is taken.
+fn tell_driven(client: &mut Client, driven: Driven) -> Result<GroupEvent, SessionFault>
+    ensures { GroupTells (Ok driven) client.old result client.new }
+{
+    match driven {
+        Driven::Settled => take_group(client),
+        Driven::CopyIn => Ok(GroupEvent::CopyIn),
+        Driven::Lost(loss) => Err(SessionFault::Lost(loss)),
+        Driven::Ready | Driven::TurnsUsed => Err(SessionFault::PiecesUsed),
+    }
+}
+
+// Takes the settled group that waits.
+fn take_group(client: &mut Client) -> Result<GroupEvent, SessionFault>
+    ensures { GroupTells (Ok Driven.Settled) client.old result client.new }
+{
+    match client.take_settled() {
+        Some(group) => Ok(GroupEvent::Settled(group)),
+        None => Err(SessionFault::PiecesUsed),
+    }
+}

@@ -1,0 +1,307 @@
+//! A session whose answers come message by message.
+
+ghost use Rattle.std.specs.Prelude.{◌≡◌, ◌≢◌, [], IfErr, IfOk, OnErr, OnOk};
+ghost use Rattle.pg_wire.specs.Direction.{IsLimit};
+ghost use Rattle.pg_client.specs.declared.call.Call.TheVariants as call;
+ghost use Rattle.pg_client.specs.Calls.{RefusesCopy, RefusesEnd, RefusesUnless};
+ghost use Rattle.pg_client.specs.Client.{ClientView};
+ghost use Rattle.pg_client.specs.Early.{EarlyAccepts, IsEarlyHistoryOf, StandsFor};
+ghost use Rattle.pg_client.specs.EarlyLent.{ComesBefore};
+ghost use Rattle.pg_client.specs.History.{blank};
+ghost use Rattle.pg_drive.specs.Drive.{connected};
+ghost use Rattle.pg_drive.specs.Lent.{Gives, GivesLent, Hears, IsLentLost, Owns, Starts, Terminates};
+
+use crate::event::{Event, SessionFault};
+use crate::lent::{hear, lose, next_event};
+use crate::starting::start_early;
+use pg_client::{CallFault, EarlyClient, Loss, Phase, Settings};
+use pg_wire::{
+    BackMessage, EncodeFault, Request, RowView, Seq, Sink, Source, Step, Values, send_out,
+};
+use std::alloc::Global;
+
+/// How many pieces a call of a session receives at most, unless the session says otherwise. No message has so many.
+pub const MOST_PIECES: u32 = 4_294_967_295;
+
+/// A session over a link, which gives the answer to a request message by message. Its calls are those of [`EarlyClient`], whose conditions
+/// and faults they have. They put out and send nothing; what waits is sent by the calls that receive, and by [`end`](Session::end).
+///
+/// A connection that is lost is told by [`SessionFault::Lost`] or [`SessionFault::Feed`], which hold the request that is in doubt.
+#[derive(Drop)]
+pub struct Session<L> {
+    /// The client: where the session stands, and what it knows.
+    pub client: EarlyClient,
+    /// What waits to be sent.
+    pub out: Vec<u8>,
+    /// The link to the server.
+    pub link: L,
+    /// How many pieces of 4,096 bytes a call receives at most.
+    pub pieces: u32,
+}
+
+impl<L> Session<L> {
+    /// A session that was not started. The limit of the settings is from 64 to 1,073,741,823. It takes no memory.
+    pub fn new(alloc: Global, settings: Settings, link: L) -> Session<L>
+        requires { IsLimit settings.limit }
+        ensures settings { result.client.settings ≡ settings }
+        ensures history { IsEarlyHistoryOf blank [] result.client }
+        ensures out { result.out.items ≡ [] }
+        ensures link { result.link ≡ link }
+        ensures pieces { result.pieces ≡ MOST_PIECES }
+    {
+        Session::over(alloc, EarlyClient::new(alloc, settings), link)
+    }
+
+    /// A session of a client that has nothing to send. It takes no memory.
+    pub fn over(alloc: Global, client: EarlyClient, link: L) -> Session<L>
+        ensures client { result.client ≡ client }
+        ensures out { result.out.items ≡ [] }
+        ensures link { result.link ≡ link }
+        ensures pieces { result.pieces ≡ MOST_PIECES }
+    {
+        Session {
+            client,
+            out: Vec::new(alloc),
+            link,
+            pieces: MOST_PIECES,
+        }
+    }
+
+    /// Gives back the client, what waits to be sent, and the link.
+    pub fn into_parts(self) -> (EarlyClient, Vec<u8>, L)
+        ensures client { result.0 ≡ self.client }
+        ensures out { result.1.items ≡ self.out.items }
+        ensures link { result.2 ≡ self.link }
+    {
+        let Session {
+            client,
+            out,
+            link,
+            pieces: _,
+        } = self;
+        (client, out, link)
+    }
+
+    /// Makes a request, as [`EarlyClient::request`].
+    pub fn request(&mut self, request: Request) -> Result<(), (Request, CallFault)>
+        ensures accepted { OnOk result (EarlyAccepts (λ p. p ≡ Phase.Ready) Phase.Busy
+            (call.Request request) self.old.client self.new.client self.old.out.items
+            self.new.out.items) }
+        ensures unread { OnOk result
+            (ComesBefore (call.Request request) self.old.client self.new.client) }
+        ensures request { IfErr result (λ f. f.0 ≡ request) }
+        ensures refused { IfErr result (λ f. (client : ClientView)
+            → StandsFor self.old.client client
+            → RefusesUnless Phase.Ready client (call.Request request) f.1) }
+        ensures err { OnErr result ((self.new.client ≡ self.old.client)
+            × (self.new.out.items ≡ self.old.out.items)) }
+        ensures others { (self.new.link ≡ self.old.link) × (self.new.pieces ≡ self.old.pieces) }
+    {
+        self.client.request(request, &mut self.out)
+    }
+
+    /// Makes a simple query, as [`EarlyClient::request`]. C3 Encode Memory is answered too where memory for a copy of the text is refused.
+    pub fn query(&mut self, text: &str) -> Result<(), CallFault>
+        ensures accepted { OnOk result (EarlyAccepts (λ p. p ≡ Phase.Ready) Phase.Busy
+            (call.Request (Request.Query text.now)) self.old.client self.new.client
+            self.old.out.items self.new.out.items) }
+        ensures unread { OnOk result
+            (ComesBefore (call.Request (Request.Query text.now)) self.old.client self.new.client) }
+        ensures refused { IfErr result (λ f. f ≢ CallFault.Encode EncodeFault.Memory
+            → (client : ClientView) → StandsFor self.old.client client
+            → RefusesUnless Phase.Ready client (call.Request (Request.Query text.now)) f) }
+        ensures err { OnErr result ((self.new.client ≡ self.old.client)
+            × (self.new.out.items ≡ self.old.out.items)) }
+        ensures others { (self.new.link ≡ self.old.link) × (self.new.pieces ≡ self.old.pieces) }
+    {
+        let alloc = *self.out.allocator();
+        let Ok(text) = Seq::from_slice(alloc, text.as_bytes()) else {
+            return Err(CallFault::Encode(EncodeFault::Memory));
+        };
+        match self.client.request(Request::Query(text), &mut self.out) {
+            Ok(()) => Ok(()),
+            Err(refused) => Err(refused.1),
+        }
+    }
+
+    /// Makes a request of steps, as [`EarlyClient::request`].
+    pub fn group(&mut self, steps: Seq<Step>) -> Result<(), CallFault>
+        ensures accepted { OnOk result (EarlyAccepts (λ p. p ≡ Phase.Ready) Phase.Busy
+            (call.Request (Request.Group steps)) self.old.client self.new.client
+            self.old.out.items self.new.out.items) }
+        ensures unread { OnOk result
+            (ComesBefore (call.Request (Request.Group steps)) self.old.client self.new.client) }
+        ensures refused { IfErr result (λ f. (client : ClientView)
+            → StandsFor self.old.client client
+            → RefusesUnless Phase.Ready client (call.Request (Request.Group steps)) f) }
+        ensures err { OnErr result ((self.new.client ≡ self.old.client)
+            × (self.new.out.items ≡ self.old.out.items)) }
+        ensures others { (self.new.link ≡ self.old.link) × (self.new.pieces ≡ self.old.pieces) }
+    {
+        match self.client.request(Request::Group(steps), &mut self.out) {
+            Ok(()) => Ok(()),
+            Err(refused) => Err(refused.1),
+        }
+    }
+
+    /// Puts a chunk of data out, as [`EarlyClient::copy_chunk`].
+    pub fn copy_chunk(&mut self, bytes: &[u8]) -> Result<(), CallFault>
+        ensures accepted { OnOk result (EarlyAccepts (λ p. p ≡ Phase.CopyingIn) Phase.CopyingIn
+            (call.Chunk bytes.now) self.old.client self.new.client self.old.out.items
+            self.new.out.items) }
+        ensures unread { OnOk result
+            (ComesBefore (call.Chunk bytes.now) self.old.client self.new.client) }
+        ensures refused { IfErr result (λ f. (client : ClientView)
+            → StandsFor self.old.client client → RefusesCopy client (call.Chunk bytes.now) f) }
+        ensures err { OnErr result ((self.new.client ≡ self.old.client)
+            × (self.new.out.items ≡ self.old.out.items)) }
+        ensures others { (self.new.link ≡ self.old.link) × (self.new.pieces ≡ self.old.pieces) }
+    {
+        self.client.copy_chunk(bytes, &mut self.out)
+    }
+
+    /// Says that the data of a copy is complete, as [`EarlyClient::copy_done`].
+    pub fn copy_done(&mut self) -> Result<(), CallFault>
+        ensures accepted { OnOk result (EarlyAccepts (λ p. p ≡ Phase.CopyingIn) Phase.Busy
+            call.Done self.old.client self.new.client self.old.out.items self.new.out.items) }
+        ensures unread { OnOk result (ComesBefore call.Done self.old.client self.new.client) }
+        ensures refused { IfErr result (λ f. (client : ClientView)
+            → StandsFor self.old.client client → RefusesCopy client call.Done f) }
+        ensures err { OnErr result ((self.new.client ≡ self.old.client)
+            × (self.new.out.items ≡ self.old.out.items)) }
+        ensures others { (self.new.link ≡ self.old.link) × (self.new.pieces ≡ self.old.pieces) }
+    {
+        self.client.copy_done(&mut self.out)
+    }
+
+    /// Says that a copy is to fail for this reason, as [`EarlyClient::copy_fail`].
+    pub fn copy_fail(&mut self, reason: &[u8]) -> Result<(), CallFault>
+        ensures accepted { OnOk result (EarlyAccepts (λ p. p ≡ Phase.CopyingIn) Phase.Busy
+            (call.Fail reason.now) self.old.client self.new.client self.old.out.items
+            self.new.out.items) }
+        ensures unread { OnOk result
+            (ComesBefore (call.Fail reason.now) self.old.client self.new.client) }
+        ensures refused { IfErr result (λ f. (client : ClientView)
+            → StandsFor self.old.client client → RefusesCopy client (call.Fail reason.now) f) }
+        ensures err { OnErr result ((self.new.client ≡ self.old.client)
+            × (self.new.out.items ≡ self.old.out.items)) }
+        ensures others { (self.new.link ≡ self.old.link) × (self.new.pieces ≡ self.old.pieces) }
+    {
+        self.client.copy_fail(reason, &mut self.out)
+    }
+
+    /// The row of the last [`Event::Row`], until the next call that gives an event. Else None.
+    pub fn held(&self) -> Option<RowView<'_>>
+        ensures { result ≡ self.now.client.held }
+    {
+        self.client.held()
+    }
+
+    /// Says that the connection is of no more use, as [`EarlyClient::lost`]: hands the request back that isn't settled.
+    pub fn lost(&mut self) -> Loss
+        ensures lost { IsLentLost self.old.client result self.new.client }
+        ensures others { (self.new.link ≡ self.old.link) × (self.new.pieces ≡ self.old.pieces)
+            × (self.new.out.items ≡ self.old.out.items) }
+    {
+        self.client.lost()
+    }
+}
+
+impl<L: Source + Sink> Session<L> {
+    /// Starts the session: sends the startup packet and what the server asks for, and waits until a request may be made. Called again in
+    /// phase Starting it goes on.
+    ///
+    /// N1 Call: the client refused to start, and nothing has changed. N2 Feed: it refused what came. N3 Lost: the connection is lost. N4
+    /// PiecesUsed: as many pieces were received as a call may receive.
+    pub fn start(&mut self) -> Result<(), SessionFault>
+        ensures start { Starts L.gives L.takes L.has_ended L.Source.failures L.Sink.failures
+            self.old.pieces (connected self.old.link self.old.client self.old.out.items) result
+            (connected self.new.link self.new.client self.new.out.items) }
+        ensures pieces { self.new.pieces ≡ self.old.pieces }
+    {
+        start_early(&mut self.client, &mut self.out, &mut self.link, self.pieces)
+    }
+
+    /// The next event, with rows lent: looks for it in what has come, and where there is none sends what waits, receives a piece and looks
+    /// again. Each event comes before what came after it, faults too. In phase Ready it waits for what the server says unasked.
+    ///
+    /// N2 Feed: the client refused what came. N3 Lost: the connection is lost. N4 PiecesUsed: as many pieces were received as a call may
+    /// receive.
+    pub fn next_lent(&mut self) -> Result<Event, SessionFault>
+        ensures gives { GivesLent L.gives L.takes L.has_ended L.Source.failures L.Sink.failures
+            self.old.pieces (connected self.old.link self.old.client self.old.out.items) result
+            (connected self.new.link self.new.client self.new.out.items) }
+        ensures pieces { self.new.pieces ≡ self.old.pieces }
+    {
+        next_event(&mut self.client, &mut self.out, &mut self.link, self.pieces)
+    }
+
+    /// The next event, with rows owned: a row is a [`Event::Message`]. It is [`next_lent`](Session::next_lent) but for that.
+    ///
+    /// N5 Memory: memory for the copy of a row was refused, which [`held`](Session::held) lends. The other faults are those of `next_lent`.
+    pub fn next(&mut self) -> Result<Event, SessionFault>
+        ensures gives { Gives L.gives L.takes L.has_ended L.Source.failures L.Sink.failures
+            self.old.pieces (connected self.old.link self.old.client self.old.out.items) result
+            (connected self.new.link self.new.client self.new.out.items) }
+        ensures pieces { self.new.pieces ≡ self.old.pieces }
+    {
+        match self.next_lent() {
+            Ok(lent) => own(*self.out.allocator(), lent, &self.client),
+            Err(fault) => Err(fault),
+        }
+    }
+
+    /// The next event of what has come, with rows lent, and nothing is received: where there is none (None), what waits is sent.
+    ///
+    /// N2 Feed: the client refused what came. N3 Lost: the link failed.
+    pub fn try_next_lent(&mut self) -> Result<Option<Event>, SessionFault>
+        ensures hears { Hears L.takes L.Sink.failures
+            (connected self.old.link self.old.client self.old.out.items) result
+            (connected self.new.link self.new.client self.new.out.items) }
+        ensures pieces { self.new.pieces ≡ self.old.pieces }
+    {
+        hear(&mut self.client, &mut self.out, &mut self.link)
+    }
+
+    /// Ends the session: sends a Terminate after all that waits, and closes the client. The server learns of it, unless the link fails, of
+    /// which it learns too. What is handed back is the request that isn't settled, if there is one.
+    ///
+    /// The faults are those of [`EarlyClient::terminate`]. Then nothing has changed.
+    pub fn end(&mut self) -> Result<Loss, CallFault>
+        ensures ends { IfOk result (λ loss. Terminates L.takes L.Sink.failures
+            (connected self.old.link self.old.client self.old.out.items) loss
+            (connected self.new.link self.new.client self.new.out.items)) }
+        ensures refused { IfErr result (λ f. (client : ClientView)
+            → StandsFor self.old.client client → RefusesEnd client f) }
+        ensures err { OnErr result ((self.new.client ≡ self.old.client)
+            × (self.new.out.items ≡ self.old.out.items) × (self.new.link ≡ self.old.link)) }
+        ensures pieces { self.new.pieces ≡ self.old.pieces }
+    {
+        self.client.terminate(&mut self.out)?;
+        let _ = send_out(&mut self.out, &mut self.link);
+        Ok(lose(&mut self.client))
+    }
+}
+
+// The event with its row owned.
+fn own(alloc: Global, lent: Event, client: &EarlyClient) -> Result<Event, SessionFault>
+    ensures { Owns lent client.now.held result }
+{
+    match lent {
+        Event::Row => own_row(alloc, client),
+        other => Ok(other),
+    }
+}
+
+// The row that is lent, as a message. Where an event is a row, one is lent.
+fn own_row(alloc: Global, client: &EarlyClient) -> Result<Event, SessionFault>
+    ensures { Owns Event.Row client.now.held result }
+{
+    let Some(row) = client.held() else {
+        return Err(SessionFault::Memory);
+    };
+    match Values::of_row(alloc, &row) {
+        Ok(values) => Ok(Event::Message(BackMessage::DataRow(values))),
+        Err(_) => Err(SessionFault::Memory),
+    }
+}

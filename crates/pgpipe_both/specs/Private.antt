@@ -1,0 +1,2 @@
+-- Words of private functions. No public contract cites them.
+pub mod Telling

@@ -1,0 +1,4 @@
+pub mod Lists
+pub mod Plain
+pub mod Texts
+pub mod Rows

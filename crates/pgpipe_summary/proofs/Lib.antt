@@ -1,0 +1,4 @@
+pub mod Counting
+pub mod Labels
+pub mod Rows
+pub mod Tables

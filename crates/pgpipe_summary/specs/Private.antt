@@ -1,0 +1,3 @@
+-- Words of private functions. No public contract cites them.
+pub mod Rows
+pub mod Counting
