@@ -1,19 +1,22 @@
 -- How a client's history goes on as it is driven.
-use Rattle.std.proofs.Common.{◌≡◌, ℕ, List, [], ◌∷◌, ◌++◌, length, Option, None, Result, Ok, Err, inl, inr, refl, sym, ap, subst, ◌∙◌, append-nil, append_assoc}
+use Rattle.std.proofs.Common.{◌≡◌, ℕ, List, [], ◌∷◌, ◌++◌, length, Option, Some, None, Result, Ok, Err, inl, inr, refl, sym, ap, subst, ◌∙◌, append-nil, append_assoc}
 use Rattle.std.specs.List.{FoldsTo, concat}
 use Rattle.std.proofs.lemmas.List.Folds.{concat-append}
 use Rattle.pg_client.specs.declared.fault.FeedFault.{FeedFault}
+use Rattle.pg_client.specs.declared.phase.Cause.{Cause}
+use Rattle.pg_client.specs.declared.phase.Cause.TheVariants as cause
 use Rattle.pg_client.specs.declared.phase.Phase.{Phase}
 use Rattle.pg_client.specs.declared.settled.Loss.{Loss}
 use Rattle.pg_client.specs.Client.{ClientView, phase_of}
 use Rattle.pg_client.specs.Driving.{IsFedOn}
 use Rattle.pg_client.specs.Feed.{Feeds}
 use Rattle.pg_client.specs.History.{History, IsHistoryOf, with_handed_back}
+use Rattle.pg_client.specs.Lost.{first_cause}
 use Rattle.pg_drive.specs.declared.answer.DriveFault.{DriveFault}
 use Rattle.pg_drive.specs.declared.answer.DriveFault.TheVariants as fault
 use Rattle.pg_drive.specs.declared.answer.Driven.{Driven}
 use Rattle.pg_drive.specs.declared.answer.Driven.TheVariants as driven
-use Rattle.pg_drive.specs.Carried.{IsDrivenOn, last_fed, pieces_fed}
+use Rattle.pg_drive.specs.Carried.{IsDrivenOn, IsLeftDriven, last_fed, pieces_fed}
 use Rattle.pg_drive.specs.Drive.{Answers, Connection, Drives, IsLost, Turn, TurnsOn, client_kind}
 
 -- the law of pg_client on a feed
@@ -54,6 +57,10 @@ lost_then h bytes old new loss l k = record {
   fed = k.fed;
 }
 
+-- and is closed then
+closed_lost : (old new : ClientView) (loss : Loss) → old.closed ≡ None → IsLost old loss new → new.closed ≡ Some cause.Lost
+closed_lost old new loss none l = l.closed ∙ ap (λ (c : Option Cause). Some (first_cause c cause.Lost)) none
+
 as_pieces : (h : History) (piece : List ℕ) (new : ClientView) → IsDrivenOn h piece new → IsDrivenOn h (concat (piece ∷ [])) new
 as_pieces h piece new k = subst (λ (bytes : List ℕ). IsDrivenOn h bytes new) (sym (append-nil piece)) k
 
@@ -90,7 +97,32 @@ module _ {L : Type 0} (gives takes : L → List ℕ → L → Type 0) (has_ended
       lost_then h (concat (failed.piece ∷ [])) failed.client new.client loss failed.lost
       (as_pieces h failed.piece failed.client (fed_piece law h old.client failed.client failed.piece (Ok tt) old.out failed.put r none failed.fed))
 
+  -- how the client is left
+  turn_leaves : FeedingGoesOn → (h : History) (old : Connection L) (piece : List ℕ) (new : Connection L) → IsHistoryOf h old.client → old.client.closed ≡ None → Turn client_kind gives takes has_ended receive_failures send_failures old piece new → new.client.closed ≡ None
+  turn_leaves law h old piece new r none turn = still_open law h old.client new.client piece old.out turn.put r none turn.fed
+
+  last_leaves : FeedingGoesOn → (began : Phase) (turns count : ℕ) (old : Connection L) (result : Result Driven DriveFault) (new : Connection L) (h : History) → IsHistoryOf h old.client → old.client.closed ≡ None
+      → Answers gives takes has_ended receive_failures send_failures began turns count old result new → IsLeftDriven result new.client.closed
+  last_leaves law began turns count old (Ok driven.Settled) new h r none a = turn_leaves law h old a.1.0 new r none a.1.1
+  last_leaves law began turns count old (Ok driven.Ready) new h r none a = turn_leaves law h old a.1.0 new r none a.1.1
+  last_leaves law began turns count old (Ok driven.CopyIn) new h r none a = turn_leaves law h old a.1.0 new r none a.1.1
+  last_leaves law began turns count old (Ok driven.TurnsUsed) new h r none a = ap (λ (c : Connection L). c.client.closed) a.1 ∙ none
+  last_leaves law began turns count old (Ok (driven.Lost loss)) new h r none a = closed_lost old.client new.client loss none a.1.lost
+  last_leaves law began turns count old (Err (fault.Feed f)) new h r none a = (law h old.client new.client a.1.piece (Err f) old.out new.out r a.1.fed).left none
+  last_leaves law began turns count old (Err (fault.Link loss)) new h r none (less, inl failed) = closed_lost old.client new.client loss none failed.lost
+  last_leaves law began turns count old (Err (fault.Link loss)) new h r none (less, inr failed) =
+      closed_lost failed.client new.client loss (still_open law h old.client failed.client failed.piece old.out failed.put r none failed.fed) failed.lost
+
   -- a whole call
+  pub left_driven : FeedingGoesOn → (turns : ℕ) (old : Connection L) (result : Result Driven DriveFault) (new : Connection L) (h : History) → IsHistoryOf h old.client → old.client.closed ≡ None
+      → Drives gives takes has_ended receive_failures send_failures turns old result new → IsLeftDriven result new.client.closed
+  left_driven law turns old result new h r none (inl failed) =
+      subst (λ (answer : Result Driven DriveFault). IsLeftDriven answer new.client.closed) (sym failed.is_fault) (closed_lost old.client new.client failed.loss none failed.lost)
+  left_driven law turns old result new h r none (inr did) =
+      let went = turns_go_on law (phase_of old.client) did.pieces (record { link = did.begun; client = old.client; out = [] }) did.last h r none did.went_on in
+      let k : IsDrivenOn h (concat did.pieces) did.last.client = went.0 in
+      last_leaves law (phase_of old.client) turns (length did.pieces) did.last result new k.history k.is_its_own went.1 did.answered
+
   pub driven_on : FeedingGoesOn → (turns : ℕ) (old : Connection L) (result : Result Driven DriveFault) (new : Connection L) (h : History) → IsHistoryOf h old.client → old.client.closed ≡ None
       → (did : Drives gives takes has_ended receive_failures send_failures turns old result new) → IsDrivenOn h (concat (pieces_fed gives takes has_ended receive_failures send_failures turns old result new did)) new.client
   driven_on law turns old result new h r none (inl failed) = lost_then h [] old.client new.client failed.loss failed.lost (stays h old.client r)

@@ -1,8 +1,11 @@
--- What becomes of a client's history as it is driven.
-use Rattle.std.specs.Prelude.{◌≡◌, ℕ, List, [], ◌∷◌, ◌++◌, length, Result, Ok, Err}
+-- What becomes of a client's history as it is driven, and how it is left.
+use Rattle.std.specs.Prelude.{◌≡◌, ℕ, List, [], ◌∷◌, ◌++◌, length, Option, Some, None, Result, Ok, Err}
 use mathlib.Core.Logic.{inl, inr}
+use Rattle.pg_client.specs.declared.phase.Cause.{Cause}
+use Rattle.pg_client.specs.declared.phase.Cause.TheVariants as cause
 use Rattle.pg_client.specs.declared.phase.Phase.{Phase}
 use Rattle.pg_client.specs.Client.{ClientView, phase_of}
+use Rattle.pg_client.specs.Driving.{IsLeftBy}
 use Rattle.pg_client.specs.History.{History, IsHistoryOf}
 use Rattle.pg_drive.specs.declared.answer.DriveFault.{DriveFault}
 use Rattle.pg_drive.specs.declared.answer.DriveFault.TheVariants as fault
@@ -18,6 +21,15 @@ pub record IsDrivenOn (past : History) (bytes : List ℕ) (new : ClientView) : T
   pub calls : history.calls ≡ past.calls
   pub given : history.given ≡ past.given
   pub fed : history.fed ≡ past.fed ++ bytes
+
+-- How a client that was open is left by this answer of `drive`: closed as Lost, where the server's
+-- bytes have ended or the link failed; closed with the cause of the fault, where it refused a
+-- piece; and else open.
+abbrev pub IsLeftDriven : Result Driven DriveFault → Option Cause → Type 0
+IsLeftDriven (Ok (driven.Lost loss)) closed = closed ≡ Some cause.Lost
+IsLeftDriven (Ok _) closed = closed ≡ None
+IsLeftDriven (Err (fault.Feed f)) closed = IsLeftBy (Err f) closed
+IsLeftDriven (Err (fault.Link loss)) closed = closed ≡ Some cause.Lost
 
 module _ {L : Type 0} (gives takes : L → List ℕ → L → Type 0) (has_ended : L → Type 0)
     (receive_failures send_failures : L → ℕ) where

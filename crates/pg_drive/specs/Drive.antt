@@ -57,6 +57,7 @@ module _ {C L : Type 0} (kind : ClientKind C) (gives takes : L → List ℕ → 
     pub between : L
     pub put : List ℕ
     pub received : gives old.link piece between
+    pub none_failed : receive_failures between ≡ receive_failures old.link
     pub has_some : 0 < length piece
     pub within : length piece ≤ longest_piece
     pub fed : kind.feeds old.client piece (Ok tt) new.client old.out put
@@ -67,6 +68,7 @@ module _ {C L : Type 0} (kind : ClientKind C) (gives takes : L → List ℕ → 
   pub record Refuses (old : Linked C L) (f : FeedFault) (new : Linked C L) : Type 0 where
     pub piece : List ℕ
     pub received : gives old.link piece new.link
+    pub none_failed : receive_failures new.link ≡ receive_failures old.link
     pub has_some : 0 < length piece
     pub within : length piece ≤ longest_piece
     pub fed : kind.feeds old.client piece (Err f) new.client old.out new.out
@@ -86,6 +88,7 @@ module _ {C L : Type 0} (kind : ClientKind C) (gives takes : L → List ℕ → 
     -- the client that was fed, before it was told that the link failed
     pub client : C
     pub received : gives old.link piece between
+    pub none_failed : receive_failures between ≡ receive_failures old.link
     pub has_some : 0 < length piece
     pub within : length piece ≤ longest_piece
     pub fed : kind.feeds old.client piece (Ok tt) client old.out put
@@ -95,6 +98,7 @@ module _ {C L : Type 0} (kind : ClientKind C) (gives takes : L → List ℕ → 
   -- A call of `receive` found the end of the server's bytes.
   pub record Ends (old : Linked C L) (loss : Loss) (new : Linked C L) : Type 0 where
     pub gave_none : gives old.link [] new.link
+    pub none_failed : receive_failures new.link ≡ receive_failures old.link
     pub ended : has_ended new.link
     pub lost : kind.is_lost old.client loss new.client
     pub out : new.out ≡ old.out

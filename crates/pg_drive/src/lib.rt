@@ -32,7 +32,8 @@
 //! A call sends all that was put out, in order, as far as the link takes it, and feeds exactly the bytes that it received (`Drives`,
 //! `specs/Drive.antt`; `DrivesEarly`, `specs/Early.antt`). What it returns is true of the client and of the link: Lost where the server's
 //! bytes ended, D2 where a call of the link failed, and nothing is received while there is something to do. The law
-//! [`laws::driving_goes_on`] says what becomes of the client's history. A session's calls do what these do, said of the session.
+//! [`laws::driving_goes_on`] says what becomes of the client's history, and how it is left. A session's calls do what these do, said of the
+//! session.
 //!
 //! # Files
 //!
@@ -41,7 +42,7 @@
 //! | `session.rt`, `group_session.rt`, `event.rt`, `starting.rt`, `lent.rt`, `groups.rt` | `Session` | sessions, and what they give |
 //! | `receiving.rt`, `driving.rt`, `answer.rt` | `Drive` | what a kind of client does as it is driven; one turn, turns one after the other, and what is returned after them |
 //! | `early.rt` | `Early` | what a look at an early client finds, and what is returned after its turns |
-//! | `laws.rt` | `Carried` | which pieces were fed, and what a history of the client becomes by them |
+//! | `laws.rt` | `Carried` | which pieces were fed, what a history of the client becomes by them, and how the client is left |
 //!
 //! **A turn** is one function for both kinds of client (`receive`, over the trait `Drivable`): a piece is received and fed, and what the
 //! client put out for it is sent. `drive` looks after each piece whether there is something to do, and `drive_early` before it as well.

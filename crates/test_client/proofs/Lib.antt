@@ -1,4 +1,3 @@
 -- Lemmas, by the subject.
-pub mod Later
-pub mod Driving
 pub mod OwnGroup
+pub mod Asking

@@ -1,2 +1,2 @@
--- What a reader must believe: what a driver knows of its client.
+-- What a reader must believe: what a driver knows of its session, and what `ask` does.
 pub mod Driver

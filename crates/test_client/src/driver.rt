@@ -1,180 +1,80 @@
-//! A driver that blocks: it asks one request, and waits for its group.
+//! A driver that blocks: it asks one request, and waits for its answer.
 
-ghost use Rattle.std.specs.Prelude.{◌≡◌, None, IfOk, OnOk};
-ghost use Rattle.pg_wire.specs.Direction.{IsLimit};
-ghost use Rattle.pg_client.specs.Calls.{RefusesUnless};
+ghost use Rattle.std.specs.Prelude.{◌≡◌, IfOk, OnOk};
+ghost use Rattle.pg_client.specs.declared.phase.Phase.TheVariants as phase;
 ghost use Rattle.pg_client.specs.Client.{phase_of};
-ghost use Rattle.pg_client.specs.declared.call.Call.TheVariants as call;
-ghost use Rattle.test_client.specs.declared.driver.DriverFault.TheVariants as faults;
-ghost use Rattle.test_client.specs.Driver.{AwaitsRequest, Connects, Drives, HasHistory};
-ghost use Rattle.test_client.specs.Driver.{HasReceived, never, with_asked, with_start};
+ghost use Rattle.pg_client.specs.History.{History, IsHistoryOf};
+ghost use Rattle.pg_drive.specs.Drive.{connected};
+ghost use Rattle.pg_drive.specs.Group.{GroupStarts};
+ghost use Rattle.test_client.specs.Driver.{Asks, AwaitsRequest, OnCopyIn, next_result};
 
-use pg_client::laws::{feeding_goes_on, requests_of_the_calls};
-use pg_client::{CallFault, Client, FeedFault, Phase, Settings, Settled};
-use pg_wire::{LinkFault, Request, Sink, Source, send_all};
-use std::alloc::Global;
+use pg_client::Settled;
+use pg_client::laws::{answers_of_a_run, requests_of_the_calls, story_of_a_run};
+use pg_drive::laws::driving_goes_on;
+use pg_drive::{GroupEvent, GroupSession, SessionFault};
+use pg_wire::{Request, Sink, Source};
 use thiserror::Error;
 
-// How many bytes are received at once.
-const PIECE: usize = 4_096;
-
-/// Why a driver has no answer.
+/// Why a request has no answer.
 #[derive(Debug, PartialEq, Eq, Drop, Error)]
-pub enum DriverFault {
-    /// The client refused the call, which sent and changed nothing.
+pub enum AskFault {
+    /// The session gives none: N1 Call, and nothing has changed; N2 Feed or N3 Lost, which hold the request that is in doubt; or N4
+    /// PiecesUsed, and [`GroupSession::next`] goes on.
     #[error(transparent)]
-    Call(CallFault),
-    /// The client answered this fault to what the server sent, and is closed.
-    #[error(transparent)]
-    Feed(FeedFault),
-    /// A call of the source or of the sink failed.
-    #[error(transparent)]
-    Link(LinkFault),
-    /// The source has ended before the answer did.
-    #[error("the server's bytes ended")]
-    Ended,
-    /// The answer had no end in 18,446,744,073,709,551,615 pieces.
-    #[error("the server's answer has no end")]
-    Endless,
-    /// The server awaits the data of a copy, which this driver can't send. The client is left in
-    /// phase CopyingIn.
+    Session(SessionFault),
+    /// The server awaits the data of a copy, which `ask` doesn't send. The client is in phase CopyingIn.
     #[error("the server waits for the data of a copy")]
     CopyIn,
 }
 
-impl From<CallFault> for DriverFault {
-    ghost from_gives = { λ f e. e ≡ faults.Call f };
-
-    fn from(refused: CallFault) -> DriverFault {
-        DriverFault::Call(refused)
-    }
-}
-
-impl From<(Request, CallFault)> for DriverFault {
-    ghost from_gives = { λ f e. e ≡ faults.Call f.1 };
-
-    fn from(refused: (Request, CallFault)) -> DriverFault {
-        DriverFault::Call(refused.1)
-    }
-}
-
-impl From<FeedFault> for DriverFault {
-    ghost from_gives = { λ f e. e ≡ faults.Feed f };
-
-    fn from(refused: FeedFault) -> DriverFault {
-        DriverFault::Feed(refused)
-    }
-}
-
-impl From<LinkFault> for DriverFault {
-    ghost from_gives = { λ f e. e ≡ faults.Link f };
-
-    fn from(failed: LinkFault) -> DriverFault {
-        DriverFault::Link(failed)
-    }
-}
-
-// Sends what was put out, and feeds one piece of what comes.
-fn exchange<S: Source, K: Sink>(
-    client: &mut Client,
-    out: &mut Vec<u8>,
-    source: &mut S,
-    sink: &mut K,
-) -> Result<(), DriverFault>
-    requires history { HasHistory client.old }
-    requires is_open { client.old.closed ≡ None }
-    ensures { (did : Drives S.gives never (S.has_ended source.new)
-        (S.failures source.old, K.failures sink.old) (S.failures source.new, K.failures sink.new)
-        (λ h. h) source.old client.old result source.new client.new)
-        × OnOk result (HasReceived did.pieces client.new) }
+/// Starts a session as [`GroupSession::start`] does, whose faults it has. Then the first request may be asked.
+pub fn connect<L: Source + Sink>(session: &mut GroupSession<L>) -> Result<(), SessionFault>
+    requires { (h : History) × IsHistoryOf h session.old.client }
+    ensures ready { OnOk result (AwaitsRequest session.new.client) }
+    ensures start { GroupStarts L.gives L.takes L.has_ended L.Source.failures L.Sink.failures
+        session.old.pieces (connected session.old.link session.old.client session.old.out.items)
+        result (connected session.new.link session.new.client session.new.out.items) }
+    ensures pieces { session.new.pieces ≡ session.old.pieces }
 {
-    feeding_goes_on();
-    send_all(out.as_slice(), sink)?;
-    out.clear();
-    let mut piece = [0u8; PIECE];
-    let count = source.receive(&mut piece)?;
-    if count == 0 {
-        return Err(DriverFault::Ended);
-    }
-    client.feed(&piece[..count], out)?;
-    Ok(())
+    driving_goes_on::<L>();
+    session.start()
 }
 
-// Goes on until the client stands ready.
-fn settle<S: Source, K: Sink>(
-    client: &mut Client,
-    out: &mut Vec<u8>,
-    source: &mut S,
-    sink: &mut K,
-) -> Result<(), DriverFault>
-    requires history { HasHistory client.old }
-    requires is_open { client.old.closed ≡ None }
-    ensures waits { Drives S.gives never (S.has_ended source.new)
-        (S.failures source.old, K.failures sink.old) (S.failures source.new, K.failures sink.new)
-        (λ h. h) source.old client.old result source.new client.new }
-    ensures ready { OnOk result (phase_of client.new ≡ Phase.Ready) }
-{
-    for _ in 0..u64::MAX {
-        match client.phase() {
-            Phase::Ready => return Ok(()),
-            Phase::CopyingIn => return Err(DriverFault::CopyIn),
-            _ => exchange(client, out, source, sink)?,
-        }
-    }
-    Err(DriverFault::Endless)
-}
-
-/// Starts a session, and waits until the client stands ready. What is put out and not sent yet stands in `out`.
+/// Asks a request, and waits for the group that it settles: the request's own, and the only one. Then the next request may be asked.
 ///
-/// The faults: the client refused to start (Call), or refused what came and was closed (Feed); a call of the link failed (Link); the
-/// source ended (Ended), or gave no end (Endless). The client is let go then.
-pub fn connect<S: Source, K: Sink>(
-    alloc: Global,
-    settings: Settings,
-    out: &mut Vec<u8>,
-    source: &mut S,
-    sink: &mut K,
-) -> Result<Client, DriverFault>
-    requires { IsLimit settings.limit }
-    ensures ready { IfOk result (λ client. AwaitsRequest client) }
-    ensures connects { Connects settings result (λ fresh latest.
-        Drives S.gives (RefusesUnless Phase.New fresh call.Start) (S.has_ended source.new)
-        (S.failures source.old, K.failures sink.old) (S.failures source.new, K.failures sink.new)
-        (with_start fresh.settings result) source.old fresh result source.new latest) }
-{
-    requests_of_the_calls();
-    let mut client = Client::new(alloc, settings);
-    client.start(out)?;
-    settle(&mut client, out, source, sink)?;
-    Ok(client)
-}
-
-/// Asks a request, waits until the client stands ready again, and takes the group that is settled then: the request's own, and the only
-/// one. By each history of the client, it then made the request, was fed what the source gave, and the group was taken.
-///
-/// The faults: the client refused the request and nothing was done (Call), or refused what came and is closed (Feed); a call of the link
-/// failed (Link); the source ended (Ended) or gave no end (Endless); the server waits for a copy's data (CopyIn). After a fault the client
-/// says what is lost, as by its history.
-pub fn ask<S: Source, K: Sink>(
-    client: &mut Client,
+/// By each history of the session's client, it made the request, was fed what the link gave, and the group was taken. After a fault the
+/// history says what became of the request.
+pub fn ask<L: Source + Sink>(
+    session: &mut GroupSession<L>,
     request: Request,
-    out: &mut Vec<u8>,
-    source: &mut S,
-    sink: &mut K,
-) -> Result<Settled, DriverFault>
-    requires { AwaitsRequest client.old }
+) -> Result<Settled, AskFault>
+    requires { AwaitsRequest session.old.client }
     ensures own { IfOk result (λ group. group.request ≡ request) }
-    ensures again { OnOk result (AwaitsRequest client.new) }
-    ensures history { HasHistory client.new }
-    ensures asks { Drives S.gives
-        (λ f. (client.new ≡ client.old) × RefusesUnless Phase.Ready client.old (call.Request request) f)
-        (S.has_ended source.new) (S.failures source.old, K.failures sink.old)
-        (S.failures source.new, K.failures sink.new)
-        (with_asked client.old.settings request result)
-        source.old client.old result source.new client.new }
+    ensures again { OnOk result (AwaitsRequest session.new.client) }
+    ensures copy { OnCopyIn result (phase_of session.new.client ≡ phase.CopyingIn) }
+    ensures asks { Asks L.gives L.takes L.has_ended L.Source.failures L.Sink.failures
+        session.old.pieces request
+        (connected session.old.link session.old.client session.old.out.items) result
+        (connected session.new.link session.new.client session.new.out.items) }
+    ensures pieces { session.new.pieces ≡ session.old.pieces }
 {
     requests_of_the_calls();
-    client.request(request, out)?;
-    settle(client, out, source, sink)?;
-    Ok(client.take_settled().unwrap())
+    story_of_a_run();
+    answers_of_a_run();
+    driving_goes_on::<L>();
+    match session.request(request) {
+        Ok(()) => answer(session.next()),
+        Err(refused) => Err(AskFault::Session(SessionFault::Call(refused.1))),
+    }
+}
+
+// What the session's `next` returned, as `ask` returns it.
+fn answer(event: Result<GroupEvent, SessionFault>) -> Result<Settled, AskFault>
+    ensures { event ≡ next_result result }
+{
+    match event {
+        Ok(GroupEvent::Settled(group)) => Ok(group),
+        Ok(GroupEvent::CopyIn) => Err(AskFault::CopyIn),
+        Err(fault) => Err(AskFault::Session(fault)),
+    }
 }

@@ -12,6 +12,7 @@ returns-in-Ok-push g c =
         between = c.receive.new.self;
         put = [];
         received = c.in-Ok.ensures.bytes;
+        none_failed = c.in-Ok.ensures.counted;
         has_some = omega (arith, length-take count into, c.if-count-eq0.false, c.in-Ok.ensures.bound);
         within = omega (arith, length-take count into, c.in-Ok.ensures.bound, c.receive.auto.into, c.requires);
         fed = record { pushes = c.in-Ok-push.ensures.pushes; history = c.in-Ok-push.ensures.history; refused = tt; out = refl };
@@ -28,6 +29,7 @@ returns-in-Err g c =
       record {
         piece = take count into;
         received = c.in-Ok.ensures.bytes;
+        none_failed = c.in-Ok.ensures.counted;
         has_some = omega (arith, length-take count into, c.if-count-eq0.false, c.in-Ok.ensures.bound);
         within = omega (arith, length-take count into, c.in-Ok.ensures.bound, c.receive.auto.into, c.requires);
         fed = record { pushes = c.in-Err.ensures.pushes; history = tt; refused = c.in-Err.ensures.refused; out = refl };
