@@ -15,7 +15,7 @@ use pgpipe_frames::{Frames, Next};
 use std::alloc::{AllocError, Global};
 
 /// What stands at the beginning of the bytes that are kept.
-#[derive(Clone, Copy, Debug, PartialEq, Eq)]
+#[derive(Clone, Copy)]
 pub enum Look {
     /// A whole frame, which is lent.
     Frame,

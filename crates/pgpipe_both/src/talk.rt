@@ -10,7 +10,7 @@ ghost use Rattle.pgpipe_both.specs.Talk.{told, wants_answer};
 use pgpipe_frames::Next;
 
 /// Who has the turn once the server has sent a message, or the client a startup.
-#[derive(Clone, Copy, Debug, PartialEq, Eq)]
+#[derive(Clone, Copy)]
 pub enum Talk {
     /// The client.
     Asking {

@@ -11,7 +11,7 @@ use pg_wire::WireFault;
 use pgpipe_frames::{Next, code_of};
 
 /// How a stream ended.
-#[derive(Clone, Copy, Debug, PartialEq, Eq)]
+#[derive(Clone, Copy)]
 pub enum Ended {
     /// With a whole frame, or without any.
     Whole,
@@ -26,7 +26,7 @@ pub enum Ended {
 }
 
 /// How the two streams of a connection ended.
-#[derive(Clone, Copy, Debug, PartialEq, Eq)]
+#[derive(Clone, Copy)]
 pub struct Ends {
     /// The client's.
     pub front: Ended,
@@ -35,7 +35,7 @@ pub struct Ends {
 }
 
 /// A request for encryption.
-#[derive(Clone, Copy, Debug, PartialEq, Eq)]
+#[derive(Clone, Copy)]
 pub enum Encryption {
     /// An SSLRequest, which `S` accepts.
     Ssl,
@@ -44,7 +44,7 @@ pub enum Encryption {
 }
 
 /// How far a conversation has come.
-#[derive(Clone, Copy, Debug, PartialEq, Eq)]
+#[derive(Clone, Copy)]
 pub enum Stage {
     /// The client sends a first packet.
     Opening,
@@ -55,7 +55,7 @@ pub enum Stage {
 }
 
 /// What is printed next.
-#[derive(Clone, Copy, Debug, PartialEq, Eq)]
+#[derive(Clone, Copy)]
 pub enum Due {
     /// A frame of the client (true) or of the server, or the end of that stream.
     Side(bool),
@@ -66,7 +66,7 @@ pub enum Due {
 }
 
 /// Who has the turn, and how the streams ended of which nothing is left.
-#[derive(Clone, Copy, Debug, PartialEq, Eq)]
+#[derive(Clone, Copy)]
 pub struct Turn {
     stage: Stage,
     front: Option<Ended>,

@@ -7,7 +7,7 @@ use crate::tracker::{Phase, Turn};
 use crate::wire::with_byte;
 
 /// How far a binary file has come. A number is made of the bytes that came of it, most significant first.
-#[derive(Clone, Copy, Debug, PartialEq, Eq)]
+#[derive(Clone, Copy)]
 pub enum Binary {
     /// So many bytes of the 19 of the header came, the last of which make this number.
     Header(u8, u32),

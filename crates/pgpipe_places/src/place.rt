@@ -4,7 +4,7 @@ ghost use Rattle.std.specs.Prelude.{◌≡◌};
 ghost use Rattle.pgpipe_places.specs.Place.{next_place};
 
 /// Where a message or a row begins. No number passes 2^64 - 1.
-#[derive(Clone, Copy, Debug, PartialEq, Eq)]
+#[derive(Clone, Copy)]
 pub struct Place {
     /// Its number among those of its stream or file, counted from 1.
     pub number: u64,

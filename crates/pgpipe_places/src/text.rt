@@ -6,7 +6,7 @@ ghost use Rattle.pgpipe_places.specs.Tracker.{text_taken};
 use crate::tracker::{Phase, Turn};
 
 /// What came last in a line.
-#[derive(Clone, Copy, Debug, PartialEq, Eq)]
+#[derive(Clone, Copy)]
 pub enum Text {
     /// Nothing that changes what the next byte is.
     Plain,

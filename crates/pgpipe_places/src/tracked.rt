@@ -12,7 +12,7 @@ use std::marker::Model;
 
 /// A source or a sink, and where the parts of its bytes begin: of all that was received or sent, and of the last piece that was received
 /// each of them.
-#[derive(Debug, Drop)]
+#[derive(Drop)]
 pub struct Tracked<T> {
     inner: T,
     // before the last piece

@@ -9,7 +9,7 @@ use crate::text::Text;
 use crate::wire::Wire;
 
 /// What is tracked.
-#[derive(Clone, Copy, Debug, PartialEq, Eq)]
+#[derive(Clone, Copy)]
 pub enum Kind {
     /// The messages of a backend.
     Back,
@@ -22,7 +22,7 @@ pub enum Kind {
 }
 
 /// How far a part has come, by the kind of what is tracked.
-#[derive(Clone, Copy, Debug, PartialEq, Eq)]
+#[derive(Clone, Copy)]
 pub enum Phase {
     /// A message or a first packet.
     Wire(Wire),
@@ -33,7 +33,7 @@ pub enum Phase {
 }
 
 /// What one byte does.
-#[derive(Clone, Copy, Debug, PartialEq, Eq)]
+#[derive(Clone, Copy)]
 pub enum Turn {
     /// It stands within its part.
     Within(Phase),
@@ -46,7 +46,7 @@ pub enum Turn {
 }
 
 /// Follows the parts of a stream or a file, byte by byte. It judges nothing but lengths and line ends.
-#[derive(Clone, Copy, Debug, PartialEq, Eq)]
+#[derive(Clone, Copy)]
 pub struct Tracker {
     /// Where the part that the next byte is of begins.
     pub place: Place,

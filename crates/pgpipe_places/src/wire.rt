@@ -6,7 +6,7 @@ ghost use Rattle.pgpipe_places.specs.Tracker.{body_of, next_by, wire_taken, with
 use crate::tracker::{Phase, Turn};
 
 /// What comes after a first packet, or that a message comes after a message.
-#[derive(Clone, Copy, Debug, PartialEq, Eq)]
+#[derive(Clone, Copy)]
 pub enum Next {
     /// A message.
     Message,
@@ -17,7 +17,7 @@ pub enum Next {
 }
 
 /// How far a message or a first packet has come. A number is made of the bytes that came of it, most significant first.
-#[derive(Clone, Copy, Debug, PartialEq, Eq)]
+#[derive(Clone, Copy)]
 pub enum Wire {
     /// So many bytes of a tag and a length field came, the last of which make this number.
     Head(u8, u32),

@@ -16,7 +16,7 @@ use pgpipe_lines::{Arguments, CallVerb, LineFault, Refusal, StepVerb, TakesLines
 use std::alloc::Global;
 
 /// What stands before a line of CALLS.
-#[derive(Clone, Copy, Debug, PartialEq, Eq)]
+#[derive(Clone, Copy)]
 pub struct CallsSeen {
     /// A `start`.
     pub started: bool,
@@ -158,7 +158,7 @@ impl CallsSeen {
 }
 
 /// What is known where a line of CALLS is looked for that is refused.
-#[derive(Clone, Copy, Debug, PartialEq, Eq)]
+#[derive(Clone, Copy)]
 pub struct CallsSearch {
     /// What stands before the next line.
     pub seen: CallsSeen,

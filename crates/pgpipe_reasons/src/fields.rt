@@ -10,7 +10,7 @@ use crate::reason::LineReason;
 use pg_wire::Values;
 
 /// What comes after the fields whose kinds are told one by one.
-#[derive(Clone, Copy, Debug, PartialEq, Eq)]
+#[derive(Clone, Copy)]
 pub enum Tail {
     /// Nothing.
     Nothing,

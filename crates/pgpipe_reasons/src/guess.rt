@@ -6,7 +6,7 @@ ghost use Rattle.pgpipe_reasons.specs.Guess.{begins_with, guess_of, is_capture};
 use thiserror::Error;
 
 /// What the first bytes of a stream look like.
-#[derive(Clone, Copy, Debug, PartialEq, Eq, Error)]
+#[derive(Clone, Copy, Debug, Error)]
 pub enum Guess {
     /// What a client sends.
     #[error("this looks like a client's stream: --front")]

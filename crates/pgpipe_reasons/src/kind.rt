@@ -10,7 +10,7 @@ use std::str;
 use thiserror::Error;
 
 /// What a field has to be. Each is shown as the end of a sentence about a field that isn't it.
-#[derive(Clone, Copy, Debug, PartialEq, Eq, Error)]
+#[derive(Clone, Copy, Debug, Error)]
 pub enum Kind {
     /// Any text.
     #[error("is no text")]

@@ -4,7 +4,7 @@ use crate::kind::Kind;
 use thiserror::Error;
 
 /// Why the line in a row of SCRIPT or CALLS is refused. Fields are counted from 1, the verb left out.
-#[derive(Clone, Copy, Debug, PartialEq, Eq, Error)]
+#[derive(Clone, Copy, Debug, Error)]
 pub enum LineReason {
     /// It isn't a line of the text format, or its verb is null.
     #[error("it is no line of fields: lines end in one way in the whole file, an escape has a byte after its backslash, and the verb isn't null")]

@@ -3,7 +3,7 @@
 use thiserror::Error;
 
 /// What was expected where a fault stands.
-#[derive(Clone, Copy, Debug, PartialEq, Eq, Error)]
+#[derive(Clone, Copy, Debug, Error)]
 pub enum Rule {
     /// FunctionCallResponse is left out.
     #[error("the answer to a FunctionCall is left out, which large objects are read and written by")]

@@ -21,7 +21,7 @@ use pgpipe_lines::{
 use std::alloc::Global;
 
 /// What stands before a line of SCRIPT.
-#[derive(Clone, Copy, Debug, PartialEq, Eq)]
+#[derive(Clone, Copy)]
 pub struct ScriptSeen {
     /// An `answer`.
     pub answered: bool,
@@ -286,7 +286,7 @@ impl ScriptSeen {
 }
 
 /// What is known where a line of SCRIPT is looked for that is refused.
-#[derive(Clone, Copy, Debug, PartialEq, Eq)]
+#[derive(Clone, Copy)]
 pub struct ScriptSearch {
     /// What stands before the next line.
     pub seen: ScriptSeen,
