@@ -6,14 +6,17 @@ ghost use Rattle.pgpipe_words.specs.Tasks.{IsTask};
 
 use pg_pair::{Carry, Direct};
 use pg_wire::{Over, Patient};
+use pgpipe_color::Colored;
 use pgpipe_places::Tracked;
+use pgpipe_show::{Form, Line};
 use pgpipe_words::{
     Asked, Disk, Failure, Listening, NotedDisk, Reason, Serving, Showing, Subject, Task, Telling,
     Watched, asked_of, connect_to_itself, do_both, do_task, exit_code, explain, file_failure,
     file_reason, serve_file, stream_reason, task_reason, words_failure,
 };
 use standard_streams::{ClosedStream, all_open};
-use std::io::Read;
+use std::env::VarError;
+use std::io::{IsTerminal, Read};
 use std::net::Net;
 use std::process::ExitCode;
 use std::rt::{Env, Files};
@@ -23,7 +26,8 @@ use std::{env, fs, io};
 fn main(rt: HostRuntime) -> ExitCode {
     // before anything is opened, which would take the place of a stream that is closed
     let streams = all_open(&rt.stdin(), &rt.stdout(), &rt.stderr());
-    let Ended { status, reason } = run(&rt, streams);
+    let terminal = rt.stdout().is_terminal();
+    let Ended { status, reason } = run(&rt, streams, terminal);
     if let Err(failure) = &status {
         // where this can't be written, the status still tells
         let _ = eprintln!(rt; "pgpipe: {failure}");
@@ -57,10 +61,11 @@ fn failed(telling: Telling, failure: Failure, reason: Option<Reason>) -> Ended {
     }
 }
 
-// Does what the words ask for.
+// Does what the words ask for, for a standard output that is a terminal or isn't.
 fn run<R: Env + Files + Net + Clock + Input + Print + Eprint + AllocGlobal>(
     rt: &R,
     streams: Result<(), ClosedStream>,
+    terminal: bool,
 ) -> Ended {
     let words = match words(rt) {
         Ok(words) => words,
@@ -77,7 +82,8 @@ fn run<R: Env + Files + Net + Clock + Input + Print + Eprint + AllocGlobal>(
     if let Task::Serve(serving) = &task {
         return serve(rt, serving, telling);
     }
-    run_task(rt, task, telling)
+    let color = terminal && is_decoded(&task) && allows_color(rt);
+    run_task(rt, task, telling, color)
 }
 
 // The words of the command line.
@@ -86,6 +92,27 @@ fn words<R: Env + AllocGlobal>(rt: &R) -> Result<Vec<String>, Failure> {
         .map_err(|error| words_failure(&error))?
         .collect(rt.alloc())
         .map_err(|_| Failure::Memory)
+}
+
+// Whether a task prints the messages of one stream decoded, the lines that are coloured on a terminal.
+fn is_decoded(task: &Task) -> bool {
+    match task {
+        Task::Show(showing) => {
+            let decoded = matches!(showing.form, Form::Frames(Line::Decoded));
+            decoded && !showing.summary && !showing.names_sides()
+        }
+        _ => false,
+    }
+}
+
+// Whether the environment leaves colours on: no-color.org's `NO_COLOR` isn't set or is empty, and `TERM` isn't `dumb`.
+fn allows_color<R: Env + AllocGlobal>(rt: &R) -> bool {
+    let plain = match env::var(rt, "NO_COLOR") {
+        Ok(value) => !value.is_empty(),
+        Err(VarError::NotPresent) => false,
+        Err(_) => true,
+    };
+    !plain && !matches!(env::var(rt, "TERM"), Ok(term) if term.as_str() == "dumb")
 }
 
 // Whether a task opens a file, a connection or a port before anything is printed, and then prints.
@@ -150,11 +177,12 @@ fn run_both<R: Files + Print + AllocGlobal>(rt: &R, showing: &Showing, telling: 
     }
 }
 
-// Does a task other than that of serving clients.
+// Does a task other than that of serving clients, its lines in colour or not.
 fn run_task<R: Files + Net + Clock + Input + Print + Eprint + AllocGlobal>(
     rt: &R,
     task: Task,
     telling: Telling,
+    color: bool,
 ) -> Ended
     requires { IsTask task }
 {
@@ -168,13 +196,13 @@ fn run_task<R: Files + Net + Clock + Input + Print + Eprint + AllocGlobal>(
         Err((failure, reason)) => return failed(telling, failure, reason),
     };
     if let Some(file) = file {
-        return run_over(rt, task, telling, file, Direct);
+        return run_over(rt, task, telling, color, file, Direct);
     }
     if !task.is_over_tcp() {
-        return run_over(rt, task, telling, rt.reader(), Direct);
+        return run_over(rt, task, telling, color, rt.reader(), Direct);
     }
     match connect_to_itself(rt) {
-        Ok(carrier) => run_over(rt, task, telling, rt.reader(), carrier),
+        Ok(carrier) => run_over(rt, task, telling, color, rt.reader(), carrier),
         Err(failure) => failed(telling, failure, Some(Reason::Carrier)),
     }
 }
@@ -184,17 +212,18 @@ fn run_over<R: Files + Clock + Print + Eprint + AllocGlobal, I: Read + Drop, C: 
     rt: &R,
     task: Task,
     telling: Telling,
+    color: bool,
     input: I,
     carrier: C,
 ) -> Ended
     requires { IsTask task }
 {
     if telling.explain || telling.progress {
-        return run_told(rt, task, telling, input, carrier);
+        return run_told(rt, task, telling, color, input, carrier);
     }
     let files = Disk::new(rt);
     let mut source = Over::new(Patient::new(input));
-    let mut sink = Over::new(Patient::new(io::writer(rt)));
+    let mut sink = Colored::new(Over::new(Patient::new(io::writer(rt))), color);
     match do_task(rt.alloc(), task, &files, carrier, &mut source, &mut sink) {
         Ok(()) => plainly(Ok(ExitCode::SUCCESS)),
         Err(failure) => plainly(Err(failure)),
@@ -206,6 +235,7 @@ fn run_told<R: Files + Clock + Print + Eprint + AllocGlobal, I: Read + Drop, C: 
     rt: &R,
     task: Task,
     telling: Telling,
+    color: bool,
     input: I,
     carrier: C,
 ) -> Ended
@@ -218,13 +248,13 @@ fn run_told<R: Files + Clock + Print + Eprint + AllocGlobal, I: Read + Drop, C: 
     let tracked = Tracked::new(alloc, reader, subject.input());
     let mut source = Watched::new(alloc, rt, tracked, subject.input(), telling.progress);
     let writer = Over::new(Patient::new(io::writer(rt)));
-    let mut sink = Tracked::new(alloc, writer, subject.output());
+    let mut sink = Tracked::new(alloc, Colored::new(writer, color), subject.output());
     let Err(failure) = do_task(alloc, task, &files, carrier, &mut source, &mut sink) else {
         return plainly(Ok(ExitCode::SUCCESS));
     };
     let streams = stream_reason(
         source.get_ref().get_ref().last_error(),
-        sink.get_ref().last_error(),
+        sink.get_ref().get_ref().last_error(),
     );
     let place = source.get_ref().place(sink.tracker().place.number);
     let reason = streams
