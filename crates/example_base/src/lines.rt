@@ -8,7 +8,8 @@ use std::alloc::AllocError;
 
 // Appends a value: its bytes, and nothing for a null.
 fn put_value(value: Option<&[u8]>, text: &mut Vec<u8>) -> Result<(), AllocError>
-    ensures { OnOk result (text.new.items ≡ text.old.items ++ value_text (option_copied value.entry)) }
+    ensures { OnOk result (text.new.items
+        ≡ text.old.items ++ value_text (option_copied value.entry)) }
 {
     match value {
         Some(bytes) => text.extend_from_slice(bytes),

@@ -79,8 +79,8 @@ module _ {L : Type 0} (gives takes : L → List ℕ → L → Type 0) (has_ended
   AwaitsCopy old (Err _) new = ⊥
 
   -- What `next` does where at most so many pieces are received. Where a settled group waits, that
-  -- is given, and nothing of the link is touched; where none does, and the server awaits the data of
-  -- a copy, that is answered; and else the client is driven.
+  -- is given, and nothing of the link is touched; where none does, and the server awaits the data
+  -- of a copy, that is answered; and else the client is driven.
   abbrev pub GivesGroup : ℕ → Connection L → Result GroupEvent SessionFault → Connection L
       → Type 0
   GivesGroup most old result new =

@@ -4,7 +4,8 @@ ghost use Rattle.std.specs.Prelude.{◌≡◌, IfErr, OnErr, OnOk};
 ghost use Rattle.pg_client.specs.declared.call.Call.TheVariants as call;
 ghost use Rattle.pg_client.specs.Calls.{RefusesUnless};
 ghost use Rattle.pg_drive.specs.Drive.{Drives, IsLost, connected};
-ghost use Rattle.pg_drive.specs.Group.{AwaitsCopy, GivesGroup, GroupBegins, GroupStarts, GroupTells, group_start_told};
+ghost use Rattle.pg_drive.specs.Group.{AwaitsCopy, GivesGroup, GroupBegins};
+ghost use Rattle.pg_drive.specs.Group.{GroupStarts, GroupTells, group_start_told};
 ghost use Rattle.pg_drive.specs.Session.{Tells, TellsCame, TellsFault};
 
 use crate::answer::{DriveFault, Driven};

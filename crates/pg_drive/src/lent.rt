@@ -3,7 +3,8 @@
 ghost use Rattle.std.specs.Prelude.{◌≡◌, [], length};
 ghost use Rattle.pg_drive.specs.Drive.{connected, longest_piece};
 ghost use Rattle.pg_drive.specs.Lent.{GivesLent, Hears, IsLentLost};
-ghost use Rattle.pg_drive.specs.Private.LentTurning.{TakesLentTurn, TakesPiece, TellsNext, WaitsOn, event_of};
+ghost use Rattle.pg_drive.specs.Private.LentTurning.{TakesLentTurn, TakesPiece, TellsNext, WaitsOn};
+ghost use Rattle.pg_drive.specs.Private.LentTurning.{event_of};
 
 use crate::event::{Event, SessionFault};
 use crate::receiving::PIECE;

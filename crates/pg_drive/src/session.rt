@@ -9,7 +9,8 @@ ghost use Rattle.pg_client.specs.Early.{EarlyAccepts, IsEarlyHistoryOf, StandsFo
 ghost use Rattle.pg_client.specs.EarlyLent.{ComesBefore};
 ghost use Rattle.pg_client.specs.History.{blank};
 ghost use Rattle.pg_drive.specs.Drive.{connected};
-ghost use Rattle.pg_drive.specs.Lent.{Gives, GivesLent, Hears, IsLentLost, Owns, Starts, Terminates};
+ghost use Rattle.pg_drive.specs.Lent.{Gives, GivesLent, Hears, IsLentLost};
+ghost use Rattle.pg_drive.specs.Lent.{Owns, Starts, Terminates};
 
 use crate::event::{Event, SessionFault};
 use crate::lent::{hear, lose, next_event};

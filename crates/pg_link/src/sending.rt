@@ -17,7 +17,8 @@ pub fn send_all<K: Sink>(bytes: &[u8], sink: &mut K) -> Result<(), LinkFault>
 /// Sends all that stands in a buffer. What was sent is taken off its front, also where a call of the sink fails: then some bytes are left,
 /// which may be sent later.
 pub fn send_out<K: Sink>(out: &mut Vec<u8>, sink: &mut K) -> Result<(), LinkFault>
-    ensures sends { SendsOut K.takes K.failures sink.old out.old.items result sink.new out.new.items }
+    ensures sends { SendsOut K.takes K.failures sink.old out.old.items result sink.new
+        out.new.items }
     ensures counted { Counts (K.failures sink.old) result (K.failures sink.new) }
 {
     let (sent, result) = send_front(out.as_slice(), sink);

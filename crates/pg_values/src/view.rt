@@ -1,6 +1,7 @@
 //! The bodies of rows, errors and notices, read in place: nothing of them is copied, and no memory is asked for.
 
-ghost use Rattle.std.specs.Prelude.{◌≡◌, Some, is_some, option_copied, option_map, slice_get, IsSome};
+ghost use Rattle.std.specs.Prelude.{◌≡◌, Some};
+ghost use Rattle.std.specs.Prelude.{is_some, option_copied, option_map, slice_get, IsSome};
 ghost use Rattle.std.specs.Iterator.{YieldsFirstBy, item_count};
 ghost use Rattle.pg_layout.specs.Private.Lent.{lent_field};
 ghost use Rattle.pg_values.specs.Fields.{field_text, code_text, severity_text, message_text};

@@ -10,7 +10,7 @@ use pgpipe_color::Colored;
 use pgpipe_places::Tracked;
 use pgpipe_show::{Form, Line};
 use pgpipe_words::{
-    Asked, Disk, Failure, Listening, NotedDisk, Reason, Serving, Showing, Subject, Task, Telling,
+    Asked, Disk, Failure, Listening, NotedDisk, Reason, ServeTask, Showing, Subject, Task, Telling,
     Watched, asked_of, connect_to_itself, do_both, do_task, exit_code, explain, file_failure,
     file_reason, serve_file, stream_reason, task_reason, words_failure,
 };
@@ -266,7 +266,7 @@ fn run_told<R: Files + Clock + Print + Eprint + AllocGlobal, I: Read + Drop, C: 
 // Serves clients on a port.
 fn serve<R: Files + Net + Print + AllocGlobal>(
     rt: &R,
-    serving: &Serving,
+    serving: &ServeTask,
     telling: Telling,
 ) -> Ended {
     let alloc = rt.alloc();

@@ -2,32 +2,32 @@
 use Rattle.std.proofs.Common.{◌≡◌, ℕ, zero, suc, eqb, Bool, true, false, List, [], ◌∷◌, ◌++◌, length, get_or, Option, Some, None, refl, sym, ap, subst, ◌∙◌, append_assoc, append-nil}
 use Rattle.std.specs.Prelude.{unwrap_or}
 use Rattle.std.proofs.lemmas.Grind.{flat_map-append}
-use Rattle.pgpipe_frames.specs.declared.judge.Judged.{Judged}
-use Rattle.pgpipe_frames.specs.declared.judge.Judged.TheVariants as judge
-use Rattle.pgpipe_frames.specs.declared.next.Next.{Next}
-use Rattle.pgpipe_frames.specs.declared.next.Next.TheVariants as next
+use Rattle.pgpipe_frames.specs.declared.judge.FrameJudgement.{FrameJudgement}
+use Rattle.pgpipe_frames.specs.declared.judge.FrameJudgement.TheVariants as judge
+use Rattle.pgpipe_frames.specs.declared.next.NextFrame.{NextFrame}
+use Rattle.pgpipe_frames.specs.declared.next.NextFrame.TheVariants as next
 use Rattle.pgpipe_frames.specs.Frames.{judged}
 use Rattle.pgpipe_both.specs.declared.turn.Due.TheVariants as whose
 use Rattle.pgpipe_both.specs.declared.turn.Encryption.{Encryption}
 use Rattle.pgpipe_both.specs.declared.turn.Ended.{Ended}
 use Rattle.pgpipe_both.specs.declared.turn.Ended.TheVariants as ending
-use Rattle.pgpipe_both.specs.declared.turn.Ends.{Ends}
+use Rattle.pgpipe_both.specs.declared.turn.BothEnds.{BothEnds}
 use Rattle.pgpipe_both.specs.declared.turn.Stage.{Stage}
 use Rattle.pgpipe_both.specs.declared.turn.Stage.TheVariants.{Opening, Requested, Talking}
 use Rattle.pgpipe_both.specs.declared.turn.Turn.{Turn}
-use Rattle.pgpipe_both.specs.Entries.{Entry, Message, End, Reply, AreEntryLines, AreInTurn, HasEnded, IsAt, IsDue, IsEntryLine, after, begins_reply, bytes_at, bytes_of, end_at, end_by, kind_at, next_for, said, side_of, spelling}
+use Rattle.pgpipe_both.specs.Entries.{Entry, Message, End, Reply, AreEntryLines, AreInTurn, HasEnded, IsAt, IsDue, IsEntryLine, begins_reply, bytes_at, bytes_of, end_at, end_by, kind_at, next_for, said, side_of, spelling, turn_after}
 use Rattle.pgpipe_both.specs.Turn.{after_reply, due, due_of, is_reply, opening_sent, stage_sent}
 use Rattle.pgpipe_both.specs.Private.Telling.{IsAlone, IsEnding, IsSourceAtEnd, IsUntouched, kind_after, left_after, unread}
 
 -- ---- one entry more
 
-pub in_turn_more : (turn : Turn) (n : Next) (xs : List Entry) (turn' : Turn) (n' : Next) (x : Entry) → AreInTurn turn n xs turn' n' → IsDue (due turn') x → IsAt (kind_at (side_of x) n') x → AreInTurn turn n (xs ++ x ∷ []) (after turn' x) (next_for n' x)
+pub in_turn_more : (turn : Turn) (n : NextFrame) (xs : List Entry) (turn' : Turn) (n' : NextFrame) (x : Entry) → AreInTurn turn n xs turn' n' → IsDue (due turn') x → IsAt (kind_at (side_of x) n') x → AreInTurn turn n (xs ++ x ∷ []) (turn_after turn' x) (next_for n' x)
 in_turn_more turn n [] turn' n' x a d k = (
   subst (λ (t : Turn). IsDue (due t) x) (sym a.0) d,
-  subst (λ (m : Next). IsAt (kind_at (side_of x) m) x) (sym a.1) k,
-  (ap (λ (t : Turn). after t x) a.0, ap (λ (m : Next). next_for m x) a.1),
+  subst (λ (m : NextFrame). IsAt (kind_at (side_of x) m) x) (sym a.1) k,
+  (ap (λ (t : Turn). turn_after t x) a.0, ap (λ (m : NextFrame). next_for m x) a.1),
 )
-in_turn_more turn n (y ∷ ys) turn' n' x a d k = (a.0, a.1, in_turn_more (after turn y) (next_for n y) ys turn' n' x a.2 d k)
+in_turn_more turn n (y ∷ ys) turn' n' x a d k = (a.0, a.1, in_turn_more (turn_after turn y) (next_for n y) ys turn' n' x a.2 d k)
 
 pub lines_more : (xs : List Entry) (x : Entry) (text line : List ℕ) → AreEntryLines xs text → IsEntryLine x line → AreEntryLines (xs ++ x ∷ []) (text ++ line)
 lines_more [] x text line a l = (line, [], l, refl, ap (λ (t : List ℕ). t ++ line) a ∙ sym (append-nil line))
@@ -96,11 +96,11 @@ requested (Talking t) None (Some how) r kept e u = absurd cc
 requested (Talking t) (Some how') (Some how) r kept e u = absurd cc
 
 -- nobody has the turn once both have ended
-pub both_ended : (stage : Stage) (front back : Option Ended) (ends : Ends) → due_of stage front back ≡ whose.Nobody ends → (front ≡ Some ends.front) × (back ≡ Some ends.back)
+pub both_ended : (stage : Stage) (front back : Option Ended) (ends : BothEnds) → due_of stage front back ≡ whose.Nobody ends → (front ≡ Some ends.front) × (back ≡ Some ends.back)
 both_ended stage (Some how) (Some how') ends e =
-    let made : Ends = record { front = how; back = how' } in
+    let made : BothEnds = record { front = how; back = how' } in
     let same : made ≡ ends = cc in
-    (ap (λ (x : Ends). Some x.front) same, ap (λ (x : Ends). Some x.back) same)
+    (ap (λ (x : BothEnds). Some x.front) same, ap (λ (x : BothEnds). Some x.back) same)
 both_ended stage None (Some how) ends e = absurd cc
 both_ended Opening (Some how) None ends e = absurd cc
 both_ended (Requested r) (Some how) None ends e = absurd cc
@@ -112,19 +112,19 @@ both_ended (Talking t) None None ends e = absurd cc
 -- ---- the turn after an entry
 
 -- an end is never that of a stream which goes on encrypted
-not_encrypted : (j : Judged) (size : ℕ) → ending.Encrypted ≡ end_by j size → ⊥
+not_encrypted : (j : FrameJudgement) (size : ℕ) → ending.Encrypted ≡ end_by j size → ⊥
 not_encrypted (judge.Faulty f) size e = cc
 not_encrypted judge.Open zero e = cc
 not_encrypted judge.Open (suc size) e = cc
 not_encrypted (judge.Whole k) zero e = cc
 not_encrypted (judge.Whole k) (suc size) e = cc
 
-never_encrypted : (n : Next) (rest : List ℕ) → ending.Encrypted ≡ end_at n rest → ⊥
+never_encrypted : (n : NextFrame) (rest : List ℕ) → ending.Encrypted ≡ end_at n rest → ⊥
 never_encrypted next.Packet rest e = not_encrypted (judged next.Packet rest) (length rest) e
 never_encrypted next.Message rest e = not_encrypted (judged next.Message rest) (length rest) e
 never_encrypted next.Nothing rest e = cc
 
-end_left : (how : Ended) (n : Next) (rest kept : List ℕ) → HasEnded n rest how → unread (Some how) kept ≡ []
+end_left : (how : Ended) (n : NextFrame) (rest kept : List ℕ) → HasEnded n rest how → unread (Some how) kept ≡ []
 end_left ending.Whole n rest kept h = refl
 end_left (ending.Rest size) n rest kept h = refl
 end_left (ending.Fault f) n rest kept h = refl
@@ -132,7 +132,7 @@ end_left ending.Canceled n rest kept h = refl
 end_left ending.Encrypted n rest kept h = absurd (never_encrypted n rest h.0)
 
 -- what is kept of the client's stream after an entry of it
-pub front_left : (turn : Turn) (x : Entry) (kind : Next) (kept : List ℕ) → turn.front ≡ None → side_of x ≡ true → IsAt kind x → unread (after turn x).front kept ≡ left_after x kept
+pub front_left : (turn : Turn) (x : Entry) (kind : NextFrame) (kept : List ℕ) → turn.front ≡ None → side_of x ≡ true → IsAt kind x → unread (turn_after turn x).front kept ≡ left_after x kept
 front_left turn (Message true f) kind kept free is at = ap (λ (o : Option Ended). unread o kept) free
 front_left turn (Message false f) kind kept free is at = absurd cc
 front_left turn (End true how rest) kind kept free is at = end_left how kind rest kept at
@@ -144,7 +144,7 @@ reply_left true turn kept free = ap (λ (o : Option Ended). unread o kept) free
 reply_left false turn kept free = refl
 
 -- and of the server's after one of that
-pub back_left : (turn : Turn) (x : Entry) (kind : Next) (kept : List ℕ) → turn.back ≡ None → side_of x ≡ false → IsAt kind x → unread (after turn x).back kept ≡ left_after x kept
+pub back_left : (turn : Turn) (x : Entry) (kind : NextFrame) (kept : List ℕ) → turn.back ≡ None → side_of x ≡ false → IsAt kind x → unread (turn_after turn x).back kept ≡ left_after x kept
 back_left turn (Message false f) kind kept free is at = ap (λ (o : Option Ended). unread o kept) free
 back_left turn (Message true f) kind kept free is at = absurd cc
 back_left turn (End false how rest) kind kept free is at = end_left how kind rest kept at
@@ -152,7 +152,7 @@ back_left turn (End true how rest) kind kept free is at = absurd cc
 back_left turn (Reply b) kind kept free is at = reply_left (eqb b 78) turn kept free
 
 -- the server's stream plays no part in an entry of the client
-pub back_stays : (turn : Turn) (x : Entry) → side_of x ≡ true → (after turn x).back ≡ turn.back
+pub back_stays : (turn : Turn) (x : Entry) → side_of x ≡ true → (turn_after turn x).back ≡ turn.back
 back_stays turn (Message true f) is = refl
 back_stays turn (Message false f) is = absurd cc
 back_stays turn (End true how rest) is = refl
@@ -168,7 +168,7 @@ reply_stays true turn kept = refl
 reply_stays false turn kept = kept_or turn.front kept
 
 -- nor the client's in one of the server
-pub front_stays : (turn : Turn) (x : Entry) (kept : List ℕ) → side_of x ≡ false → unread (after turn x).front kept ≡ unread turn.front kept
+pub front_stays : (turn : Turn) (x : Entry) (kept : List ℕ) → side_of x ≡ false → unread (turn_after turn x).front kept ≡ unread turn.front kept
 front_stays turn (Message false f) kept is = refl
 front_stays turn (Message true f) kept is = absurd cc
 front_stays turn (End false how rest) kept is = refl
@@ -177,7 +177,7 @@ front_stays turn (Reply b) kept is = reply_stays (eqb b 78) turn kept
 
 -- ---- the sources
 
-pub front_ends : (at_end : Type 0) (turn : Turn) (x : Entry) → turn.front ≡ None → side_of x ≡ true → IsEnding at_end x → IsSourceAtEnd at_end (after turn x).front
+pub front_ends : (at_end : Type 0) (turn : Turn) (x : Entry) → turn.front ≡ None → side_of x ≡ true → IsEnding at_end x → IsSourceAtEnd at_end (turn_after turn x).front
 front_ends at_end turn (Message true f) free is e = subst (λ (o : Option Ended). IsSourceAtEnd at_end o) (sym free) tt
 front_ends at_end turn (Message false f) free is e = absurd cc
 front_ends at_end turn (End true how rest) free is e = e
@@ -188,7 +188,7 @@ reply_ends : (at_end : Type 0) (refused : Bool) (turn : Turn) → turn.back ≡ 
 reply_ends at_end true turn free = subst (λ (o : Option Ended). IsSourceAtEnd at_end o) (sym free) tt
 reply_ends at_end false turn free = tt
 
-pub back_ends : (at_end : Type 0) (turn : Turn) (x : Entry) → turn.back ≡ None → side_of x ≡ false → IsEnding at_end x → IsSourceAtEnd at_end (after turn x).back
+pub back_ends : (at_end : Type 0) (turn : Turn) (x : Entry) → turn.back ≡ None → side_of x ≡ false → IsEnding at_end x → IsSourceAtEnd at_end (turn_after turn x).back
 back_ends at_end turn (Message false f) free is e = subst (λ (o : Option Ended). IsSourceAtEnd at_end o) (sym free) tt
 back_ends at_end turn (Message true f) free is e = absurd cc
 back_ends at_end turn (End false how rest) free is e = e
@@ -203,7 +203,7 @@ reply_keeps : (at_end : Type 0) (refused : Bool) (turn : Turn) → IsSourceAtEnd
 reply_keeps at_end true turn e = e
 reply_keeps at_end false turn e = ends_or at_end turn.front e
 
-pub front_keeps : (at_end : Type 0) (turn : Turn) (x : Entry) → side_of x ≡ false → IsSourceAtEnd at_end turn.front → IsSourceAtEnd at_end (after turn x).front
+pub front_keeps : (at_end : Type 0) (turn : Turn) (x : Entry) → side_of x ≡ false → IsSourceAtEnd at_end turn.front → IsSourceAtEnd at_end (turn_after turn x).front
 front_keeps at_end turn (Message false f) is e = e
 front_keeps at_end turn (Message true f) is e = absurd cc
 front_keeps at_end turn (End false how rest) is e = e
@@ -217,12 +217,12 @@ untouched_any Opening kept e = e
 untouched_any (Requested r) kept e = e
 untouched_any (Talking t) kept e = tt
 
-untouched_sent : (stage : Stage) (kind : Next) (bytes kept : List ℕ) → IsUntouched stage kept → IsUntouched (stage_sent stage kind bytes) kept
+untouched_sent : (stage : Stage) (kind : NextFrame) (bytes kept : List ℕ) → IsUntouched stage kept → IsUntouched (stage_sent stage kind bytes) kept
 untouched_sent Opening kind bytes kept u = untouched_any (opening_sent kind bytes) kept u
 untouched_sent (Requested r) kind bytes kept u = untouched_any (opening_sent kind bytes) kept u
 untouched_sent (Talking t) kind bytes kept u = tt
 
-pub front_untouched : (turn : Turn) (x : Entry) (kept : List ℕ) → side_of x ≡ true → IsUntouched turn.stage kept → IsUntouched (after turn x).stage kept
+pub front_untouched : (turn : Turn) (x : Entry) (kept : List ℕ) → side_of x ≡ true → IsUntouched turn.stage kept → IsUntouched (turn_after turn x).stage kept
 front_untouched turn (Message true f) kept is u = untouched_sent turn.stage f.kind f.bytes kept u
 front_untouched turn (Message false f) kept is u = absurd cc
 front_untouched turn (End true how rest) kept is u = u
@@ -233,7 +233,7 @@ reply_untouched : (refused : Bool) (turn : Turn) (kept : List ℕ) → kept ≡ 
 reply_untouched true turn kept e = e
 reply_untouched false turn kept e = e
 
-pub back_untouched : (turn : Turn) (x : Entry) (kept : List ℕ) → side_of x ≡ false → IsAlone x kept → IsUntouched (after turn x).stage kept
+pub back_untouched : (turn : Turn) (x : Entry) (kept : List ℕ) → side_of x ≡ false → IsAlone x kept → IsUntouched (turn_after turn x).stage kept
 back_untouched turn (Message false f) kept is a = tt
 back_untouched turn (Message true f) kept is a = absurd cc
 back_untouched turn (End false how rest) kept is a = tt
@@ -242,21 +242,21 @@ back_untouched turn (Reply b) kept is a = reply_untouched (eqb b 78) turn kept a
 
 -- ---- what is next in the client's stream
 
-pub front_next : (n : Next) (x : Entry) → side_of x ≡ true → kind_after n x ≡ next_for n x
+pub front_next : (n : NextFrame) (x : Entry) → side_of x ≡ true → kind_after n x ≡ next_for n x
 front_next n (Message true f) is = refl
 front_next n (Message false f) is = absurd cc
 front_next n (End front how rest) is = refl
 front_next n (Reply b) is = refl
 
-pub back_next : (n : Next) (x : Entry) → side_of x ≡ false → n ≡ next_for n x
+pub back_next : (n : NextFrame) (x : Entry) → side_of x ≡ false → n ≡ next_for n x
 back_next n (Message false f) is = refl
 back_next n (Message true f) is = absurd cc
 back_next n (End front how rest) is = refl
 back_next n (Reply b) is = refl
 
 -- a message follows each message of the server
-pub message_next : (kind : Next) (x : Entry) → kind ≡ next.Message → kind_after kind x ≡ next.Message
-message_next kind x is = subst (λ (k : Next). kind_after k x ≡ next.Message) (sym is) (by_entry x)
+pub message_next : (kind : NextFrame) (x : Entry) → kind ≡ next.Message → kind_after kind x ≡ next.Message
+message_next kind x is = subst (λ (k : NextFrame). kind_after k x ≡ next.Message) (sym is) (by_entry x)
   where
     by_entry : (y : Entry) → kind_after next.Message y ≡ next.Message
     by_entry (Message front f) = refl
@@ -264,11 +264,11 @@ message_next kind x is = subst (λ (k : Next). kind_after k x ≡ next.Message) 
     by_entry (Reply b) = refl
 
 -- an entry is at its place, whose side is known
-pub front_at : (n : Next) (x : Entry) → side_of x ≡ true → IsAt n x → IsAt (kind_at (side_of x) n) x
+pub front_at : (n : NextFrame) (x : Entry) → side_of x ≡ true → IsAt n x → IsAt (kind_at (side_of x) n) x
 front_at n x is at = subst (λ (s : Bool). IsAt (kind_at s n) x) (sym is) at
 
-pub back_at : (n kind : Next) (x : Entry) → side_of x ≡ false → kind ≡ next.Message → IsAt kind x → IsAt (kind_at (side_of x) n) x
-back_at n kind x is k at = subst (λ (s : Bool). IsAt (kind_at s n) x) (sym is) (subst (λ (m : Next). IsAt m x) k at)
+pub back_at : (n kind : NextFrame) (x : Entry) → side_of x ≡ false → kind ≡ next.Message → IsAt kind x → IsAt (kind_at (side_of x) n) x
+back_at n kind x is k at = subst (λ (s : Bool). IsAt (kind_at s n) x) (sym is) (subst (λ (m : NextFrame). IsAt m x) k at)
 
 -- ---- what doesn't begin with an answer to a request for encryption
 

@@ -8,10 +8,10 @@ use Rattle.pgpipe_base.specs.declared.stop.Stop.{Stop}
 use Rattle.pgpipe_base.specs.declared.stop.Stop.TheVariants as stop
 use Rattle.pgpipe_base.specs.Receiving.{most_receives}
 use Rattle.pgpipe_base.proofs.Pieces.{joined, one_more}
-use Rattle.pgpipe_frames.specs.declared.judge.Judged.{Judged}
-use Rattle.pgpipe_frames.specs.declared.judge.Judged.TheVariants as judge
-use Rattle.pgpipe_frames.specs.declared.next.Next.{Next}
-use Rattle.pgpipe_frames.specs.declared.next.Next.TheVariants as next
+use Rattle.pgpipe_frames.specs.declared.judge.FrameJudgement.{FrameJudgement}
+use Rattle.pgpipe_frames.specs.declared.judge.FrameJudgement.TheVariants as judge
+use Rattle.pgpipe_frames.specs.declared.next.NextFrame.{NextFrame}
+use Rattle.pgpipe_frames.specs.declared.next.NextFrame.TheVariants as next
 use Rattle.pgpipe_frames.specs.Frames.{judged, next_after}
 use Rattle.pgpipe_frames.specs.Reader.{FramesState, answer_of, left_by}
 use Rattle.pgpipe_frames.proofs.Judging.{frame_alone, was_open, was_whole, was_faulty}
@@ -19,34 +19,34 @@ use Rattle.pgpipe_both.specs.declared.reader.Look.{Look}
 use Rattle.pgpipe_both.specs.declared.reader.Look.TheVariants as look
 use Rattle.pgpipe_both.specs.declared.turn.Ended.{Ended}
 use Rattle.pgpipe_both.specs.declared.turn.Ended.TheVariants as ending
-use Rattle.pgpipe_both.specs.declared.turn.Ends.{Ends}
+use Rattle.pgpipe_both.specs.declared.turn.BothEnds.{BothEnds}
 use Rattle.pgpipe_both.specs.Both.{EndsSource}
 use Rattle.pgpipe_both.specs.Entries.{end_by, end_at, HasEnded}
 use Rattle.pgpipe_both.specs.Private.Telling.{Fetches, Looks, Received, look_on}
 
 -- ---- how a stream ends
 
-fault_end : (n : Next) (rest : List ℕ) (f : WireFault) → judged n rest ≡ judge.Faulty f → ending.Fault f ≡ end_at n rest
-fault_end next.Packet rest f e = ap (λ (j : Judged). end_by j (length rest)) (sym e)
-fault_end next.Message rest f e = ap (λ (j : Judged). end_by j (length rest)) (sym e)
+fault_end : (n : NextFrame) (rest : List ℕ) (f : WireFault) → judged n rest ≡ judge.Faulty f → ending.Fault f ≡ end_at n rest
+fault_end next.Packet rest f e = ap (λ (j : FrameJudgement). end_by j (length rest)) (sym e)
+fault_end next.Message rest f e = ap (λ (j : FrameJudgement). end_by j (length rest)) (sym e)
 fault_end next.Nothing rest f e = absurd cc
 
-open_end : (n : Next) (rest : List ℕ) → judged n rest ≡ judge.Open → (n ≡ next.Nothing → ⊥) → end_by judge.Open (length rest) ≡ end_at n rest
-open_end next.Packet rest e some = ap (λ (j : Judged). end_by j (length rest)) (sym e)
-open_end next.Message rest e some = ap (λ (j : Judged). end_by j (length rest)) (sym e)
+open_end : (n : NextFrame) (rest : List ℕ) → judged n rest ≡ judge.Open → (n ≡ next.Nothing → ⊥) → end_by judge.Open (length rest) ≡ end_at n rest
+open_end next.Packet rest e some = ap (λ (j : FrameJudgement). end_by j (length rest)) (sym e)
+open_end next.Message rest e some = ap (λ (j : FrameJudgement). end_by j (length rest)) (sym e)
 open_end next.Nothing rest e some = absurd (some refl)
 
-pub rest_ended : (n : Next) (rest : List ℕ) → judged n rest ≡ judge.Open → (n ≡ next.Nothing → ⊥) → HasEnded n rest (end_by judge.Open (length rest))
+pub rest_ended : (n : NextFrame) (rest : List ℕ) → judged n rest ≡ judge.Open → (n ≡ next.Nothing → ⊥) → HasEnded n rest (end_by judge.Open (length rest))
 rest_ended n rest e some = (open_end n rest e some, λ size whole. cc)
 
-pub nothing_ended : (n : Next) → n ≡ next.Message → HasEnded n [] ending.Whole
-nothing_ended n e = subst (λ (m : Next). HasEnded m [] ending.Whole) (sym e) (refl, λ size whole. cc)
+pub nothing_ended : (n : NextFrame) → n ≡ next.Message → HasEnded n [] ending.Whole
+nothing_ended n e = subst (λ (m : NextFrame). HasEnded m [] ending.Whole) (sym e) (refl, λ size whole. cc)
 
-fault_ended : (n : Next) (rest : List ℕ) (f : WireFault) → judged n rest ≡ judge.Faulty f → HasEnded n rest (ending.Fault f)
+fault_ended : (n : NextFrame) (rest : List ℕ) (f : WireFault) → judged n rest ≡ judge.Faulty f → HasEnded n rest (ending.Fault f)
 fault_ended n rest f e = (fault_end n rest f e, λ size whole. cc)
 
-canceled : (n : Next) (rest : List ℕ) → n ≡ next.Nothing → judged n rest ≡ judge.Open → HasEnded n rest ending.Canceled
-canceled n rest e opened = (subst (λ (m : Next). ending.Canceled ≡ end_at m rest) (sym e) refl, λ size whole. cc)
+canceled : (n : NextFrame) (rest : List ℕ) → n ≡ next.Nothing → judged n rest ≡ judge.Open → HasEnded n rest ending.Canceled
+canceled n rest e opened = (subst (λ (m : NextFrame). ending.Canceled ≡ end_at m rest) (sym e) refl, λ size whole. cc)
 
 -- the source has ended
 source_ended : (at_end : Type 0) (size : ℕ) → at_end → EndsSource at_end (end_by judge.Open size)
@@ -74,12 +74,12 @@ module _ (old new : FramesState) (left : new ≡ left_by old (judged old.next ol
   abbrev lent_none : FramesState
   lent_none = record old { held = [] }
 
-  look_next : judged old.next old.kept ≡ judge.Open → (n : Next) → old.next ≡ n → Looks old (look_on n) lent_none
+  look_next : judged old.next old.kept ≡ judge.Open → (n : NextFrame) → old.next ≡ n → Looks old (look_on n) lent_none
   look_next opened next.Packet e = (opened, λ z. cc, refl, refl)
   look_next opened next.Message e = (opened, λ z. cc, refl, refl)
   look_next opened next.Nothing e = (canceled old.next old.kept e opened, tt, refl, refl)
 
-  pub look_more : Ok false ≡ answer_of (judged old.next old.kept) → (n : Next) → n ≡ new.next → (l : Look) → l ≡ look_on n → Looks old l new
+  pub look_more : Ok false ≡ answer_of (judged old.next old.kept) → (n : NextFrame) → n ≡ new.next → (l : Look) → l ≡ look_on n → Looks old l new
   look_more e n is_next l is =
       let opened = was_open (judged old.next old.kept) e in
       let same : new ≡ lent_none = left ∙ ap (left_by old) opened in
@@ -114,8 +114,8 @@ module _ {S : Type 0} (gives : S → List ℕ → S → Type 0) (failures : S �
       f.received,
       (
         sym f.kept_is ∙ l.0,
-        subst (λ (n : Next). judged n new.held ≡ judge.Whole (length new.held)) f.next_is l.1,
-        l.2 ∙ ap (λ (n : Next). next_after n new.held) f.next_is,
+        subst (λ (n : NextFrame). judged n new.held ≡ judge.Whole (length new.held)) f.next_is l.1,
+        l.2 ∙ ap (λ (n : NextFrame). next_after n new.held) f.next_is,
         f.sound,
       ),
     )
@@ -123,7 +123,7 @@ module _ {S : Type 0} (gives : S → List ℕ → S → Type 0) (failures : S �
     pub fetch_over : (how : Ended) (new : FramesState) → Looks now (look.Over how) new → Fetches gives failures has_ended old source (Ok (Some how)) new source'
     fetch_over how new l =
         let kept : old.kept ++ concat f.pieces ≡ new.kept = sym f.kept_is ∙ sym l.3 in
-        let here : HasEnded old.next new.kept how = subst (λ (n : Next). HasEnded n new.kept how) f.next_is (subst (λ (b : List ℕ). HasEnded now.next b how) (sym l.3) l.0) in
+        let here : HasEnded old.next new.kept how = subst (λ (n : NextFrame). HasEnded n new.kept how) f.next_is (subst (λ (b : List ℕ). HasEnded now.next b how) (sym l.3) l.0) in
         (f.pieces, f.received, (kept, l.2 ∙ f.next_is, here, own_end (has_ended source') how l.1, f.sound))
 
     module _ (mid : FramesState) (l : Looks now look.Open mid) (piece : List ℕ) (new : FramesState) (source'' : S) (p : gives source' piece source'') where
@@ -156,13 +156,13 @@ module _ {S : Type 0} (gives : S → List ℕ → S → Type 0) (failures : S �
       fetch_end how is r =
           let same : new.kept ≡ mid.kept = r.3 in
           let whole : new.kept ≡ mid.kept ++ piece = same ∙ sym (append-nil mid.kept) ∙ ap (λ (b : List ℕ). mid.kept ++ b) (sym r.1) in
-          let opened : judged old.next new.kept ≡ judge.Open = subst (λ (n : Next). judged n new.kept ≡ judge.Open) f.next_is (subst (λ (b : List ℕ). judged now.next b ≡ judge.Open) (sym (same ∙ l.3)) l.0) in
+          let opened : judged old.next new.kept ≡ judge.Open = subst (λ (n : NextFrame). judged n new.kept ≡ judge.Open) f.next_is (subst (λ (b : List ℕ). judged now.next b ≡ judge.Open) (sym (same ∙ l.3)) l.0) in
           let some : old.next ≡ next.Nothing → ⊥ = λ z. l.1 (f.next_is ∙ z) in
           let ended : HasEnded old.next new.kept how = subst (λ (h : Ended). HasEnded old.next new.kept h) (sym is) (rest_ended old.next new.kept opened some) in
           let at_end : EndsSource (has_ended source'') how = subst (λ (h : Ended). EndsSource (has_ended source'') h) (sym is) (source_ended (has_ended source'') (length new.kept) r.0) in
           (pieces', received', (sym (kept' new.kept whole), r.2 ∙ next', ended, at_end, r.4 ∙ f.sound))
 
-      pub fetch_stop : (w : Stop Ends) → Received (has_ended source'') (failures source') (failures source'') mid piece (Err w) new → Fetches gives failures has_ended old source (Err w) new source''
+      pub fetch_stop : (w : Stop BothEnds) → Received (has_ended source'') (failures source') (failures source'') mid piece (Err w) new → Fetches gives failures has_ended old source (Err w) new source''
       fetch_stop stop.SourceFailed r = (pieces', received', subst (λ (k : ℕ). HasRisen k (failures source'')) f.sound r)
       fetch_stop stop.Memory r = (pieces', received', r ∙ f.sound)
       fetch_stop stop.SinkFailed r = absurd r

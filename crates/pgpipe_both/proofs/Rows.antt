@@ -1,13 +1,13 @@
 -- Worked examples of whose turn it is, computed from the definitions alone.
 use Rattle.std.proofs.Common.{◌≡◌, ℕ, true, false, List, [], ◌∷◌, Some, None, refl}
-use Rattle.pgpipe_frames.specs.declared.next.Next.TheVariants as next
+use Rattle.pgpipe_frames.specs.declared.next.NextFrame.TheVariants as next
 use Rattle.pgpipe_both.specs.declared.talk.Talk.TheVariants.{Asking, Filling, Answering}
 use Rattle.pgpipe_both.specs.declared.turn.Due.TheVariants as whose
 use Rattle.pgpipe_both.specs.declared.turn.Encryption.TheVariants.{Ssl}
 use Rattle.pgpipe_both.specs.declared.turn.Ended.TheVariants as ending
 use Rattle.pgpipe_both.specs.declared.turn.Stage.TheVariants.{Opening, Requested, Talking}
 use Rattle.pgpipe_both.specs.Entries.{begins_reply, end_at}
-use Rattle.pgpipe_both.specs.Talk.{asked, filled, told}
+use Rattle.pgpipe_both.specs.Talk.{after_answer, asked, filled}
 use Rattle.pgpipe_both.specs.Turn.{due_of, stage_sent}
 
 -- a ReadyForQuery, and two requests for authentication: AuthenticationOk and one for a password
@@ -42,16 +42,16 @@ rest_is_due = refl
 pub error_is_no_answer : begins_reply Ssl (69 ∷ []) ≡ false
 error_is_no_answer = refl
 
-pub ok_goes_on : told false false false (authentication 0) ≡ Answering false false false
+pub ok_goes_on : after_answer false false false (authentication 0) ≡ Answering false false false
 ok_goes_on = refl
 
-pub password_is_asked_for : told false false false (authentication 3) ≡ Asking false true
+pub password_is_asked_for : after_answer false false false (authentication 3) ≡ Asking false true
 password_is_asked_for = refl
 
 pub password_is_sent : asked false true 112 ≡ Answering false false false
 password_is_sent = refl
 
-pub ready_ends_the_answer : told false false false ready ≡ Asking false false
+pub ready_ends_the_answer : after_answer false false false ready ≡ Asking false false
 ready_ends_the_answer = refl
 
 pub query_is_answered : asked false false 81 ≡ Answering true false false
@@ -60,13 +60,13 @@ query_is_answered = refl
 pub parse_goes_on : asked false false 80 ≡ Asking false false
 parse_goes_on = refl
 
-pub copy_of_a_query : told true false false copy_in ≡ Filling
+pub copy_of_a_query : after_answer true false false copy_in ≡ Filling
 copy_of_a_query = refl
 
-pub copy_of_a_step : told false false false copy_in ≡ Asking false false
+pub copy_of_a_step : after_answer false false false copy_in ≡ Asking false false
 copy_of_a_step = refl
 
-pub copy_that_was_sent : told false true false copy_in ≡ Answering false false false
+pub copy_that_was_sent : after_answer false true false copy_in ≡ Answering false false false
 copy_that_was_sent = refl
 
 pub copy_ends : filled 99 ≡ Answering true false false
@@ -76,7 +76,7 @@ copy_ends = refl
 pub copy_given_up : filled 81 ≡ Answering true false true
 copy_given_up = refl
 
-pub ready_for_the_copy : told true false true ready ≡ Answering true false false
+pub ready_for_the_copy : after_answer true false true ready ≡ Answering true false false
 ready_for_the_copy = refl
 
 pub three_bytes_are_left : end_at next.Message (90 ∷ 0 ∷ 0 ∷ []) ≡ ending.Rest 3

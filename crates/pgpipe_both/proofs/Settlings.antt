@@ -11,10 +11,10 @@ use Rattle.pgpipe_base.specs.Outbox.{Puts}
 use Rattle.pgpipe_base.specs.Receiving.{most_receives}
 use Rattle.pgpipe_base.specs.Stop.{Settles, answer_of}
 use Rattle.pgpipe_base.proofs.Pieces.{puts_then}
-use Rattle.pgpipe_frames.specs.declared.next.Next.TheVariants as next
+use Rattle.pgpipe_frames.specs.declared.next.NextFrame.TheVariants as next
 use Rattle.pgpipe_both.specs.declared.turn.Ended.{Ended}
 use Rattle.pgpipe_both.specs.declared.turn.Ended.TheVariants as ending
-use Rattle.pgpipe_both.specs.declared.turn.Ends.{Ends}
+use Rattle.pgpipe_both.specs.declared.turn.BothEnds.{BothEnds}
 use Rattle.pgpipe_both.specs.Both.{AreAll, AreAllShown, AreShown, HasStopped, ShowsBoth, most_entries}
 use Rattle.pgpipe_both.specs.Entries.{AreEntryLines, said}
 use Rattle.pgpipe_both.specs.Turn.{first_turn}
@@ -37,7 +37,7 @@ sent_all takes kf k0 text c s s' p q =
     (all.pieces, all.calls, sym (append-nil text) ∙ all.sent ∙ append-nil (concat all.pieces), all.counted)
 
 module _ {F B K : Type 0} (fg : F → List ℕ → F → Type 0) (ff : F → ℕ) (fe : F → Type 0) (bg : B → List ℕ → B → Type 0) (bf : B → ℕ) (be : B → Type 0) (takes : K → List ℕ → K → Type 0) (kf : K → ℕ) (f0 : F) (b0 : B) (k0 : K) where
-  abbrev pub Shows : Result Ends ToolFault → F → B → K → Type 0
+  abbrev pub Shows : Result BothEnds ToolFault → F → B → K → Type 0
   Shows r f b s = ShowsBoth fg ff fe bg bf be takes kf f0 b0 k0 r f b s
 
   none_shown : AreShown [] [] []
@@ -74,7 +74,7 @@ module _ {F B K : Type 0} (fg : F → List ℕ → F → Type 0) (ff : F → ℕ
   module _ (f : F) (b : B) (c : List ℕ) (s s' : K) where
     -- ---- all was sent
 
-    answered : (ends : Ends) → Stops fg ff fe bg bf be takes kf f0 b0 k0 (stop.Answer ends) f b c s → Puts {A = Unit {0}} takes kf c s [] (Ok tt) [] s' → Shows (Ok ends) f b s'
+    answered : (ends : BothEnds) → Stops fg ff fe bg bf be takes kf f0 b0 k0 (stop.Answer ends) f b c s → Puts {A = Unit {0}} takes kf c s [] (Ok tt) [] s' → Shows (Ok ends) f b s'
     answered ends h p =
         let st = h.6 in
         let turn = h.1 in
@@ -160,7 +160,7 @@ module _ {F B K : Type 0} (fg : F → List ℕ → F → Type 0) (ff : F → ℕ
     endless h (inr (inl back)) = inl (inr (inr back))
     endless h (inr (inr many)) = inr many
 
-    pub settled : (w : Stop Ends) → Stops fg ff fe bg bf be takes kf f0 b0 k0 w f b c s → Settles takes kf w c s (Ok tt) s' → Shows (answer_of w) f b s'
+    pub settled : (w : Stop BothEnds) → Stops fg ff fe bg bf be takes kf f0 b0 k0 w f b c s → Settles takes kf w c s (Ok tt) s' → Shows (answer_of w) f b s'
     settled (stop.Answer ends) h p = answered ends h p
     settled stop.Memory h p = memory h.0 p h.1 h.2
     settled stop.SourceFailed h p = stopped h.0 p (failed h.1 h.0)
@@ -190,7 +190,7 @@ module _ {F B K : Type 0} (fg : F → List ℕ → F → Type 0) (ff : F → ℕ
         let all = puts_then takes kf [] k0 h.text c s [] (Err x) [] s' h.put p in
         partly (Ok tt) h all.pieces all.calls (all.sent.0, all.sent.1 ∙ append-nil h.text) all.counted
 
-    standing : (ends : Ends) → Stops fg ff fe bg bf be takes kf f0 b0 k0 (stop.Answer ends) f b c s → Halted fg bg takes kf f0 b0 k0 (Ok tt) f b c s
+    standing : (ends : BothEnds) → Stops fg ff fe bg bf be takes kf f0 b0 k0 (stop.Answer ends) f b c s → Halted fg bg takes kf f0 b0 k0 (Ok tt) f b c s
     standing ends h =
         let st = h.6 in
         record {
@@ -205,7 +205,7 @@ module _ {F B K : Type 0} (fg : F → List ℕ → F → Type 0) (ff : F → ℕ
           put = st.put;
         }
 
-    pub unsettled : (w : Stop Ends) → Stops fg ff fe bg bf be takes kf f0 b0 k0 w f b c s → (x : LinkFault) → Settles takes kf w c s (Err x) s' → Shows (Err fault.Device) f b s'
+    pub unsettled : (w : Stop BothEnds) → Stops fg ff fe bg bf be takes kf f0 b0 k0 w f b c s → (x : LinkFault) → Settles takes kf w c s (Err x) s' → Shows (Err fault.Device) f b s'
     unsettled (stop.Answer ends) h x p = late (standing ends h) x p
     unsettled stop.Memory h x p = late h.0 x p
     unsettled stop.SourceFailed h x p = late h.0 x p

@@ -8,16 +8,16 @@ use Rattle.pgpipe_base.specs.declared.stop.Stop.TheVariants as stop
 use Rattle.pgpipe_base.specs.Outbox.{Puts}
 use Rattle.pgpipe_base.specs.Receiving.{most_receives}
 use Rattle.pgpipe_base.proofs.Pieces.{FoldsTo-append, puts_none, puts_then}
-use Rattle.pgpipe_frames.specs.declared.next.Next.{Next}
-use Rattle.pgpipe_frames.specs.declared.next.Next.TheVariants as next
+use Rattle.pgpipe_frames.specs.declared.next.NextFrame.{NextFrame}
+use Rattle.pgpipe_frames.specs.declared.next.NextFrame.TheVariants as next
 use Rattle.pgpipe_both.specs.declared.turn.Due.{Due}
 use Rattle.pgpipe_both.specs.declared.turn.Due.TheVariants as whose
 use Rattle.pgpipe_both.specs.declared.turn.Encryption.{Encryption}
 use Rattle.pgpipe_both.specs.declared.turn.Ended.{Ended}
-use Rattle.pgpipe_both.specs.declared.turn.Ends.{Ends}
+use Rattle.pgpipe_both.specs.declared.turn.BothEnds.{BothEnds}
 use Rattle.pgpipe_both.specs.declared.turn.Turn.{Turn}
 use Rattle.pgpipe_both.specs.Both.{most_entries}
-use Rattle.pgpipe_both.specs.Entries.{Entry, AreInTurn, IsAt, IsDue, after, kind_at, next_for, said, side_of, spelling}
+use Rattle.pgpipe_both.specs.Entries.{Entry, AreInTurn, IsAt, IsDue, kind_at, next_for, said, side_of, spelling, turn_after}
 use Rattle.pgpipe_both.specs.Turn.{due, first_turn}
 use Rattle.pgpipe_both.specs.Private.Telling.{BreaksAt, Halted, HasCome, HasRead, IsEnding, IsSourceAtEnd, IsTold, Stands, StepTells, Stops, Tells, left_after, unread}
 use Rattle.pgpipe_both.proofs.Orders.{in_turn_more, lines_more, said_own, front_same, back_same, side_due, reply_due, front_open, back_open, reply_open, front_left, back_left, back_stays, front_stays, front_ends, back_ends, front_keeps, front_untouched, back_untouched, front_next, back_next, message_next, front_at, back_at}
@@ -78,13 +78,13 @@ many_more xs ys n many = omega (arith, many, length-append xs ys)
 -- ---- both streams
 
 module _ {F B K : Type 0} (fg : F → List ℕ → F → Type 0) (ff : F → ℕ) (fe : F → Type 0) (bg : B → List ℕ → B → Type 0) (bf : B → ℕ) (be : B → Type 0) (takes : K → List ℕ → K → Type 0) (kf : K → ℕ) (f0 : F) (b0 : B) (k0 : K) where
-  abbrev pub At : ℕ → Turn → Next → List ℕ → F → Next → List ℕ → B → List ℕ → K → Type 0
+  abbrev pub At : ℕ → Turn → NextFrame → List ℕ → F → NextFrame → List ℕ → B → List ℕ → K → Type 0
   At count turn fn fk f bn bk b c s = Stands fg ff fe bg bf be takes kf f0 b0 k0 count turn fn fk f bn bk b c s
 
-  abbrev pub Leads : ℕ → Result Turn (Stop Ends) → Next → List ℕ → F → Next → List ℕ → B → List ℕ → K → Type 0
+  abbrev pub Leads : ℕ → Result Turn (Stop BothEnds) → NextFrame → List ℕ → F → NextFrame → List ℕ → B → List ℕ → K → Type 0
   Leads count r fn fk f bn bk b c s = StepTells fg ff fe bg bf be takes kf f0 b0 k0 count r fn fk f bn bk b c s
 
-  abbrev pub Halt : Stop Ends → F → B → List ℕ → K → Type 0
+  abbrev pub Halt : Stop BothEnds → F → B → List ℕ → K → Type 0
   Halt w f b c s = Stops fg ff fe bg bf be takes kf f0 b0 k0 w f b c s
 
   -- nothing was put
@@ -104,7 +104,7 @@ module _ {F B K : Type 0} (fg : F → List ℕ → F → Type 0) (ff : F → ℕ
     put = puts_none takes kf [] k0;
   }
 
-  module _ (count : ℕ) (turn : Turn) (fn : Next) (fk : List ℕ) (f : F) (bn : Next) (bk : List ℕ) (b : B) (c : List ℕ) (s : K) (st : At count turn fn fk f bn bk b c s) where
+  module _ (count : ℕ) (turn : Turn) (fn : NextFrame) (fk : List ℕ) (f : F) (bn : NextFrame) (bk : List ℕ) (b : B) (c : List ℕ) (s : K) (st : At count turn fn fk f bn bk b c s) where
     -- one entry more
     abbrev entries' : Entry → List Entry
     entries' x = st.entries ++ x ∷ []
@@ -112,7 +112,7 @@ module _ {F B K : Type 0} (fg : F → List ℕ → F → Type 0) (ff : F → ℕ
     counted' : (x : Entry) → length (entries' x) ≡ count + 1
     counted' x = length-append st.entries (x ∷ []) ∙ ap (λ (n : ℕ). n + 1) st.counted
 
-    in_turn' : (d : Due) (x : Entry) → due turn ≡ d → IsDue d x → IsAt (kind_at (side_of x) fn) x → AreInTurn first_turn next.Packet (entries' x) (after turn x) (next_for fn x)
+    in_turn' : (d : Due) (x : Entry) → due turn ≡ d → IsDue d x → IsAt (kind_at (side_of x) fn) x → AreInTurn first_turn next.Packet (entries' x) (turn_after turn x) (next_for fn x)
     in_turn' d x e is at = in_turn_more first_turn next.Packet st.entries turn fn x st.in_turn (subst (λ (z : Due). IsDue z x) (sym e) is) at
 
     put' : (text c' : List ℕ) (s' : K) → Puts {A = Unit {0}} takes kf c s text (Ok tt) c' s' → Puts {A = Unit {0}} takes kf [] k0 (st.text ++ text) (Ok tt) c' s'
@@ -139,7 +139,7 @@ module _ {F B K : Type 0} (fg : F → List ℕ → F → Type 0) (ff : F → ℕ
     front_still = come_same fg ff f0 (said true st.entries) turn.front fk f st.front_read (said true st.entries) refl
 
     -- both have ended
-    pub stand_over : (ends : Ends) → due turn ≡ whose.Nobody ends → Halt (stop.Answer ends) f b c s
+    pub stand_over : (ends : BothEnds) → due turn ≡ whose.Nobody ends → Halt (stop.Answer ends) f b c s
     stand_over ends e = (count, turn, fn, fk, bn, bk, st, e)
 
     -- more entries came than are put
@@ -148,7 +148,7 @@ module _ {F B K : Type 0} (fg : F → List ℕ → F → Type 0) (ff : F → ℕ
 
     -- ---- an entry of the client
 
-    module _ (e : due turn ≡ whose.Side true) (fn' : Next) (fk' : List ℕ) (f' : F) (c' : List ℕ) (s' : K) where
+    module _ (e : due turn ≡ whose.Side true) (fn' : NextFrame) (fk' : List ℕ) (f' : F) (c' : List ℕ) (s' : K) where
       front_free : turn.front ≡ None
       front_free = front_open turn.stage turn.front turn.back e
 
@@ -156,12 +156,12 @@ module _ {F B K : Type 0} (fg : F → List ℕ → F → Type 0) (ff : F → ℕ
       front_told pieces r turn' x t ended same =
           let side : side_of x ≡ true = side_due true x t.is_due in
           let n : fn' ≡ next_for fn x = t.kind_is ∙ front_next fn x side in
-          let made : At (count + 1) (after turn x) (next_for fn x) fk' f' bn bk b c' s' = record {
+          let made : At (count + 1) (turn_after turn x) (next_for fn x) fk' f' bn bk b c' s' = record {
             entries = entries' x;
             counted = counted' x;
             in_turn = in_turn' (whose.Side true) x e t.is_due (front_at fn x side t.is_at);
-            front_read = read_on fg ff f0 (said true st.entries) turn.front fk f st.front_read pieces f' (spelling x) (left_after x fk') (after turn x).front fk' (said true (entries' x)) front_free r same t.spelled (front_left turn x fn fk' front_free side t.is_at) (said_own true st.entries x side);
-            back_read = read_same bg bf b0 (said false st.entries) turn.back bk b st.back_read (after turn x).back (said false (entries' x)) (ap (λ (o : Option Ended). unread o bk) (back_stays turn x side)) (back_same st.entries x side);
+            front_read = read_on fg ff f0 (said true st.entries) turn.front fk f st.front_read pieces f' (spelling x) (left_after x fk') (turn_after turn x).front fk' (said true (entries' x)) front_free r same t.spelled (front_left turn x fn fk' front_free side t.is_at) (said_own true st.entries x side);
+            back_read = read_same bg bf b0 (said false st.entries) turn.back bk b st.back_read (turn_after turn x).back (said false (entries' x)) (ap (λ (o : Option Ended). unread o bk) (back_stays turn x side)) (back_same st.entries x side);
             front_end = front_ends (fe f') turn x front_free side ended;
             back_end = subst (λ (o : Option Ended). IsSourceAtEnd (be b) o) (sym (back_stays turn x side)) st.back_end;
             back_is = st.back_is;
@@ -170,7 +170,7 @@ module _ {F B K : Type 0} (fg : F → List ℕ → F → Type 0) (ff : F → ℕ
             lines = lines_more st.entries x st.text t.text st.lines t.line;
             put = put' t.text c' s' t.put;
           } in
-          subst (λ (z : Turn). At (count + 1) z fn' fk' f' bn bk b c' s') (sym t.turn_is) (subst (λ (m : Next). At (count + 1) (after turn x) m fk' f' bn bk b c' s') (sym n) made)
+          subst (λ (z : Turn). At (count + 1) z fn' fk' f' bn bk b c' s') (sym t.turn_is) (subst (λ (m : NextFrame). At (count + 1) (turn_after turn x) m fk' f' bn bk b c' s') (sym n) made)
 
       front_breaks : (pieces : List (List ℕ)) → FoldsTo fg f pieces f' → BreaksAt takes kf (whose.Side true) fn (fk ++ concat pieces) c s c' s' → Halt stop.SinkFailed f' b c' s'
       front_breaks pieces r t =
@@ -179,7 +179,7 @@ module _ {F B K : Type 0} (fg : F → List ℕ → F → Type 0) (ff : F → ℕ
             t.fault,
             record {
               entries = entries' x;
-              turn = after turn x;
+              turn = turn_after turn x;
               last = next_for fn x;
               in_turn = in_turn' (whose.Side true) x e t.is_due (front_at fn x side t.is_at);
               front_came = come_within fg ff f0 (said true st.entries) turn.front fk f st.front_read pieces f' (spelling x) (said true (entries' x)) front_free r t.begins (said_own true st.entries x side);
@@ -198,7 +198,7 @@ module _ {F B K : Type 0} (fg : F → List ℕ → F → Type 0) (ff : F → ℕ
           let here : Halt stop.Endless f' b c s = (halted f' b (come_on fg ff f0 (said true st.entries) turn.front fk f st.front_read pieces f' r) back_still, inl (many_more st.front_read.pieces pieces most_receives many)) in
           subst (λ (z : List ℕ). Halt stop.Endless f' b z s') (sym ce) (subst (λ (z : K). Halt stop.Endless f' b c z) (sym se) here)
 
-      pub step_front : (q : Result Turn (Stop Ends)) → Tells fg ff fe takes kf (whose.Side true) turn fn fk f c s q fn' fk' f' c' s' → Leads count q fn' fk' f' bn bk b c' s'
+      pub step_front : (q : Result Turn (Stop BothEnds)) → Tells fg ff fe takes kf (whose.Side true) turn fn fk f c s q fn' fk' f' c' s' → Leads count q fn' fk' f' bn bk b c' s'
       step_front (Ok turn') t = front_told t.0 t.1 turn' t.2.0 t.2.1 t.2.2 t.2.3
       step_front (Err stop.Memory) t = (front_halts t.0 t.1 t.2.1 t.2.2, t.2.0 ∙ st.front_read.sound, st.back_read.sound)
       step_front (Err stop.SourceFailed) t = (front_halts t.0 t.1 t.2.1 t.2.2, inl (subst (λ (n : ℕ). HasRisen n (ff f')) st.front_read.sound t.2.0))
@@ -208,17 +208,17 @@ module _ {F B K : Type 0} (fg : F → List ℕ → F → Type 0) (ff : F → ℕ
 
     -- ---- an entry of the server
 
-    module _ (d : Due) (e : due turn ≡ d) (back_free : turn.back ≡ None) (servers : (x : Entry) → IsDue d x → side_of x ≡ false) (bn' : Next) (bk' : List ℕ) (b' : B) (c' : List ℕ) (s' : K) where
+    module _ (d : Due) (e : due turn ≡ d) (back_free : turn.back ≡ None) (servers : (x : Entry) → IsDue d x → side_of x ≡ false) (bn' : NextFrame) (bk' : List ℕ) (b' : B) (c' : List ℕ) (s' : K) where
       back_told : (pieces : List (List ℕ)) → FoldsTo bg b pieces b' → (turn' : Turn) (x : Entry) → IsTold takes kf d turn bn (bk ++ concat pieces) c s turn' bn' bk' c' s' x → IsEnding (be b') x → bf b' ≡ bf b → At (count + 1) turn' fn fk f bn' bk' b' c' s'
       back_told pieces r turn' x t ended same =
           let side : side_of x ≡ false = servers x t.is_due in
           let n : fn ≡ next_for fn x = back_next fn x side in
-          let made : At (count + 1) (after turn x) (next_for fn x) fk f bn' bk' b' c' s' = record {
+          let made : At (count + 1) (turn_after turn x) (next_for fn x) fk f bn' bk' b' c' s' = record {
             entries = entries' x;
             counted = counted' x;
             in_turn = in_turn' d x e t.is_due (back_at fn bn x side st.back_is t.is_at);
-            front_read = read_same fg ff f0 (said true st.entries) turn.front fk f st.front_read (after turn x).front (said true (entries' x)) (front_stays turn x fk side) (front_same st.entries x side);
-            back_read = read_on bg bf b0 (said false st.entries) turn.back bk b st.back_read pieces b' (spelling x) (left_after x bk') (after turn x).back bk' (said false (entries' x)) back_free r same t.spelled (back_left turn x bn bk' back_free side t.is_at) (said_own false st.entries x side);
+            front_read = read_same fg ff f0 (said true st.entries) turn.front fk f st.front_read (turn_after turn x).front (said true (entries' x)) (front_stays turn x fk side) (front_same st.entries x side);
+            back_read = read_on bg bf b0 (said false st.entries) turn.back bk b st.back_read pieces b' (spelling x) (left_after x bk') (turn_after turn x).back bk' (said false (entries' x)) back_free r same t.spelled (back_left turn x bn bk' back_free side t.is_at) (said_own false st.entries x side);
             front_end = front_keeps (fe f) turn x side st.front_end;
             back_end = back_ends (be b') turn x back_free side ended;
             back_is = t.kind_is ∙ message_next bn x st.back_is;
@@ -227,7 +227,7 @@ module _ {F B K : Type 0} (fg : F → List ℕ → F → Type 0) (ff : F → ℕ
             lines = lines_more st.entries x st.text t.text st.lines t.line;
             put = put' t.text c' s' t.put;
           } in
-          subst (λ (z : Turn). At (count + 1) z fn fk f bn' bk' b' c' s') (sym t.turn_is) (subst (λ (m : Next). At (count + 1) (after turn x) m fk f bn' bk' b' c' s') (sym n) made)
+          subst (λ (z : Turn). At (count + 1) z fn fk f bn' bk' b' c' s') (sym t.turn_is) (subst (λ (m : NextFrame). At (count + 1) (turn_after turn x) m fk f bn' bk' b' c' s') (sym n) made)
 
       back_breaks : (pieces : List (List ℕ)) → FoldsTo bg b pieces b' → BreaksAt takes kf d bn (bk ++ concat pieces) c s c' s' → Halt stop.SinkFailed f b' c' s'
       back_breaks pieces r t =
@@ -236,7 +236,7 @@ module _ {F B K : Type 0} (fg : F → List ℕ → F → Type 0) (ff : F → ℕ
             t.fault,
             record {
               entries = entries' x;
-              turn = after turn x;
+              turn = turn_after turn x;
               last = next_for fn x;
               in_turn = in_turn' d x e t.is_due (back_at fn bn x side st.back_is t.is_at);
               front_came = come_same fg ff f0 (said true st.entries) turn.front fk f st.front_read (said true (entries' x)) (front_same st.entries x side);
@@ -255,7 +255,7 @@ module _ {F B K : Type 0} (fg : F → List ℕ → F → Type 0) (ff : F → ℕ
           let here : Halt stop.Endless f b' c s = (halted f b' front_still (come_on bg bf b0 (said false st.entries) turn.back bk b st.back_read pieces b' r), inr (inl (many_more st.back_read.pieces pieces most_receives many))) in
           subst (λ (z : List ℕ). Halt stop.Endless f b' z s') (sym ce) (subst (λ (z : K). Halt stop.Endless f b' c z) (sym se) here)
 
-      step_server : (q : Result Turn (Stop Ends)) → Tells bg bf be takes kf d turn bn bk b c s q bn' bk' b' c' s' → Leads count q fn fk f bn' bk' b' c' s'
+      step_server : (q : Result Turn (Stop BothEnds)) → Tells bg bf be takes kf d turn bn bk b c s q bn' bk' b' c' s' → Leads count q fn fk f bn' bk' b' c' s'
       step_server (Ok turn') t = back_told t.0 t.1 turn' t.2.0 t.2.1 t.2.2 t.2.3
       step_server (Err stop.Memory) t = (back_halts t.0 t.1 t.2.1 t.2.2, st.front_read.sound, t.2.0 ∙ st.back_read.sound)
       step_server (Err stop.SourceFailed) t = (back_halts t.0 t.1 t.2.1 t.2.2, inr (subst (λ (n : ℕ). HasRisen n (bf b')) st.back_read.sound t.2.0))
@@ -263,8 +263,8 @@ module _ {F B K : Type 0} (fg : F → List ℕ → F → Type 0) (ff : F → ℕ
       step_server (Err stop.SinkFailed) t = back_breaks t.0 t.1 t.2
       step_server (Err (stop.Answer a)) t = absurd t.2
 
-    pub step_back : due turn ≡ whose.Side false → (q : Result Turn (Stop Ends)) (bn' : Next) (bk' : List ℕ) (b' : B) (c' : List ℕ) (s' : K) → Tells bg bf be takes kf (whose.Side false) turn bn bk b c s q bn' bk' b' c' s' → Leads count q fn fk f bn' bk' b' c' s'
+    pub step_back : due turn ≡ whose.Side false → (q : Result Turn (Stop BothEnds)) (bn' : NextFrame) (bk' : List ℕ) (b' : B) (c' : List ℕ) (s' : K) → Tells bg bf be takes kf (whose.Side false) turn bn bk b c s q bn' bk' b' c' s' → Leads count q fn fk f bn' bk' b' c' s'
     step_back e q bn' bk' b' c' s' t = step_server (whose.Side false) e (back_open turn.stage turn.front turn.back e) (λ x is. side_due false x is) bn' bk' b' c' s' q t
 
-    pub step_reply : (r : Encryption) → due turn ≡ whose.Reply r → (q : Result Turn (Stop Ends)) (bn' : Next) (bk' : List ℕ) (b' : B) (c' : List ℕ) (s' : K) → Tells bg bf be takes kf (whose.Reply r) turn bn bk b c s q bn' bk' b' c' s' → Leads count q fn fk f bn' bk' b' c' s'
+    pub step_reply : (r : Encryption) → due turn ≡ whose.Reply r → (q : Result Turn (Stop BothEnds)) (bn' : NextFrame) (bk' : List ℕ) (b' : B) (c' : List ℕ) (s' : K) → Tells bg bf be takes kf (whose.Reply r) turn bn bk b c s q bn' bk' b' c' s' → Leads count q fn fk f bn' bk' b' c' s'
     step_reply r e q bn' bk' b' c' s' t = step_server (whose.Reply r) e (reply_open turn.stage turn.front turn.back r e) (λ x is. reply_due r x is) bn' bk' b' c' s' q t

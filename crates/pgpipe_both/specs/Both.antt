@@ -5,12 +5,12 @@ use Rattle.pg_wire.specs.Link.{HasRisen}
 use Rattle.pgpipe_base.specs.declared.fault.ToolFault.{ToolFault}
 use Rattle.pgpipe_base.specs.declared.fault.ToolFault.TheVariants as fault
 use Rattle.pgpipe_base.specs.Receiving.{most_receives, CountsNoFailure}
-use Rattle.pgpipe_frames.specs.declared.next.Next.{Next}
-use Rattle.pgpipe_frames.specs.declared.next.Next.TheVariants as next
+use Rattle.pgpipe_frames.specs.declared.next.NextFrame.{NextFrame}
+use Rattle.pgpipe_frames.specs.declared.next.NextFrame.TheVariants as next
 use Rattle.pgpipe_both.specs.declared.turn.Due.TheVariants as whose
 use Rattle.pgpipe_both.specs.declared.turn.Ended.{Ended}
 use Rattle.pgpipe_both.specs.declared.turn.Ended.TheVariants as ending
-use Rattle.pgpipe_both.specs.declared.turn.Ends.{Ends}
+use Rattle.pgpipe_both.specs.declared.turn.BothEnds.{BothEnds}
 use Rattle.pgpipe_both.specs.declared.turn.Turn.{Turn}
 use Rattle.pgpipe_both.specs.Entries.{Entry, AreEntryLines, AreInTurn, said}
 use Rattle.pgpipe_both.specs.Turn.{due, first_turn}
@@ -25,7 +25,7 @@ most_entries = 2 ^ 64 - 1
 pub record AreShown (front back text : List ℕ) : Type 0 where
   pub entries : List Entry
   pub turn : Turn
-  pub last : Next
+  pub last : NextFrame
   pub in_turn : AreInTurn first_turn next.Packet entries turn last
   pub front_begins : IsPrefix (said true entries) front
   pub back_begins : IsPrefix (said false entries) back
@@ -37,10 +37,10 @@ AreAll ending.Encrypted entry_bytes bytes = IsPrefix entry_bytes bytes
 AreAll _ entry_bytes bytes = bytes ≡ entry_bytes
 
 -- The text is the lines of all that the client and the server sent, in turn, and the streams ended so.
-pub record AreAllShown (front back text : List ℕ) (ends : Ends) : Type 0 where
+pub record AreAllShown (front back text : List ℕ) (ends : BothEnds) : Type 0 where
   pub entries : List Entry
   pub turn : Turn
-  pub last : Next
+  pub last : NextFrame
   pub in_turn : AreInTurn first_turn next.Packet entries turn last
   pub over : due turn ≡ whose.Nobody ends
   pub front_is : AreAll ends.front (said true entries) front
@@ -55,7 +55,8 @@ HasStopped old new received = HasRisen old new ⊎ (most_receives ≤ length rec
 -- What is answered, by the bytes of the client and of the server that were received, and the text that
 -- was sent. Memory: the lines of what was printed were sent. Device: the sink broke (a prefix was
 -- sent), or a source stopped, or more entries came than are printed (all lines were sent).
-abbrev pub BothAnswers : Type 0 → Type 0 → List ℕ → List ℕ → List ℕ → Result Ends ToolFault → Type 0
+abbrev pub BothAnswers : Type 0 → Type 0 → List ℕ → List ℕ → List ℕ → Result BothEnds ToolFault
+    → Type 0
 BothAnswers stopped broke front back text (Ok ends) = AreAllShown front back text ends
 BothAnswers stopped broke front back text (Err fault.Memory) = AreShown front back text
 BothAnswers stopped broke front back text (Err fault.Device) =
@@ -71,7 +72,7 @@ EndsSource at_end ending.Canceled = Unit {0}
 EndsSource at_end ending.Encrypted = Unit {0}
 
 -- the same of both streams
-abbrev pub EndsSources : Type 0 → Type 0 → Result Ends ToolFault → Type 0
+abbrev pub EndsSources : Type 0 → Type 0 → Result BothEnds ToolFault → Type 0
 EndsSources front_at_end back_at_end (Ok ends) = EndsSource front_at_end ends.front
     × EndsSource back_at_end ends.back
 EndsSources front_at_end back_at_end (Err error) = Unit {0}
@@ -81,8 +82,8 @@ EndsSources front_at_end back_at_end (Err error) = Unit {0}
 pub record ShowsBoth {F B K : Type 0} (front_gives : F → List ℕ → F → Type 0)
     (front_failures : F → ℕ) (front_ended : F → Type 0) (back_gives : B → List ℕ → B → Type 0)
     (back_failures : B → ℕ) (back_ended : B → Type 0) (takes : K → List ℕ → K → Type 0)
-    (failures : K → ℕ) (front : F) (back : B) (sink : K) (answer : Result Ends ToolFault) (front' : F)
-    (back' : B) (sink' : K) : Type 0 where
+    (failures : K → ℕ) (front : F) (back : B) (sink : K) (answer : Result BothEnds ToolFault)
+    (front' : F) (back' : B) (sink' : K) : Type 0 where
   pub came : List (List ℕ)
   pub answered : List (List ℕ)
   pub sent : List (List ℕ)
@@ -91,7 +92,8 @@ pub record ShowsBoth {F B K : Type 0} (front_gives : F → List ℕ → F → Ty
   pub was_sent : FoldsTo takes sink sent sink'
   pub answers : BothAnswers (HasStopped (front_failures front) (front_failures front') came
       ⊎ HasStopped (back_failures back) (back_failures back') answered)
-      (HasRisen (failures sink) (failures sink')) (concat came) (concat answered) (concat sent) answer
+      (HasRisen (failures sink) (failures sink'))
+      (concat came) (concat answered) (concat sent) answer
   pub ended : EndsSources (front_ended front') (back_ended back') answer
   -- where the answer isn't Device, none of them failed
   pub front_counts : CountsNoFailure (front_failures front) answer (front_failures front')

@@ -2,10 +2,10 @@
 use Rattle.std.specs.Prelude.{ℕ, zero, suc, ◌≡◌, ◌==◌, Bool, true, false, List, [], ◌∷◌, ◌++◌, length, codes, if◌then◌else◌}
 use Rattle.std.specs.List.{flat_map}
 use Rattle.pgpipe_decode.specs.Frame.{IsTextOf}
-use Rattle.pgpipe_frames.specs.declared.judge.Judged.{Judged}
-use Rattle.pgpipe_frames.specs.declared.judge.Judged.TheVariants as judge
-use Rattle.pgpipe_frames.specs.declared.next.Next.{Next}
-use Rattle.pgpipe_frames.specs.declared.next.Next.TheVariants as next
+use Rattle.pgpipe_frames.specs.declared.judge.FrameJudgement.{FrameJudgement}
+use Rattle.pgpipe_frames.specs.declared.judge.FrameJudgement.TheVariants as judge
+use Rattle.pgpipe_frames.specs.declared.next.NextFrame.{NextFrame}
+use Rattle.pgpipe_frames.specs.declared.next.NextFrame.TheVariants as next
 use Rattle.pgpipe_frames.specs.Frames.{Frame, judged, next_after}
 use Rattle.pgpipe_both.specs.declared.turn.Due.{Due}
 use Rattle.pgpipe_both.specs.declared.turn.Due.TheVariants as whose
@@ -85,39 +85,39 @@ AreEntryLines (x ∷ entries) text = (first more : List ℕ) × IsEntryLine x fi
 -- ---- which frame is next
 
 -- What is next in the stream of the client (true), where that is `n`, or of the server.
-abbrev pub kind_at : Bool → Next → Next
+abbrev pub kind_at : Bool → NextFrame → NextFrame
 kind_at true n = n
 kind_at false n = next.Message
 
 -- how a stream ends, by what stands at the beginning of so many bytes that are left
-abbrev pub end_by : Judged → ℕ → Ended
+abbrev pub end_by : FrameJudgement → ℕ → Ended
 end_by (judge.Faulty fault) size = ended.Fault fault
 end_by _ zero = ended.Whole
 end_by _ (suc size) = ended.Rest (suc size)
 
 -- how a stream ends in which this is next, and of which these bytes are left
-abbrev pub end_at : Next → List ℕ → Ended
+abbrev pub end_at : NextFrame → List ℕ → Ended
 end_at next.Packet rest = end_by (judged next.Packet rest) (length rest)
 end_at next.Message rest = end_by (judged next.Message rest) (length rest)
 end_at next.Nothing rest = ended.Canceled
 
 -- The stream ends so: no frame stands at the beginning of the bytes that are left.
-abbrev pub HasEnded : Next → List ℕ → Ended → Type 0
+abbrev pub HasEnded : NextFrame → List ℕ → Ended → Type 0
 HasEnded n rest how = (how ≡ end_at n rest) × ((size : ℕ) → judged n rest ≡ judge.Whole size → ⊥)
 
 -- The entry is a whole frame of this kind, or the end of a stream in which such a frame is next.
-abbrev pub IsAt : Next → Entry → Type 0
+abbrev pub IsAt : NextFrame → Entry → Type 0
 IsAt kind (Message front f) = (f.kind ≡ kind) × (judged kind f.bytes ≡ judge.Whole (length f.bytes))
 IsAt kind (End front how rest) = HasEnded kind rest how
 IsAt kind (Reply byte) = Unit {0}
 
 -- what is next in the client's stream after a frame of the client (true) or of the server
-abbrev pub next_by : Bool → Next → List ℕ → Next
+abbrev pub next_by : Bool → NextFrame → List ℕ → NextFrame
 next_by true n bytes = next_after n bytes
 next_by false n bytes = n
 
 -- what is next in the client's stream after an entry
-abbrev pub next_for : Next → Entry → Next
+abbrev pub next_for : NextFrame → Entry → NextFrame
 next_for n (Message front f) = next_by front n f.bytes
 next_for n (End front how rest) = n
 next_for n (Reply byte) = n
@@ -143,14 +143,14 @@ IsDue (whose.Reply request) (Reply byte) = is_reply request byte ≡ true
 IsDue (whose.Nobody ends) x = ⊥
 
 -- who has the turn after an entry
-abbrev pub after : Turn → Entry → Turn
-after turn (Message front f) = moved turn front f
-after turn (End front how rest) = ended_by turn front how
-after turn (Reply byte) = after_reply (byte == 78) turn
+abbrev pub turn_after : Turn → Entry → Turn
+turn_after turn (Message front f) = moved turn front f
+turn_after turn (End front how rest) = ended_by turn front how
+turn_after turn (Reply byte) = after_reply (byte == 78) turn
 
 -- These entries stand one after the other, each when it is due, where this has the turn and this is
 -- next in the client's stream; and after them that has the turn, and that is next there.
-abbrev pub AreInTurn : Turn → Next → List Entry → Turn → Next → Type 0
+abbrev pub AreInTurn : Turn → NextFrame → List Entry → Turn → NextFrame → Type 0
 AreInTurn turn n [] turn' n' = (turn ≡ turn') × (n ≡ n')
 AreInTurn turn n (x ∷ entries) turn' n' = IsDue (due turn) x × IsAt (kind_at (side_of x) n) x
-    × AreInTurn (after turn x) (next_for n x) entries turn' n'
+    × AreInTurn (turn_after turn x) (next_for n x) entries turn' n'

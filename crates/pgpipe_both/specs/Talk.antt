@@ -8,8 +8,8 @@
 -- protocol began, has none.
 use Rattle.std.specs.Prelude.{ℕ, ◌==◌, ◌||◌, Bool, true, false, not, if◌then◌else◌, List, Option, Some, None}
 use Rattle.std.specs.Int.{w32, from_be_bytes}
-use Rattle.pgpipe_frames.specs.declared.next.Next.{Next}
-use Rattle.pgpipe_frames.specs.declared.next.Next.TheVariants as next
+use Rattle.pgpipe_frames.specs.declared.next.NextFrame.{NextFrame}
+use Rattle.pgpipe_frames.specs.declared.next.NextFrame.TheVariants as next
 use Rattle.pgpipe_frames.specs.Frames.{field_at}
 use Rattle.pgpipe_frames.specs.Reading.{tag_of}
 use Rattle.pgpipe_both.specs.declared.talk.Talk.{Talk}
@@ -29,7 +29,7 @@ abbrev pub asked : Bool → Bool → ℕ → Talk
 asked copied behind tag =
     if tag == 81 then Answering true false behind  -- Query
     else if tag == 83 || tag == 70 then Answering false copied behind  -- Sync, FunctionCall
-    else if tag == 112 then Answering false false false  -- an answer to a request for authentication
+    else if tag == 112 then Answering false false false  -- an answer to an authentication request
     else if tag == 99 || tag == 102 then Asking true behind  -- CopyDone, CopyFail
     else Asking copied behind
 
@@ -49,7 +49,7 @@ after_message Filling tag = filled tag
 after_message (Answering query copied behind) tag = Answering query copied behind
 
 -- After its frame. After a first packet the server answers.
-abbrev pub talk_sent : Talk → Next → List ℕ → Talk
+abbrev pub talk_sent : Talk → NextFrame → List ℕ → Talk
 talk_sent talk next.Packet bytes = Answering false false false
 talk_sent talk next.Message bytes = after_message talk (tag_of bytes)
 talk_sent talk next.Nothing bytes = after_message talk (tag_of bytes)
@@ -85,8 +85,8 @@ after_request query copied behind wants = if wants then Asking false true
     else Answering query copied behind
 
 -- after its message, in its turn
-abbrev pub told : Bool → Bool → Bool → List ℕ → Talk
-told query copied behind bytes =
+abbrev pub after_answer : Bool → Bool → Bool → List ℕ → Talk
+after_answer query copied behind bytes =
     if tag_of bytes == 90 then after_ready query copied behind  -- ReadyForQuery
     else if tag_of bytes == 82
     then after_request query copied behind (wants_answer (field_at 5 bytes))  -- Authentication
@@ -98,4 +98,4 @@ told query copied behind bytes =
 abbrev pub talk_got : Talk → List ℕ → Talk
 talk_got (Asking copied behind) bytes = Asking copied behind
 talk_got Filling bytes = Filling
-talk_got (Answering query copied behind) bytes = told query copied behind bytes
+talk_got (Answering query copied behind) bytes = after_answer query copied behind bytes

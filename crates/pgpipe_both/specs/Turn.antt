@@ -1,7 +1,7 @@
 -- Who has the turn, from a connection's first packet on, and what is printed next.
 use Rattle.std.specs.Prelude.{ℕ, ◌==◌, ◌||◌, Bool, true, false, if◌then◌else◌, List, Option, Some, None, unwrap_or}
-use Rattle.pgpipe_frames.specs.declared.next.Next.{Next}
-use Rattle.pgpipe_frames.specs.declared.next.Next.TheVariants as next
+use Rattle.pgpipe_frames.specs.declared.next.NextFrame.{NextFrame}
+use Rattle.pgpipe_frames.specs.declared.next.NextFrame.TheVariants as next
 use Rattle.pgpipe_frames.specs.Frames.{Frame, code}
 use Rattle.pgpipe_frames.specs.Reading.{tag_of}
 use Rattle.pgpipe_both.specs.declared.talk.Talk.{Talk}
@@ -38,7 +38,7 @@ opened None = Talking (Answering false false false)
 opened (Some request) = Requested request
 
 -- after the client's first frame, and each that follows a request which was refused
-abbrev pub opening_sent : Next → List ℕ → Stage
+abbrev pub opening_sent : NextFrame → List ℕ → Stage
 opening_sent next.Packet bytes = opened (request_of (code bytes))
 opening_sent next.Message bytes = Talking (asked false false (tag_of bytes))
 opening_sent next.Nothing bytes = Talking (asked false false (tag_of bytes))
@@ -46,7 +46,7 @@ opening_sent next.Nothing bytes = Talking (asked false false (tag_of bytes))
 -- ---- each stage
 
 -- after a frame of the client
-abbrev pub stage_sent : Stage → Next → List ℕ → Stage
+abbrev pub stage_sent : Stage → NextFrame → List ℕ → Stage
 stage_sent Opening kind bytes = opening_sent kind bytes
 stage_sent (Requested request) kind bytes = opening_sent kind bytes
 stage_sent (Talking talk) kind bytes = Talking (talk_sent talk kind bytes)
@@ -82,6 +82,7 @@ due_of stage (Some front) None = server_due stage
 due_of stage None (Some back) = whose.Side true
 due_of stage (Some front) (Some back) = whose.Nobody (record { front = front; back = back })
 
+-- what is printed next at this turn
 abbrev pub due : Turn → Due
 due turn = due_of turn.stage turn.front turn.back
 
@@ -93,16 +94,32 @@ first_turn = record { stage = Opening; front = None; back = None }
 
 -- after a frame of the client (true) or of the server
 abbrev pub moved : Turn → Bool → Frame → Turn
-moved turn true f = record { stage = stage_sent turn.stage f.kind f.bytes; front = turn.front; back = turn.back }
-moved turn false f = record { stage = stage_got turn.stage f.bytes; front = turn.front; back = turn.back }
+moved turn true f = record {
+  stage = stage_sent turn.stage f.kind f.bytes;
+  front = turn.front;
+  back = turn.back;
+}
+moved turn false f = record {
+  stage = stage_got turn.stage f.bytes;
+  front = turn.front;
+  back = turn.back;
+}
 
 -- after the end of the client's stream (true) or of the server's
 abbrev pub ended_by : Turn → Bool → Ended → Turn
 ended_by turn true how = record { stage = turn.stage; front = Some how; back = turn.back }
-ended_by turn false how = record { stage = Talking (talk_of turn.stage); front = turn.front; back = Some how }
+ended_by turn false how = record {
+  stage = Talking (talk_of turn.stage);
+  front = turn.front;
+  back = Some how;
+}
 
 -- After the answer to a request for encryption: where it was refused (true) another first packet
 -- follows, and else both streams go on encrypted.
 abbrev pub after_reply : Bool → Turn → Turn
 after_reply true turn = record { stage = Opening; front = turn.front; back = turn.back }
-after_reply false turn = record { stage = Opening; front = Some (unwrap_or turn.front ended.Encrypted); back = Some ended.Encrypted }
+after_reply false turn = record {
+  stage = Opening;
+  front = Some (unwrap_or turn.front ended.Encrypted);
+  back = Some ended.Encrypted;
+}

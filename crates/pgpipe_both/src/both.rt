@@ -1,17 +1,17 @@
 //! Both streams of a connection, over any sources and any sink.
 
 ghost use Rattle.std.specs.Prelude.{◌≡◌, ℕ, [], IfOk};
-ghost use Rattle.pgpipe_frames.specs.declared.next.Next.TheVariants as next;
+ghost use Rattle.pgpipe_frames.specs.declared.next.NextFrame.TheVariants as next;
 ghost use Rattle.pgpipe_both.specs.Both.{ShowsBoth};
 ghost use Rattle.pgpipe_both.specs.Private.Telling.{IsUntouched, Stands, StepTells, Stops};
 
 use crate::page::Page;
 use crate::reader::Reader;
 use crate::tell::{tell, tell_answer};
-use crate::turn::{Due, Ends, Turn};
+use crate::turn::{BothEnds, Due, Turn};
 use pg_wire::{Sink, Source};
 use pgpipe_base::{Stop, ToolFault};
-use pgpipe_frames::Next;
+use pgpipe_frames::NextFrame;
 use std::alloc::{AllocError, Global};
 
 // The most entries that are printed.
@@ -34,8 +34,8 @@ impl Work {
             × (work.page.outbox ≡ [])) }
     {
         Ok(Work {
-            front: Reader::new(alloc, Next::Packet)?,
-            back: Reader::new(alloc, Next::Message)?,
+            front: Reader::new(alloc, NextFrame::Packet)?,
+            back: Reader::new(alloc, NextFrame::Message)?,
             page: Page::new(alloc)?,
         })
     }
@@ -47,7 +47,7 @@ impl Work {
         front: &mut F,
         back: &mut B,
         sink: &mut K,
-    ) -> Result<Turn, Stop<Ends>>
+    ) -> Result<Turn, Stop<BothEnds>>
         requires messages { self.old.back.frames.next ≡ next.Message }
         requires untouched { IsUntouched turn.stage self.old.back.frames.kept }
         ensures { (front0 : F) (back0 : B) (sink0 : K) (count : ℕ)
@@ -55,10 +55,10 @@ impl Work {
             K.failures front0 back0 sink0 count turn self.old.front.frames.next
             self.old.front.frames.kept front.old self.old.back.frames.next self.old.back.frames.kept
             back.old self.old.page.outbox sink.old)
-            → StepTells F.gives F.failures F.has_ended B.gives B.failures B.has_ended K.takes K.failures
-            front0 back0 sink0 count result self.new.front.frames.next self.new.front.frames.kept
-            front.new self.new.back.frames.next self.new.back.frames.kept back.new
-            self.new.page.outbox sink.new }
+            → StepTells F.gives F.failures F.has_ended B.gives B.failures B.has_ended K.takes
+            K.failures front0 back0 sink0 count result self.new.front.frames.next
+            self.new.front.frames.kept front.new self.new.back.frames.next self.new.back.frames.kept
+            back.new self.new.page.outbox sink.new }
     {
         match turn.due() {
             Due::Side(true) => tell(true, turn, &mut self.front, front, &mut self.page, sink),
@@ -76,12 +76,15 @@ impl Work {
         front: &mut F,
         back: &mut B,
         sink: &mut K,
-    ) -> Stop<Ends>
-        requires front { self.old.front.frames ≡ record { next = next.Packet; kept = []; held = [] } }
-        requires back { self.old.back.frames ≡ record { next = next.Message; kept = []; held = [] } }
+    ) -> Stop<BothEnds>
+        requires front { self.old.front.frames
+            ≡ record { next = next.Packet; kept = []; held = [] } }
+        requires back { self.old.back.frames
+            ≡ record { next = next.Message; kept = []; held = [] } }
         requires page { self.old.page.outbox ≡ [] }
-        ensures { Stops F.gives F.failures F.has_ended B.gives B.failures B.has_ended K.takes K.failures
-            front.old back.old sink.old result front.new back.new self.new.page.outbox sink.new }
+        ensures { Stops F.gives F.failures F.has_ended B.gives B.failures B.has_ended K.takes
+            K.failures front.old back.old sink.old result front.new back.new
+            self.new.page.outbox sink.new }
     {
         let mut turn = Turn::first();
         for _ in 0..MOST_ENTRIES {
@@ -113,9 +116,9 @@ pub fn show_both<F: Source, B: Source, K: Sink>(
     front: &mut F,
     back: &mut B,
     sink: &mut K,
-) -> Result<Ends, ToolFault>
-    ensures { ShowsBoth F.gives F.failures F.has_ended B.gives B.failures B.has_ended K.takes K.failures
-        front.old back.old sink.old result front.new back.new sink.new }
+) -> Result<BothEnds, ToolFault>
+    ensures { ShowsBoth F.gives F.failures F.has_ended B.gives B.failures B.has_ended K.takes
+        K.failures front.old back.old sink.old result front.new back.new sink.new }
 {
     let mut work = match Work::new(alloc) {
         Ok(work) => work,

@@ -37,4 +37,4 @@ mod tell;
 mod turn;
 
 pub use both::show_both;
-pub use turn::{Ended, Ends};
+pub use turn::{BothEnds, Ended};

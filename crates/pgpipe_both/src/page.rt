@@ -5,11 +5,11 @@ ghost use Rattle.pgpipe_frames.specs.Frames.{fewest};
 ghost use Rattle.pgpipe_both.specs.Entries.{IsFrameLine, Message, Reply, arrow, reply_line};
 ghost use Rattle.pgpipe_both.specs.Private.Telling.{PutsEntry, PutsText};
 
-use crate::turn::Ends;
+use crate::turn::BothEnds;
 use pg_wire::Sink;
 use pgpipe_base::Stop;
 use pgpipe_base::outbox::Outbox;
-use pgpipe_frames::Next;
+use pgpipe_frames::NextFrame;
 use std::alloc::{AllocError, Global};
 
 /// What lines are written with.
@@ -43,7 +43,7 @@ fn reply_line(byte: u8) -> &'static [u8]
 fn write_frame(
     alloc: Global,
     front: bool,
-    kind: Next,
+    kind: NextFrame,
     frame: &[u8],
     line: &mut Vec<u8>,
 ) -> Result<(), AllocError>
@@ -58,7 +58,7 @@ fn write_frame(
 }
 
 // Puts a text.
-fn put_text<K: Sink>(text: &[u8], outbox: &mut Outbox, sink: &mut K) -> Result<(), Stop<Ends>>
+fn put_text<K: Sink>(text: &[u8], outbox: &mut Outbox, sink: &mut K) -> Result<(), Stop<BothEnds>>
     ensures { PutsText K.takes K.failures outbox.old sink.old text.now result outbox.new sink.new }
 {
     match outbox.put_text(text, sink) {
@@ -68,8 +68,13 @@ fn put_text<K: Sink>(text: &[u8], outbox: &mut Outbox, sink: &mut K) -> Result<(
 }
 
 // Puts a line that was written.
-fn put_line<K: Sink>(line: &Vec<u8>, outbox: &mut Outbox, sink: &mut K) -> Result<(), Stop<Ends>>
-    ensures { PutsText K.takes K.failures outbox.old sink.old line.now.items result outbox.new sink.new }
+fn put_line<K: Sink>(
+    line: &Vec<u8>,
+    outbox: &mut Outbox,
+    sink: &mut K,
+) -> Result<(), Stop<BothEnds>>
+    ensures { PutsText K.takes K.failures outbox.old sink.old line.now.items result outbox.new
+        sink.new }
 {
     put_text(line.as_slice(), outbox, sink)
 }
@@ -90,10 +95,10 @@ impl Page {
     pub fn put_frame<K: Sink>(
         &mut self,
         front: bool,
-        kind: Next,
+        kind: NextFrame,
         frame: &[u8],
         sink: &mut K,
-    ) -> Result<(), Stop<Ends>>
+    ) -> Result<(), Stop<BothEnds>>
         requires { fewest kind ≤ length frame.now }
         ensures { PutsEntry K.takes K.failures self.old.outbox sink.old
             (Message front (record { kind = kind; bytes = frame.now })) result self.new.outbox sink.new }
@@ -105,7 +110,7 @@ impl Page {
     }
 
     /// Puts the line of an answer to a request for encryption.
-    pub fn put_reply<K: Sink>(&mut self, byte: u8, sink: &mut K) -> Result<(), Stop<Ends>>
+    pub fn put_reply<K: Sink>(&mut self, byte: u8, sink: &mut K) -> Result<(), Stop<BothEnds>>
         ensures { PutsEntry K.takes K.failures self.old.outbox sink.old (Reply byte) result
             self.new.outbox sink.new }
     {

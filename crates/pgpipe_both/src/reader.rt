@@ -2,16 +2,16 @@
 
 ghost use Rattle.std.specs.Prelude.{◌≡◌, ℕ, List, [], length, IfOk};
 ghost use Rattle.pgpipe_base.specs.Receiving.{longest_piece};
-ghost use Rattle.pgpipe_frames.specs.declared.judge.Judged.TheVariants as judge;
+ghost use Rattle.pgpipe_frames.specs.declared.judge.FrameJudgement.TheVariants as judge;
 ghost use Rattle.pgpipe_both.specs.Entries.{end_by};
 ghost use Rattle.pgpipe_both.specs.Private.Telling.{Fetches, Looks, Received, ReceivedByte};
 ghost use Rattle.pgpipe_both.specs.Private.Telling.{look_on};
 
-use crate::turn::{Ended, Ends};
+use crate::turn::{BothEnds, Ended};
 use pg_wire::Source;
 use pgpipe_base::Stop;
 use pgpipe_base::receiving::{MOST_RECEIVES, PIECE};
-use pgpipe_frames::{Frames, Next};
+use pgpipe_frames::{Frames, NextFrame};
 use std::alloc::{AllocError, Global};
 
 /// What stands at the beginning of the bytes that are kept.
@@ -35,10 +35,10 @@ pub struct Reader {
 }
 
 /// Receives one byte, where the source gives one before its end.
-pub fn receive_byte<S: Source>(source: &mut S) -> Result<Option<u8>, Stop<Ends>>
+pub fn receive_byte<S: Source>(source: &mut S) -> Result<Option<u8>, Stop<BothEnds>>
     ensures { (piece : List ℕ) × S.gives source.old piece source.new
-        × ReceivedByte (S.has_ended source.new) (S.failures source.old) (S.failures source.new) piece
-        result }
+        × ReceivedByte (S.has_ended source.new) (S.failures source.old) (S.failures source.new)
+        piece result }
 {
     let mut into = [0; 1];
     match source.receive(&mut into) {
@@ -49,19 +49,19 @@ pub fn receive_byte<S: Source>(source: &mut S) -> Result<Option<u8>, Stop<Ends>>
 }
 
 // What is to be done where no frame is whole: nothing is read after a request to cancel.
-fn look_on(next: Next) -> Look
+fn look_on(next: NextFrame) -> Look
     ensures { result ≡ look_on next }
 {
     match next {
-        Next::Packet => Look::Open,
-        Next::Message => Look::Open,
-        Next::Nothing => Look::Over(Ended::Canceled),
+        NextFrame::Packet => Look::Open,
+        NextFrame::Message => Look::Open,
+        NextFrame::Nothing => Look::Over(Ended::Canceled),
     }
 }
 
 impl Reader {
     /// Nothing was received, and the first frame is one of these.
-    pub fn new(alloc: Global, first: Next) -> Result<Reader, AllocError>
+    pub fn new(alloc: Global, first: NextFrame) -> Result<Reader, AllocError>
         ensures { IfOk result (λ reader. reader.frames
             ≡ record { next = first; kept = []; held = [] }) }
     {
@@ -93,7 +93,7 @@ impl Reader {
     }
 
     // Receives a piece, and keeps it. False is the end of the source.
-    fn receive<S: Source>(&mut self, source: &mut S) -> Result<bool, Stop<Ends>>
+    fn receive<S: Source>(&mut self, source: &mut S) -> Result<bool, Stop<BothEnds>>
         ensures { (piece : List ℕ) × S.gives source.old piece source.new
             × Received (S.has_ended source.new) (S.failures source.old) (S.failures source.new)
             self.old.frames piece result self.new.frames }
@@ -110,7 +110,7 @@ impl Reader {
     }
 
     /// Receives pieces until the next frame is whole, which is lent then; or how the stream ended before.
-    pub fn fetch<S: Source>(&mut self, source: &mut S) -> Result<Option<Ended>, Stop<Ends>>
+    pub fn fetch<S: Source>(&mut self, source: &mut S) -> Result<Option<Ended>, Stop<BothEnds>>
         ensures { Fetches S.gives S.failures S.has_ended self.old.frames source.old result
             self.new.frames source.new }
     {

@@ -5,9 +5,9 @@ ghost use Rattle.pgpipe_frames.specs.Frames.{fewest, field_at};
 ghost use Rattle.pgpipe_both.specs.declared.talk.Talk.TheVariants.{Answering};
 ghost use Rattle.pgpipe_both.specs.Talk.{after_copy_in, after_message, after_ready, after_request};
 ghost use Rattle.pgpipe_both.specs.Talk.{asked, filled, is_clients, is_final, talk_got, talk_sent};
-ghost use Rattle.pgpipe_both.specs.Talk.{told, wants_answer};
+ghost use Rattle.pgpipe_both.specs.Talk.{after_answer, wants_answer};
 
-use pgpipe_frames::Next;
+use pgpipe_frames::NextFrame;
 
 /// Who has the turn once the server has sent a message, or the client a startup.
 #[derive(Clone, Copy)]
@@ -165,9 +165,9 @@ fn after_request(query: bool, copied: bool, behind: bool, wants: bool) -> Talk
 }
 
 // After a message of the server, in its turn.
-fn told(query: bool, copied: bool, behind: bool, frame: &[u8]) -> Talk
+fn after_answer(query: bool, copied: bool, behind: bool, frame: &[u8]) -> Talk
     requires { 5 ≤ length frame.now }
-    ensures { result ≡ told query copied behind frame.now }
+    ensures { result ≡ after_answer query copied behind frame.now }
 {
     let tag = frame[0];
     if tag == b'Z' {
@@ -235,13 +235,13 @@ impl Talk {
     }
 
     /// After a frame of the client.
-    pub fn after_sent(self, kind: Next, frame: &[u8]) -> Talk
+    pub fn after_sent(self, kind: NextFrame, frame: &[u8]) -> Talk
         requires { fewest kind ≤ length frame.now }
         ensures { result ≡ talk_sent self kind frame.now }
     {
         match kind {
-            Next::Packet => Talk::answering(),
-            Next::Message | Next::Nothing => self.after_message(frame[0]),
+            NextFrame::Packet => Talk::answering(),
+            NextFrame::Message | NextFrame::Nothing => self.after_message(frame[0]),
         }
     }
 
@@ -257,7 +257,7 @@ impl Talk {
                 query,
                 copied,
                 behind,
-            } => told(query, copied, behind, frame),
+            } => after_answer(query, copied, behind, frame),
         }
     }
 }

@@ -1,7 +1,7 @@
 //! One line more.
 
 ghost use Rattle.std.specs.Prelude.{◌≡◌, ◌≤◌, ◌∷◌, [], length};
-ghost use Rattle.pgpipe_frames.specs.declared.next.Next.TheVariants as next;
+ghost use Rattle.pgpipe_frames.specs.declared.next.NextFrame.TheVariants as next;
 ghost use Rattle.pgpipe_frames.specs.Frames.{fewest};
 ghost use Rattle.pgpipe_both.specs.declared.turn.Due.TheVariants as whose;
 ghost use Rattle.pgpipe_both.specs.Entries.{Message, Reply};
@@ -9,20 +9,20 @@ ghost use Rattle.pgpipe_both.specs.Private.Telling.{Tells, TellsEntry};
 
 use crate::page::Page;
 use crate::reader::{Reader, receive_byte};
-use crate::turn::{Encryption, Ended, Ends, Turn, is_reply};
+use crate::turn::{BothEnds, Encryption, Ended, Turn, is_reply};
 use pg_wire::{Sink, Source};
 use pgpipe_base::Stop;
-use pgpipe_frames::Next;
+use pgpipe_frames::NextFrame;
 
 // Puts the line of a frame of the client (`front`) or of the server.
 fn tell_frame<K: Sink>(
     front: bool,
     turn: Turn,
-    kind: Next,
+    kind: NextFrame,
     frame: &[u8],
     page: &mut Page,
     sink: &mut K,
-) -> Result<Turn, Stop<Ends>>
+) -> Result<Turn, Stop<BothEnds>>
     requires { (5 ≤ length frame.now) × (fewest kind ≤ length frame.now) }
     ensures { TellsEntry K.takes K.failures turn page.old.outbox sink.old
         (Message front (record { kind = kind; bytes = frame.now })) result page.new.outbox sink.new }
@@ -39,7 +39,7 @@ fn tell_reply<K: Sink>(
     byte: u8,
     page: &mut Page,
     sink: &mut K,
-) -> Result<Turn, Stop<Ends>>
+) -> Result<Turn, Stop<BothEnds>>
     ensures { TellsEntry K.takes K.failures turn page.old.outbox sink.old (Reply byte) result
         page.new.outbox sink.new }
 {
@@ -57,7 +57,7 @@ pub fn tell<S: Source, K: Sink>(
     source: &mut S,
     page: &mut Page,
     sink: &mut K,
-) -> Result<Turn, Stop<Ends>>
+) -> Result<Turn, Stop<BothEnds>>
     ensures { Tells S.gives S.failures S.has_ended K.takes K.failures (whose.Side front) turn
         reader.old.frames.next reader.old.frames.kept source.old page.old.outbox sink.old result
         reader.new.frames.next reader.new.frames.kept source.new page.new.outbox sink.new }
@@ -79,7 +79,7 @@ fn tell_byte<S: Source, K: Sink>(
     source: &mut S,
     page: &mut Page,
     sink: &mut K,
-) -> Result<Turn, Stop<Ends>>
+) -> Result<Turn, Stop<BothEnds>>
     requires { reader.old.frames.kept ≡ [] }
     ensures { Tells S.gives S.failures S.has_ended K.takes K.failures (whose.Reply request) turn
         reader.old.frames.next (byte ∷ []) source.old page.old.outbox sink.old result
@@ -102,7 +102,7 @@ pub fn tell_answer<S: Source, K: Sink>(
     source: &mut S,
     page: &mut Page,
     sink: &mut K,
-) -> Result<Turn, Stop<Ends>>
+) -> Result<Turn, Stop<BothEnds>>
     requires kept { reader.old.frames.kept ≡ [] }
     requires messages { reader.old.frames.next ≡ next.Message }
     ensures { Tells S.gives S.failures S.has_ended K.takes K.failures (whose.Reply request) turn

@@ -8,7 +8,7 @@ ghost use Rattle.pgpipe_both.specs.Turn.{server_due, stage_due, stage_got, stage
 
 use crate::talk::Talk;
 use pg_wire::WireFault;
-use pgpipe_frames::{Next, code_of};
+use pgpipe_frames::{NextFrame, code_of};
 
 /// How a stream ended.
 #[derive(Clone, Copy)]
@@ -27,7 +27,7 @@ pub enum Ended {
 
 /// How the two streams of a connection ended.
 #[derive(Clone, Copy)]
-pub struct Ends {
+pub struct BothEnds {
     /// The client's.
     pub front: Ended,
     /// The server's.
@@ -62,7 +62,7 @@ pub enum Due {
     /// The answer to a request for encryption, or a message in its place, or the end of the server's stream.
     Reply(Encryption),
     /// Nothing: both streams have ended so.
-    Nobody(Ends),
+    Nobody(BothEnds),
 }
 
 /// Who has the turn, and how the streams ended of which nothing is left.
@@ -114,13 +114,13 @@ fn opened(request: Option<Encryption>) -> Stage
 }
 
 // After the first frame of a client, and each that follows a request for encryption which was refused.
-fn opening_sent(kind: Next, frame: &[u8]) -> Stage
+fn opening_sent(kind: NextFrame, frame: &[u8]) -> Stage
     requires { fewest kind ≤ length frame.now }
     ensures { result ≡ opening_sent kind frame.now }
 {
     match kind {
-        Next::Packet => opened(request_of(code_of(frame))),
-        Next::Message | Next::Nothing => Stage::Talking(Talk::asked_first(frame[0])),
+        NextFrame::Packet => opened(request_of(code_of(frame))),
+        NextFrame::Message | NextFrame::Nothing => Stage::Talking(Talk::asked_first(frame[0])),
     }
 }
 
@@ -157,14 +157,14 @@ fn due_of(stage: Stage, front: Option<Ended>, back: Option<Ended>) -> Due
         },
         Some(back) => match front {
             None => Due::Side(true),
-            Some(front) => Due::Nobody(Ends { front, back }),
+            Some(front) => Due::Nobody(BothEnds { front, back }),
         },
     }
 }
 
 impl Stage {
     // After a frame of the client.
-    fn after_sent(self, kind: Next, frame: &[u8]) -> Stage
+    fn after_sent(self, kind: NextFrame, frame: &[u8]) -> Stage
         requires { fewest kind ≤ length frame.now }
         ensures { result ≡ stage_sent self kind frame.now }
     {
@@ -215,7 +215,7 @@ impl Turn {
     }
 
     /// After a frame of the client (`front`) or of the server.
-    pub fn after_frame(self, front: bool, kind: Next, frame: &[u8]) -> Turn
+    pub fn after_frame(self, front: bool, kind: NextFrame, frame: &[u8]) -> Turn
         requires { (5 ≤ length frame.now) × (fewest kind ≤ length frame.now) }
         ensures { result ≡ moved self front (record { kind = kind; bytes = frame.now }) }
     {

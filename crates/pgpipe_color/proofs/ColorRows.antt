@@ -1,6 +1,6 @@
 -- Lines in colour, evaluated against the definitions.
 use Rattle.std.proofs.Common.{◌≡◌, ◌∷◌, ◌++◌, codes, refl}
-use Rattle.pgpipe_color.specs.declared.part.Part.TheVariants.{Start}
+use Rattle.pgpipe_color.specs.declared.part.LinePart.TheVariants.{Start}
 use Rattle.pgpipe_color.specs.Part.{colored}
 
 ready : colored Start (codes "ReadyForQuery idle\n") ≡ 27 ∷ codes "[1;36mReadyForQuery" ++ 27 ∷ codes "[0m idle\n"

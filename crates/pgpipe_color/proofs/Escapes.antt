@@ -2,8 +2,8 @@
 use Rattle.std.proofs.Common.{◌≡◌, ◌≢◌, ◌==◌, ◌&&◌, not, ℕ, Bool, true, false, cond, List, [], ◌∷◌, ◌++◌, refl, ap, ◌∙◌}
 use Rattle.std.specs.List.{AllByRecursion}
 use borrow.Author.Tests.{ne_eqb}
-use Rattle.pgpipe_color.specs.declared.part.Part.{Part}
-use Rattle.pgpipe_color.specs.declared.part.Part.TheVariants.{Start, ErrorName, Name, Rest, ErrorRest}
+use Rattle.pgpipe_color.specs.declared.part.LinePart.{LinePart}
+use Rattle.pgpipe_color.specs.declared.part.LinePart.TheVariants.{Start, ErrorName, Name, Rest, ErrorRest}
 use Rattle.pgpipe_color.specs.Part.{colored, cyan, ends_word, escape, next, red, reset}
 use Rattle.pgpipe_color.specs.Text.{without_escapes}
 
@@ -12,7 +12,7 @@ either true x y text of_x of_y = of_x
 either false x y text of_x of_y = of_y
 
 -- the escape before a byte is taken out
-passes : (part : Part) (b : ℕ) (text : List ℕ) → without_escapes false (escape part b ++ text) ≡ without_escapes false text
+passes : (part : LinePart) (b : ℕ) (text : List ℕ) → without_escapes false (escape part b ++ text) ≡ without_escapes false text
 passes Start b text = either (ends_word b) [] cyan text refl refl
 passes (ErrorName n) b text =
     either (not (ends_word b)) [] _ text refl (either ((n == 13) && not (b == 10)) (reset ++ red) reset text refl refl)
@@ -20,7 +20,7 @@ passes Name b text = either (ends_word b) reset [] text refl refl
 passes Rest b text = refl
 passes ErrorRest b text = either (b == 10) reset [] text refl refl
 
-pub taken_out : (part : Part) (text : List ℕ) → AllByRecursion (λ b. b ≢ 27) text → without_escapes false (colored part text) ≡ text
+pub taken_out : (part : LinePart) (text : List ℕ) → AllByRecursion (λ b. b ≢ 27) text → without_escapes false (colored part text) ≡ text
 unfolding colored
 taken_out part [] none = refl
 taken_out part (b ∷ text) none =

@@ -3,7 +3,7 @@ use Rattle.std.proofs.Common.{◌≡◌, ◌≢◌, ◌==◌, ◌&&◌, ◌||◌
 use Rattle.std.specs.List.{AllByRecursion}
 use Rattle.std.proofs.lemmas.Bool.{and_parts}
 use borrow.Author.Tests.{eqb-true, ltb-true, ne_eqb}
-use Rattle.pgpipe_color.specs.declared.part.Part.TheVariants.{Start, ErrorName, Name, Rest, ErrorRest}
+use Rattle.pgpipe_color.specs.declared.part.LinePart.TheVariants.{Start, ErrorName, Name, Rest, ErrorRest}
 use Rattle.pgpipe_color.specs.Part.{colored, cyan, ends_word, red, reset}
 use Rattle.pgpipe_color.specs.Text.{FollowsWord, IsWord, error_line, named_line}
 

@@ -4,16 +4,16 @@ use Rattle.std.specs.List.{FoldsTo, concat}
 use Rattle.std.proofs.lemmas.List.Folds.{concat-append}
 use Rattle.pg_link.specs.Link.{HasRisen, last_count}
 use Rattle.pg_link.specs.Sending.{Sends}
-use Rattle.pgpipe_color.specs.declared.part.Part.{Part}
+use Rattle.pgpipe_color.specs.declared.part.LinePart.{LinePart}
 use Rattle.pgpipe_color.specs.Colored.{Coloring, FailsToPaint, Paints, Takes, TakesAs}
-use Rattle.pgpipe_color.specs.Part.{after, colored, escape, next}
+use Rattle.pgpipe_color.specs.Part.{colored, escape, next, part_after}
 
-colored-append : (part : Part) (front text : List ℕ) → colored part (front ++ text) ≡ colored part front ++ colored (after part front) text
-unfolding colored after
+colored-append : (part : LinePart) (front text : List ℕ) → colored part (front ++ text) ≡ colored part front ++ colored (part_after part front) text
+unfolding colored part_after
 colored-append part [] text = refl
 colored-append part (b ∷ front) text =
     ap (λ (l : List ℕ). escape part b ++ b ∷ l) (colored-append (next part b) front text)
-    ∙ sym (append_assoc (escape part b) (b ∷ colored (next part b) front) (colored (after (next part b) front) text))
+    ∙ sym (append_assoc (escape part b) (b ∷ colored (next part b) front) (colored (part_after (next part b) front) text))
 
 folds-append : {P A : Type 0} (R : P → A → P → Type 0) (xs ys : List A) (p q r : P) → FoldsTo R p xs q → FoldsTo R q ys r → FoldsTo R p (xs ++ ys) r
 folds-append R [] ys p q r first more = subst (λ s. FoldsTo R s ys r) (sym first) more

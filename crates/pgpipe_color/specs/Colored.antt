@@ -1,21 +1,21 @@
 -- What the sink does: the sink behind it takes the coloured form of what it takes.
 use Rattle.std.specs.Prelude.{ℕ, ◌≡◌, ◌⊎◌, Bool, true, false, List, []}
 use Rattle.pg_link.specs.Sending.{FailsToSend, Sends}
-use Rattle.pgpipe_color.specs.declared.part.Part.{Part}
-use Rattle.pgpipe_color.specs.Part.{after, colored}
+use Rattle.pgpipe_color.specs.declared.part.LinePart.{LinePart}
+use Rattle.pgpipe_color.specs.Part.{colored, part_after}
 
 -- the sink behind, whether bytes are coloured, and the part of the line that the next byte is of
 pub record Coloring (K : Type 0) : Type 0 where
   pub inner : K
   pub on : Bool
-  pub part : Part
+  pub part : LinePart
 
 -- `takes` and `failures` are those of the sink behind.
 module _ {K : Type 0} (takes : K → List ℕ → K → Type 0) (failures : K → ℕ) where
   -- Calls took the coloured form of these bytes, and none failed.
   pub record Paints (old : Coloring K) (bytes : List ℕ) (new : Coloring K) : Type 0 where
     pub sent : Sends takes failures old.inner (colored old.part bytes) new.inner
-    pub part : new.part ≡ after old.part bytes
+    pub part : new.part ≡ part_after old.part bytes
 
   -- A call failed within the coloured form of bytes that came, none of which counts as taken.
   pub record FailsToPaint (old : Coloring K) (bytes : List ℕ) (new : Coloring K) : Type 0 where

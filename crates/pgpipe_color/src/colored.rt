@@ -1,11 +1,11 @@
 //! A sink that colours what it passes on.
 
 ghost use Rattle.std.specs.Prelude.{◌≡◌, IfOk};
-ghost use Rattle.pgpipe_color.specs.declared.part.Part.TheVariants.{Start};
+ghost use Rattle.pgpipe_color.specs.declared.part.LinePart.TheVariants.{Start};
 ghost use Rattle.pgpipe_color.specs.Colored.{Takes};
 
 use crate::painting::{WIDEST, paint};
-use crate::part::Part;
+use crate::part::LinePart;
 use pg_link::{LinkFault, Sink, send_all};
 use std::marker::Model;
 
@@ -19,7 +19,7 @@ pub struct Colored<K> {
     inner: K,
     on: bool,
     // of the line that the next byte is of
-    part: Part,
+    part: LinePart,
 }
 
 impl<K> Model for Colored<K> {
@@ -38,7 +38,7 @@ impl<K> Colored<K> {
         Colored {
             inner,
             on,
-            part: Part::Start,
+            part: LinePart::Start,
         }
     }
 

@@ -4,32 +4,37 @@ ghost use Rattle.std.specs.Prelude.{ℕ, ◌≡◌, ◌≢◌, ◌<◌, List, []
 ghost use Rattle.std.specs.List.{AllByRecursion};
 ghost use Rattle.pg_link.specs.Link.{last_count};
 ghost use Rattle.pg_link.specs.Sending.{Sends};
-ghost use Rattle.pgpipe_color.specs.declared.part.Part.{Part};
-ghost use Rattle.pgpipe_color.specs.declared.part.Part.TheVariants.{Start};
+ghost use Rattle.pgpipe_color.specs.declared.part.LinePart.{LinePart};
+ghost use Rattle.pgpipe_color.specs.declared.part.LinePart.TheVariants.{Start};
 ghost use Rattle.pgpipe_color.specs.Colored.{Coloring, Takes};
 ghost use Rattle.pgpipe_color.specs.Part.{colored};
-ghost use Rattle.pgpipe_color.specs.Text.{FollowsWord, IsWord, error_line, named_line, without_escapes};
+ghost use Rattle.pgpipe_color.specs.Text.{FollowsWord, IsWord};
+ghost use Rattle.pgpipe_color.specs.Text.{error_line, named_line, without_escapes};
 
 use pg_link::Sink;
 
 /// What a line comes to, and that the next one begins afresh.
 pub fn a_line()
     ensures error { (rest more : List ℕ) → FollowsWord rest
-        → colored Start (codes "ErrorResponse" ++ rest ++ 10 ∷ more) ≡ error_line rest ++ 10 ∷ colored Start more }
-    ensures other { (word rest more : List ℕ) → IsWord word → word ≢ [] → word ≢ codes "ErrorResponse" → FollowsWord rest
-        → colored Start (word ++ rest ++ 10 ∷ more) ≡ named_line word rest ++ 10 ∷ colored Start more }
+        → colored Start (codes "ErrorResponse" ++ rest ++ 10 ∷ more)
+        ≡ error_line rest ++ 10 ∷ colored Start more }
+    ensures other { (word rest more : List ℕ) → IsWord word → word ≢ []
+        → word ≢ codes "ErrorResponse" → FollowsWord rest
+        → colored Start (word ++ rest ++ 10 ∷ more)
+        ≡ named_line word rest ++ 10 ∷ colored Start more }
 {}
 
 /// Nothing but escapes is added to a text that has none: without them it is as it was.
 pub fn nothing_else()
-    ensures { (part : Part) (text : List ℕ) → AllByRecursion (λ b. b ≢ 27) text
+    ensures { (part : LinePart) (text : List ℕ) → AllByRecursion (λ b. b ≢ 27) text
         → without_escapes false (colored part text) ≡ text }
 {}
 
 /// However a text came in calls, the sink behind took its coloured form, where no call failed. At its last value the count of failures can't
 /// tell that.
 pub fn whole_text<K: Sink>()
-    ensures { (old new : Coloring K) (text : List ℕ) → old.on ≡ true → K.failures old.inner < last_count
+    ensures { (old new : Coloring K) (text : List ℕ) → old.on ≡ true
+        → K.failures old.inner < last_count
         → Sends (Takes K.takes K.failures) (λ c. K.failures c.inner) old text new
         → Sends K.takes K.failures old.inner (colored old.part text) new.inner }
 {}

@@ -1,10 +1,10 @@
 //! The coloured form of a piece, in an array.
 
 ghost use Rattle.std.specs.Prelude.{◌≡◌, ◌≤◌, ◌+◌, ◌*◌, ◌++◌, length, take};
-ghost use Rattle.pgpipe_color.specs.Part.{after, colored};
+ghost use Rattle.pgpipe_color.specs.Part.{colored, part_after};
 ghost use Rattle.pgpipe_color.specs.declared.painting.TheConstants.{WIDEST};
 
-use crate::part::Part;
+use crate::part::LinePart;
 
 /// The most bytes that a byte comes to, with its escape.
 pub const WIDEST: usize = 10;
@@ -22,11 +22,11 @@ fn put(out: &mut [u8], at: usize, bytes: &[u8]) -> usize
 }
 
 /// Puts the coloured form of a piece at the beginning of `out`. Returns how many bytes it has, and the part after the piece.
-pub fn paint(part: Part, piece: &[u8], out: &mut [u8]) -> (usize, Part)
+pub fn paint(part: LinePart, piece: &[u8], out: &mut [u8]) -> (usize, LinePart)
     requires { WIDEST * length piece.now ≤ length out.old }
     ensures within { result.0 ≤ length out.new }
     ensures colored { take result.0 out.new ≡ colored part piece.now }
-    ensures part { result.1 ≡ after part piece.now }
+    ensures part { result.1 ≡ part_after part piece.now }
 {
     let mut at = 0;
     let mut part = part;

@@ -221,7 +221,8 @@ pub fn convert_with<S: Source, K: Sink>(
     // before each receive but the first, the head and the rows of all that came had been sent
     ensures at_once { (received sent : List (List ℕ))
         × FoldsTo S.gives source.old received source.new × FoldsTo K.takes sink.old sent sink.new
-        × IsSentAtOnce (AreAllConverted (file_with options.now from columns) (writing_with options.now to))
+        × IsSentAtOnce
+        (AreAllConverted (file_with options.now from columns) (writing_with options.now to))
         received sent }
     ensures ended { EndsFile (S.has_ended source.new) result }
     // where the answer isn't Device, neither failed

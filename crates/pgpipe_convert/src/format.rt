@@ -54,7 +54,11 @@ impl<'a> Model for RowWriter<'a> {
 
     ghost Value = { RowWriting };
 
-    ghost view = { λ w. record { format = w.format; columns = w.columns; options = w.options.now } };
+    ghost view = { λ w. record {
+      format = w.format;
+      columns = w.columns;
+      options = w.options.now;
+    } };
 
     ghost invariant = { λ w. (0 < w.columns) × (w.columns ≤ 32767)
         × (w.lines.options ≡ w.options.now) × (w.lines.fields ≡ 0) };

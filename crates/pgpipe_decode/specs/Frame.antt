@@ -5,8 +5,8 @@ use Rattle.pg_wire.specs.Frontend.{frontend}
 use Rattle.pg_wire.specs.message.BackMessage.{BackMessage}
 use Rattle.pg_wire.specs.message.FrontMessage.{FrontMessage}
 use Rattle.pg_wire.specs.message.First.{First}
-use Rattle.pgpipe_frames.specs.declared.next.Next.{Next}
-use Rattle.pgpipe_frames.specs.declared.next.Next.TheVariants as next
+use Rattle.pgpipe_frames.specs.declared.next.NextFrame.{NextFrame}
+use Rattle.pgpipe_frames.specs.declared.next.NextFrame.TheVariants as next
 use Rattle.pgpipe_frames.specs.Reading.{IsReadAs, IsPacketReadAs}
 use Rattle.pgpipe_decode.specs.Backend.{back_text}
 use Rattle.pgpipe_decode.specs.Frontend.{front_text}
@@ -39,7 +39,7 @@ IsMessageText false bytes text = IsBackText bytes text
 IsMessageText true bytes text = IsFrontText bytes text
 
 -- what a frame of a client (true) or of a backend is shown as
-abbrev pub IsTextOf : Bool → Next → List ℕ → List ℕ → Type 0
+abbrev pub IsTextOf : Bool → NextFrame → List ℕ → List ℕ → Type 0
 IsTextOf front next.Packet bytes text = IsPacketText bytes text
 IsTextOf front next.Message bytes text = IsMessageText front bytes text
 IsTextOf front next.Nothing bytes text = IsMessageText front bytes text

@@ -16,7 +16,8 @@ use std::alloc::AllocError;
 
 // Appends a value.
 fn put_value(value: Option<&[u8]>, line: &mut Vec<u8>) -> Result<(), AllocError>
-    ensures { OnOk result (line.new.items ≡ line.old.items ++ value_text (option_copied value.entry)) }
+    ensures { OnOk result (line.new.items
+        ≡ line.old.items ++ value_text (option_copied value.entry)) }
 {
     match value {
         None => line.extend_from_slice(b"NULL"),

@@ -56,7 +56,8 @@ fn put_further(code: u8, text: &[u8], line: &mut Vec<u8>) -> Result<(), AllocErr
 
 // Appends a text that stands first.
 fn put_first(text: Option<&[u8]>, line: &mut Vec<u8>) -> Result<(), AllocError>
-    ensures { OnOk result (line.new.items ≡ line.old.items ++ first_field (option_copied text.entry)) }
+    ensures { OnOk result (line.new.items
+        ≡ line.old.items ++ first_field (option_copied text.entry)) }
 {
     match text {
         None => line.extend_from_slice(b"-"),

@@ -12,7 +12,7 @@ ghost use Rattle.pgpipe_decode.specs.Packet.{packet_text};
 use crate::other::{put_other_back, put_other_front, put_other_packet};
 use crate::text::Readable;
 use pg_wire::{BackMessage, First, FrontMessage};
-use pgpipe_frames::{Next, read_message, read_packet};
+use pgpipe_frames::{NextFrame, read_message, read_packet};
 use std::alloc::{AllocError, Global};
 
 // Appends the text of what was read of a message of the backend.
@@ -113,7 +113,7 @@ fn put_message(
 pub fn put_frame(
     alloc: Global,
     front: bool,
-    kind: Next,
+    kind: NextFrame,
     frame: &[u8],
     line: &mut Vec<u8>,
 ) -> Result<(), AllocError>
@@ -122,7 +122,7 @@ pub fn put_frame(
         × (line.new.items ≡ line.old.items ++ text)) }
 {
     match kind {
-        Next::Packet => put_packet(alloc, frame, line),
-        Next::Message | Next::Nothing => put_message(alloc, front, frame, line),
+        NextFrame::Packet => put_packet(alloc, frame, line),
+        NextFrame::Message | NextFrame::Nothing => put_message(alloc, front, frame, line),
     }
 }

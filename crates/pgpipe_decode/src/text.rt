@@ -119,7 +119,8 @@ fn unescaped_len(bytes: &[u8], utf8: bool, mark: u8) -> usize
 
 // Appends the escapes of two bytes.
 fn put_control(a: u8, b: u8, line: &mut Vec<u8>) -> Result<(), AllocError>
-    ensures { OnOk result (line.new.items ≡ line.old.items ++ (digits_escape a ++ digits_escape b)) }
+    ensures { OnOk result (line.new.items
+        ≡ line.old.items ++ (digits_escape a ++ digits_escape b)) }
 {
     put_digits(a, line)?;
     put_digits(b, line)

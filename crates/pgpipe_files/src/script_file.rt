@@ -75,7 +75,13 @@ impl Model for ScriptDraft {
 
     ghost Value = { ScriptSoFar };
 
-    ghost view = { λ d. record { auth = d.auth; pairs = d.pairs; key = d.key; answers = d.answers; begun = d.begun } };
+    ghost view = { λ d. record {
+      auth = d.auth;
+      pairs = d.pairs;
+      key = d.key;
+      answers = d.answers;
+      begun = d.begun;
+    } };
 }
 
 impl TakesLines for ScriptDraft {

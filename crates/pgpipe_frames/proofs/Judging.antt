@@ -3,10 +3,10 @@ use Rattle.std.proofs.Common.{◌≡◌, ℕ, ◌+◌, ◌-◌, ◌<◌, ◌≤�
 use Rattle.std.specs.Int.{w32, from_be_bytes}
 use Rattle.std.proofs.lemmas.Bool.{cond-true, cond-false, lt-ltb, le-ltb, ltb-false, ltb-true}
 use Rattle.std.proofs.lemmas.List.{length-take-le, drop-take, take-take, take-append-le, drop-append-le, length-drop}
-use Rattle.pgpipe_frames.specs.declared.next.Next.{Next}
-use Rattle.pgpipe_frames.specs.declared.next.Next.TheVariants as next
-use Rattle.pgpipe_frames.specs.declared.judge.Judged.{Judged}
-use Rattle.pgpipe_frames.specs.declared.judge.Judged.TheVariants.{Open, Whole, Faulty}
+use Rattle.pgpipe_frames.specs.declared.next.NextFrame.{NextFrame}
+use Rattle.pgpipe_frames.specs.declared.next.NextFrame.TheVariants as next
+use Rattle.pgpipe_frames.specs.declared.judge.FrameJudgement.{FrameJudgement}
+use Rattle.pgpipe_frames.specs.declared.judge.FrameJudgement.TheVariants.{Open, Whole, Faulty}
 use Rattle.pg_wire.specs.declared.fault.WireFault.{WireFault}
 use Rattle.pgpipe_frames.specs.Reader.{answer_of}
 use Rattle.pgpipe_frames.specs.Frames.{fewest, field_at, judged_by, judged_field, judged}
@@ -76,35 +76,35 @@ begins tag least most frame more low e =
     let left : 4 ≤ length (drop tag frame) = omega (arith, four, length-drop tag frame) in
     same_field tag least most frame (frame ++ more) (length frame) e (omega (arith, four, long)) (omega (arith, long)) (ap (take 4) dropped ∙ take-append-le 4 (drop tag frame) more left)
 
-pub frame_alone : (n : Next) (rest : List ℕ) (size : ℕ) → judged n rest ≡ Whole size → judged n (take size rest) ≡ Whole (length (take size rest))
+pub frame_alone : (n : NextFrame) (rest : List ℕ) (size : ℕ) → judged n rest ≡ Whole size → judged n (take size rest) ≡ Whole (length (take size rest))
 frame_alone next.Packet rest size e = alone 0 8 10000 rest size (omega arith) e
 frame_alone next.Message rest size e = alone 1 4 1073741823 rest size (omega arith) e
 frame_alone next.Nothing rest size e = absurd cc
 
-pub frame_begins : (n : Next) (frame more : List ℕ) → judged n frame ≡ Whole (length frame) → judged n (frame ++ more) ≡ Whole (length frame)
+pub frame_begins : (n : NextFrame) (frame more : List ℕ) → judged n frame ≡ Whole (length frame) → judged n (frame ++ more) ≡ Whole (length frame)
 frame_begins next.Packet frame more e = begins 0 8 10000 frame more (omega arith) e
 frame_begins next.Message frame more e = begins 1 4 1073741823 frame more (omega arith) e
 frame_begins next.Nothing frame more e = absurd cc
 
 -- a frame has its fewest bytes at least, fits a size of 32 bits, and is there
-pub frame_sizes : (n : Next) (rest : List ℕ) (size : ℕ) → judged n rest ≡ Whole size → (fewest n ≤ size) × (size ≤ 1073741824) × (size ≤ length rest)
+pub frame_sizes : (n : NextFrame) (rest : List ℕ) (size : ℕ) → judged n rest ≡ Whole size → (fewest n ≤ size) × (size ≤ 1073741824) × (size ≤ length rest)
 frame_sizes next.Packet rest size e = let s = sizes 0 8 10000 rest size e in (omega (arith, s.0), omega (arith, s.1), s.2)
 frame_sizes next.Message rest size e = let s = sizes 1 4 1073741823 rest size e in (omega (arith, s.0), omega (arith, s.1), s.2)
 frame_sizes next.Nothing rest size e = absurd cc
 
 -- ---- what a call of `next` answered
 
-pub was_open : (j : Judged) → Ok false ≡ answer_of j → j ≡ Open
+pub was_open : (j : FrameJudgement) → Ok false ≡ answer_of j → j ≡ Open
 was_open Open e = refl
 was_open (Whole size) e = absurd cc
 was_open (Faulty f) e = absurd cc
 
-pub was_whole : (j : Judged) → Ok true ≡ answer_of j → (size : ℕ) × (j ≡ Whole size)
+pub was_whole : (j : FrameJudgement) → Ok true ≡ answer_of j → (size : ℕ) × (j ≡ Whole size)
 was_whole Open e = absurd cc
 was_whole (Whole size) e = (size, refl)
 was_whole (Faulty f) e = absurd cc
 
-pub was_faulty : (j : Judged) (f : WireFault) → Err f ≡ answer_of j → j ≡ Faulty f
+pub was_faulty : (j : FrameJudgement) (f : WireFault) → Err f ≡ answer_of j → j ≡ Faulty f
 was_faulty Open f e = absurd cc
 was_faulty (Whole size) f e = absurd cc
 was_faulty (Faulty g) f e = cc

@@ -7,10 +7,10 @@ use Rattle.std.specs.List.{flat_map}
 use Rattle.pg_wire.specs.Direction.{longest}
 use Rattle.pg_wire.specs.First.{longest_packet}
 use Rattle.pg_wire.specs.declared.fault.WireFault.TheVariants as wire
-use Rattle.pgpipe_frames.specs.declared.next.Next.{Next}
-use Rattle.pgpipe_frames.specs.declared.next.Next.TheVariants as next
-use Rattle.pgpipe_frames.specs.declared.judge.Judged.{Judged}
-use Rattle.pgpipe_frames.specs.declared.judge.Judged.TheVariants.{Open, Whole, Faulty}
+use Rattle.pgpipe_frames.specs.declared.next.NextFrame.{NextFrame}
+use Rattle.pgpipe_frames.specs.declared.next.NextFrame.TheVariants as next
+use Rattle.pgpipe_frames.specs.declared.judge.FrameJudgement.{FrameJudgement}
+use Rattle.pgpipe_frames.specs.declared.judge.FrameJudgement.TheVariants.{Open, Whole, Faulty}
 
 -- ---- one frame
 
@@ -21,7 +21,7 @@ field_at tag rest = if nat_lt (length rest) (tag + 4) then None else Some (take 
 -- What a length field says of a rest of `size` bytes, where the field may be from `least` to `most`
 -- and counts all but the tag: it can't be, or not all that it counts is there, or a frame of so many
 -- bytes is. It is an Int32: from 2^31 on it is negative.
-abbrev pub judged_by : ℕ → ℕ → ℕ → ℕ → List ℕ → Judged
+abbrev pub judged_by : ℕ → ℕ → ℕ → ℕ → List ℕ → FrameJudgement
 judged_by tag least most size field =
     if nat_lt (from_be_bytes w32 field) least || nat_lt 2147483647 (from_be_bytes w32 field)
     then Faulty (wire.ShortLength (cast_signed w32 (from_be_bytes w32 field)))
@@ -31,19 +31,19 @@ judged_by tag least most size field =
     else Whole (tag + from_be_bytes w32 field)
 
 -- the same where the length field may not be there
-abbrev pub judged_field : ℕ → ℕ → ℕ → ℕ → Option (List ℕ) → Judged
+abbrev pub judged_field : ℕ → ℕ → ℕ → ℕ → Option (List ℕ) → FrameJudgement
 judged_field tag least most size None = Open
 judged_field tag least most size (Some field) = judged_by tag least most size field
 
 -- What stands at the beginning of a rest, by what is next there. The length field of a first packet
 -- is from 8 to 10,000, and that of a message, which stands after the tag, from 4 to 1,073,741,823.
-abbrev pub judged : Next → List ℕ → Judged
+abbrev pub judged : NextFrame → List ℕ → FrameJudgement
 judged next.Packet rest = judged_field 0 8 longest_packet (length rest) (field_at 0 rest)
 judged next.Message rest = judged_field 1 4 longest (length rest) (field_at 1 rest)
 judged next.Nothing rest = Open
 
 -- the fewest bytes of a frame
-abbrev pub fewest : Next → ℕ
+abbrev pub fewest : NextFrame → ℕ
 fewest next.Packet = 8
 fewest next.Message = 5
 fewest next.Nothing = 5
@@ -55,12 +55,12 @@ code packet = from_be_bytes w32 (take 4 (drop 4 packet))
 -- What stands after a first packet of this code: nothing that is read after a request to cancel;
 -- another first packet after another request, whose code has 1234 as its upper half; and messages
 -- after any other, as after a startup of any version.
-abbrev pub after_code : ℕ → Next
+abbrev pub after_code : ℕ → NextFrame
 after_code c = if c == 80877102 then next.Nothing
     else if c / 65536 == 1234 then next.Packet else next.Message
 
 -- what stands after these bytes, which are a frame
-abbrev pub next_after : Next → List ℕ → Next
+abbrev pub next_after : NextFrame → List ℕ → NextFrame
 next_after next.Packet bytes = after_code (code bytes)
 next_after next.Message bytes = next.Message
 next_after next.Nothing bytes = next.Nothing
@@ -69,18 +69,19 @@ next_after next.Nothing bytes = next.Nothing
 
 -- a frame: what it is, a first packet or a message, and its bytes
 pub record Frame : Type 0 where
-  pub kind : Next
+  pub kind : NextFrame
   pub bytes : List ℕ
 
 -- These frames stand one after the other, the first where `first` is next and each other where the
 -- one before says; and after them `last` is next.
-abbrev pub AreFrames : Next → List Frame → Next → Type 0
+abbrev pub AreFrames : NextFrame → List Frame → NextFrame → Type 0
 AreFrames first [] last = first ≡ last
-AreFrames first (f ∷ frames) last = (f.kind ≡ first) × (judged first f.bytes ≡ Whole (length f.bytes))
+AreFrames first (f ∷ frames) last =
+    (f.kind ≡ first) × (judged first f.bytes ≡ Whole (length f.bytes))
     × AreFrames (next_after first f.bytes) frames last
 
 -- The bytes are these frames and a rest, at which `last` is next.
-pub record AreFramed (first : Next) (bytes : List ℕ) (frames : List Frame) (last : Next)
+pub record AreFramed (first : NextFrame) (bytes : List ℕ) (frames : List Frame) (last : NextFrame)
     (rest : List ℕ) : Type 0 where
   pub whole : bytes ≡ flat_map (λ f. f.bytes) frames ++ rest
   pub each : AreFrames first frames last

@@ -5,10 +5,11 @@ use Rattle.pg_wire.specs.First.{IsPacket, packet, NoPacket}
 use Rattle.pg_wire.specs.Message.{IsMessage, NoMessage}
 use Rattle.pg_wire.specs.message.First.{First}
 
--- the tag of a frame that is a message, and its body
+-- the tag of a frame that is a message
 abbrev pub tag_of : List ℕ → ℕ
 tag_of bytes = slice_index bytes 0
 
+-- the body of a frame that is a message: all after its tag and its length field
 abbrev pub body_of : List ℕ → List ℕ
 body_of bytes = drop 5 bytes
 

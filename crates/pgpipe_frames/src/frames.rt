@@ -4,8 +4,8 @@ ghost use Rattle.std.specs.Prelude.{◌≡◌, ◌≤◌, ◌++◌, [], length, 
 ghost use Rattle.pgpipe_frames.specs.Frames.{judged};
 ghost use Rattle.pgpipe_frames.specs.Reader.{answer_of, left_by};
 
-use crate::judge::{Judged, judge};
-use crate::next::{Next, next_after};
+use crate::judge::{FrameJudgement, judge};
+use crate::next::{NextFrame, next_after};
 use pg_seq::Buffer;
 use pg_wire::WireFault;
 use std::alloc::{AllocError, Global};
@@ -20,7 +20,7 @@ pub struct Frames {
     bytes: Buffer,
     // how many bytes in front are a frame that was given, and is lent until the next call
     held: usize,
-    next: Next,
+    next: NextFrame,
 }
 
 impl Model for Frames {
@@ -29,14 +29,18 @@ impl Model for Frames {
 
     ghost Value = { FramesState };
 
-    ghost view = { λ f. record { next = f.next; kept = drop f.held f.bytes; held = take f.held f.bytes } };
+    ghost view = { λ f. record {
+      next = f.next;
+      kept = drop f.held f.bytes;
+      held = take f.held f.bytes;
+    } };
 
     ghost invariant = { λ f. f.held ≤ length f.bytes };
 }
 
 impl Frames {
     /// A reader that was given nothing yet, and whose first frame is one of these: a first packet of a client, or a message. It takes no memory.
-    pub fn new(alloc: Global, first: Next) -> Frames
+    pub fn new(alloc: Global, first: NextFrame) -> Frames
         ensures { result ≡ record { next = first; kept = []; held = [] } }
     {
         Frames {
@@ -47,7 +51,7 @@ impl Frames {
     }
 
     /// What stands next, after the frames that were given.
-    pub fn upcoming(&self) -> Next
+    pub fn upcoming(&self) -> NextFrame
         ensures { result ≡ self.now.next }
     {
         self.next
@@ -90,9 +94,13 @@ impl Frames {
     }
 
     // Takes a frame off, and lends it.
-    fn hold(&mut self, size: usize, after: Next)
+    fn hold(&mut self, size: usize, after: NextFrame)
         requires { size ≤ length self.old.kept }
-        ensures { self.new ≡ record { next = after; kept = drop size self.old.kept; held = take size self.old.kept } }
+        ensures { self.new ≡ record {
+          next = after;
+          kept = drop size self.old.kept;
+          held = take size self.old.kept;
+        } }
     {
         let held = self.held;
         self.bytes.take(held);
@@ -107,16 +115,16 @@ impl Frames {
         ensures left { self.new ≡ left_by self.old (judged self.old.next self.old.kept) }
     {
         match judge(self.next, self.rest()) {
-            Judged::Open => {
+            FrameJudgement::Open => {
                 self.let_go();
                 Ok(false)
             }
-            Judged::Whole(size) => {
+            FrameJudgement::Whole(size) => {
                 let after = next_after(self.next, self.rest().split_at(size).0);
                 self.hold(size, after);
                 Ok(true)
             }
-            Judged::Faulty(fault) => {
+            FrameJudgement::Faulty(fault) => {
                 self.let_go();
                 Err(fault)
             }

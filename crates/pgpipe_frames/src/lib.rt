@@ -16,6 +16,6 @@ mod next;
 mod reading;
 
 pub use frames::Frames;
-pub use judge::Judged;
-pub use next::{Next, code_of};
+pub use judge::FrameJudgement;
+pub use next::{NextFrame, code_of};
 pub use reading::{is_message, read_message, read_packet};

@@ -2,11 +2,11 @@
 
 ghost use Rattle.std.specs.Prelude.{◌≡◌, ◌<◌, ◌≤◌, length, MatchOption};
 ghost use Rattle.pgpipe_frames.specs.Frames.{code, after_code, next_after};
-ghost use Rattle.pgpipe_frames.specs.declared.next.Next.TheVariants.{Packet};
+ghost use Rattle.pgpipe_frames.specs.declared.next.NextFrame.TheVariants.{Packet};
 
 /// What stands next in a stream.
 #[derive(Clone, Copy, Debug, PartialEq, Eq)]
-pub enum Next {
+pub enum NextFrame {
     /// A first packet of a client.
     Packet,
     /// A message.
@@ -22,15 +22,15 @@ const CANCEL: u32 = 80_877_102;
 const REQUESTS: u32 = 1_234;
 
 // What stands after a first packet of this code.
-fn after_code(code: u32) -> Next
+fn after_code(code: u32) -> NextFrame
     ensures { result ≡ after_code code }
 {
     if code == CANCEL {
-        Next::Nothing
+        NextFrame::Nothing
     } else if code / 65_536 == REQUESTS {
-        Next::Packet
+        NextFrame::Packet
     } else {
-        Next::Message
+        NextFrame::Message
     }
 }
 
@@ -47,13 +47,13 @@ pub fn code_of(packet: &[u8]) -> u32
 
 /// What stands after a frame: after a request for encryption another first packet, after a request to cancel nothing that is read, and after
 /// any other frame a message.
-pub fn next_after(next: Next, frame: &[u8]) -> Next
+pub fn next_after(next: NextFrame, frame: &[u8]) -> NextFrame
     requires { next ≡ Packet → 8 ≤ length frame.now }
     ensures { result ≡ next_after next frame.now }
 {
     match next {
-        Next::Packet => after_code(code_of(frame)),
-        Next::Message => Next::Message,
-        Next::Nothing => Next::Nothing,
+        NextFrame::Packet => after_code(code_of(frame)),
+        NextFrame::Message => NextFrame::Message,
+        NextFrame::Nothing => NextFrame::Nothing,
     }
 }

@@ -13,15 +13,15 @@ use Rattle.pg_wire.specs.value.Column.{Column}
 use Rattle.pg_wire.specs.value.ErrorField.{ErrorField}
 use Rattle.pgpipe_decode.specs.Other.{back_name, front_name}
 use Rattle.pgpipe_frames.specs.Frames.{code}
-use Rattle.pgpipe_frames.specs.declared.next.Next.{Next}
-use Rattle.pgpipe_frames.specs.declared.next.Next.TheVariants as next
+use Rattle.pgpipe_frames.specs.declared.next.NextFrame.{NextFrame}
+use Rattle.pgpipe_frames.specs.declared.next.NextFrame.TheVariants as next
 use Rattle.serde_json.specs.Data.{Data, string, boolean, object, Members, no_members, member, put, depth, items_depth, members_depth}
 use Rattle.serde_json.specs.View.{items_of}
 use Rattle.serde_json.specs.Written.{has_float, items_have_float, members_have_float}
 use Rattle.pgpipe_json.specs.Backend.{back_called, back_json, back_members, column_json, error_members, field_json, origin_members, request_more, type_members, type_name}
 use Rattle.pgpipe_json.specs.Frame.{IsBackJson, IsFrontJson, IsJsonOf, IsPacketJson, json_or}
 use Rattle.pgpipe_json.specs.Frontend.{front_called, front_json, front_members}
-use Rattle.pgpipe_json.specs.Members.{Member, begun, message_json, with_members}
+use Rattle.pgpipe_json.specs.Members.{Member, head_members, message_json, with_members}
 use Rattle.pgpipe_json.specs.Other.{other_back, other_front, other_packet, other_members, other_packet_members, packet_name, shown_or_hidden}
 use Rattle.pgpipe_json.specs.Packet.{packet_called, packet_json, packet_members, parameter_json}
 use Rattle.pgpipe_json.specs.Values.{count_json, hex_json, hidden_json, list_json, signed_json, text_json, text_or_hex, text_or_null, utf8_text, word_or_null}
@@ -167,12 +167,12 @@ parameter2 p = object_plain 1 (with_members ((codes "name", text_json p.0) ∷ (
 
 -- ---- messages
 
-begun_plain : (name : List ℕ) (size : ℕ) → ArePlain 3 (begun name size)
-unfolding begun
-begun_plain name size = with_plain 3 ((codes "name", string name) ∷ (codes "length", count_json size) ∷ []) no_members (word_plain name, (count3 size, tt)) (none 3)
+head_plain : (name : List ℕ) (size : ℕ) → ArePlain 3 (head_members name size)
+unfolding head_members
+head_plain name size = with_plain 3 ((codes "name", string name) ∷ (codes "length", count_json size) ∷ []) no_members (word_plain name, (count3 size, tt)) (none 3)
 
 message_plain : (name : List ℕ) (size : ℕ) (fs : List Member) → AllPlain 3 fs → IsPlain 4 (message_json name size fs)
-message_plain name size fs h = object_plain 3 (with_members fs (begun name size)) (with_plain 3 fs (begun name size) h (begun_plain name size))
+message_plain name size fs h = object_plain 3 (with_members fs (head_members name size)) (with_plain 3 fs (head_members name size) h (head_plain name size))
 
 more_at : (a b : Bool) (rest : List ℕ) → AllPlain 3 (if a then [] else if b then (codes "mechanisms", text_json rest) ∷ [] else (codes "data", hidden_json) ∷ [])
 more_at true b rest = tt
@@ -254,7 +254,7 @@ packet_frame : (bytes : List ℕ) (d : Data) → IsPacketJson bytes d → IsPlai
 packet_frame bytes d is = subst (IsPlain 4) (sym is.2) (read_plain (packet_json (length bytes)) (other_packet bytes) (λ p. message_plain (packet_called p) (length bytes) (packet_members p) (packet_plain p)) (message_plain (packet_name (code bytes)) (length bytes) (other_packet_members (code bytes) (code bytes == 80877102) (drop 8 bytes)) (other_packet_plain (code bytes) (code bytes == 80877102) (drop 8 bytes))) is.0)
 
 -- the object of a frame
-pub plain : (side : Bool) (kind : Next) (bytes : List ℕ) (d : Data) → IsJsonOf side kind bytes d → IsPlain 4 d
+pub plain : (side : Bool) (kind : NextFrame) (bytes : List ℕ) (d : Data) → IsJsonOf side kind bytes d → IsPlain 4 d
 plain side next.Packet bytes d is = packet_frame bytes d is
 plain true next.Message bytes d is = front_frame bytes d is
 plain false next.Message bytes d is = back_frame bytes d is

@@ -8,17 +8,17 @@ use Rattle.serde_json.specs.Written.{compact_text}
 use Rattle.serde_json.proofs.OnLiterals.{serde_json_on_literals}
 use Rattle.pgpipe_json.specs.Backend.{back_json}
 use Rattle.pgpipe_json.specs.Frontend.{front_json}
-use Rattle.pgpipe_json.specs.Members.{begun}
+use Rattle.pgpipe_json.specs.Members.{head_members}
 use Rattle.pgpipe_json.specs.Packet.{packet_json}
 
 pub ready : compact_text (back_json 5 (back.Ready status.Idle)) ≡ codes "{\"length\":" ++ decimal 5 ++ codes ",\"name\":\"ReadyForQuery\",\"status\":\"idle\"}"
-unfolding begun serde_json_on_literals
+unfolding head_members serde_json_on_literals
 ready = refl
 
 pub a_password : compact_text (front_json 10 (front.Password (codes "abcde"))) ≡ codes "{\"length\":" ++ decimal 10 ++ codes ",\"name\":\"PasswordMessage\",\"password\":{\"hidden\":true}}"
-unfolding begun serde_json_on_literals
+unfolding head_members serde_json_on_literals
 a_password = refl
 
 pub a_request : compact_text (packet_json 8 first.Ssl) ≡ codes "{\"length\":" ++ decimal 8 ++ codes ",\"name\":\"SSLRequest\"}"
-unfolding begun serde_json_on_literals
+unfolding head_members serde_json_on_literals
 a_request = refl

@@ -32,6 +32,7 @@ type_members c = (codes "type", count_json c.type_oid)
     ∷ (codes "type_name", word_or_null (type_name c.type_oid)) ∷ (codes "size", signed_json c.size)
     ∷ (codes "modifier", signed_json c.modifier) ∷ (codes "format", signed_json c.format) ∷ []
 
+-- a column of a row description: an object with its name, where it is from, and its type
 abbrev pub column_json : Column → Data
 column_json c = object (with_members (type_members c) (with_members (origin_members c) no_members))
 

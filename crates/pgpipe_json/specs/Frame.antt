@@ -6,8 +6,8 @@ use Rattle.pg_wire.specs.Frontend.{frontend}
 use Rattle.pg_wire.specs.message.BackMessage.{BackMessage}
 use Rattle.pg_wire.specs.message.FrontMessage.{FrontMessage}
 use Rattle.pg_wire.specs.message.First.{First}
-use Rattle.pgpipe_frames.specs.declared.next.Next.{Next}
-use Rattle.pgpipe_frames.specs.declared.next.Next.TheVariants as next
+use Rattle.pgpipe_frames.specs.declared.next.NextFrame.{NextFrame}
+use Rattle.pgpipe_frames.specs.declared.next.NextFrame.TheVariants as next
 use Rattle.pgpipe_frames.specs.Reading.{IsReadAs, IsPacketReadAs}
 use Rattle.serde_json.specs.Data.{Data}
 use Rattle.serde_json.specs.Read.{read}
@@ -43,7 +43,7 @@ IsMessageJson false bytes json = IsBackJson bytes json
 IsMessageJson true bytes json = IsFrontJson bytes json
 
 -- what a frame of a client (true) or of a backend is shown as
-abbrev pub IsJsonOf : Bool → Next → List ℕ → Data → Type 0
+abbrev pub IsJsonOf : Bool → NextFrame → List ℕ → Data → Type 0
 IsJsonOf front next.Packet bytes json = IsPacketJson bytes json
 IsJsonOf front next.Message bytes json = IsMessageJson front bytes json
 IsJsonOf front next.Nothing bytes json = IsMessageJson front bytes json
@@ -53,6 +53,6 @@ abbrev pub IsTextOfJson : Data → List ℕ → Type 0
 IsTextOfJson json text = (text ≡ compact_text json) × (read text ≡ Some json)
 
 -- the text of the object that a frame is shown as
-abbrev pub IsJsonText : Bool → Next → List ℕ → List ℕ → Type 0
+abbrev pub IsJsonText : Bool → NextFrame → List ℕ → List ℕ → Type 0
 IsJsonText front kind bytes text = (json : Data) × IsJsonOf front kind bytes json
     × IsTextOfJson json text

@@ -18,9 +18,10 @@ abbrev pub object_json : List Member → Data
 object_json members = object (with_members members no_members)
 
 -- what each line has: the name of its message, and the length field
-unfoldable pub begun : List ℕ → ℕ → Members
-begun name size = with_members ((codes "name", string name) ∷ (codes "length", count_json size) ∷ []) no_members
+unfoldable pub head_members : List ℕ → ℕ → Members
+head_members name size =
+    with_members ((codes "name", string name) ∷ (codes "length", count_json size) ∷ []) no_members
 
 -- a message of this name and this length field: an object with these members too
 abbrev pub message_json : List ℕ → ℕ → List Member → Data
-message_json name size members = object (with_members members (begun name size))
+message_json name size members = object (with_members members (head_members name size))

@@ -25,7 +25,8 @@ other_back bytes = message_json (back_name (slice_index bytes 0)) (length bytes 
 
 -- A message of the frontend: of an answer to a request for a password no byte is shown.
 abbrev pub other_front : List ℕ → Data
-other_front bytes = message_json (front_name (slice_index bytes 0) (drop 5 bytes)) (length bytes - 1)
+other_front bytes =
+    message_json (front_name (slice_index bytes 0) (drop 5 bytes)) (length bytes - 1)
     (other_members (slice_index bytes 0) (slice_index bytes 0 == 112) (drop 5 bytes))
 
 -- ---- first packets

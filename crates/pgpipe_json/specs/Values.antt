@@ -39,10 +39,11 @@ abbrev pub word_or_null : Option (List ℕ) → Data
 word_or_null None = null
 word_or_null (Some word) = string word
 
--- a number, without a sign and with one
+-- a number without a sign
 abbrev pub count_json : ℕ → Data
 count_json n = number (unsigned n)
 
+-- a number with a sign
 abbrev pub signed_json : ℤ → Data
 signed_json z = number (of_integer z)
 

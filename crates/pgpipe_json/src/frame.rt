@@ -18,7 +18,7 @@ use crate::frontend::front_value;
 use crate::other::{other_back_value, other_front_value, other_packet_value};
 use crate::packet::packet_value;
 use pg_wire::{BackMessage, First, FrontMessage};
-use pgpipe_frames::{Next, read_message, read_packet};
+use pgpipe_frames::{NextFrame, read_message, read_packet};
 use serde_json::Value;
 use std::alloc::{AllocError, Global};
 
@@ -106,13 +106,18 @@ fn message_value(alloc: Global, front: bool, frame: &[u8]) -> Result<Value, Allo
 }
 
 // A frame.
-fn frame_value(alloc: Global, front: bool, kind: Next, frame: &[u8]) -> Result<Value, AllocError>
+fn frame_value(
+    alloc: Global,
+    front: bool,
+    kind: NextFrame,
+    frame: &[u8],
+) -> Result<Value, AllocError>
     requires { fewest kind ≤ length frame.now }
     ensures { IfOk result (λ v. IsJsonOf front kind frame.now (view v)) }
 {
     match kind {
-        Next::Packet => packet_frame_value(alloc, frame),
-        Next::Message | Next::Nothing => message_value(alloc, front, frame),
+        NextFrame::Packet => packet_frame_value(alloc, frame),
+        NextFrame::Message | NextFrame::Nothing => message_value(alloc, front, frame),
     }
 }
 
@@ -132,7 +137,7 @@ fn put_value(alloc: Global, value: &Value, line: &mut Vec<u8>) -> Result<(), All
 pub fn put_frame(
     alloc: Global,
     front: bool,
-    kind: Next,
+    kind: NextFrame,
     frame: &[u8],
     line: &mut Vec<u8>,
 ) -> Result<(), AllocError>

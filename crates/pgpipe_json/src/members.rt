@@ -3,7 +3,7 @@
 ghost use Rattle.std.specs.Prelude.{◌≡◌, option_copied, IfOk, OnOk};
 ghost use Rattle.serde_json.specs.Data.{put as with_member, string};
 ghost use Rattle.serde_json.specs.View.{members_view};
-ghost use Rattle.pgpipe_json.specs.Members.{begun};
+ghost use Rattle.pgpipe_json.specs.Members.{head_members};
 ghost use Rattle.pgpipe_json.specs.Values.{hidden_json, text_json, text_or_null};
 
 use crate::values::{Shown, hidden_value, optional_value, text_value};
@@ -80,9 +80,9 @@ pub fn put_shown<T: Shown>(
 }
 
 /// The object of a message, with no more than its name and its length field.
-#[tactic(auto, unfolding(crate::specs::Members::begun))]
+#[tactic(auto, unfolding(crate::specs::Members::head_members))]
 pub fn begin(alloc: Global, name: &str, size: usize) -> Result<Map<String, Value>, AllocError>
-    ensures { IfOk result (λ object. members_view object.entries ≡ begun name.now size) }
+    ensures { IfOk result (λ object. members_view object.entries ≡ head_members name.now size) }
 {
     let mut object = Map::new(alloc);
     put_word("name", name, alloc, &mut object)?;

@@ -9,7 +9,7 @@ use Rattle.pg_pair.specs.declared.carry.Way.TheVariants.{ToBackend, ToClient}
 use Rattle.pgpipe_base.specs.Outbox.{Puts}
 
 -- the two ends, and how many calls of the carrier have failed
-pub record Ends (A B : Type 0) : Type 0 where
+pub record CarrierEnds (A B : Type 0) : Type 0 where
   pub client : A
   pub backend : B
   pub failures : ℕ
@@ -36,8 +36,8 @@ module _ {S : Type 0} (gives : S → List ℕ → S → Type 0) (failures : S �
     AreReceived pieces wanted source (Err fault) source' = (length (concat pieces) < wanted)
         × (HasRisen (failures source) (failures source') ⊎ has_ended source')
 
-    -- So many bytes were wanted of a source. It gave them in pieces, call by call, or failed or ended
-    -- before.
+    -- So many bytes were wanted of a source. It gave them in pieces, call by call, or failed or
+    -- ended before.
     pub record Receives (wanted : ℕ) (source : S) (result : Result (List ℕ) CarryFault)
         (source' : S) : Type 0 where
       pub pieces : List (List ℕ)

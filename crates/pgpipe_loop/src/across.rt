@@ -19,9 +19,9 @@ pub struct Across<A, B> {
 }
 
 impl<A, B> Model for Across<A, B> {
-    ghost use Rattle.pgpipe_loop.specs.Across.{Ends};
+    ghost use Rattle.pgpipe_loop.specs.Across.{CarrierEnds};
 
-    ghost Value = { Ends A B };
+    ghost Value = { CarrierEnds A B };
 
     ghost view = { λ a. record { client = a.client; backend = a.backend; failures = a.failures } };
 }

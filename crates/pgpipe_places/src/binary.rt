@@ -3,7 +3,7 @@
 ghost use Rattle.std.specs.Prelude.{◌≡◌};
 ghost use Rattle.pgpipe_places.specs.Tracker.{binary_taken, count_taken, fields_left, length_taken};
 
-use crate::tracker::{Phase, Turn};
+use crate::tracker::{ByteEffect, Phase};
 use crate::wire::with_byte;
 
 /// How far a binary file has come. A number is made of the bytes that came of it, most significant first.
@@ -23,24 +23,24 @@ pub enum Binary {
     Trailer,
 }
 
-fn within(binary: Binary) -> Turn
-    ensures { result ≡ Turn.Within (Phase.Binary binary) }
+fn within(binary: Binary) -> ByteEffect
+    ensures { result ≡ ByteEffect.Within (Phase.Binary binary) }
 {
-    Turn::Within(Phase::Binary(binary))
+    ByteEffect::Within(Phase::Binary(binary))
 }
 
 // What a row does of which so many values are left.
-fn fields(left: u32) -> Turn
+fn fields(left: u32) -> ByteEffect
     ensures { result ≡ fields_left left }
 {
     if left == 0 {
-        return Turn::Last(Phase::Binary(Binary::Count(0, 0)));
+        return ByteEffect::Last(Phase::Binary(Binary::Count(0, 0)));
     }
     within(Binary::Length(0, 0, left - 1))
 }
 
 // What a row does whose number of fields came. It is the trailer where that is -1.
-fn count(count: u32) -> Turn
+fn count(count: u32) -> ByteEffect
     ensures { result ≡ count_taken count }
 {
     if count == 65_535 {
@@ -50,7 +50,7 @@ fn count(count: u32) -> Turn
 }
 
 // What a row does of which a value's length came, that of null too, and which has so many values left after it.
-fn length(length: u32, left: u32) -> Turn
+fn length(length: u32, left: u32) -> ByteEffect
     ensures { result ≡ length_taken length left }
 {
     if length == 0 || length == 4_294_967_295 {
@@ -68,7 +68,7 @@ impl Binary {
     }
 
     /// What a byte does. The header stands before the first row, and is a part of it.
-    pub fn take(self, byte: u8) -> Turn
+    pub fn take(self, byte: u8) -> ByteEffect
         ensures { result ≡ binary_taken self byte }
     {
         match self {

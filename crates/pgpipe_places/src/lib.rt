@@ -11,4 +11,4 @@ mod wire;
 
 pub use place::Place;
 pub use tracked::Tracked;
-pub use tracker::{Kind, Tracker, place_in};
+pub use tracker::{TrackedKind, Tracker, place_in};

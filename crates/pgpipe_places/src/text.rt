@@ -3,7 +3,7 @@
 ghost use Rattle.std.specs.Prelude.{◌≡◌};
 ghost use Rattle.pgpipe_places.specs.Tracker.{text_taken};
 
-use crate::tracker::{Phase, Turn};
+use crate::tracker::{ByteEffect, Phase};
 
 /// What came last in a line.
 #[derive(Clone, Copy)]
@@ -18,19 +18,19 @@ pub enum Text {
 
 impl Text {
     /// What a byte does: an escaped line end stands within its line.
-    pub fn take(self, byte: u8) -> Turn
+    pub fn take(self, byte: u8) -> ByteEffect
         ensures { result ≡ text_taken self byte }
     {
         match (self, byte) {
-            (Text::Escape, b'\n' | b'\r') => Turn::Line(Phase::Text(Text::Plain)),
-            (Text::Escape, _) => Turn::Within(Phase::Text(Text::Plain)),
-            (_, b'\n') => Turn::Last(Phase::Text(Text::Plain)),
-            (Text::Plain, b'\\') => Turn::Within(Phase::Text(Text::Escape)),
-            (Text::Plain, b'\r') => Turn::Within(Phase::Text(Text::Return)),
-            (Text::Plain, _) => Turn::Within(Phase::Text(Text::Plain)),
-            (Text::Return, b'\\') => Turn::First(Phase::Text(Text::Escape)),
-            (Text::Return, b'\r') => Turn::First(Phase::Text(Text::Return)),
-            (Text::Return, _) => Turn::First(Phase::Text(Text::Plain)),
+            (Text::Escape, b'\n' | b'\r') => ByteEffect::Line(Phase::Text(Text::Plain)),
+            (Text::Escape, _) => ByteEffect::Within(Phase::Text(Text::Plain)),
+            (_, b'\n') => ByteEffect::Last(Phase::Text(Text::Plain)),
+            (Text::Plain, b'\\') => ByteEffect::Within(Phase::Text(Text::Escape)),
+            (Text::Plain, b'\r') => ByteEffect::Within(Phase::Text(Text::Return)),
+            (Text::Plain, _) => ByteEffect::Within(Phase::Text(Text::Plain)),
+            (Text::Return, b'\\') => ByteEffect::First(Phase::Text(Text::Escape)),
+            (Text::Return, b'\r') => ByteEffect::First(Phase::Text(Text::Return)),
+            (Text::Return, _) => ByteEffect::First(Phase::Text(Text::Plain)),
         }
     }
 }

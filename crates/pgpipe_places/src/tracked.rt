@@ -5,7 +5,7 @@ ghost use Rattle.pgpipe_places.specs.Tracker.{begun, place_in};
 ghost use Rattle.pgpipe_places.specs.Tracked.{followed, FollowsOn};
 
 use crate::place::Place;
-use crate::tracker::{Kind, Tracker, place_in};
+use crate::tracker::{TrackedKind, Tracker, place_in};
 use pg_link::{LinkFault, Sink, Source};
 use std::alloc::Global;
 use std::marker::Model;
@@ -31,7 +31,7 @@ impl<T> Model for Tracked<T> {
 
 impl<T> Tracked<T> {
     /// Nothing came yet.
-    pub fn new(alloc: Global, inner: T, kind: Kind) -> Tracked<T>
+    pub fn new(alloc: Global, inner: T, kind: TrackedKind) -> Tracked<T>
         ensures { result ≡ record { inner = inner; tracker = begun kind; piece = [] } }
     {
         Tracked {

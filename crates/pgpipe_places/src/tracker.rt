@@ -10,7 +10,7 @@ use crate::wire::Wire;
 
 /// What is tracked.
 #[derive(Clone, Copy)]
-pub enum Kind {
+pub enum TrackedKind {
     /// The messages of a backend.
     Back,
     /// The first packets and then the messages of a client.
@@ -34,7 +34,7 @@ pub enum Phase {
 
 /// What one byte does.
 #[derive(Clone, Copy)]
-pub enum Turn {
+pub enum ByteEffect {
     /// It stands within its part.
     Within(Phase),
     /// It stands within its part, and ends a line.
@@ -60,7 +60,7 @@ pub struct Tracker {
 
 impl Tracker {
     /// Before the first byte.
-    pub fn new(kind: Kind) -> Tracker
+    pub fn new(kind: TrackedKind) -> Tracker
         ensures { result ≡ begun kind }
     {
         Tracker {
@@ -72,16 +72,16 @@ impl Tracker {
             line: 1,
             read: 0,
             phase: match kind {
-                Kind::Back => Phase::Wire(Wire::message()),
-                Kind::Front => Phase::Wire(Wire::packet()),
-                Kind::Text => Phase::Text(Text::Plain),
-                Kind::Binary => Phase::Binary(Binary::header()),
+                TrackedKind::Back => Phase::Wire(Wire::message()),
+                TrackedKind::Front => Phase::Wire(Wire::packet()),
+                TrackedKind::Text => Phase::Text(Text::Plain),
+                TrackedKind::Binary => Phase::Binary(Binary::header()),
             },
         }
     }
 
     // What a byte does.
-    fn turn(self, byte: u8) -> Turn
+    fn turn(self, byte: u8) -> ByteEffect
         ensures { result ≡ taken self.phase byte }
     {
         match self.phase {
@@ -97,18 +97,18 @@ impl Tracker {
     {
         let read = self.read.saturating_add(1);
         match self.turn(byte) {
-            Turn::Within(phase) => Tracker {
+            ByteEffect::Within(phase) => Tracker {
                 read,
                 phase,
                 ..self
             },
-            Turn::Line(phase) => Tracker {
+            ByteEffect::Line(phase) => Tracker {
                 read,
                 phase,
                 line: self.line.saturating_add(1),
                 ..self
             },
-            Turn::Last(phase) => {
+            ByteEffect::Last(phase) => {
                 let line = self.line.saturating_add(1);
                 Tracker {
                     place: self.place.next(line, read),
@@ -117,7 +117,7 @@ impl Tracker {
                     phase,
                 }
             }
-            Turn::First(phase) => {
+            ByteEffect::First(phase) => {
                 let line = self.line.saturating_add(1);
                 Tracker {
                     place: self.place.next(line, self.read),

@@ -3,11 +3,11 @@
 ghost use Rattle.std.specs.Prelude.{◌≡◌, ◌<◌, ◌^◌};
 ghost use Rattle.pgpipe_places.specs.Tracker.{body_of, next_by, wire_taken, with_byte};
 
-use crate::tracker::{Phase, Turn};
+use crate::tracker::{ByteEffect, Phase};
 
 /// What comes after a first packet, or that a message comes after a message.
 #[derive(Clone, Copy)]
-pub enum Next {
+pub enum NextPart {
     /// A message.
     Message,
     /// A first packet.
@@ -26,7 +26,7 @@ pub enum Wire {
     /// So many bytes of a first packet's code came, which make this number; then come so many bytes.
     Code(u8, u32, u32),
     /// So many bytes are left, and then comes this.
-    Body(u32, Next),
+    Body(u32, NextPart),
     /// Nothing more comes that has an end.
     Rest,
 }
@@ -45,37 +45,37 @@ const CANCEL: u32 = 80_877_102;
 const REQUESTS: u32 = 1_234;
 
 // What comes after a first packet with this code.
-fn next_by(code: u32) -> Next
+fn next_by(code: u32) -> NextPart
     ensures { result ≡ next_by code }
 {
     if code == CANCEL {
-        Next::Nothing
+        NextPart::Nothing
     } else if code / 65_536 == REQUESTS {
-        Next::Packet
+        NextPart::Packet
     } else {
-        Next::Message
+        NextPart::Message
     }
 }
 
 // What begins where a part has ended.
-fn begin(next: Next) -> Wire
+fn begin(next: NextPart) -> Wire
     ensures { result ≡ Rattle.pgpipe_places.specs.Tracker.beginning next }
 {
     match next {
-        Next::Message => Wire::message(),
-        Next::Packet => Wire::packet(),
-        Next::Nothing => Wire::Rest,
+        NextPart::Message => Wire::message(),
+        NextPart::Packet => Wire::packet(),
+        NextPart::Nothing => Wire::Rest,
     }
 }
 
 // What a part does that has so many bytes left, once a byte came of it.
-fn body(left: u32, next: Next) -> Turn
+fn body(left: u32, next: NextPart) -> ByteEffect
     ensures { result ≡ body_of left next }
 {
     if left == 0 {
-        return Turn::Last(Phase::Wire(begin(next)));
+        return ByteEffect::Last(Phase::Wire(begin(next)));
     }
-    Turn::Within(Phase::Wire(Wire::Body(left, next)))
+    ByteEffect::Within(Phase::Wire(Wire::Body(left, next)))
 }
 
 impl Wire {
@@ -94,27 +94,27 @@ impl Wire {
     }
 
     /// What a byte does. A length field counts itself.
-    pub fn take(self, byte: u8) -> Turn
+    pub fn take(self, byte: u8) -> ByteEffect
         ensures { result ≡ wire_taken self byte }
     {
         match self {
             Wire::Head(seen, word) if seen < 4 => {
-                Turn::Within(Phase::Wire(Wire::Head(seen + 1, with_byte(word, byte))))
+                ByteEffect::Within(Phase::Wire(Wire::Head(seen + 1, with_byte(word, byte))))
             }
-            Wire::Head(_, word) => body(with_byte(word, byte).saturating_sub(4), Next::Message),
+            Wire::Head(_, word) => body(with_byte(word, byte).saturating_sub(4), NextPart::Message),
             Wire::Length(seen, word) if seen < 3 => {
-                Turn::Within(Phase::Wire(Wire::Length(seen + 1, with_byte(word, byte))))
+                ByteEffect::Within(Phase::Wire(Wire::Length(seen + 1, with_byte(word, byte))))
             }
             Wire::Length(_, word) => {
                 let left = with_byte(word, byte).saturating_sub(8);
-                Turn::Within(Phase::Wire(Wire::Code(0, 0, left)))
+                ByteEffect::Within(Phase::Wire(Wire::Code(0, 0, left)))
             }
             Wire::Code(seen, word, left) if seen < 3 => {
-                Turn::Within(Phase::Wire(Wire::Code(seen + 1, with_byte(word, byte), left)))
+                ByteEffect::Within(Phase::Wire(Wire::Code(seen + 1, with_byte(word, byte), left)))
             }
             Wire::Code(_, word, left) => body(left, next_by(with_byte(word, byte))),
             Wire::Body(left, next) => body(left.saturating_sub(1), next),
-            Wire::Rest => Turn::Within(Phase::Wire(Wire::Rest)),
+            Wire::Rest => ByteEffect::Within(Phase::Wire(Wire::Rest)),
         }
     }
 }

@@ -10,7 +10,7 @@ use Rattle.pgpipe_lines.specs.Verb.{call_verb, step_verb}
 use Rattle.pgpipe_reasons.specs.declared.calls.CallsSearch.{CallsSearch}
 use Rattle.pgpipe_reasons.specs.declared.calls.CallsSeen.{CallsSeen}
 use Rattle.pgpipe_reasons.specs.declared.fields.Tail.TheVariants as tail
-use Rattle.pgpipe_reasons.specs.declared.kind.Kind.TheVariants as kind
+use Rattle.pgpipe_reasons.specs.declared.kind.FieldKind.TheVariants as kind
 use Rattle.pgpipe_reasons.specs.declared.reason.LineReason.{LineReason}
 use Rattle.pgpipe_reasons.specs.declared.reason.LineReason.TheVariants as reason
 use Rattle.pgpipe_reasons.specs.Fields.{judge_fields, or_else}
@@ -20,7 +20,8 @@ use Rattle.pgpipe_reasons.specs.Verbs.{is_of_calls, is_of_script, is_sync, no_ve
 
 -- of a step
 abbrev pub step_fields : StepVerb → Row → Option LineReason
-step_fields step.Parse fields = judge_fields (kind.Text ∷ kind.Text ∷ []) (tail.All kind.Number) fields
+step_fields step.Parse fields =
+    judge_fields (kind.Text ∷ kind.Text ∷ []) (tail.All kind.Number) fields
 step_fields step.Bind fields = judge_fields (kind.Text ∷ kind.Text ∷ []) tail.Values fields
 step_fields step.Describe fields = judge_fields (kind.Target ∷ kind.Text ∷ []) tail.Nothing fields
 step_fields step.Execute fields = judge_fields (kind.Text ∷ kind.Signed ∷ []) tail.Nothing fields

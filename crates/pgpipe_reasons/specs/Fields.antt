@@ -6,8 +6,8 @@ use Rattle.pgpipe_lines.specs.Arguments.{number, short_number, signed_number}
 use Rattle.pgpipe_lines.specs.Verb.{auth_way, end_way, load_way, target_of}
 use Rattle.pgpipe_reasons.specs.declared.fields.Tail.{Tail}
 use Rattle.pgpipe_reasons.specs.declared.fields.Tail.TheVariants as tail
-use Rattle.pgpipe_reasons.specs.declared.kind.Kind.{Kind}
-use Rattle.pgpipe_reasons.specs.declared.kind.Kind.TheVariants as kind
+use Rattle.pgpipe_reasons.specs.declared.kind.FieldKind.{FieldKind}
+use Rattle.pgpipe_reasons.specs.declared.kind.FieldKind.TheVariants as kind
 use Rattle.pgpipe_reasons.specs.declared.reason.LineReason.{LineReason}
 use Rattle.pgpipe_reasons.specs.declared.reason.LineReason.TheVariants as reason
 
@@ -37,7 +37,7 @@ abbrev pub is_format : List ℕ → Bool
 is_format text = bytes_eq text (codes "text") || bytes_eq text (codes "binary")
 
 -- whether a text is of this kind
-abbrev pub is_of : Kind → List ℕ → Bool
+abbrev pub is_of : FieldKind → List ℕ → Bool
 is_of kind.Text text = true
 is_of kind.Path text = is_utf8 text
 is_of kind.Number text = is_some (number text)
@@ -60,23 +60,24 @@ or_else (Some r) other = Some r
 or_else None other = other
 
 -- why the field of this number isn't of a kind
-abbrev pub judge_field : Kind → ℕ → Option (List ℕ) → Option LineReason
+abbrev pub judge_field : FieldKind → ℕ → Option (List ℕ) → Option LineReason
 judge_field k n None = Some (reason.Null n)
 judge_field k n (Some text) = if is_of k text then None else Some (reason.Not n k)
 
 -- why the field of this number isn't of a kind, and where there is none, this
-abbrev pub judge_at : Option LineReason → Kind → ℕ → Option (Option (List ℕ)) → Option LineReason
+abbrev pub judge_at : Option LineReason → FieldKind → ℕ → Option (Option (List ℕ))
+    → Option LineReason
 judge_at missing k n None = missing
 judge_at missing k n (Some field) = judge_field k n field
 
 -- why these fields aren't all of a kind, after so many others
-unfoldable pub judge_all : Kind → ℕ → Row → Option LineReason
+unfoldable pub judge_all : FieldKind → ℕ → Row → Option LineReason
 judge_all k n [] = None
 judge_all k n (field ∷ fields) =
     or_else (judge_field k (n + 1) field) (judge_all k (n + 1) fields)
 
 -- what a field of codes with values has to be
-abbrev pub code_or_value : Bool → Kind
+abbrev pub code_or_value : Bool → FieldKind
 code_or_value is_code = if is_code then kind.Code else kind.Text
 
 -- why these fields aren't codes, each with a value after it, after so many others; with `false` a value
@@ -96,14 +97,14 @@ judge_tail tail.Values n fields = None
 judge_tail tail.Codes n fields = judge_codes true n fields
 
 -- why these fields, after so many others, aren't of these kinds and this tail; so many are wanted in all
-unfoldable pub judge_from : ℕ → ℕ → List Kind → Tail → Row → Option LineReason
+unfoldable pub judge_from : ℕ → ℕ → List FieldKind → Tail → Row → Option LineReason
 judge_from n wanted [] t fields = judge_tail t n fields
 judge_from n wanted (k ∷ kinds) t [] = Some (reason.TooFew wanted)
 judge_from n wanted (k ∷ kinds) t (field ∷ fields) =
     or_else (judge_field k (n + 1) field) (judge_from (n + 1) wanted kinds t fields)
 
 -- why all the fields of a line aren't of these kinds and this tail
-abbrev pub judge_fields : List Kind → Tail → Row → Option LineReason
+abbrev pub judge_fields : List FieldKind → Tail → Row → Option LineReason
 judge_fields kinds t fields = judge_from 0 (length kinds) kinds t fields
 
 -- the text of a field, and no byte where it is null or isn't there

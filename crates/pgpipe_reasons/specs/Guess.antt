@@ -19,7 +19,8 @@ is_capture first =
 -- a refusal of encryption, and after it another one, or the tag of an Authentication or an error
 abbrev pub is_refusal : List ℕ → Bool
 is_refusal first =
-    begins_with first (codes "NR") || begins_with first (codes "NE") || begins_with first (codes "NN")
+    begins_with first (codes "NR") || begins_with first (codes "NE")
+    || begins_with first (codes "NN")
 
 -- a grant of encryption, with a refusal of the other kind before it or without, and TLS after it
 abbrev pub is_granted : List ℕ → Bool
@@ -37,7 +38,8 @@ back_guess first =
 -- of encryption
 abbrev pub front_guess : List ℕ → Option Guess
 front_guess first =
-    if begins_with first (82 ∷ 0 ∷ 0 ∷ []) || begins_with first (69 ∷ 0 ∷ 0 ∷ []) || is_refusal first
+    if begins_with first (82 ∷ 0 ∷ 0 ∷ []) || begins_with first (69 ∷ 0 ∷ 0 ∷ [])
+    || is_refusal first
     then Some guess.Server else None
 
 -- what a stream that begins so looks like, if it can't be what is read

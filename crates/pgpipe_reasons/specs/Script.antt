@@ -14,7 +14,7 @@ use Rattle.pgpipe_lines.specs.declared.verb.ScriptVerb.{ScriptVerb}
 use Rattle.pgpipe_lines.specs.declared.verb.ScriptVerb.TheVariants as script
 use Rattle.pgpipe_lines.specs.Verb.{answer_verb, auth_way, end_way, load_way, script_verb}
 use Rattle.pgpipe_reasons.specs.declared.fields.Tail.TheVariants as tail
-use Rattle.pgpipe_reasons.specs.declared.kind.Kind.TheVariants as kind
+use Rattle.pgpipe_reasons.specs.declared.kind.FieldKind.TheVariants as kind
 use Rattle.pgpipe_reasons.specs.declared.reason.LineReason.{LineReason}
 use Rattle.pgpipe_reasons.specs.declared.reason.LineReason.TheVariants as reason
 use Rattle.pgpipe_reasons.specs.declared.script.ScriptSearch.{ScriptSearch}

@@ -8,7 +8,7 @@ ghost use Rattle.pgpipe_reasons.specs.Calls.{passed_calls, step_fields};
 ghost use Rattle.pgpipe_reasons.specs.Fields.{IsReasonOf};
 
 use crate::fields::{Tail, judge_fields};
-use crate::kind::Kind;
+use crate::kind::FieldKind;
 use crate::reason::LineReason;
 use crate::verbs::{call_verb, is_of_calls, is_of_script, is_sync, no_verb, step_verb};
 use pg_wire::Values;
@@ -29,11 +29,27 @@ fn step_fields(verb: StepVerb, fields: &Values) -> Option<LineReason>
     ensures { result ≡ step_fields verb fields.now }
 {
     match verb {
-        StepVerb::Parse => judge_fields(fields, &[Kind::Text, Kind::Text], Tail::All(Kind::Number)),
-        StepVerb::Bind => judge_fields(fields, &[Kind::Text, Kind::Text], Tail::Values),
-        StepVerb::Describe => judge_fields(fields, &[Kind::Target, Kind::Text], Tail::Nothing),
-        StepVerb::Execute => judge_fields(fields, &[Kind::Text, Kind::Signed], Tail::Nothing),
-        StepVerb::Close => judge_fields(fields, &[Kind::Target, Kind::Text], Tail::Nothing),
+        StepVerb::Parse => judge_fields(
+            fields,
+            &[FieldKind::Text, FieldKind::Text],
+            Tail::All(FieldKind::Number),
+        ),
+        StepVerb::Bind => judge_fields(fields, &[FieldKind::Text, FieldKind::Text], Tail::Values),
+        StepVerb::Describe => judge_fields(
+            fields,
+            &[FieldKind::Target, FieldKind::Text],
+            Tail::Nothing,
+        ),
+        StepVerb::Execute => judge_fields(
+            fields,
+            &[FieldKind::Text, FieldKind::Signed],
+            Tail::Nothing,
+        ),
+        StepVerb::Close => judge_fields(
+            fields,
+            &[FieldKind::Target, FieldKind::Text],
+            Tail::Nothing,
+        ),
     }
 }
 
@@ -47,11 +63,15 @@ fn call_fields(verb: CallVerb, fields: &Values) -> Option<LineReason>
         | CallVerb::Password
         | CallVerb::Query
         | CallVerb::Chunk
-        | CallVerb::Fail => judge_fields(fields, &[Kind::Text], Tail::Nothing),
-        CallVerb::Parameter => judge_fields(fields, &[Kind::Text, Kind::Text], Tail::Nothing),
-        CallVerb::File => judge_fields(fields, &[Kind::Path], Tail::Nothing),
+        | CallVerb::Fail => judge_fields(fields, &[FieldKind::Text], Tail::Nothing),
+        CallVerb::Parameter => judge_fields(
+            fields,
+            &[FieldKind::Text, FieldKind::Text],
+            Tail::Nothing,
+        ),
+        CallVerb::File => judge_fields(fields, &[FieldKind::Path], Tail::Nothing),
         CallVerb::ToBackend | CallVerb::ToClient => {
-            judge_fields(fields, &[Kind::Number], Tail::Nothing)
+            judge_fields(fields, &[FieldKind::Number], Tail::Nothing)
         }
         CallVerb::Start
         | CallVerb::Group

@@ -5,7 +5,7 @@ ghost use Rattle.std.specs.List.{slice_get};
 ghost use Rattle.pgpipe_reasons.specs.Fields.{judge_all, judge_at, judge_codes, judge_field};
 ghost use Rattle.pgpipe_reasons.specs.Fields.{judge_fields, judge_from, judge_tail, word_of};
 
-use crate::kind::Kind;
+use crate::kind::FieldKind;
 use crate::reason::LineReason;
 use pg_wire::Values;
 
@@ -15,7 +15,7 @@ pub enum Tail {
     /// Nothing.
     Nothing,
     /// Fields of this kind.
-    All(Kind),
+    All(FieldKind),
     /// Values, of which any may be null.
     Values,
     /// Codes of one byte, each with a value after it.
@@ -23,7 +23,7 @@ pub enum Tail {
 }
 
 // Why the field of this number isn't of a kind, if it isn't.
-fn judge_field(kind: Kind, number: usize, field: Option<&[u8]>) -> Option<LineReason>
+fn judge_field(kind: FieldKind, number: usize, field: Option<&[u8]>) -> Option<LineReason>
     ensures { result ≡ judge_field kind number (option_copied field.entry) }
 {
     match field {
@@ -39,7 +39,7 @@ fn judge_field(kind: Kind, number: usize, field: Option<&[u8]>) -> Option<LineRe
 
 // Why the field in a place isn't of a kind; where there is none, the reason that is given for that, if it is one.
 fn judge_at(
-    kind: Kind,
+    kind: FieldKind,
     fields: &Values,
     place: usize,
     missing: Option<LineReason>,
@@ -54,7 +54,7 @@ fn judge_at(
 }
 
 // Why the fields from a place on aren't all of a kind: the first that isn't.
-fn judge_all(kind: Kind, fields: &Values, from: usize) -> Option<LineReason>
+fn judge_all(kind: FieldKind, fields: &Values, from: usize) -> Option<LineReason>
     ensures { result ≡ judge_all kind from (drop from fields.now) }
 {
     let mut place = from;
@@ -68,10 +68,14 @@ fn judge_all(kind: Kind, fields: &Values, from: usize) -> Option<LineReason>
 }
 
 // What a field of codes with values has to be.
-fn code_or_value(is_code: bool) -> Kind
+fn code_or_value(is_code: bool) -> FieldKind
     ensures { result ≡ Rattle.pgpipe_reasons.specs.Fields.code_or_value is_code }
 {
-    if is_code { Kind::Code } else { Kind::Text }
+    if is_code {
+        FieldKind::Code
+    } else {
+        FieldKind::Text
+    }
 }
 
 // Why the fields from a place on aren't codes with values: the first that isn't.
@@ -109,7 +113,12 @@ fn judge_tail(tail: Tail, fields: &Values, from: usize) -> Option<LineReason>
 }
 
 // Why fields aren't of these kinds and this tail: the first that isn't. So many are wanted in all.
-fn judge_kinds(fields: &Values, kinds: &[Kind], tail: Tail, wanted: usize) -> Option<LineReason>
+fn judge_kinds(
+    fields: &Values,
+    kinds: &[FieldKind],
+    tail: Tail,
+    wanted: usize,
+) -> Option<LineReason>
     ensures { result ≡ judge_from 0 wanted kinds.now tail fields.now }
 {
     let mut place = 0;
@@ -123,7 +132,7 @@ fn judge_kinds(fields: &Values, kinds: &[Kind], tail: Tail, wanted: usize) -> Op
 }
 
 /// Why fields aren't of these kinds and this tail: the first that isn't.
-pub fn judge_fields(fields: &Values, kinds: &[Kind], tail: Tail) -> Option<LineReason>
+pub fn judge_fields(fields: &Values, kinds: &[FieldKind], tail: Tail) -> Option<LineReason>
     ensures { result ≡ judge_fields kinds.now tail fields.now }
 {
     judge_kinds(fields, kinds, tail, kinds.len())

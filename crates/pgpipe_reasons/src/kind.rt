@@ -11,7 +11,7 @@ use thiserror::Error;
 
 /// What a field has to be. Each is shown as the end of a sentence about a field that isn't it.
 #[derive(Clone, Copy, Debug, Error)]
-pub enum Kind {
+pub enum FieldKind {
     /// Any text.
     #[error("is no text")]
     Text,
@@ -167,25 +167,25 @@ fn is_format(text: &[u8]) -> bool
     is_word(text, b"text") || is_word(text, b"binary")
 }
 
-impl Kind {
+impl FieldKind {
     /// Whether a text is of this kind.
     pub fn is_of(self, text: &[u8]) -> bool
         ensures { result ≡ is_of self text.now }
     {
         match self {
-            Kind::Text => true,
-            Kind::Path => is_path(text),
-            Kind::Number => is_number(text),
-            Kind::Signed => is_signed(text),
-            Kind::Columns => is_columns(text),
-            Kind::Way => AuthWay::named(text).is_some(),
-            Kind::Salt => is_salt(text),
-            Kind::Status => is_status(text),
-            Kind::Format => is_format(text),
-            Kind::Load => LoadWay::named(text).is_some(),
-            Kind::End => EndWay::named(text).is_some(),
-            Kind::Target => target_of(text).is_some(),
-            Kind::Code => text.len() == 1,
+            FieldKind::Text => true,
+            FieldKind::Path => is_path(text),
+            FieldKind::Number => is_number(text),
+            FieldKind::Signed => is_signed(text),
+            FieldKind::Columns => is_columns(text),
+            FieldKind::Way => AuthWay::named(text).is_some(),
+            FieldKind::Salt => is_salt(text),
+            FieldKind::Status => is_status(text),
+            FieldKind::Format => is_format(text),
+            FieldKind::Load => LoadWay::named(text).is_some(),
+            FieldKind::End => EndWay::named(text).is_some(),
+            FieldKind::Target => target_of(text).is_some(),
+            FieldKind::Code => text.len() == 1,
         }
     }
 }

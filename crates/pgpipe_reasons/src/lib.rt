@@ -25,7 +25,7 @@ pub use faults::{
     back_rule, binary_rule, front_rule, option_rule, row_rule, script_rule, text_rule,
 };
 pub use guess::{Guess, guess_of};
-pub use kind::Kind;
+pub use kind::FieldKind;
 pub use reason::LineReason;
 pub use rule::Rule;
 pub use script::script_reason;

@@ -1,6 +1,6 @@
 //! Why a line is refused.
 
-use crate::kind::Kind;
+use crate::kind::FieldKind;
 use thiserror::Error;
 
 /// Why the line in a row of SCRIPT or CALLS is refused. Fields are counted from 1, the verb left out.
@@ -32,7 +32,7 @@ pub enum LineReason {
     Null(usize),
     /// This field isn't of this kind.
     #[error("field {0} {1}")]
-    Not(usize, Kind),
+    Not(usize, FieldKind),
     /// This field is a code, and no value comes after it.
     #[error("field {0} is a code that has no value after it")]
     NoValue(usize),

@@ -10,7 +10,7 @@ ghost use Rattle.pgpipe_reasons.specs.Script.{passed_own, passed_script, script_
 ghost use Rattle.pgpipe_reasons.specs.Script.{script_searched};
 
 use crate::fields::{Tail, judge_fields, word_at};
-use crate::kind::Kind;
+use crate::kind::FieldKind;
 use crate::reason::LineReason;
 use crate::verbs::{answer_verb, is_of_calls, no_verb, script_verb};
 use pg_wire::Values;
@@ -61,16 +61,28 @@ fn own_fields(verb: ScriptVerb, fields: &Values) -> Option<LineReason>
     match verb {
         ScriptVerb::Auth => match AuthWay::named(word_at(fields, 0)) {
             Some(AuthWay::Cleartext) => {
-                judge_fields(fields, &[Kind::Way, Kind::Text], Tail::Nothing)
+                judge_fields(fields, &[FieldKind::Way, FieldKind::Text], Tail::Nothing)
             }
             Some(AuthWay::Md5) => {
-                judge_fields(fields, &[Kind::Way, Kind::Text, Kind::Salt], Tail::Nothing)
+                judge_fields(
+                    fields,
+                    &[FieldKind::Way, FieldKind::Text, FieldKind::Salt],
+                    Tail::Nothing,
+                )
             }
-            _ => judge_fields(fields, &[Kind::Way], Tail::Nothing),
+            _ => judge_fields(fields, &[FieldKind::Way], Tail::Nothing),
         },
-        ScriptVerb::Pair => judge_fields(fields, &[Kind::Text, Kind::Text], Tail::Nothing),
-        ScriptVerb::Key => judge_fields(fields, &[Kind::Signed, Kind::Signed], Tail::Nothing),
-        ScriptVerb::Answer => judge_fields(fields, &[Kind::Status], Tail::Nothing),
+        ScriptVerb::Pair => judge_fields(
+            fields,
+            &[FieldKind::Text, FieldKind::Text],
+            Tail::Nothing,
+        ),
+        ScriptVerb::Key => judge_fields(
+            fields,
+            &[FieldKind::Signed, FieldKind::Signed],
+            Tail::Nothing,
+        ),
+        ScriptVerb::Answer => judge_fields(fields, &[FieldKind::Status], Tail::Nothing),
     }
 }
 
@@ -81,12 +93,22 @@ fn copy_in_fields(fields: &Values) -> Option<LineReason>
     match LoadWay::named(word_at(fields, 2)) {
         Some(LoadWay::Refuse) => judge_fields(
             fields,
-            &[Kind::Format, Kind::Columns, Kind::Load, Kind::Number],
+            &[
+                FieldKind::Format,
+                FieldKind::Columns,
+                FieldKind::Load,
+                FieldKind::Number,
+            ],
             Tail::Codes,
         ),
         _ => judge_fields(
             fields,
-            &[Kind::Format, Kind::Columns, Kind::Load, Kind::Text],
+            &[
+                FieldKind::Format,
+                FieldKind::Columns,
+                FieldKind::Load,
+                FieldKind::Text,
+            ],
             Tail::Nothing,
         ),
     }
@@ -97,8 +119,12 @@ fn executed_fields(fields: &Values) -> Option<LineReason>
     ensures { result ≡ Rattle.pgpipe_reasons.specs.Script.executed_fields fields.now }
 {
     match EndWay::named(word_at(fields, 0)) {
-        Some(EndWay::Complete) => judge_fields(fields, &[Kind::End, Kind::Text], Tail::Nothing),
-        _ => judge_fields(fields, &[Kind::End], Tail::Nothing),
+        Some(EndWay::Complete) => judge_fields(
+            fields,
+            &[FieldKind::End, FieldKind::Text],
+            Tail::Nothing,
+        ),
+        _ => judge_fields(fields, &[FieldKind::End], Tail::Nothing),
     }
 }
 
@@ -108,31 +134,31 @@ fn answer_fields(verb: AnswerVerb, fields: &Values) -> Option<LineReason>
 {
     match verb {
         AnswerVerb::Notice => judge_fields(fields, &[], Tail::Codes),
-        AnswerVerb::Set => judge_fields(fields, &[Kind::Text, Kind::Text], Tail::Nothing),
+        AnswerVerb::Set => judge_fields(fields, &[FieldKind::Text, FieldKind::Text], Tail::Nothing),
         AnswerVerb::Notify => {
             judge_fields(
                 fields,
-                &[Kind::Signed, Kind::Text, Kind::Text],
+                &[FieldKind::Signed, FieldKind::Text, FieldKind::Text],
                 Tail::Nothing,
             )
         }
-        AnswerVerb::Rows => judge_fields(fields, &[Kind::Text], Tail::All(Kind::Text)),
+        AnswerVerb::Rows => judge_fields(fields, &[FieldKind::Text], Tail::All(FieldKind::Text)),
         AnswerVerb::Row => None,
-        AnswerVerb::Command => judge_fields(fields, &[Kind::Text], Tail::Nothing),
+        AnswerVerb::Command => judge_fields(fields, &[FieldKind::Text], Tail::Nothing),
         AnswerVerb::Empty => judge_fields(fields, &[], Tail::Nothing),
         AnswerVerb::CopyOut => {
             judge_fields(
                 fields,
-                &[Kind::Text, Kind::Format, Kind::Columns],
+                &[FieldKind::Text, FieldKind::Format, FieldKind::Columns],
                 Tail::Nothing,
             )
         }
-        AnswerVerb::Chunk => judge_fields(fields, &[Kind::Text], Tail::Nothing),
+        AnswerVerb::Chunk => judge_fields(fields, &[FieldKind::Text], Tail::Nothing),
         AnswerVerb::CopyIn => copy_in_fields(fields),
         AnswerVerb::Parsed => judge_fields(fields, &[], Tail::Nothing),
         AnswerVerb::Bound => judge_fields(fields, &[], Tail::Nothing),
-        AnswerVerb::ParamTypes => judge_fields(fields, &[], Tail::All(Kind::Number)),
-        AnswerVerb::Described => judge_fields(fields, &[], Tail::All(Kind::Text)),
+        AnswerVerb::ParamTypes => judge_fields(fields, &[], Tail::All(FieldKind::Number)),
+        AnswerVerb::Described => judge_fields(fields, &[], Tail::All(FieldKind::Text)),
         AnswerVerb::Executed => executed_fields(fields),
         AnswerVerb::Shut => judge_fields(fields, &[], Tail::Nothing),
         AnswerVerb::Error => judge_fields(fields, &[], Tail::Codes),

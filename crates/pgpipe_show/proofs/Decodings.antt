@@ -17,8 +17,8 @@ use Rattle.pgpipe_base.specs.declared.stop.Stop.{Stop}
 use Rattle.pgpipe_base.specs.declared.stop.Stop.TheVariants as stop
 use Rattle.pgpipe_show.specs.declared.show.Shown.{Shown}
 use Rattle.pgpipe_show.specs.declared.show.Shown.TheVariants as shown
-use Rattle.pgpipe_frames.specs.declared.next.Next.{Next}
-use Rattle.pgpipe_frames.specs.declared.next.Next.TheVariants as next
+use Rattle.pgpipe_frames.specs.declared.next.NextFrame.{NextFrame}
+use Rattle.pgpipe_frames.specs.declared.next.NextFrame.TheVariants as next
 use Rattle.pgpipe_show.specs.declared.decoding.Decoding.{Decoding}
 use Rattle.pgpipe_show.specs.declared.decoding.Decoding.TheVariants as decoding
 use Rattle.pgpipe_show.specs.Messages.{line, lines}
@@ -45,12 +45,12 @@ messages_received D bytes text rest piece a = record {
   each_line = a.each_line;
 }
 
-following_received : (n : Next) (following text rest piece : List ℕ) → ComesAfter n following text rest → ComesAfter n (following ++ piece) text (rest ++ piece)
+following_received : (n : NextFrame) (following text rest piece : List ℕ) → ComesAfter n following text rest → ComesAfter n (following ++ piece) text (rest ++ piece)
 following_received next.Message following text rest piece b = messages_received frontend following text rest piece b
 following_received next.Packet following text rest piece b = (b.0, ap (λ (u : List ℕ). u ++ piece) b.1)
 following_received next.Nothing following text rest piece b = (b.0, ap (λ (u : List ℕ). u ++ piece) b.1)
 
-pub client_received : (bytes text : List ℕ) (n : Next) (rest piece : List ℕ) → IsClientSide bytes text n rest → IsClientSide (bytes ++ piece) text n (rest ++ piece)
+pub client_received : (bytes text : List ℕ) (n : NextFrame) (rest piece : List ℕ) → IsClientSide bytes text n rest → IsClientSide (bytes ++ piece) text n (rest ++ piece)
 client_received bytes text n rest piece c = record {
   packets = c.packets;
   following = c.following ++ piece;
@@ -84,12 +84,12 @@ client_messages bytes text rest ns rest' c s = record {
   each_line = ap (λ (u : List ℕ). u ++ lines frontend ns) c.each_line ∙ append_assoc (packet_lines c.packets) c.later (lines frontend ns);
 }
 
-nothing_following : (n : Next) (following : List ℕ) → ComesAfter n following [] following
+nothing_following : (n : NextFrame) (following : List ℕ) → ComesAfter n following [] following
 nothing_following next.Message following = record { messages = []; stream = record { whole = refl; each = tt }; each_line = refl }
 nothing_following next.Packet following = (refl, refl)
 nothing_following next.Nothing following = (refl, refl)
 
-pub client_packets : (bytes text rest : List ℕ) (qs : List First) (n : Next) (rest' : List ℕ) → IsClientSide bytes text next.Packet rest → IsBeginning rest qs (have_ended n) rest' → next_after qs ≡ n → IsClientSide bytes (text ++ packet_lines qs) n rest'
+pub client_packets : (bytes text rest : List ℕ) (qs : List First) (n : NextFrame) (rest' : List ℕ) → IsClientSide bytes text next.Packet rest → IsBeginning rest qs (have_ended n) rest' → next_after qs ≡ n → IsClientSide bytes (text ++ packet_lines qs) n rest'
 client_packets bytes text rest qs n rest' c s is = record {
   packets = c.packets ++ qs;
   following = rest';
@@ -108,23 +108,23 @@ rest_within bytes way rest e = omega (arith, ap (λ (l : List ℕ). length l) e,
 messages_within : {M : Type 0} (D : Direction M) (bytes text rest : List ℕ) → AreMessages D bytes text rest → length rest ≤ length bytes
 messages_within D bytes text rest a = rest_within bytes (flat_map (spelling D) a.messages) rest a.stream.whole
 
-following_within : (n : Next) (following text rest : List ℕ) → ComesAfter n following text rest → length rest ≤ length following
+following_within : (n : NextFrame) (following text rest : List ℕ) → ComesAfter n following text rest → length rest ≤ length following
 following_within next.Message following text rest b = messages_within frontend following text rest b
 following_within next.Packet following text rest b = rest_within following [] rest (sym b.1)
 following_within next.Nothing following text rest b = rest_within following [] rest (sym b.1)
 
-shown_within_in : (form : Form) (front : Bool) (bytes text : List ℕ) (n : Next) (rest : List ℕ) → AreShownIn form front bytes text n rest → length rest ≤ length bytes
+shown_within_in : (form : Form) (front : Bool) (bytes text : List ℕ) (n : NextFrame) (rest : List ℕ) → AreShownIn form front bytes text n rest → length rest ≤ length bytes
 shown_within_in forms.Messages false bytes text n rest a = messages_within backend bytes text rest a.1
 shown_within_in forms.Messages true bytes text n rest a = omega (arith, following_within n a.following a.later rest a.follows, rest_within bytes (flat_map packet a.packets) a.following a.beginning.whole)
 shown_within_in (forms.Frames line) front bytes text n rest a = frames_within line front bytes text n rest a
 
-shown_within : (way : Way) (bytes text : List ℕ) (n : Next) (rest : List ℕ) → AreShown way bytes text n rest → length rest ≤ length bytes
+shown_within : (way : Way) (bytes text : List ℕ) (n : NextFrame) (rest : List ℕ) → AreShown way bytes text n rest → length rest ≤ length bytes
 shown_within way bytes text n rest a = shown_within_in way.form way.front bytes text n rest a
 
 module _ {K : Type 0} (takes : K → List ℕ → K → Type 0) (failures : K → ℕ) (start : K) (bytes : List ℕ) where
   -- ---- what taking messages leads to
 
-  module _ {M : Type 0} (D : Direction M) (way : Way) (n : Next) (kept : List ℕ) (earlier : List (List ℕ)) (c : List ℕ) (s : K)
+  module _ {M : Type 0} (D : Direction M) (way : Way) (n : NextFrame) (kept : List ℕ) (earlier : List (List ℕ)) (c : List ℕ) (s : K)
       (more : (text : List ℕ) (ns : List M) (rest : List ℕ) → AreShown way bytes text n kept → IsStream D length_limit kept ns rest → AreShown way bytes (text ++ lines D ns) n rest)
       (faulty : (rest : List ℕ) (f : WireFault) → IsFaulty D length_limit rest f → IsFaultyFor way n rest f)
       (p : ArePut takes failures way start bytes earlier n kept c s) where
@@ -181,7 +181,7 @@ module _ {K : Type 0} (takes : K → List ℕ → K → Type 0) (failures : K �
   -- ---- what taking packets leads to
 
   module _ (kept : List ℕ) (earlier : List (List ℕ)) (c : List ℕ) (s : K) (p : ArePut takes failures (messages_of true) start bytes earlier next.Packet kept c s) where
-    abbrev pub packets_put : (n : Next) (rest c' : List ℕ) (s' : K) → HasPutPackets takes failures c s kept n rest c' s' → ArePut takes failures (messages_of true) start bytes earlier n rest c' s'
+    abbrev pub packets_put : (n : NextFrame) (rest c' : List ℕ) (s' : K) → HasPutPackets takes failures c s kept n rest c' s' → ArePut takes failures (messages_of true) start bytes earlier n rest c' s'
     packets_put n rest c' s' h = record {
       text = p.text ++ packet_lines h.packets;
       shown = client_packets bytes p.text kept h.packets n rest p.shown h.beginning h.next_is;
@@ -208,24 +208,24 @@ module _ {K : Type 0} (takes : K → List ℕ → K → Type 0) (failures : K �
     packets_err stop.Endless d c' s' h = absurd h
 
     -- more packets may come
-    pub still_first : (n : Next) (d : FirstState) (c' : List ℕ) (s' : K) → n ≡ next.Packet → PutsPackets takes failures c s kept (Ok n) d c' s' → GoesOn takes failures start bytes earlier (decoding.First d) c' s'
+    pub still_first : (n : NextFrame) (d : FirstState) (c' : List ℕ) (s' : K) → n ≡ next.Packet → PutsPackets takes failures c s kept (Ok n) d c' s' → GoesOn takes failures start bytes earlier (decoding.First d) c' s'
     still_first n d c' s' is puts =
-        let h = subst (λ (x : Next). PutsPackets takes failures c s kept (Ok x) d c' s') is puts in
+        let h = subst (λ (x : NextFrame). PutsPackets takes failures c s kept (Ok x) d c' s') is puts in
         let a = packets_put next.Packet d.kept c' s' h.2 in
         (record { text = a.text; are_at = (h.0, h.1, a.shown, h.3); put = a.put; within = a.within }, a.begins)
 
     -- a Startup came
-    pub now_messages : (n : Next) (d : FirstState) (kept' c' : List ℕ) (s' : K) → n ≡ next.Message → kept' ≡ d.kept → PutsPackets takes failures c s kept (Ok n) d c' s'
+    pub now_messages : (n : NextFrame) (d : FirstState) (kept' c' : List ℕ) (s' : K) → n ≡ next.Message → kept' ≡ d.kept → PutsPackets takes failures c s kept (Ok n) d c' s'
         → ArePut takes failures (messages_of true) start bytes earlier next.Message kept' c' s'
     now_messages n d kept' c' s' is e puts =
-        let h = subst (λ (x : Next). PutsPackets takes failures c s kept (Ok x) d c' s') is puts in
+        let h = subst (λ (x : NextFrame). PutsPackets takes failures c s kept (Ok x) d c' s') is puts in
         let a = packets_put next.Message d.kept c' s' h.1 in
         record { text = a.text; shown = subst (λ (k : List ℕ). AreShown (messages_of true) bytes a.text next.Message k) (sym e) a.shown; put = a.put; begins = a.begins; within = a.within }
 
     -- a Cancel came
-    pub now_over : (n : Next) (size : ℕ) (d : FirstState) (c' : List ℕ) (s' : K) → n ≡ next.Nothing → size ≡ length d.kept → PutsPackets takes failures c s kept (Ok n) d c' s' → GoesOn takes failures start bytes earlier (decoding.Over size) c' s'
+    pub now_over : (n : NextFrame) (size : ℕ) (d : FirstState) (c' : List ℕ) (s' : K) → n ≡ next.Nothing → size ≡ length d.kept → PutsPackets takes failures c s kept (Ok n) d c' s' → GoesOn takes failures start bytes earlier (decoding.Over size) c' s'
     now_over n size d c' s' is e puts =
-        let h = subst (λ (x : Next). PutsPackets takes failures c s kept (Ok x) d c' s') is puts in
+        let h = subst (λ (x : NextFrame). PutsPackets takes failures c s kept (Ok x) d c' s') is puts in
         let a = packets_put next.Nothing d.kept c' s' h.1 in
         (record { text = a.text; are_at = (d.kept, a.shown, e); put = a.put; within = a.within }, a.begins)
 
@@ -334,7 +334,7 @@ module _ {K : Type 0} (takes : K → List ℕ → K → Type 0) (failures : K �
   sound_at (decoding.FramedOver line side n) st = tt
 
   -- the work may stop at any time
-  pub at_any_time : (at : Decoding) (st : HasShown takes failures start bytes at c s) → (n : Next) × (rest : List ℕ) × ArePut takes failures (way_of at) start bytes st.put.pieces n rest c s × IsOpenFor (way_of at) n rest
+  pub at_any_time : (at : Decoding) (st : HasShown takes failures start bytes at c s) → (n : NextFrame) × (rest : List ℕ) × ArePut takes failures (way_of at) start bytes st.put.pieces n rest c s × IsOpenFor (way_of at) n rest
   at_any_time at st = let a = all_shown at st in (a.n, a.rest, record { text = st.text; shown = a.shown; put = st.put; begins = prefix_of_itself st.put.pieces; within = st.within }, a.is_open)
 
   at_end : (at : Decoding) (st : HasShown takes failures start bytes at c s) (size : ℕ) → size ≡ unshown at → Stops takes failures (way_of at) start bytes st.put.pieces (end_stop size) c s

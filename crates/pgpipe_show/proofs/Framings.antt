@@ -8,12 +8,12 @@ use Rattle.pgpipe_base.specs.declared.stop.Stop.{Stop}
 use Rattle.pgpipe_base.specs.declared.stop.Stop.TheVariants as stop
 use Rattle.pgpipe_base.specs.Outbox.{line_of}
 use Rattle.pgpipe_base.proofs.Pieces.{prefix_of_itself, puts_none, puts_then, sends_on}
-use Rattle.pgpipe_frames.specs.declared.next.Next.{Next}
-use Rattle.pgpipe_frames.specs.declared.next.Next.TheVariants as next
+use Rattle.pgpipe_frames.specs.declared.next.NextFrame.{NextFrame}
+use Rattle.pgpipe_frames.specs.declared.next.NextFrame.TheVariants as next
 use Rattle.std.proofs.lemmas.List.{length-take-le, length-drop}
 use Rattle.std.specs.Prelude.{OnOk, is_ok}
 use Rattle.std.specs.Result.{is_err}
-use Rattle.pgpipe_frames.specs.declared.judge.Judged.TheVariants as judge
+use Rattle.pgpipe_frames.specs.declared.judge.FrameJudgement.TheVariants as judge
 use Rattle.pgpipe_frames.specs.Frames.{Frame, judged, next_after, fewest, AreFramed}
 use Rattle.pgpipe_frames.specs.Reader.{FramesState, answer_of, left_by}
 use Rattle.pgpipe_frames.proofs.Framing.{framed_none, framed_received, framed_then, one_frame, rest_within}
@@ -45,13 +45,13 @@ pub nothing_open : (front : Bool) → judged (first_of front) [] ≡ judge.Open
 nothing_open false = refl
 nothing_open true = refl
 
-pub frames_received : (line : Line) (front : Bool) (bytes text : List ℕ) (n : Next) (rest piece : List ℕ) → AreFramesShown line front bytes text n rest → AreFramesShown line front (bytes ++ piece) text n (rest ++ piece)
+pub frames_received : (line : Line) (front : Bool) (bytes text : List ℕ) (n : NextFrame) (rest piece : List ℕ) → AreFramesShown line front bytes text n rest → AreFramesShown line front (bytes ++ piece) text n (rest ++ piece)
 frames_received line front bytes text n rest piece a = record { frames = a.frames; framed = framed_received (first_of front) bytes a.frames n rest piece a.framed; lines = a.lines }
 
-pub frames_within : (line : Line) (front : Bool) (bytes text : List ℕ) (n : Next) (rest : List ℕ) → AreFramesShown line front bytes text n rest → length rest ≤ length bytes
+pub frames_within : (line : Line) (front : Bool) (bytes text : List ℕ) (n : NextFrame) (rest : List ℕ) → AreFramesShown line front bytes text n rest → length rest ≤ length bytes
 frames_within line front bytes text n rest a = rest_within (first_of front) bytes a.frames n rest a.framed
 
-frames_then : (line : Line) (front : Bool) (bytes text : List ℕ) (n : Next) (rest : List ℕ) (more : List Frame) (text' : List ℕ) (n' : Next) (rest' : List ℕ) → AreFramesShown line front bytes text n rest → AreFramed n rest more n' rest' → AreLines line front more text' → AreFramesShown line front bytes (text ++ text') n' rest'
+frames_then : (line : Line) (front : Bool) (bytes text : List ℕ) (n : NextFrame) (rest : List ℕ) (more : List Frame) (text' : List ℕ) (n' : NextFrame) (rest' : List ℕ) → AreFramesShown line front bytes text n rest → AreFramed n rest more n' rest' → AreLines line front more text' → AreFramesShown line front bytes (text ++ text') n' rest'
 frames_then line front bytes text n rest more text' n' rest' a b l = record {
   frames = a.frames ++ more;
   framed = framed_then (first_of front) bytes a.frames n rest more n' rest' a.framed b;
@@ -101,18 +101,18 @@ module _ {K : Type 0} (takes : K → List ℕ → K → Type 0) (failures : K �
 -- ---- the frames that a reader keeps
 
 -- a frame fewer is kept
-pub fewer : (n : Next) (rest : List ℕ) (size : ℕ) → judged n rest ≡ judge.Whole size → length (drop size rest) < length rest
+pub fewer : (n : NextFrame) (rest : List ℕ) (size : ℕ) → judged n rest ≡ judge.Whole size → length (drop size rest) < length rest
 fewer n rest size e =
     let s = frame_sizes n rest size e in
     let some : 0 < size = by_kind n s.0 in
     omega (arith, some, s.2, length-drop size rest)
   where
-    by_kind : (k : Next) → fewest k ≤ size → 0 < size
+    by_kind : (k : NextFrame) → fewest k ≤ size → 0 < size
     by_kind next.Packet low = omega (arith, low)
     by_kind next.Message low = omega (arith, low)
     by_kind next.Nothing low = omega (arith, low)
 
-module _ {K : Type 0} (takes : K → List ℕ → K → Type 0) (failures : K → ℕ) (line : Line) (front : Bool) (c0 : List ℕ) (s0 : K) (first : Next) (bytes : List ℕ) where
+module _ {K : Type 0} (takes : K → List ℕ → K → Type 0) (failures : K → ℕ) (line : Line) (front : Bool) (c0 : List ℕ) (s0 : K) (first : NextFrame) (bytes : List ℕ) where
   pub has_put_none : HasPutFrames takes failures line front c0 s0 first bytes first bytes c0 s0
   has_put_none = record { frames = []; framed = framed_none first bytes; text = []; lines = refl; put = puts_none takes failures c0 s0; within = λ w. w }
 
@@ -138,7 +138,7 @@ module _ {K : Type 0} (takes : K → List ℕ → K → Type 0) (failures : K �
         by_fault (wire.BadBody t) is = (old.next, old.kept, h, is)
         by_fault wire.Memory is = (old.next, old.kept, h)
 
-    module _ (whole : Ok true ≡ answer_of (judged old.next old.kept)) (kind : Next) (is_kind : kind ≡ old.next) (frame : List ℕ) (is_frame : frame ≡ new.held) where
+    module _ (whole : Ok true ≡ answer_of (judged old.next old.kept)) (kind : NextFrame) (is_kind : kind ≡ old.next) (frame : List ℕ) (is_frame : frame ≡ new.held) where
       abbrev pub size : ℕ
       size = (was_whole (judged old.next old.kept) whole).0
 
@@ -162,7 +162,7 @@ module _ {K : Type 0} (takes : K → List ℕ → K → Type 0) (failures : K �
       sizes =
           let s = frame_sizes old.next old.kept size is_whole in
           let long : length frame ≡ size = ap (λ (l : List ℕ). length l) is_held ∙ length-take-le size old.kept s.2 in (
-            subst (λ (k : Next). fewest k ≤ length frame) (sym is_kind) (subst (λ (n : ℕ). fewest old.next ≤ n) (sym long) s.0),
+            subst (λ (k : NextFrame). fewest k ≤ length frame) (sym is_kind) (subst (λ (n : ℕ). fewest old.next ≤ n) (sym long) s.0),
             subst (λ (n : ℕ). n ≤ 1073741824) (sym long) s.1,
           )
 
@@ -174,7 +174,7 @@ module _ {K : Type 0} (takes : K → List ℕ → K → Type 0) (failures : K �
       this = record { kind = old.next; bytes = held }
 
       as_this : (text : List ℕ) → IsLine line front (record { kind = kind; bytes = frame }) text → IsLine line front this text
-      as_this text is = subst (λ (k : Next). IsLine line front (record { kind = k; bytes = held }) text) is_kind (subst (λ (b : List ℕ). IsLine line front (record { kind = kind; bytes = b }) text) is_held is)
+      as_this text is = subst (λ (k : NextFrame). IsLine line front (record { kind = k; bytes = held }) text) is_kind (subst (λ (b : List ℕ). IsLine line front (record { kind = kind; bytes = b }) text) is_held is)
 
       framed_now : AreFramed first bytes (h.frames ++ this ∷ []) (next_after old.next held) (drop size old.kept)
       framed_now = framed_then first bytes h.frames old.next old.kept (this ∷ []) (next_after old.next held) (drop size old.kept) h.framed (one_frame old.next old.kept size is_whole)
@@ -226,7 +226,7 @@ module _ {K : Type 0} (takes : K → List ℕ → K → Type 0) (failures : K �
   pub refused : Stops takes failures (way f.line f.front) start (bytes ++ piece) st.put.pieces stop.Memory c s
   refused = (f.frames.next, f.frames.kept ++ piece, received)
 
-  abbrev put_on : (n : Next) (rest c' : List ℕ) (s' : K) → HasPutFrames takes failures f.line f.front c s f.frames.next (f.frames.kept ++ piece) n rest c' s' → ArePut takes failures (way f.line f.front) start (bytes ++ piece) st.put.pieces n rest c' s'
+  abbrev put_on : (n : NextFrame) (rest c' : List ℕ) (s' : K) → HasPutFrames takes failures f.line f.front c s f.frames.next (f.frames.kept ++ piece) n rest c' s' → ArePut takes failures (way f.line f.front) start (bytes ++ piece) st.put.pieces n rest c' s'
   put_on n rest c' s' h = record {
     text = st.text ++ h.text;
     shown = frames_then f.line f.front (bytes ++ piece) st.text f.frames.next (f.frames.kept ++ piece) h.frames h.text n rest received.shown h.framed h.lines;
@@ -271,8 +271,8 @@ pub begun : (f : Framing) → f.frames ≡ record { next = first_of f.front; kep
 begun f is = rw is (frames_begin f.line f.front, nothing_open f.front)
 
 -- after a request to cancel
-pub now_over : (f : Framing) (n : Next) (count : ℕ) → n ≡ f.frames.next → n ≡ next.Nothing → count ≡ length f.frames.kept → (bytes text : List ℕ) → AreAt bytes text (decoding.Framed f) → AreAt bytes text (decoding.FramedOver f.line f.front count)
-now_over f n count is nothing size bytes text a = (f.frames.kept, subst (λ (k : Next). AreFramesShown f.line f.front bytes text k f.frames.kept) (sym is ∙ nothing) a.0, size)
+pub now_over : (f : Framing) (n : NextFrame) (count : ℕ) → n ≡ f.frames.next → n ≡ next.Nothing → count ≡ length f.frames.kept → (bytes text : List ℕ) → AreAt bytes text (decoding.Framed f) → AreAt bytes text (decoding.FramedOver f.line f.front count)
+now_over f n count is nothing size bytes text a = (f.frames.kept, subst (λ (k : NextFrame). AreFramesShown f.line f.front bytes text k f.frames.kept) (sym is ∙ nothing) a.0, size)
 
 -- what a push leaves, where it wasn't refused
 pub if_pushed : {A E P : Type 0} (r : Result A E) → false ≡ is_err r → OnOk r P → P

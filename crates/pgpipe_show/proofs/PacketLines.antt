@@ -17,8 +17,8 @@ use Rattle.pgpipe_base.specs.declared.stop.Stop.{Stop}
 use Rattle.pgpipe_base.specs.declared.stop.Stop.TheVariants as stop
 use Rattle.pgpipe_show.specs.declared.show.Shown.{Shown}
 use Rattle.pgpipe_show.specs.declared.show.Shown.TheVariants as shown
-use Rattle.pgpipe_frames.specs.declared.next.Next.{Next}
-use Rattle.pgpipe_frames.specs.declared.next.Next.TheVariants as next
+use Rattle.pgpipe_frames.specs.declared.next.NextFrame.{NextFrame}
+use Rattle.pgpipe_frames.specs.declared.next.NextFrame.TheVariants as next
 use Rattle.pgpipe_base.specs.Outbox.{Puts}
 use Rattle.pgpipe_show.specs.Private.Showing.{HasPutPackets, PutsPackets, PutsLine, fault_stop}
 use Rattle.pgpipe_show.proofs.MessageLines.{each_append}
@@ -137,7 +137,7 @@ module _ {K : Type 0} (takes : K → List ℕ → K → Type 0) (failures : K �
         fault = q.0;
         packets = h.packets ++ p ∷ [];
         rest = d'.kept;
-        beginning = subst (λ (n : Next). IsBeginning bytes (h.packets ++ p ∷ []) (have_ended n) d'.kept) (sym next_is) begins;
+        beginning = subst (λ (n : NextFrame). IsBeginning bytes (h.packets ++ p ∷ []) (have_ended n) d'.kept) (sym next_is) begins;
         put = subst (λ (t : List ℕ). Puts {A = Unit {0}} takes failures c0 s0 t (Err q.0) c' s') (sym (lines_then h.packets p)) (puts_then takes failures c0 s0 (packet_lines h.packets) c s (packet_line p) (Err q.0) c' s' h.put q.1);
       }
       at_stop (stop.Answer shown.Whole) c' s' q = absurd q
@@ -147,16 +147,16 @@ module _ {K : Type 0} (takes : K → List ℕ → K → Type 0) (failures : K �
       at_stop stop.Endless c' s' q = absurd q
 
       -- it was the last packet
-      pub at_last : (n : Next) (c' : List ℕ) (s' : K) → n ≡ after_packet p → (n ≡ next.Packet → ⊥) → PutsLine takes failures c s (packet_line p) (Ok tt) c' s' → PutsPackets takes failures c0 s0 bytes (Ok n) d' c' s'
+      pub at_last : (n : NextFrame) (c' : List ℕ) (s' : K) → n ≡ after_packet p → (n ≡ next.Packet → ⊥) → PutsLine takes failures c s (packet_line p) (Ok tt) c' s' → PutsPackets takes failures c0 s0 bytes (Ok n) d' c' s'
       at_last next.Packet c' s' is last q = absurd (last refl)
-      at_last next.Message c' s' is last q = let l = at_line c' s' q in (l.1, subst (λ (n : Next). HasPutPackets takes failures c0 s0 bytes n d'.kept c' s') (sym is) l.2)
-      at_last next.Nothing c' s' is last q = let l = at_line c' s' q in (l.1, subst (λ (n : Next). HasPutPackets takes failures c0 s0 bytes n d'.kept c' s') (sym is) l.2)
+      at_last next.Message c' s' is last q = let l = at_line c' s' q in (l.1, subst (λ (n : NextFrame). HasPutPackets takes failures c0 s0 bytes n d'.kept c' s') (sym is) l.2)
+      at_last next.Nothing c' s' is last q = let l = at_line c' s' q in (l.1, subst (λ (n : NextFrame). HasPutPackets takes failures c0 s0 bytes n d'.kept c' s') (sym is) l.2)
 
       -- more packets may come
       pub at_more : (c' : List ℕ) (s' : K) → after_packet p ≡ next.Packet → PutsLine takes failures c s (packet_line p) (Ok tt) c' s' → (d'.ended ≡ false) × (d'.fault ≡ None) × HasPutPackets takes failures c0 s0 bytes next.Packet d'.kept c' s'
-      at_more c' s' is q = let l = at_line c' s' q in (l.0 ∙ ap have_ended is, l.1, subst (λ (n : Next). HasPutPackets takes failures c0 s0 bytes n d'.kept c' s') is l.2)
+      at_more c' s' is q = let l = at_line c' s' q in (l.0 ∙ ap have_ended is, l.1, subst (λ (n : NextFrame). HasPutPackets takes failures c0 s0 bytes n d'.kept c' s') is l.2)
 
-pub is_no_packet : (n : Next) → (n ≡ next.Message) ⊎ (n ≡ next.Nothing) → n ≡ next.Packet → ⊥
+pub is_no_packet : (n : NextFrame) → (n ≡ next.Message) ⊎ (n ≡ next.Nothing) → n ≡ next.Packet → ⊥
 is_no_packet n (inl e) is = absurd (differ (sym is ∙ e))
   where
     differ : next.Packet ≡ next.Message → ⊥

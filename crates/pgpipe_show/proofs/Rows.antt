@@ -20,7 +20,7 @@ use Rattle.pg_wire.specs.Frontend.{frontend}
 use Rattle.pg_wire.specs.Stream.{IsFaulty}
 use Rattle.pg_wire.proofs.BackMessages.{is_tag, no_tag}
 use Rattle.pg_wire.proofs.Rests.{short_open, partial_open}
-use Rattle.pgpipe_frames.specs.declared.next.Next.TheVariants as next
+use Rattle.pgpipe_frames.specs.declared.next.NextFrame.TheVariants as next
 use Rattle.pgpipe_show.specs.declared.show.Shown.TheVariants as shown
 use Rattle.pgpipe_show.specs.Packets.{packet_line}
 use Rattle.pgpipe_base.specs.declared.fault.ToolFault.TheVariants as fault

@@ -5,8 +5,8 @@ use Rattle.pg_wire.specs.link.LinkFault.{LinkFault}
 use Rattle.pg_wire.specs.Link.{HasRisen}
 use Rattle.pgpipe_base.specs.declared.stop.Stop.{Stop}
 use Rattle.pgpipe_base.specs.declared.stop.Stop.TheVariants as stop
-use Rattle.pgpipe_frames.specs.declared.next.Next.{Next}
-use Rattle.pgpipe_frames.specs.declared.next.Next.TheVariants as next
+use Rattle.pgpipe_frames.specs.declared.next.NextFrame.{NextFrame}
+use Rattle.pgpipe_frames.specs.declared.next.NextFrame.TheVariants as next
 use Rattle.pgpipe_show.specs.declared.show.Shown.{Shown}
 use Rattle.pgpipe_show.specs.declared.show.Shown.TheVariants as shown
 use Rattle.pgpipe_base.specs.declared.fault.ToolFault.{ToolFault}
@@ -38,7 +38,7 @@ module _ {K : Type 0} (takes : K → List ℕ → K → Type 0) (failures : K �
   Sends start earlier P s = (pieces : List (List ℕ)) × FoldsTo takes start pieces s × P (concat pieces) × IsPrefix earlier pieces
 
   -- what was put was sent, and the sink didn't fail
-  whole : (start : K) (bytes : List ℕ) (earlier : List (List ℕ)) (n : Next) (rest c : List ℕ) (s : K) (c' : List ℕ) (s' : K) (put : ArePut takes failures way start bytes earlier n rest c s) → Puts {A = Unit {0}} takes failures c s [] (Ok tt) c' s' → c' ≡ []
+  whole : (start : K) (bytes : List ℕ) (earlier : List (List ℕ)) (n : NextFrame) (rest c : List ℕ) (s : K) (c' : List ℕ) (s' : K) (put : ArePut takes failures way start bytes earlier n rest c s) → Puts {A = Unit {0}} takes failures c s [] (Ok tt) c' s' → c' ≡ []
       → Sends start earlier (λ text. (put.text ≡ text) × AreShown way bytes text n rest) s' × (failures s' ≡ failures start)
   whole start bytes earlier n rest c s c' s' put p none =
       let all = puts_then takes failures [] start put.text c s [] (Ok tt) c' s' put.put p in
@@ -53,7 +53,7 @@ module _ {K : Type 0} (takes : K → List ℕ → K → Type 0) (failures : K �
   enough : (earlier pieces : List (List ℕ)) → IsPrefix earlier pieces → length (concat earlier) ≤ most_collected + length (concat pieces)
   enough earlier pieces b = omega (arith, first_within earlier pieces b)
 
-  partly : (start : K) (bytes : List ℕ) (earlier : List (List ℕ)) (n : Next) (rest c : List ℕ) (s : K) (f : LinkFault) (c' : List ℕ) (s' : K) → AreShownBefore way bytes (concat earlier) → ArePut takes failures way start bytes earlier n rest c s → Puts {A = Unit {0}} takes failures c s [] (Err f) c' s' → Fails start bytes earlier s'
+  partly : (start : K) (bytes : List ℕ) (earlier : List (List ℕ)) (n : NextFrame) (rest c : List ℕ) (s : K) (f : LinkFault) (c' : List ℕ) (s' : K) → AreShownBefore way bytes (concat earlier) → ArePut takes failures way start bytes earlier n rest c s → Puts {A = Unit {0}} takes failures c s [] (Err f) c' s' → Fails start bytes earlier s'
   partly start bytes earlier n rest c s f c' s' b h p =
       let all = puts_then takes failures [] start h.text c s [] (Err f) c' s' h.put p in
       let first = sends_on takes failures earlier [] start h.text c s [] (Err f) c' s' h.put p h.begins in

@@ -7,8 +7,8 @@ use Rattle.pg_wire.specs.message.First.{First}
 use Rattle.pgpipe_base.specs.Hex.{encode_lower}
 use Rattle.pgpipe_base.specs.Outbox.{line_of}
 use Rattle.pgpipe_decode.specs.Frame.{IsTextOf}
-use Rattle.pgpipe_frames.specs.declared.next.Next.{Next}
-use Rattle.pgpipe_frames.specs.declared.next.Next.TheVariants as next
+use Rattle.pgpipe_frames.specs.declared.next.NextFrame.{NextFrame}
+use Rattle.pgpipe_frames.specs.declared.next.NextFrame.TheVariants as next
 use Rattle.pgpipe_frames.specs.Frames.{Frame, AreFramed}
 use Rattle.pgpipe_frames.specs.Reading.{IsReadAs, IsPacketReadAs}
 use Rattle.pgpipe_json.specs.Frame.{IsJsonText}
@@ -49,7 +49,7 @@ IsSideLine false bytes text = IsMessageLine backend bytes text
 IsSideLine true bytes text = IsMessageLine frontend bytes text
 
 -- the line of a frame
-abbrev pub IsHexLine : Bool → Next → List ℕ → List ℕ → Type 0
+abbrev pub IsHexLine : Bool → NextFrame → List ℕ → List ℕ → Type 0
 IsHexLine front next.Packet bytes text = (p : Option First) × IsPacketReadAs bytes p
     × (text ≡ first_line bytes p)
 IsHexLine front next.Message bytes text = IsSideLine front bytes text
@@ -72,12 +72,12 @@ AreLines form front (f ∷ frames) text = (first more : List ℕ) × IsLine form
     × AreLines form front frames more × (text ≡ first ++ more)
 
 -- what a stream begins with
-abbrev pub first_of : Bool → Next
+abbrev pub first_of : Bool → NextFrame
 first_of false = next.Message
 first_of true = next.Packet
 
 -- The bytes are frames and this rest, and the text is the frames' lines. `n` says what is next.
-pub record AreFramesShown (form : Line) (front : Bool) (bytes text : List ℕ) (n : Next)
+pub record AreFramesShown (form : Line) (front : Bool) (bytes text : List ℕ) (n : NextFrame)
     (rest : List ℕ) : Type 0 where
   pub frames : List Frame
   pub framed : AreFramed (first_of front) bytes frames n rest

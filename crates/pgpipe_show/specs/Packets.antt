@@ -6,8 +6,8 @@ use Rattle.std.specs.List.{flat_map}
 use Rattle.pg_wire.specs.message.First.{First}
 use Rattle.pg_wire.specs.message.First.TheVariants as first
 use Rattle.pg_wire.specs.First.{packet_length, code, content}
-use Rattle.pgpipe_frames.specs.declared.next.Next.{Next}
-use Rattle.pgpipe_frames.specs.declared.next.Next.TheVariants as next
+use Rattle.pgpipe_frames.specs.declared.next.NextFrame.{NextFrame}
+use Rattle.pgpipe_frames.specs.declared.next.NextFrame.TheVariants as next
 use Rattle.pgpipe_base.specs.Outbox.{line_of}
 
 -- the word for a packet: startup, cancel, ssl or gss
@@ -26,20 +26,20 @@ abbrev pub packet_lines : List First → List ℕ
 packet_lines packets = flat_map packet_line packets
 
 -- what may come after this packet: messages, nothing that is read, or another packet
-abbrev pub after_packet : First → Next
+abbrev pub after_packet : First → NextFrame
 after_packet (first.Startup pairs) = next.Message
 after_packet (first.Cancel process secret) = next.Nothing
 after_packet first.Ssl = next.Packet
 after_packet first.Gss = next.Packet
 
 -- what may come after these packets, by the last of them; at first a packet
-abbrev pub next_after : List First → Next
+abbrev pub next_after : List First → NextFrame
 next_after [] = next.Packet
 next_after (p ∷ []) = after_packet p
 next_after (p ∷ q ∷ packets) = next_after (q ∷ packets)
 
 -- whether no further first packet may come
-abbrev pub have_ended : Next → Bool
+abbrev pub have_ended : NextFrame → Bool
 have_ended next.Packet = false
 have_ended next.Message = true
 have_ended next.Nothing = true

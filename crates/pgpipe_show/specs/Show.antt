@@ -7,13 +7,13 @@ use Rattle.pg_wire.specs.Direction.{Direction, longest}
 use Rattle.pg_wire.specs.First.{IsBeginning, IsOpenPacket, IsFaultyPacket}
 use Rattle.pg_wire.specs.Frontend.{frontend}
 use Rattle.pg_wire.specs.Stream.{IsStream, IsOpen, IsFaulty}
-use Rattle.pgpipe_frames.specs.declared.next.Next.{Next}
-use Rattle.pgpipe_frames.specs.declared.next.Next.TheVariants as next
+use Rattle.pgpipe_frames.specs.declared.next.NextFrame.{NextFrame}
+use Rattle.pgpipe_frames.specs.declared.next.NextFrame.TheVariants as next
 use Rattle.pgpipe_show.specs.declared.show.Shown.{Shown}
 use Rattle.pgpipe_show.specs.declared.show.Shown.TheVariants as shown
 use Rattle.pgpipe_base.specs.declared.fault.ToolFault.{ToolFault}
 use Rattle.pgpipe_base.specs.declared.fault.ToolFault.TheVariants as fault
-use Rattle.pgpipe_frames.specs.declared.judge.Judged.TheVariants as judge
+use Rattle.pgpipe_frames.specs.declared.judge.FrameJudgement.TheVariants as judge
 use Rattle.pgpipe_frames.specs.Frames.{judged}
 use Rattle.pgpipe_show.specs.declared.form.Form.{Form}
 use Rattle.pgpipe_show.specs.declared.form.Form.TheVariants as forms
@@ -41,13 +41,13 @@ pub record AreMessages {M : Type 0} (d : Direction M) (bytes text rest : List �
 
 -- Of the bytes after the first packets, the text is the messages' lines, and `rest` what comes
 -- after these. Without a Startup all of them are rest, and the text is empty.
-abbrev pub ComesAfter : Next → List ℕ → List ℕ → List ℕ → Type 0
+abbrev pub ComesAfter : NextFrame → List ℕ → List ℕ → List ℕ → Type 0
 ComesAfter next.Message following text rest = AreMessages frontend following text rest
 ComesAfter _ following text rest = (text ≡ []) × (rest ≡ following)
 
 -- The bytes of a client are first packets, maybe messages, and this rest, and the text is the lines
 -- of both. `n` says what may come next.
-pub record IsClientSide (bytes text : List ℕ) (n : Next) (rest : List ℕ) : Type 0 where
+pub record IsClientSide (bytes text : List ℕ) (n : NextFrame) (rest : List ℕ) : Type 0 where
   pub packets : List First
   pub following : List ℕ
   pub later : List ℕ
@@ -60,54 +60,58 @@ pub record IsClientSide (bytes text : List ℕ) (n : Next) (rest : List ℕ) : T
 
 -- The bytes of a client (true) or a backend (false) are what this text has the lines of, and this
 -- rest, where `n` may come next.
-abbrev pub AreMessagesShown : Bool → List ℕ → List ℕ → Next → List ℕ → Type 0
+abbrev pub AreMessagesShown : Bool → List ℕ → List ℕ → NextFrame → List ℕ → Type 0
 AreMessagesShown false bytes text n rest = (n ≡ next.Message) × AreMessages backend bytes text rest
 AreMessagesShown true bytes text n rest = IsClientSide bytes text n rest
 
 -- The rest is open, where n may come next. After a Cancel any rest is, as nothing more is read.
-abbrev pub AreMessagesOpen : Bool → Next → List ℕ → Type 0
+abbrev pub AreMessagesOpen : Bool → NextFrame → List ℕ → Type 0
 AreMessagesOpen false n rest = IsOpen backend length_limit rest
 AreMessagesOpen true next.Packet rest = IsOpenPacket rest
 AreMessagesOpen true next.Message rest = IsOpen frontend length_limit rest
 AreMessagesOpen true next.Nothing rest = Unit {0}
 
 -- The rest is faulty for this reason, where n may come next. After a Cancel no rest is.
-abbrev pub AreMessagesFaulty : Bool → Next → List ℕ → WireFault → Type 0
+abbrev pub AreMessagesFaulty : Bool → NextFrame → List ℕ → WireFault → Type 0
 AreMessagesFaulty false n rest f = IsFaulty backend length_limit rest f
 AreMessagesFaulty true next.Packet rest f = IsFaultyPacket rest f
 AreMessagesFaulty true next.Message rest f = IsFaulty frontend length_limit rest f
 AreMessagesFaulty true next.Nothing rest f = ⊥
 
 -- By the form: the text is the lines of messages and packets of the tables, or of frames.
-abbrev pub AreShownIn : Form → Bool → List ℕ → List ℕ → Next → List ℕ → Type 0
+abbrev pub AreShownIn : Form → Bool → List ℕ → List ℕ → NextFrame → List ℕ → Type 0
 AreShownIn forms.Messages front bytes text n rest = AreMessagesShown front bytes text n rest
 AreShownIn (forms.Frames form) front bytes text n rest =
     AreFramesShown form front bytes text n rest
 
-abbrev pub AreShown : Way → List ℕ → List ℕ → Next → List ℕ → Type 0
+-- The bytes of a stream that is shown this way are what this text has the lines of, and this rest,
+-- where `n` may come next.
+abbrev pub AreShown : Way → List ℕ → List ℕ → NextFrame → List ℕ → Type 0
 AreShown way bytes text n rest = AreShownIn way.form way.front bytes text n rest
 
 -- By the form: the rest is open.
-abbrev pub IsOpenIn : Form → Bool → Next → List ℕ → Type 0
+abbrev pub IsOpenIn : Form → Bool → NextFrame → List ℕ → Type 0
 IsOpenIn forms.Messages front n rest = AreMessagesOpen front n rest
 IsOpenIn (forms.Frames form) front n rest = judged n rest ≡ judge.Open
 
-abbrev pub IsOpenFor : Way → Next → List ℕ → Type 0
+-- The rest of a stream that is shown this way is open, where `n` may come next.
+abbrev pub IsOpenFor : Way → NextFrame → List ℕ → Type 0
 IsOpenFor way n rest = IsOpenIn way.form way.front n rest
 
 -- By the form: the rest is faulty for this reason. Of frames only a length is.
-abbrev pub IsFaultyIn : Form → Bool → Next → List ℕ → WireFault → Type 0
+abbrev pub IsFaultyIn : Form → Bool → NextFrame → List ℕ → WireFault → Type 0
 IsFaultyIn forms.Messages front n rest f = AreMessagesFaulty front n rest f
 IsFaultyIn (forms.Frames form) front n rest f = judged n rest ≡ judge.Faulty f
 
-abbrev pub IsFaultyFor : Way → Next → List ℕ → WireFault → Type 0
+-- The rest of such a stream is faulty for this reason, where `n` may come next.
+abbrev pub IsFaultyFor : Way → NextFrame → List ℕ → WireFault → Type 0
 IsFaultyFor way n rest f = IsFaultyIn way.form way.front n rest f
 
 -- ---- how much is shown
 
 -- The text has a line for all that is whole in these bytes, and the rest of them is open.
 pub record AreAllShown (way : Way) (bytes text : List ℕ) : Type 0 where
-  pub n : Next
+  pub n : NextFrame
   pub rest : List ℕ
   pub shown : AreShown way bytes text n rest
   pub is_open : IsOpenFor way n rest
@@ -127,14 +131,14 @@ pub record AreMostlyShown (way : Way) (bytes text : List ℕ) : Type 0 where
   pub before : List ℕ
   pub shown_before : AreShownBefore way bytes before
   pub begins : IsPrefix before text
-  pub n : Next
+  pub n : NextFrame
   pub rest : List ℕ
   pub shown : AreShown way bytes text n rest
 
 -- The text is a prefix of the lines for these bytes, and may end within a line.
 abbrev pub ArePartlyShown : Way → List ℕ → List ℕ → Type 0
-ArePartlyShown way bytes text = (all rest : List ℕ) × (n : Next) × AreShown way bytes all n rest
-    × IsPrefix text all
+ArePartlyShown way bytes text =
+    (all rest : List ℕ) × (n : NextFrame) × AreShown way bytes all n rest × IsPrefix text all
 
 -- At most 65,536 bytes of lines, for the bytes before the last piece, weren't sent: so a failed
 -- sink is noticed soon.
@@ -148,11 +152,11 @@ IsShownAtOnce way bytes text = (before : List ℕ) × AreShownBefore way bytes b
 -- size, or the rest's fault. Memory: no line is missing for what came before the last piece.
 -- Device: the sink broke (a prefix was sent), or the source stopped (all was sent).
 abbrev pub ShowAnswers : Type 0 → Type 0 → Way → List ℕ → List ℕ → Result Shown ToolFault → Type 0
-ShowAnswers stopped broke way bytes text (Ok shown.Whole) = (n : Next)
+ShowAnswers stopped broke way bytes text (Ok shown.Whole) = (n : NextFrame)
     × AreShown way bytes text n []
-ShowAnswers stopped broke way bytes text (Ok (shown.Rest size)) = (n : Next) × (rest : List ℕ)
+ShowAnswers stopped broke way bytes text (Ok (shown.Rest size)) = (n : NextFrame) × (rest : List ℕ)
     × AreShown way bytes text n rest × IsOpenFor way n rest × (size ≡ length rest) × (0 < size)
-ShowAnswers stopped broke way bytes text (Ok (shown.Fault f)) = (n : Next) × (rest : List ℕ)
+ShowAnswers stopped broke way bytes text (Ok (shown.Fault f)) = (n : NextFrame) × (rest : List ℕ)
     × AreShown way bytes text n rest × IsFaultyFor way n rest f
 ShowAnswers stopped broke way bytes text (Err fault.Memory) = AreMostlyShown way bytes text
 ShowAnswers stopped broke way bytes text (Err fault.Device) =

@@ -15,7 +15,7 @@ use crate::show::Shown;
 use pg_wire::{BackMessage, FirstDecoder, FrontMessage, LONGEST, Sink, Spellings};
 use pgpipe_base::Stop;
 use pgpipe_base::outbox::Outbox;
-use pgpipe_frames::Next;
+use pgpipe_frames::NextFrame;
 use std::alloc::Global;
 
 /// What is read now.
@@ -55,12 +55,12 @@ fn take_packets<K: Sink>(
         return Err(Stop::Memory);
     }
     match put_packets(&mut first, spelled, outbox, sink)? {
-        Next::Packet => Ok(Decoding::First(first)),
-        Next::Message => {
+        NextFrame::Packet => Ok(Decoding::First(first)),
+        NextFrame::Message => {
             let spellings = put_messages(first.into_spellings(LONGEST), outbox, sink)?;
             Ok(Decoding::Front(spellings))
         }
-        Next::Nothing => Ok(Decoding::Over(first.kept())),
+        NextFrame::Nothing => Ok(Decoding::Over(first.kept())),
     }
 }
 

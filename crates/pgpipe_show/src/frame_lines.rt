@@ -3,7 +3,7 @@
 ghost use Rattle.std.specs.Prelude.{◌≤◌, ◌^◌, true, length, None, OnOk};
 ghost use Rattle.pgpipe_base.specs.Outbox.{line_of};
 ghost use Rattle.pgpipe_frames.specs.Frames.{fewest};
-ghost use Rattle.pgpipe_frames.specs.declared.next.Next.TheVariants.{Packet};
+ghost use Rattle.pgpipe_frames.specs.declared.next.NextFrame.TheVariants.{Packet};
 ghost use Rattle.pgpipe_show.specs.declared.form.Line.TheVariants.{Decoded, Json};
 ghost use Rattle.pgpipe_show.specs.FrameLines.{IsHexLine, IsLine, IsMessageLine, IsSideLine};
 ghost use Rattle.pgpipe_show.specs.FrameLines.{first_line, other_line};
@@ -17,7 +17,7 @@ use crate::stop::fault_stop;
 use pg_wire::{BackMessage, FrontMessage, Message, Sink};
 use pgpipe_base::Stop;
 use pgpipe_base::outbox::Outbox;
-use pgpipe_frames::{Frames, Next, is_message, read_packet};
+use pgpipe_frames::{Frames, NextFrame, is_message, read_packet};
 use std::alloc::{AllocError, Global};
 
 // Puts a line of a word, a length and bytes.
@@ -125,7 +125,7 @@ fn put_first<K: Sink>(
 fn put_hexadecimal<K: Sink>(
     alloc: Global,
     front: bool,
-    kind: Next,
+    kind: NextFrame,
     frame: &[u8],
     spelled: &mut Vec<u8>,
     outbox: &mut Outbox,
@@ -136,8 +136,8 @@ fn put_hexadecimal<K: Sink>(
         (IsHexLine front kind frame.now) result outbox.new sink.new }
 {
     match kind {
-        Next::Packet => put_first(alloc, frame, spelled, outbox, sink),
-        Next::Message | Next::Nothing => put_side(front, frame, outbox, sink),
+        NextFrame::Packet => put_first(alloc, frame, spelled, outbox, sink),
+        NextFrame::Message | NextFrame::Nothing => put_side(front, frame, outbox, sink),
     }
 }
 
@@ -145,7 +145,7 @@ fn put_hexadecimal<K: Sink>(
 fn write_decoded(
     alloc: Global,
     front: bool,
-    kind: Next,
+    kind: NextFrame,
     frame: &[u8],
     line: &mut Vec<u8>,
 ) -> Result<(), AllocError>
@@ -160,7 +160,8 @@ fn write_decoded(
 
 // Puts a text.
 fn put_text<K: Sink>(text: &Vec<u8>, outbox: &mut Outbox, sink: &mut K) -> Result<(), Stop<Shown>>
-    ensures { PutsLine K.takes K.failures outbox.old sink.old text.now.items result outbox.new sink.new }
+    ensures { PutsLine K.takes K.failures outbox.old sink.old text.now.items result outbox.new
+        sink.new }
 {
     match outbox.put_text(text.as_slice(), sink) {
         Ok(()) => Ok(()),
@@ -172,7 +173,7 @@ fn put_text<K: Sink>(text: &Vec<u8>, outbox: &mut Outbox, sink: &mut K) -> Resul
 fn put_decoded<K: Sink>(
     alloc: Global,
     front: bool,
-    kind: Next,
+    kind: NextFrame,
     frame: &[u8],
     line: &mut Vec<u8>,
     outbox: &mut Outbox,
@@ -192,7 +193,7 @@ fn put_decoded<K: Sink>(
 fn write_json(
     alloc: Global,
     front: bool,
-    kind: Next,
+    kind: NextFrame,
     frame: &[u8],
     line: &mut Vec<u8>,
 ) -> Result<(), AllocError>
@@ -209,7 +210,7 @@ fn write_json(
 fn put_json<K: Sink>(
     alloc: Global,
     front: bool,
-    kind: Next,
+    kind: NextFrame,
     frame: &[u8],
     line: &mut Vec<u8>,
     outbox: &mut Outbox,
@@ -230,7 +231,7 @@ fn put_frame<K: Sink>(
     alloc: Global,
     line: Line,
     front: bool,
-    kind: Next,
+    kind: NextFrame,
     frame: &[u8],
     spelled: &mut Vec<u8>,
     outbox: &mut Outbox,

@@ -14,7 +14,7 @@ use crate::show::Shown;
 use pg_wire::Sink;
 use pgpipe_base::Stop;
 use pgpipe_base::outbox::Outbox;
-use pgpipe_frames::{Frames, Next};
+use pgpipe_frames::{Frames, NextFrame};
 use std::alloc::Global;
 
 /// The frames of a client (`front`) or of a backend, and what stands in their lines.
@@ -27,10 +27,14 @@ pub struct Framing {
 }
 
 // What a stream begins with.
-fn first_of(front: bool) -> Next
+fn first_of(front: bool) -> NextFrame
     ensures { result ≡ first_of front }
 {
-    if front { Next::Packet } else { Next::Message }
+    if front {
+        NextFrame::Packet
+    } else {
+        NextFrame::Message
+    }
 }
 
 impl Framing {
@@ -51,12 +55,14 @@ impl Framing {
 
     // Goes on with the frames, or after a request to cancel with nothing.
     fn go_on(self) -> Decoding
-        ensures side { way_of result ≡ record { form = forms.Frames self.line; front = self.front } }
-        ensures stands { (bytes text : List ℕ) → AreAt bytes text (Framed self) → AreAt bytes text result }
+        ensures side { way_of result
+            ≡ record { form = forms.Frames self.line; front = self.front } }
+        ensures stands { (bytes text : List ℕ) → AreAt bytes text (Framed self)
+            → AreAt bytes text result }
     {
         match self.frames.upcoming() {
-            Next::Nothing => Decoding::FramedOver(self.line, self.front, self.frames.kept()),
-            Next::Packet | Next::Message => Decoding::Framed(self),
+            NextFrame::Nothing => Decoding::FramedOver(self.line, self.front, self.frames.kept()),
+            NextFrame::Packet | NextFrame::Message => Decoding::Framed(self),
         }
     }
 }

@@ -13,16 +13,16 @@ use pg_wire::frontend::encode_first;
 use pg_wire::{EncodeFault, First, FirstDecoder, Sink};
 use pgpipe_base::Stop;
 use pgpipe_base::outbox::Outbox;
-use pgpipe_frames::Next;
+use pgpipe_frames::NextFrame;
 
 // What comes after a packet.
-fn after_packet(packet: &First) -> Next
+fn after_packet(packet: &First) -> NextFrame
     ensures { result ≡ after_packet packet.now }
 {
     match packet {
-        First::Startup(_) => Next::Message,
-        First::Cancel { .. } => Next::Nothing,
-        First::Ssl | First::Gss => Next::Packet,
+        First::Startup(_) => NextFrame::Message,
+        First::Cancel { .. } => NextFrame::Nothing,
+        First::Ssl | First::Gss => NextFrame::Packet,
     }
 }
 
@@ -88,7 +88,7 @@ pub fn put_packets<K: Sink>(
     spelled: &mut Vec<u8>,
     outbox: &mut Outbox,
     sink: &mut K,
-) -> Result<Next, Stop<Shown>>
+) -> Result<NextFrame, Stop<Shown>>
     requires { (first.old.ended ≡ false) × (first.old.fault ≡ None) }
     ensures puts { PutsPackets K.takes K.failures outbox.old sink.old first.old.kept result
         first.new outbox.new sink.new }
@@ -96,13 +96,13 @@ pub fn put_packets<K: Sink>(
 {
     loop {
         match first.next() {
-            Ok(None) => return Ok(Next::Packet),
+            Ok(None) => return Ok(NextFrame::Packet),
             Ok(Some(packet)) => {
                 let next = after_packet(&packet);
                 put_packet(packet, spelled, outbox, sink)?;
                 match next {
-                    Next::Packet => {}
-                    Next::Message | Next::Nothing => return Ok(next),
+                    NextFrame::Packet => {}
+                    NextFrame::Message | NextFrame::Nothing => return Ok(next),
                 }
             }
             Err(fault) => return Err(fault_stop(fault)),

@@ -81,7 +81,8 @@ impl Showing {
         source: &mut S,
         sink: &mut K,
     ) -> Stop<Shown>
-        requires stands { HasShown K.takes K.failures sink.old [] decoding self.old.outbox sink.old }
+        requires stands { HasShown K.takes K.failures sink.old [] decoding self.old.outbox
+            sink.old }
         requires nothing_left { self.old.outbox ≡ [] }
         ensures { HasRun S.gives S.failures (S.has_ended source.new) K.takes K.failures
             (way_of decoding) source.old sink.old result source.new self.new.outbox sink.new }

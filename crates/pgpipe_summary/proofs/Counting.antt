@@ -9,9 +9,9 @@ use Rattle.pgpipe_base.specs.declared.stop.Stop.TheVariants as stop
 use Rattle.pgpipe_base.specs.Outbox.{Puts}
 use Rattle.pgpipe_base.specs.Stop.{answer_of as answer_of_stop}
 use Rattle.pgpipe_base.proofs.Pieces.{joined, one_more}
-use Rattle.pgpipe_frames.specs.declared.next.Next.{Next}
-use Rattle.pgpipe_frames.specs.declared.next.Next.TheVariants as next
-use Rattle.pgpipe_frames.specs.declared.judge.Judged.TheVariants as judge
+use Rattle.pgpipe_frames.specs.declared.next.NextFrame.{NextFrame}
+use Rattle.pgpipe_frames.specs.declared.next.NextFrame.TheVariants as next
+use Rattle.pgpipe_frames.specs.declared.judge.FrameJudgement.TheVariants as judge
 use Rattle.pgpipe_frames.specs.Frames.{Frame, fewest, judged, next_after}
 use Rattle.pgpipe_frames.specs.Reader.{FramesState, answer_of, left_by}
 use Rattle.pgpipe_frames.proofs.Framing.{framed_none, framed_received, framed_then, one_frame}
@@ -47,7 +47,7 @@ begun front = record {
     none_passed false = refl
 
 -- more bytes come
-pub bytes_received : (front : Bool) (bytes : List ℕ) (s : SummaryState) (n : Next) (rest piece : List ℕ) → IsSummedUp front bytes s n rest → IsSummedUp front (bytes ++ piece) s n (rest ++ piece)
+pub bytes_received : (front : Bool) (bytes : List ℕ) (s : SummaryState) (n : NextFrame) (rest piece : List ℕ) → IsSummedUp front bytes s n rest → IsSummedUp front (bytes ++ piece) s n (rest ++ piece)
 bytes_received front bytes s n rest piece a = record { frames = a.frames; framed = framed_received (first_of front) bytes a.frames n rest piece a.framed; each = a.each }
 
 -- a piece was pushed
@@ -55,7 +55,7 @@ pub pushed : (front : Bool) (bytes piece : List ℕ) (s : SummaryState) (old new
 pushed front bytes piece s old new is h = subst (λ (f : FramesState). IsSummedUp front (bytes ++ piece) s f.next f.kept) (sym is) (bytes_received front bytes s old.next old.kept piece h)
 
 -- where a packet or a message is next, something is read
-pub something_next : (n : Next) → (n ≡ next.Packet) ⊎ (n ≡ next.Message) → n ≡ next.Nothing → ⊥
+pub something_next : (n : NextFrame) → (n ≡ next.Packet) ⊎ (n ≡ next.Message) → n ≡ next.Nothing → ⊥
 something_next n (inl packet) e = cc
 something_next n (inr message) e = cc
 
@@ -67,7 +67,7 @@ all_kept front bytes s f over some a =
       omega (arith, a.size, ap (λ (l : List ℕ). length l) none),
     )
   where
-    by_next : (n : Next) → f.next ≡ n → ArePassedOver n a.later → a.later ≡ []
+    by_next : (n : NextFrame) → f.next ≡ n → ArePassedOver n a.later → a.later ≡ []
     by_next next.Nothing e p = absurd (some e)
     by_next next.Packet e p = p
     by_next next.Message e p = p
@@ -82,7 +82,7 @@ went_on front bytes s f over none (Ok x) h = record {
   passed = nothing_passed f.next;
 }
   where
-    nothing_passed : (n : Next) → ArePassedOver n []
+    nothing_passed : (n : NextFrame) → ArePassedOver n []
     nothing_passed next.Nothing = tt
     nothing_passed next.Packet = refl
     nothing_passed next.Message = refl
@@ -93,9 +93,9 @@ pub passed_on : (front : Bool) (bytes : List ℕ) (s : SummaryState) (f : Frames
 passed_on front bytes s f over over' piece nothing more a = record {
   later = a.later ++ piece;
   summed = subst (λ (r : List ℕ). IsSummedUp front (bytes ++ piece) s f.next r) (append_assoc f.kept a.later piece) (bytes_received front bytes s f.next (f.kept ++ a.later) piece a.summed);
-  is_open = ap (λ (n : Next). judged n (f.kept ++ (a.later ++ piece))) nothing;
+  is_open = ap (λ (n : NextFrame). judged n (f.kept ++ (a.later ++ piece))) nothing;
   size = omega (arith, more, a.size, length-append a.later piece);
-  passed = subst (λ (n : Next). ArePassedOver n (a.later ++ piece)) (sym nothing) tt;
+  passed = subst (λ (n : NextFrame). ArePassedOver n (a.later ++ piece)) (sym nothing) tt;
 }
 
 -- the source has ended, or has failed: nothing came
@@ -134,7 +134,7 @@ module _ (old new : FramesState) (left : new ≡ left_by old (judged old.next ol
       by_fault (wire.BadBody t) is = (old.next, old.kept, h, is)
       by_fault wire.Memory is = tt
 
-  module _ (whole : Ok true ≡ answer_of (judged old.next old.kept)) (kind : Next) (is_kind : kind ≡ old.next) (frame : List ℕ) (is_frame : frame ≡ new.held) where
+  module _ (whole : Ok true ≡ answer_of (judged old.next old.kept)) (kind : NextFrame) (is_kind : kind ≡ old.next) (frame : List ℕ) (is_frame : frame ≡ new.held) where
     abbrev size : ℕ
     size = (was_whole (judged old.next old.kept) whole).0
 
@@ -158,7 +158,7 @@ module _ (old new : FramesState) (left : new ≡ left_by old (judged old.next ol
     large =
         let sizes = frame_sizes old.next old.kept size is_whole in
         let long : length frame ≡ size = ap (λ (l : List ℕ). length l) is_held ∙ length-take-le size old.kept sizes.2 in
-        subst (λ (k : Next). fewest k ≤ length frame) (sym is_kind) (subst (λ (n : ℕ). fewest old.next ≤ n) (sym long) sizes.0)
+        subst (λ (k : NextFrame). fewest k ≤ length frame) (sym is_kind) (subst (λ (n : ℕ). fewest old.next ≤ n) (sym long) sizes.0)
 
     -- fewer bytes are kept
     pub shorter : length new.kept < length old.kept
@@ -170,7 +170,7 @@ module _ (old new : FramesState) (left : new ≡ left_by old (judged old.next ol
     -- it was counted
     pub at_frame : (front : Bool) (bytes : List ℕ) (s : SummaryState) → IsSummedUp front bytes s old.next old.kept → (s' : SummaryState) (label : List ℕ) → IsLabelOf front kind frame label → s' ≡ counted label (length frame) s → IsSummedUp front bytes s' new.next new.kept
     at_frame front bytes s h s' label is e =
-        let of_this : IsLabelOf front old.next held label = subst (λ (k : Next). IsLabelOf front k held label) is_kind (subst (λ (b : List ℕ). IsLabelOf front kind b label) is_held is) in
+        let of_this : IsLabelOf front old.next held label = subst (λ (k : NextFrame). IsLabelOf front k held label) is_kind (subst (λ (b : List ℕ). IsLabelOf front kind b label) is_held is) in
         let now : s' ≡ counted label (length held) s = e ∙ ap (λ (b : List ℕ). counted label (length b) s) is_held in
         subst (λ (f : FramesState). IsSummedUp front bytes s' f.next f.kept) (sym left_is) (record {
           frames = h.frames ++ this ∷ [];

@@ -6,7 +6,7 @@ use Rattle.std.specs.Ordering.{match_ordering}
 use Rattle.std.specs.Prelude.{Vec, unwrap_or}
 use Rattle.std.specs.BTreeMap.{insert_entry, is_at}
 use Rattle.std.specs.declared.alloc.Global.{Global}
-use Rattle.pgpipe_summary.specs.declared.counts.Counted.{Counted}
+use Rattle.pgpipe_summary.specs.declared.counts.FrameCount.{FrameCount}
 use Rattle.pgpipe_summary.specs.Counts.{counted_at, none_counted, with_row}
 use Rattle.pgpipe_summary.specs.Private.Rows.{Entry, rows_of}
 
@@ -20,11 +20,11 @@ abbrev pub label_cmp : Vec ℕ Global → Vec ℕ Global → Ordering
 label_cmp k l = slice_cmp nat_cmp k.items l.items
 
 -- what is put at a label
-pub row_put : (es : List Entry) (k : Vec ℕ Global) (c : Counted) → rows_of (insert_entry label_cmp es k c) ≡ with_row k.items c (rows_of es)
+pub row_put : (es : List Entry) (k : Vec ℕ Global) (c : FrameCount) → rows_of (insert_entry label_cmp es k c) ≡ with_row k.items c (rows_of es)
 row_put [] k c = refl
 row_put (e ∷ es) k c = by_order (label_cmp k e.0) _ _ _ ∙ rw (row_put es k c) refl
 
-found_or : (o : Ordering) (c : Counted) (rest : Option Counted) (d : Counted) → unwrap_or rest none_counted ≡ d → unwrap_or (cond (is_eq o) (Some c) rest) none_counted ≡ match_ordering o d c d
+found_or : (o : Ordering) (c : FrameCount) (rest : Option FrameCount) (d : FrameCount) → unwrap_or rest none_counted ≡ d → unwrap_or (cond (is_eq o) (Some c) rest) none_counted ≡ match_ordering o d c d
 found_or Less c rest d e = e
 found_or Equal c rest d e = refl
 found_or Greater c rest d e = e

@@ -11,8 +11,8 @@ use Rattle.pg_wire.specs.message.First.{First}
 use Rattle.pgpipe_decode.specs.Fields.{first_field}
 use Rattle.pgpipe_decode.specs.Other.{back_name, front_name}
 use Rattle.pgpipe_decode.specs.Words.{status_text}
-use Rattle.pgpipe_frames.specs.declared.next.Next.{Next}
-use Rattle.pgpipe_frames.specs.declared.next.Next.TheVariants as next
+use Rattle.pgpipe_frames.specs.declared.next.NextFrame.{NextFrame}
+use Rattle.pgpipe_frames.specs.declared.next.NextFrame.TheVariants as next
 use Rattle.pgpipe_frames.specs.Frames.{code}
 use Rattle.pgpipe_frames.specs.Reading.{IsReadAs, IsPacketReadAs}
 use Rattle.pgpipe_json.specs.Backend.{back_called}
@@ -48,6 +48,7 @@ back_detail (CopyOut head) = []
 back_detail (CopyData bytes) = []
 back_detail CopyDone = []
 
+-- the label of a message of the backend: its name, and its detail where it has one
 abbrev pub back_label : BackMessage → List ℕ
 back_label m = back_called m ++ back_detail m
 
@@ -81,7 +82,7 @@ IsMessageLabel false bytes label = IsBackLabel bytes label
 IsMessageLabel true bytes label = IsFrontLabel bytes label
 
 -- what a frame of a client (true) or of a backend is counted under
-abbrev pub IsLabelOf : Bool → Next → List ℕ → List ℕ → Type 0
+abbrev pub IsLabelOf : Bool → NextFrame → List ℕ → List ℕ → Type 0
 IsLabelOf front next.Packet bytes label = IsPacketLabel bytes label
 IsLabelOf front next.Message bytes label = IsMessageLabel front bytes label
 IsLabelOf front next.Nothing bytes label = IsMessageLabel front bytes label

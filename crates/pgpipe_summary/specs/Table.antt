@@ -2,7 +2,7 @@
 use Rattle.std.specs.Prelude.{ℕ, min, List, ◌++◌, length, drop, codes}
 use Rattle.std.specs.Fmt.{decimal}
 use Rattle.std.specs.List.{flat_map}
-use Rattle.pgpipe_summary.specs.declared.counts.Counted.{Counted}
+use Rattle.pgpipe_summary.specs.declared.counts.FrameCount.{FrameCount}
 use Rattle.pgpipe_summary.specs.Counts.{Row, SummaryState}
 
 -- a number in decimal, at the right of twelve places, or in as many as it needs
@@ -10,7 +10,7 @@ abbrev pub aligned : ℕ → List ℕ
 aligned n = drop (min (length (decimal n)) 12) (codes "            ") ++ decimal n
 
 -- a line: how many messages, how many bytes, and what they are
-abbrev pub table_line : Counted → List ℕ → List ℕ
+abbrev pub table_line : FrameCount → List ℕ → List ℕ
 table_line c label = aligned c.count ++ aligned c.bytes ++ codes "  " ++ label ++ codes "\n"
 
 -- the line of a row

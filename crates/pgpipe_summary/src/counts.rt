@@ -12,30 +12,30 @@ use std::marker::Model;
 
 /// How many frames there are, and how many bytes they have together. Neither goes beyond 18,446,744,073,709,551,615.
 #[derive(Clone, Copy)]
-pub struct Counted {
+pub struct FrameCount {
     pub count: u64,
     pub bytes: u64,
 }
 
 // No frame.
-fn none_counted() -> Counted
+fn none_counted() -> FrameCount
     ensures { result ≡ none_counted }
 {
-    Counted { count: 0, bytes: 0 }
+    FrameCount { count: 0, bytes: 0 }
 }
 
 // One frame more, of so many bytes.
-fn with_frame(size: usize, counted: Counted) -> Counted
+fn with_frame(size: usize, counted: FrameCount) -> FrameCount
     ensures { result ≡ with_frame size counted }
 {
-    Counted {
+    FrameCount {
         count: counted.count.saturating_add(1),
         bytes: counted.bytes.saturating_add(size as u64),
     }
 }
 
 // What was counted under a label.
-fn counted_at(rows: &BTreeMap<Vec<u8>, Counted>, label: &[u8]) -> Counted
+fn counted_at(rows: &BTreeMap<Vec<u8>, FrameCount>, label: &[u8]) -> FrameCount
     ensures { result ≡ counted_at label.now (rows_of rows.now.entries) }
 {
     match rows.get(label) {
@@ -48,8 +48,8 @@ fn counted_at(rows: &BTreeMap<Vec<u8>, Counted>, label: &[u8]) -> Counted
 fn put_row(
     alloc: Global,
     label: &[u8],
-    counted: Counted,
-    rows: &mut BTreeMap<Vec<u8>, Counted>,
+    counted: FrameCount,
+    rows: &mut BTreeMap<Vec<u8>, FrameCount>,
 ) -> Result<(), AllocError>
     ensures ok { OnOk result (rows_of rows.new.entries
         ≡ with_row label.now counted (rows_of rows.old.entries)) }
@@ -63,8 +63,8 @@ fn put_row(
 /// What was counted of a stream: under each label, and of all frames together. A clause sees the rows in the order of the bytes of their labels.
 #[derive(Drop)]
 pub struct Summary {
-    rows: BTreeMap<Vec<u8>, Counted>,
-    total: Counted,
+    rows: BTreeMap<Vec<u8>, FrameCount>,
+    total: FrameCount,
 }
 
 impl Model for Summary {
@@ -99,14 +99,14 @@ impl Summary {
     }
 
     /// The rows by their labels.
-    pub fn rows(&self) -> &BTreeMap<Vec<u8>, Counted>
+    pub fn rows(&self) -> &BTreeMap<Vec<u8>, FrameCount>
         ensures { rows_of result.now.entries ≡ self.now.rows }
     {
         &self.rows
     }
 
     /// All frames together.
-    pub fn total(&self) -> Counted
+    pub fn total(&self) -> FrameCount
         ensures { result ≡ self.now.total }
     {
         self.total

@@ -14,13 +14,14 @@ ghost use Rattle.pgpipe_summary.specs.Labels.{marked};
 
 use pg_wire::{BackMessage, First, FrontMessage};
 use pgpipe_decode::{back_name, front_name, put_whole};
-use pgpipe_frames::{Next, code_of, read_message, read_packet};
+use pgpipe_frames::{NextFrame, code_of, read_message, read_packet};
 use pgpipe_json::{back_called, front_called, packet_called, packet_name, status_word};
 use std::alloc::{AllocError, Global};
 
 // Appends the code of an error, or a dash.
 fn put_code(code: Option<&[u8]>, label: &mut Vec<u8>) -> Result<(), AllocError>
-    ensures { OnOk result (label.new.items ≡ label.old.items ++ first_field (option_copied code.entry)) }
+    ensures { OnOk result (label.new.items
+        ≡ label.old.items ++ first_field (option_copied code.entry)) }
 {
     match code {
         None => label.extend_from_slice(b"-"),
@@ -178,7 +179,7 @@ fn put_message(
 fn put_label(
     alloc: Global,
     front: bool,
-    kind: Next,
+    kind: NextFrame,
     frame: &[u8],
     label: &mut Vec<u8>,
 ) -> Result<(), AllocError>
@@ -187,8 +188,8 @@ fn put_label(
         × (label.new.items ≡ label.old.items ++ text)) }
 {
     match kind {
-        Next::Packet => put_packet(alloc, frame, label),
-        Next::Message | Next::Nothing => put_message(alloc, front, frame, label),
+        NextFrame::Packet => put_packet(alloc, frame, label),
+        NextFrame::Message | NextFrame::Nothing => put_message(alloc, front, frame, label),
     }
 }
 
@@ -196,7 +197,7 @@ fn put_label(
 pub fn write_label(
     alloc: Global,
     front: bool,
-    kind: Next,
+    kind: NextFrame,
     frame: &[u8],
     label: &mut Vec<u8>,
 ) -> Result<(), AllocError>

@@ -20,7 +20,7 @@ use pg_wire::{Sink, Source, WireFault};
 use pgpipe_base::outbox::send_all;
 use pgpipe_base::receiving::{MOST_RECEIVES, PIECE};
 use pgpipe_base::{Stop, ToolFault};
-use pgpipe_frames::{Frames, Next};
+use pgpipe_frames::{Frames, NextFrame};
 use pgpipe_show::show::Shown;
 use std::alloc::{AllocError, Global};
 
@@ -45,17 +45,21 @@ fn fault_stop(fault: WireFault) -> Stop<Shown>
 }
 
 // What a stream begins with.
-fn first_of(front: bool) -> Next
+fn first_of(front: bool) -> NextFrame
     ensures { result ≡ first_of front }
 {
-    if front { Next::Packet } else { Next::Message }
+    if front {
+        NextFrame::Packet
+    } else {
+        NextFrame::Message
+    }
 }
 
 // Counts a frame.
 fn count_frame(
     alloc: Global,
     front: bool,
-    kind: Next,
+    kind: NextFrame,
     frame: &[u8],
     summary: &mut Summary,
     label: &mut Vec<u8>,
@@ -132,9 +136,10 @@ impl Counting {
         ensures side { self.new.front ≡ self.old.front }
         ensures over { self.new.over ≡ self.old.over }
         ensures counts { (bytes : List ℕ)
-            → IsSummedUp self.old.front bytes self.old.summary self.old.frames.next self.old.frames.kept
-            → Counts self.old.front (bytes ++ take count self.old.into.items) result self.new.summary
-            self.new.frames }
+            → IsSummedUp self.old.front bytes self.old.summary self.old.frames.next
+            self.old.frames.kept
+            → Counts self.old.front (bytes ++ take count self.old.into.items) result
+            self.new.summary self.new.frames }
     {
         match self.frames.push(&self.into[..count]) {
             Ok(()) => count_frames(
@@ -154,15 +159,15 @@ impl Counting {
         ensures side { self.new.front ≡ self.old.front }
         ensures goes_on { (bytes : List ℕ)
             → AreAt self.old.front bytes self.old.summary self.old.frames self.old.over
-            → GoesOn self.old.front (bytes ++ take count self.old.into.items) result self.new.summary
-            self.new.frames self.new.over }
+            → GoesOn self.old.front (bytes ++ take count self.old.into.items) result
+            self.new.summary self.new.frames self.new.over }
     {
         match self.frames.upcoming() {
-            Next::Nothing => {
+            NextFrame::Nothing => {
                 self.over = self.over.saturating_add(count);
                 Ok(())
             }
-            Next::Packet | Next::Message => self.push_piece(count),
+            NextFrame::Packet | NextFrame::Message => self.push_piece(count),
         }
     }
 

@@ -5,7 +5,7 @@ ghost use Rattle.std.specs.List.{flat_map};
 ghost use Rattle.pgpipe_summary.specs.Private.Rows.{rows_of};
 ghost use Rattle.pgpipe_summary.specs.Table.{aligned, row_line, table, table_line};
 
-use crate::counts::{Counted, Summary};
+use crate::counts::{FrameCount, Summary};
 use std::alloc::{AllocError, Global};
 use std::collections::BTreeMap;
 
@@ -21,7 +21,7 @@ fn put_aligned(number: u64, text: &mut Vec<u8>) -> Result<(), AllocError>
 }
 
 // Appends a line.
-fn put_line(counted: Counted, label: &[u8], text: &mut Vec<u8>) -> Result<(), AllocError>
+fn put_line(counted: FrameCount, label: &[u8], text: &mut Vec<u8>) -> Result<(), AllocError>
     ensures { OnOk result (text.new.items ≡ text.old.items ++ table_line counted label.now) }
 {
     put_aligned(counted.count, text)?;
@@ -32,7 +32,7 @@ fn put_line(counted: Counted, label: &[u8], text: &mut Vec<u8>) -> Result<(), Al
 }
 
 // Appends the line of each row.
-fn put_rows(rows: &BTreeMap<Vec<u8>, Counted>, text: &mut Vec<u8>) -> Result<(), AllocError>
+fn put_rows(rows: &BTreeMap<Vec<u8>, FrameCount>, text: &mut Vec<u8>) -> Result<(), AllocError>
     ensures { OnOk result (text.new.items
         ≡ text.old.items ++ flat_map row_line (rows_of rows.now.entries)) }
 {

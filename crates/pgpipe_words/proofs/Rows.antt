@@ -12,7 +12,7 @@ use Rattle.pgpipe_words.specs.declared.tasks.Conversion.{Conversion}
 use Rattle.pgpipe_show.specs.declared.form.Form.TheVariants as forms
 use Rattle.pgpipe_words.specs.declared.showing.Showing.{Showing}
 use Rattle.pgpipe_words.specs.declared.tasks.LoopTask.{LoopTask}
-use Rattle.pgpipe_words.specs.declared.tasks.Serving.{Serving}
+use Rattle.pgpipe_words.specs.declared.tasks.ServeTask.{ServeTask}
 use Rattle.pgpipe_words.specs.declared.tasks.Task.{Task}
 use Rattle.pgpipe_words.specs.declared.tasks.Task.TheVariants as task
 use Rattle.pgpipe_words.specs.CommandLine.{command_line}
@@ -86,11 +86,11 @@ module _ (names : Bor (List (Bor (List ℕ)))) where
   unfolding clap_on_literals
   a_loop_with_comments l asked = let named = asked.loop refl in named.comments.if_true refl
 
-  pub a_server : (s : Serving) → IsAskedFor (met (codes "pgpipe" ∷ codes "serve" ∷ codes "s" ∷ [])) (task.Serve s) → (string_bytes s.script ≡ codes "s") × (s.port ≡ 0) × (s.connections ≡ None)
+  pub a_server : (s : ServeTask) → IsAskedFor (met (codes "pgpipe" ∷ codes "serve" ∷ codes "s" ∷ [])) (task.Serve s) → (string_bytes s.script ≡ codes "s") × (s.port ≡ 0) × (s.connections ≡ None)
   unfolding clap_on_literals
   a_server s asked = let named = asked.serve refl in (named.script, named.any_port refl, named.no_end refl)
 
-  pub a_server_of_one : (s : Serving) → IsAskedFor (met (codes "pgpipe" ∷ codes "serve" ∷ codes "--connections" ∷ codes "1" ∷ codes "s" ∷ [])) (task.Serve s) → s.connections ≡ Some 1
+  pub a_server_of_one : (s : ServeTask) → IsAskedFor (met (codes "pgpipe" ∷ codes "serve" ∷ codes "--connections" ∷ codes "1" ∷ codes "s" ∷ [])) (task.Serve s) → s.connections ≡ Some 1
   unfolding clap_on_literals
   a_server_of_one s asked = (asked.serve refl).connections 1 ((omega arith, search rules), refl) (omega arith) (omega arith)
 

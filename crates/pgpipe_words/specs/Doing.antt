@@ -12,7 +12,7 @@ use Rattle.pg_pair.specs.View.{PairView}
 use Rattle.pgpipe_base.specs.declared.fault.ToolFault.{ToolFault}
 use Rattle.pgpipe_base.specs.Receiving.{HasStopped, CountsNoFailure}
 use Rattle.pgpipe_both.specs.Both.{ShowsBoth}
-use Rattle.pgpipe_both.specs.declared.turn.Ends.{Ends}
+use Rattle.pgpipe_both.specs.declared.turn.BothEnds.{BothEnds}
 use Rattle.pgpipe_convert.specs.declared.convert.Converted.{Converted}
 use Rattle.pgpipe_convert.specs.declared.format.Format.{Format}
 use Rattle.pgpipe_convert.specs.Convert as convert
@@ -59,8 +59,8 @@ pub record WasShown {S K : Type 0} (gives : S → List ℕ → S → Type 0) (so
 -- these pieces from `source` and sent these to `sink`, and what it promises holds of them.
 pub record WasConverted {S K : Type 0} (gives : S → List ℕ → S → Type 0) (source_failures : S → ℕ)
     (has_ended : S → Type 0) (takes : K → List ℕ → K → Type 0) (failures : K → ℕ) (from to : Format)
-    (columns : ℕ) (o : Options) (source : S) (sink : K) (answer : Result Converted ToolFault) (source' : S)
-    (sink' : K) : Type 0 where
+    (columns : ℕ) (o : Options) (source : S) (sink : K) (answer : Result Converted ToolFault)
+    (source' : S) (sink' : K) : Type 0 where
   pub received : List (List ℕ)
   pub sent : List (List ℕ)
   pub was_received : FoldsTo gives source received source'
@@ -205,16 +205,16 @@ abbrev pub DoesBoth : {F B K : Type 0} → (F → List ℕ → F → Type 0) →
     → F → B → K → Result Unit Failure → F → B → K → Type 0
 DoesBoth front_gives front_failures front_ended back_gives back_failures back_ended takes failures
     front back sink result front' back' sink' =
-    (answer : Result Ends ToolFault)
-    × ShowsBoth front_gives front_failures front_ended back_gives back_failures back_ended takes failures
-    front back sink answer front' back' sink'
+    (answer : Result BothEnds ToolFault)
+    × ShowsBoth front_gives front_failures front_ended back_gives back_failures back_ended takes
+    failures front back sink answer front' back' sink'
     × BothResults answer result
 
 -- ---- a task
 
 -- `summarize` was run, and the task's result is what its answer means for the program.
-abbrev pub DoesSummary : {S K : Type 0} → (S → List ℕ → S → Type 0) → (K → List ℕ → K → Type 0) → Bool
-    → S → K → Result Unit Failure → S → K → Type 0
+abbrev pub DoesSummary : {S K : Type 0} → (S → List ℕ → S → Type 0) → (K → List ℕ → K → Type 0)
+    → Bool → S → K → Result Unit Failure → S → K → Type 0
 DoesSummary gives takes front source sink result source' sink' = (answer : Result Shown ToolFault)
     × SumsUp gives takes front source sink answer source' sink' × ShowResults answer result
 
@@ -234,8 +234,9 @@ module _ {S K : Type 0} (gives : S → List ℕ → S → Type 0) (source_failur
   DoesShowing false way source sink result source' sink' =
       DoesShow way source sink result source' sink'
 
-  -- By what came of the options: `convert_with` was run with them, and the task's result is what its
-  -- answer means for the program; or their failure is the result, and nothing was received or sent.
+  -- By what came of the options: `convert_with` was run with them, and the task's result is what
+  -- its answer means for the program; or their failure is the result, and nothing was received or
+  -- sent.
   abbrev pub DoesWith : Result Options Failure → Conversion → S → K → Result Unit Failure → S → K
       → Type 0
   DoesWith (Ok o) c source sink result source' sink' = (answer : Result Converted ToolFault)

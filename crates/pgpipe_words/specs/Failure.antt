@@ -8,7 +8,7 @@ use Rattle.pgpipe_words.specs.declared.failure.Failure.{Failure}
 use Rattle.pgpipe_words.specs.declared.failure.Failure.TheVariants as failure
 use Rattle.pgpipe_both.specs.declared.turn.Ended.{Ended}
 use Rattle.pgpipe_both.specs.declared.turn.Ended.TheVariants as ending
-use Rattle.pgpipe_both.specs.declared.turn.Ends.{Ends}
+use Rattle.pgpipe_both.specs.declared.turn.BothEnds.{BothEnds}
 use Rattle.pgpipe_convert.specs.declared.convert.Converted.{Converted}
 use Rattle.pgpipe_convert.specs.declared.convert.Converted.TheVariants as converted
 use Rattle.pg_backend.specs.fault.ScriptFault.{ScriptFault}
@@ -78,7 +78,7 @@ ends_result ending.Encrypted back = Err failure.Encrypted
 
 -- What the answer of `show_both` means for the program: success where both streams are whole, and else
 -- a failure.
-abbrev pub BothResults : Result Ends ToolFault → Result Unit Failure → Type 0
+abbrev pub BothResults : Result BothEnds ToolFault → Result Unit Failure → Type 0
 BothResults (Ok ends) r = r ≡ ends_result ends.front ends.back
 BothResults (Err fault.Device) r = r ≡ Err failure.Device
 BothResults (Err fault.Memory) r = r ≡ Err failure.Memory

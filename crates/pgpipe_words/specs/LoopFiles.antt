@@ -46,8 +46,8 @@ module _ (holds : List ℕ → List ℕ → Type 0) (fails : List ℕ → Failur
   abbrev pub HasText : Bool → List ℕ → List ℕ → Type 0
   HasText comments path text = (bytes : List ℕ) × holds path bytes × (text ≡ text_of comments bytes)
 
-  -- The text of the file at this path can't be had: it can't be read, or, where it may have comments
-  -- (true), memory for it was refused.
+  -- The text of the file at this path can't be had: it can't be read, or, where it may have
+  -- comments (true), memory for it was refused.
   abbrev pub FailsText : Bool → List ℕ → Failure → Type 0
   FailsText false path f = fails path f
   FailsText true path f = fails path f ⊎ (f ≡ failure.Memory)
@@ -84,9 +84,9 @@ module _ (holds : List ℕ → List ℕ → Type 0) (fails : List ℕ → Failur
   ReadsFiles read (Ok calls) = FillsAll read calls
   ReadsFiles read (Err f) = StopsFilling read f
 
-  -- What came of CALLS at this path: what its text says, with the files that it names, which have no
-  -- comments; or the text can't be had or has a fault, or one of those files failed, or memory was
-  -- refused.
+  -- What came of CALLS at this path: what its text says, with the files that it names, which have
+  -- no comments; or the text can't be had or has a fault, or one of those files failed, or memory
+  -- was refused.
   abbrev pub ReadsCalls : Bool → List ℕ → Result Calls Failure → Type 0
   ReadsCalls comments path (Ok calls) = (text : List ℕ) × HasText comments path text
       × (read : Calls) × (calls_of text ≡ Ok (what_is_said read))
@@ -98,10 +98,11 @@ module _ (holds : List ℕ → List ℕ → Type 0) (fails : List ℕ → Failur
 
   -- ---- texts that are kept, so that a loop can be run of them again
 
-  -- What came of SCRIPT at this path: its text, and the script that it says; or what reading it came
-  -- to.
+  -- What came of SCRIPT at this path: its text, and the script that it says; or what reading it
+  -- came to.
   abbrev pub KeepsScript : Bool → List ℕ → Result (List ℕ × Script) Failure → Type 0
-  KeepsScript comments path (Ok kept) = HasText comments path kept.0 × (script_of kept.0 ≡ Ok kept.1)
+  KeepsScript comments path (Ok kept) =
+      HasText comments path kept.0 × (script_of kept.0 ≡ Ok kept.1)
   KeepsScript comments path (Err f) = ReadsScript comments path (Err f)
 
   -- What came of the files that these calls name: the bytes of each, in order, and the calls with

@@ -2,8 +2,8 @@
 use Rattle.std.specs.Prelude.{Bool, if◌then◌else◌}
 use Rattle.pgpipe_convert.specs.declared.format.Format.{Format}
 use Rattle.pgpipe_convert.specs.declared.format.Format.TheVariants as format
-use Rattle.pgpipe_places.specs.declared.tracker.Kind.{Kind}
-use Rattle.pgpipe_places.specs.declared.tracker.Kind.TheVariants as kind
+use Rattle.pgpipe_places.specs.declared.tracker.TrackedKind.{TrackedKind}
+use Rattle.pgpipe_places.specs.declared.tracker.TrackedKind.TheVariants as kind
 use Rattle.pgpipe_words.specs.declared.explaining.Subject.{Subject}
 use Rattle.pgpipe_words.specs.declared.explaining.Subject.TheVariants as subject
 use Rattle.pgpipe_words.specs.declared.tasks.Task.{Task}
@@ -17,23 +17,23 @@ subject_of (task.Loop l) = subject.Loop l.comments
 subject_of (task.Serve s) = subject.Serve
 
 -- the messages of a client's stream (true) or of a server's
-abbrev pub messages_of : Bool → Kind
-messages_of front = if front then kind.Front else kind.Back
+abbrev pub stream_messages : Bool → TrackedKind
+stream_messages front = if front then kind.Front else kind.Back
 
 -- the rows of a file of this format
-abbrev pub rows_of : Format → Kind
+abbrev pub rows_of : Format → TrackedKind
 rows_of format.Text = kind.Text
 rows_of format.Binary = kind.Binary
 
 -- what the input has; a loop and a server read nothing of it
-abbrev pub input_of : Subject → Kind
-input_of (subject.Show front) = messages_of front
+abbrev pub input_of : Subject → TrackedKind
+input_of (subject.Show front) = stream_messages front
 input_of (subject.Convert from to) = rows_of from
 input_of (subject.Loop comments) = kind.Back
 input_of subject.Serve = kind.Back
 
 -- what the output gets: lines, or the rows of a file
-abbrev pub output_of : Subject → Kind
+abbrev pub output_of : Subject → TrackedKind
 output_of (subject.Show front) = kind.Text
 output_of (subject.Convert from to) = rows_of to
 output_of (subject.Loop comments) = kind.Text

@@ -16,7 +16,7 @@ use Rattle.pgpipe_words.specs.declared.asked.Asked.{Asked}
 use Rattle.pgpipe_words.specs.declared.asked.Telling.{Telling}
 use Rattle.pgpipe_words.specs.declared.tasks.Conversion.{Conversion}
 use Rattle.pgpipe_words.specs.declared.tasks.LoopTask.{LoopTask}
-use Rattle.pgpipe_words.specs.declared.tasks.Serving.{Serving}
+use Rattle.pgpipe_words.specs.declared.tasks.ServeTask.{ServeTask}
 use Rattle.pgpipe_words.specs.declared.tasks.Task.{Task}
 use Rattle.pgpipe_words.specs.declared.tasks.Task.TheVariants as task
 use Rattle.pgpipe_words.specs.CommandLine.{IsFormats, command_line}
@@ -140,7 +140,7 @@ IsLoopOf found _ = ⊥
 
 -- Clients are served from the script that was given, on the port that `--port` says, or on any free
 -- one (0) without it, and as many as `--connections` says, or without end (None).
-pub record HasServing (found : List Row) (s : Serving) : Type 0 where
+pub record HasServing (found : List Row) (s : ServeTask) : Type 0 where
   pub script : string_bytes s.script ≡ unwrap_or (first_of (codes "SCRIPT") found) []
   pub port : (n : ℕ) → IsNumber (one_of (codes "port") found) n → n ≤ 65535 → s.port ≡ n
   pub any_port : one_of (codes "port") found ≡ None → s.port ≡ 0

@@ -14,7 +14,7 @@ use crate::reason::Reason;
 use crate::tasks::Task;
 use pg_wire::WireFault;
 use pgpipe_convert::Format;
-use pgpipe_places::{Kind, Place};
+use pgpipe_places::{Place, TrackedKind};
 use pgpipe_reasons::{
     Guess, Rule, back_rule, binary_rule, calls_reason, front_rule, guess_of, option_rule, row_rule,
     script_reason, script_rule, text_rule,
@@ -47,19 +47,23 @@ pub enum Subject {
 }
 
 // The messages of a client's stream, or of a server's.
-fn messages_of(front: bool) -> Kind
-    ensures { result ≡ Rattle.pgpipe_words.specs.Subject.messages_of front }
+fn stream_messages(front: bool) -> TrackedKind
+    ensures { result ≡ Rattle.pgpipe_words.specs.Subject.stream_messages front }
 {
-    if front { Kind::Front } else { Kind::Back }
+    if front {
+        TrackedKind::Front
+    } else {
+        TrackedKind::Back
+    }
 }
 
 // The rows of a file of this format.
-fn rows_of(format: Format) -> Kind
+fn rows_of(format: Format) -> TrackedKind
     ensures { result ≡ Rattle.pgpipe_words.specs.Subject.rows_of format }
 {
     match format {
-        Format::Text => Kind::Text,
-        Format::Binary => Kind::Binary,
+        Format::Text => TrackedKind::Text,
+        Format::Binary => TrackedKind::Binary,
     }
 }
 
@@ -84,26 +88,26 @@ impl Subject {
     }
 
     /// What the input has: messages or rows.
-    pub fn input(self) -> Kind
+    pub fn input(self) -> TrackedKind
         ensures { result ≡ input_of self }
     {
         match self {
-            Subject::Show { front } => messages_of(front),
+            Subject::Show { front } => stream_messages(front),
             Subject::Convert { from, to: _ } => rows_of(from),
-            Subject::Loop { comments: _ } => Kind::Back,
-            Subject::Serve => Kind::Back,
+            Subject::Loop { comments: _ } => TrackedKind::Back,
+            Subject::Serve => TrackedKind::Back,
         }
     }
 
     /// What standard output gets: a line for each message, or rows.
-    pub fn output(self) -> Kind
+    pub fn output(self) -> TrackedKind
         ensures { result ≡ output_of self }
     {
         match self {
-            Subject::Show { front: _ } => Kind::Text,
+            Subject::Show { front: _ } => TrackedKind::Text,
             Subject::Convert { from: _, to } => rows_of(to),
-            Subject::Loop { comments: _ } => Kind::Text,
-            Subject::Serve => Kind::Text,
+            Subject::Loop { comments: _ } => TrackedKind::Text,
+            Subject::Serve => TrackedKind::Text,
         }
     }
 }

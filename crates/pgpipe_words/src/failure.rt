@@ -11,7 +11,7 @@ use pg_backend::ScriptFault;
 use pg_copy::{BinaryFault, OptionFault, RowFault, TextFault};
 use pg_wire::WireFault;
 use pgpipe_base::ToolFault;
-use pgpipe_both::{Ended, Ends};
+use pgpipe_both::{BothEnds, Ended};
 use pgpipe_convert::convert::Converted;
 use pgpipe_files::LineFault;
 use pgpipe_loop::Place;
@@ -178,7 +178,7 @@ fn ends_result(front: Ended, back: Ended) -> Result<(), Failure>
 }
 
 /// What an answer of `show_both` means for the program: only two whole streams are a success.
-pub fn both_result_of(answer: Result<Ends, ToolFault>) -> Result<(), Failure>
+pub fn both_result_of(answer: Result<BothEnds, ToolFault>) -> Result<(), Failure>
     ensures { BothResults answer result }
 {
     match answer {

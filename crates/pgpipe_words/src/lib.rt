@@ -46,5 +46,5 @@ pub use noted_files::{LastRead, NotedDisk};
 pub use reason::Reason;
 pub use serving::serve_file;
 pub use showing::Showing;
-pub use tasks::{Conversion, LoopTask, Serving, Task};
+pub use tasks::{Conversion, LoopTask, ServeTask, Task};
 pub use watched::{Followed, Watched};

@@ -6,7 +6,7 @@ ghost use Rattle.pgpipe_words.specs.Serving.{ServesFile, ServesScript, most_clie
 
 use crate::failure::{Failure, check_failure, script_failure};
 use crate::files::FileStore;
-use crate::tasks::Serving;
+use crate::tasks::ServeTask;
 use pg_backend::Script;
 use pg_wire::{Sink, Source};
 use pgpipe_base::ToolFault;
@@ -19,7 +19,7 @@ use std::alloc::Global;
 /// Without a number of connections 2^64 - 1 clients are served, more than ever come: so it goes on, and is proved to end.
 pub fn serve_file<F: FileStore, L: Source + Sink + Drop, C: Clients<L>, K: Sink>(
     alloc: Global,
-    serving: &Serving,
+    serving: &ServeTask,
     port: u16,
     files: &F,
     clients: &mut C,

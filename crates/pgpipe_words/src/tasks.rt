@@ -50,7 +50,7 @@ pub struct LoopTask {
 
 /// Clients to be served from a script.
 #[derive(Drop)]
-pub struct Serving {
+pub struct ServeTask {
     /// The port of 127.0.0.1 to listen at; 0 is any free one.
     pub port: u16,
     /// How many connections are served; without a number there is no end.
@@ -69,7 +69,7 @@ pub enum Task {
     /// Run a loop, or break it after each byte.
     Loop(LoopTask),
     /// Serve clients.
-    Serve(Serving),
+    Serve(ServeTask),
 }
 
 impl Task {
@@ -158,7 +158,7 @@ fn serving_of(alloc: Global, matches: &ArgMatches<'_>) -> Result<Task, AllocErro
 {
     let port = matches.get_one::<u16>("port").unwrap_or(0);
     let connections = matches.get_one::<u32>("connections");
-    Ok(Task::Serve(Serving {
+    Ok(Task::Serve(ServeTask {
         port,
         connections,
         // the path is there

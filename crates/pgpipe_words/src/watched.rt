@@ -3,7 +3,7 @@
 ghost use Rattle.std.specs.Prelude.{◌≡◌};
 
 use pg_wire::{LinkFault, Source};
-use pgpipe_places::{Kind, Tracked, Tracker};
+use pgpipe_places::{Tracked, TrackedKind, Tracker};
 use std::alloc::Global;
 use std::time::{Clock, Duration, Instant};
 
@@ -31,7 +31,7 @@ impl<S> Followed for Tracked<S> {
 pub struct Watched<'a, R, T> {
     rt: &'a R,
     inner: T,
-    kind: Kind,
+    kind: TrackedKind,
     is_told: bool,
     last: Option<Instant>,
     first: Vec<u8>,
@@ -39,7 +39,13 @@ pub struct Watched<'a, R, T> {
 
 impl<'a, R, T> Watched<'a, R, T> {
     /// Nothing was received yet.
-    pub fn new(alloc: Global, rt: &'a R, inner: T, kind: Kind, is_told: bool) -> Watched<'a, R, T>
+    pub fn new(
+        alloc: Global,
+        rt: &'a R,
+        inner: T,
+        kind: TrackedKind,
+        is_told: bool,
+    ) -> Watched<'a, R, T>
         ensures { result.inner ≡ inner }
     {
         Watched {
@@ -97,8 +103,8 @@ impl<R: Clock + Eprint, T: Followed> Watched<'_, R, T> {
         let tracker = self.inner.tracker();
         let (bytes, whole) = (tracker.read, tracker.place.number.saturating_sub(1));
         let parts = match self.kind {
-            Kind::Back | Kind::Front => "messages",
-            Kind::Text | Kind::Binary => "rows",
+            TrackedKind::Back | TrackedKind::Front => "messages",
+            TrackedKind::Text | TrackedKind::Binary => "rows",
         };
         // where this can't be written, the work goes on
         let _ = eprintln!(self.rt; "pgpipe: {parts} {whole}, bytes {bytes}");

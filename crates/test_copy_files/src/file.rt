@@ -56,7 +56,8 @@ pub trait File: Drop {
 
 /// Appends the canonical lines of rows.
 fn write_lines(rows: &[Row], buf: &mut Vec<u8>) -> Result<()>
-    ensures { OnOk result (buf.new.items ≡ buf.old.items ++ flat_map (written_row default_options) rows.now) }
+    ensures { OnOk result (buf.new.items
+        ≡ buf.old.items ++ flat_map (written_row default_options) rows.now) }
 {
     for row in rows {
         write_text_row(row, buf)?;

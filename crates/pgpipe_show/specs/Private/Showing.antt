@@ -14,8 +14,8 @@ use Rattle.pg_wire.specs.FirstDecoder.{FirstState}
 use Rattle.pg_wire.specs.Frontend.{frontend}
 use Rattle.pg_wire.specs.Link.{HasRisen}
 use Rattle.pg_wire.specs.Stream.{IsStream, IsOpen, IsFaulty}
-use Rattle.pgpipe_frames.specs.declared.next.Next.{Next}
-use Rattle.pgpipe_frames.specs.declared.next.Next.TheVariants as next
+use Rattle.pgpipe_frames.specs.declared.next.NextFrame.{NextFrame}
+use Rattle.pgpipe_frames.specs.declared.next.NextFrame.TheVariants as next
 use Rattle.pgpipe_show.specs.declared.show.Shown.{Shown}
 use Rattle.pgpipe_show.specs.declared.show.Shown.TheVariants as shown
 use Rattle.pgpipe_show.specs.Packets.{packet_lines, next_after, have_ended}
@@ -23,7 +23,7 @@ use Rattle.pgpipe_base.specs.declared.stop.Stop.{Stop}
 use Rattle.pgpipe_base.specs.declared.stop.Stop.TheVariants as stop
 use Rattle.pgpipe_show.specs.declared.decoding.Decoding.{Decoding}
 use Rattle.pgpipe_show.specs.declared.decoding.Decoding.TheVariants as decoding
-use Rattle.pgpipe_frames.specs.declared.judge.Judged.TheVariants as judge
+use Rattle.pgpipe_frames.specs.declared.judge.FrameJudgement.TheVariants as judge
 use Rattle.pgpipe_frames.specs.Frames.{Frame, judged, AreFramed}
 use Rattle.pgpipe_frames.specs.Reader.{FramesState}
 use Rattle.pgpipe_show.specs.declared.form.Form.TheVariants as forms
@@ -109,7 +109,7 @@ PutsMessages takes failures d collected sink bytes (Err _) collected' sink' = �
 
 -- Of these bytes the packets are put, but for those that begin the rest.
 pub record HasPutPackets {K : Type 0} (takes : K → List ℕ → K → Type 0) (failures : K → ℕ)
-    (collected : List ℕ) (sink : K) (bytes : List ℕ) (n : Next) (rest collected' : List ℕ)
+    (collected : List ℕ) (sink : K) (bytes : List ℕ) (n : NextFrame) (rest collected' : List ℕ)
     (sink' : K) : Type 0 where
   pub packets : List First
   pub beginning : IsBeginning bytes packets (have_ended n) rest
@@ -130,7 +130,7 @@ pub record BreaksPackets {K : Type 0} (takes : K → List ℕ → K → Type 0) 
 
 -- The packets in these bytes are put, as far as may be.
 abbrev pub PutsPackets : {K : Type 0} → (K → List ℕ → K → Type 0) → (K → ℕ) → List ℕ → K → List ℕ
-    → Result Next (Stop Shown) → FirstState → List ℕ → K → Type 0
+    → Result NextFrame (Stop Shown) → FirstState → List ℕ → K → Type 0
 PutsPackets takes failures collected sink bytes (Ok next.Packet) new collected' sink' = (new.ended
     ≡ false) × (new.fault ≡ None)
     × HasPutPackets takes failures collected sink bytes next.Packet new.kept collected' sink'
@@ -164,8 +164,8 @@ PutsLineOf takes failures collected sink IsText (Err w) collected' sink' = (text
 
 -- Of these bytes, at which `first` is next, the frames are put, but for those that begin the rest.
 pub record HasPutFrames {K : Type 0} (takes : K → List ℕ → K → Type 0) (failures : K → ℕ)
-    (line : Line) (front : Bool) (collected : List ℕ) (sink : K) (first : Next) (bytes : List ℕ)
-    (n : Next) (rest collected' : List ℕ) (sink' : K) : Type 0 where
+    (line : Line) (front : Bool) (collected : List ℕ) (sink : K) (first : NextFrame)
+    (bytes : List ℕ) (n : NextFrame) (rest collected' : List ℕ) (sink' : K) : Type 0 where
   pub frames : List Frame
   pub framed : AreFramed first bytes frames n rest
   pub text : List ℕ
@@ -175,11 +175,11 @@ pub record HasPutFrames {K : Type 0} (takes : K → List ℕ → K → Type 0) (
 
 -- The sink failed in the midst of the frames' lines.
 pub record BreaksFrames {K : Type 0} (takes : K → List ℕ → K → Type 0) (failures : K → ℕ)
-    (line : Line) (front : Bool) (collected : List ℕ) (sink : K) (first : Next)
+    (line : Line) (front : Bool) (collected : List ℕ) (sink : K) (first : NextFrame)
     (bytes collected' : List ℕ) (sink' : K) : Type 0 where
   pub fault : LinkFault
   pub frames : List Frame
-  pub n : Next
+  pub n : NextFrame
   pub rest : List ℕ
   pub framed : AreFramed first bytes frames n rest
   pub text : List ℕ
@@ -193,11 +193,11 @@ PutsFrames takes failures line front collected sink old (Ok x) new collected' si
     HasPutFrames takes failures line front collected sink old.next old.kept new.next new.kept
     collected' sink' × (judged new.next new.kept ≡ judge.Open)
 PutsFrames takes failures line front collected sink old (Err (stop.Answer (shown.Fault f))) new
-    collected' sink' = (n : Next) × (rest : List ℕ)
+    collected' sink' = (n : NextFrame) × (rest : List ℕ)
     × HasPutFrames takes failures line front collected sink old.next old.kept n rest collected'
     sink' × (judged n rest ≡ judge.Faulty f)
 PutsFrames takes failures line front collected sink old (Err stop.Memory) new collected' sink' =
-    (n : Next) × (rest : List ℕ)
+    (n : NextFrame) × (rest : List ℕ)
     × HasPutFrames takes failures line front collected sink old.next old.kept n rest collected'
     sink'
 PutsFrames takes failures line front collected sink old (Err stop.SinkFailed) new collected' sink' =
@@ -260,7 +260,7 @@ pub record HasShown {K : Type 0} (takes : K → List ℕ → K → Type 0) (fail
 
 -- The lines for the bytes received are put, but for this rest, and these sends were the first.
 pub record ArePut {K : Type 0} (takes : K → List ℕ → K → Type 0) (failures : K → ℕ) (way : Way)
-    (start : K) (bytes : List ℕ) (earlier : List (List ℕ)) (n : Next) (rest collected : List ℕ)
+    (start : K) (bytes : List ℕ) (earlier : List (List ℕ)) (n : NextFrame) (rest collected : List ℕ)
     (sink : K) : Type 0 where
   pub text : List ℕ
   pub shown : AreShown way bytes text n rest
@@ -274,7 +274,7 @@ pub record HasSinkFailed {K : Type 0} (takes : K → List ℕ → K → Type 0) 
     (sink : K) : Type 0 where
   pub fault : LinkFault
   pub text : List ℕ
-  pub n : Next
+  pub n : NextFrame
   pub rest : List ℕ
   pub shown : AreShown way bytes text n rest
   pub put : Puts {A = Unit {0}} takes failures [] start text (Err fault) collected sink
@@ -283,22 +283,24 @@ pub record HasSinkFailed {K : Type 0} (takes : K → List ℕ → K → Type 0) 
 -- What stands where the work stops, in a step before which these sends were made.
 abbrev pub Stops : {K : Type 0} → (K → List ℕ → K → Type 0) → (K → ℕ) → Way → K → List ℕ
     → List (List ℕ) → Stop Shown → List ℕ → K → Type 0
-Stops takes failures way start bytes earlier (stop.Answer shown.Whole) collected sink = (n : Next)
-    × (rest : List ℕ) × ArePut takes failures way start bytes earlier n rest collected sink
+Stops takes failures way start bytes earlier (stop.Answer shown.Whole) collected sink =
+    (n : NextFrame) × (rest : List ℕ)
+    × ArePut takes failures way start bytes earlier n rest collected sink
     × IsOpenFor way n rest × (0 ≡ length rest)
 Stops takes failures way start bytes earlier (stop.Answer (shown.Rest size)) collected sink =
-    (n : Next) × (rest : List ℕ)
+    (n : NextFrame) × (rest : List ℕ)
     × ArePut takes failures way start bytes earlier n rest collected sink
     × IsOpenFor way n rest × (size ≡ length rest) × (0 < size)
 Stops takes failures way start bytes earlier (stop.Answer (shown.Fault f)) collected sink =
-    (n : Next)
-    × (rest : List ℕ) × ArePut takes failures way start bytes earlier n rest collected sink
+    (n : NextFrame) × (rest : List ℕ)
+    × ArePut takes failures way start bytes earlier n rest collected sink
     × IsFaultyFor way n rest f
-Stops takes failures way start bytes earlier stop.Memory collected sink = (n : Next)
-    × (rest : List ℕ) × ArePut takes failures way start bytes earlier n rest collected sink
+Stops takes failures way start bytes earlier stop.Memory collected sink =
+    (n : NextFrame) × (rest : List ℕ)
+    × ArePut takes failures way start bytes earlier n rest collected sink
 Stops takes failures way start bytes earlier stop.SinkFailed collected sink =
     HasSinkFailed takes failures way start bytes earlier collected sink
-Stops takes failures way start bytes earlier _ collected sink = (n : Next) × (rest : List ℕ)
+Stops takes failures way start bytes earlier _ collected sink = (n : NextFrame) × (rest : List ℕ)
     × ArePut takes failures way start bytes earlier n rest collected sink × IsOpenFor way n rest
 
 -- The lines for the bytes received are put as before, and these sends were the first.

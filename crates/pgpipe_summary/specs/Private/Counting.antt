@@ -5,9 +5,9 @@ use Rattle.pg_wire.specs.declared.fault.WireFault.{WireFault}
 use Rattle.pg_wire.specs.declared.fault.WireFault.TheVariants as wire
 use Rattle.pgpipe_base.specs.declared.stop.Stop.{Stop}
 use Rattle.pgpipe_base.specs.declared.stop.Stop.TheVariants as stop
-use Rattle.pgpipe_frames.specs.declared.next.Next.{Next}
-use Rattle.pgpipe_frames.specs.declared.next.Next.TheVariants as next
-use Rattle.pgpipe_frames.specs.declared.judge.Judged.TheVariants as judge
+use Rattle.pgpipe_frames.specs.declared.next.NextFrame.{NextFrame}
+use Rattle.pgpipe_frames.specs.declared.next.NextFrame.TheVariants as next
+use Rattle.pgpipe_frames.specs.declared.judge.FrameJudgement.TheVariants as judge
 use Rattle.pgpipe_frames.specs.Frames.{judged}
 use Rattle.pgpipe_frames.specs.Reader.{FramesState}
 use Rattle.pgpipe_show.specs.declared.show.Shown.{Shown}
@@ -31,7 +31,7 @@ IsOpenAt front bytes s f = IsSummedUp front bytes s f.next f.kept
     × (judged f.next f.kept ≡ judge.Open)
 
 -- Bytes are passed over only where nothing more is read, after a request to cancel.
-abbrev pub ArePassedOver : Next → List ℕ → Type 0
+abbrev pub ArePassedOver : NextFrame → List ℕ → Type 0
 ArePassedOver next.Nothing later = Unit {0}
 ArePassedOver next.Packet later = later ≡ []
 ArePassedOver next.Message later = later ≡ []
@@ -48,11 +48,11 @@ pub record AreAt (front : Bool) (bytes : List ℕ) (s : SummaryState) (f : Frame
 
 -- What stands where the work stops.
 abbrev pub Stops : Bool → List ℕ → Stop Shown → SummaryState → Type 0
-Stops front bytes (stop.Answer shown.Whole) s = (n : Next) × IsSummedUp front bytes s n []
-Stops front bytes (stop.Answer (shown.Rest size)) s = (n : Next) × (rest : List ℕ)
+Stops front bytes (stop.Answer shown.Whole) s = (n : NextFrame) × IsSummedUp front bytes s n []
+Stops front bytes (stop.Answer (shown.Rest size)) s = (n : NextFrame) × (rest : List ℕ)
     × IsSummedUp front bytes s n rest × (judged n rest ≡ judge.Open)
     × (size ≡ min (length rest) (2 ^ 64 - 1)) × (0 < size)
-Stops front bytes (stop.Answer (shown.Fault f)) s = (n : Next) × (rest : List ℕ)
+Stops front bytes (stop.Answer (shown.Fault f)) s = (n : NextFrame) × (rest : List ℕ)
     × IsSummedUp front bytes s n rest × (judged n rest ≡ judge.Faulty f)
 Stops front bytes _ s = Unit {0}
 

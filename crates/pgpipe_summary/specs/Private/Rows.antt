@@ -1,11 +1,11 @@
 -- The rows that a map holds.
 use Rattle.std.specs.Prelude.{ℕ, List, map, Vec}
 use Rattle.std.specs.declared.alloc.Global.{Global}
-use Rattle.pgpipe_summary.specs.declared.counts.Counted.{Counted}
+use Rattle.pgpipe_summary.specs.declared.counts.FrameCount.{FrameCount}
 use Rattle.pgpipe_summary.specs.Counts.{Row}
 
 abbrev pub Entry : Type 0
-Entry = Vec ℕ Global × Counted
+Entry = Vec ℕ Global × FrameCount
 
 abbrev pub row_of : Entry → Row
 row_of e = (e.0.items, e.1)

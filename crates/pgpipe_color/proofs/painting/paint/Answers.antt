@@ -1,6 +1,6 @@
 use Rattle.std.proofs.Common.{◌≡◌, ◌∙◌, ℕ, ◌+◌, List, [], ◌∷◌, ◌++◌, take, drop, get_or, sym, rules, arith, append-nil}
 use Rattle.std.proofs.lemmas.List.{at_drop_all, at_drop_more}
-use Rattle.pgpipe_color.specs.Part.{after, colored, escape}
+use Rattle.pgpipe_color.specs.Part.{colored, escape, part_after}
 use Rattle.pgpipe_color.proofs.Paints.{paints_more, part_more}
 use Rattle.pgpipe_color.proofs.painting.paint.Goals as goal
 
@@ -19,7 +19,7 @@ loop-byte-preserved c =
       colored = paints_more part _ _ (drop (i + 1) piece) front _ _ mid now c.next-part.ensures
           ∙ sym (at_drop_more (λ (rest : List ℕ). front ++ colored part rest) piece i 0 (omega arith)) ∙ c.loop-byte.invariant.colored;
       part = part_more part _ _ (drop (i + 1) piece) c.next-part.ensures
-          ∙ sym (at_drop_more (λ (rest : List ℕ). after part rest) piece i 0 (omega arith)) ∙ c.loop-byte.invariant.part;
+          ∙ sym (at_drop_more (λ (rest : List ℕ). part_after part rest) piece i 0 (omega arith)) ∙ c.loop-byte.invariant.part;
     }
 
 pub returns-clause-colored : goal.returns-clause-colored
@@ -29,6 +29,6 @@ returns-clause-colored c =
     sym (append-nil front) ∙ sym (at_drop_all (λ (rest : List ℕ). front ++ colored c.loop-byte.part rest) c.args.piece.now c.loop-byte.byte-index (omega arith)) ∙ c.loop-byte.invariant.colored
 
 pub returns-clause-part : goal.returns-clause-part
-unfolding after
+unfolding part_after
 returns-clause-part c =
-    sym (at_drop_all (λ (rest : List ℕ). after c.loop-byte.part rest) c.args.piece.now c.loop-byte.byte-index (omega arith)) ∙ c.loop-byte.invariant.part
+    sym (at_drop_all (λ (rest : List ℕ). part_after c.loop-byte.part rest) c.args.piece.now c.loop-byte.byte-index (omega arith)) ∙ c.loop-byte.invariant.part

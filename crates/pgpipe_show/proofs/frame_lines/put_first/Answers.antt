@@ -1,5 +1,5 @@
 use Rattle.std.proofs.Common.{true, Some, None, refl}
-use Rattle.pgpipe_frames.specs.declared.next.Next.TheVariants as next
+use Rattle.pgpipe_frames.specs.declared.next.NextFrame.TheVariants as next
 use Rattle.pgpipe_show.specs.FrameLines.{IsHexLine}
 use Rattle.pgpipe_show.proofs.Framings.{line_put}
 use Rattle.pgpipe_show.proofs.frame_lines.put_first.Goals as goal

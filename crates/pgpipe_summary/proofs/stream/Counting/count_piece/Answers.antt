@@ -1,6 +1,6 @@
 use Rattle.std.proofs.Common.{◌≡◌, ◌++◌, ◌∙◌, take, sym, arith}
 use Rattle.std.proofs.lemmas.List.{length-take-le}
-use Rattle.pgpipe_frames.specs.declared.next.Next.TheVariants as next
+use Rattle.pgpipe_frames.specs.declared.next.NextFrame.TheVariants as next
 use Rattle.pgpipe_summary.proofs.Counting.{all_kept, passed_on, something_next, went_on}
 use Rattle.pgpipe_summary.proofs.stream.Counting.count_piece.Goals as goal
 
