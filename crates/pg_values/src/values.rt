@@ -3,7 +3,7 @@
 ghost use Rattle.std.specs.Prelude.{◌≡◌, ◌↔◌, ◌<◌, ◌+◌, ◌≤◌, [], ◌∷◌, ◌++◌, length, map};
 ghost use Rattle.std.specs.Prelude.{option_copied, option_map, slice_get, vec_len, OnOk, OnErr};
 ghost use Rattle.std.specs.Prelude.{IfOk, IfErr, IfSome, IsTrue, Err};
-ghost use Rattle.std.specs.Prelude.{nat_eq};
+ghost use Rattle.std.specs.Prelude.{nat_eq, ◌⊎◌};
 ghost use Rattle.std.specs.Option.{option_eq};
 ghost use Rattle.std.specs.Cmp.Lexicographic.{pointwise, lists_per, lists_equiv, options_equiv};
 ghost use Rattle.std.specs.Cmp.Lexicographic.{nat_list_eq_equiv};
@@ -130,6 +130,7 @@ impl Values {
         ensures ok { IfOk result (λ values. values ≡ map option_copied list.now) }
         ensures too_long { result ≡ Err TooLong
             → longest_block < length (spelled (map option_copied list.now)) }
+        ensures faults { IfErr result (λ fault. (fault ≡ TooLong) ⊎ (fault ≡ Memory)) }
     {
         let mut values = Values::with_room(alloc, list.len(), room_for(list))?;
         for value in list {
@@ -142,6 +143,7 @@ impl Values {
     pub fn of_row(alloc: Global, row: &RowView<'_>) -> Result<Values, EncodeFault>
         ensures ok { IfOk result (λ values. values ≡ row.now) }
         ensures too_long { (result ≡ Err TooLong) ↔ (longest_block < length (spelled row.now)) }
+        ensures faults { IfErr result (λ fault. (fault ≡ TooLong) ⊎ (fault ≡ Memory)) }
     {
         let (count, bytes) = row.parts();
         if bytes.len() > LONGEST as usize {
@@ -207,6 +209,7 @@ impl Values {
         ensures err { OnErr result (self.new ≡ self.old) }
         ensures too_long { (result ≡ Err TooLong) ↔ (longest_block
             < length (spelled self.old) + length (value_bytes (option_copied value.entry))) }
+        ensures faults { IfErr result (λ fault. (fault ≡ TooLong) ⊎ (fault ≡ Memory)) }
     {
         let size = match value {
             None => 0,

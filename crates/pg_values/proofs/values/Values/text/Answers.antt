@@ -1,4 +1,4 @@
-use Rattle.std.proofs.Common.{refl, sym}
+use Rattle.std.proofs.Common.{sym}
 use Rattle.std.specs.Prelude.{option_copied}
 use Rattle.pg_values.proofs.values.Values.text.Goals as goal
 
