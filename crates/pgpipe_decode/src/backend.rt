@@ -11,7 +11,7 @@ ghost use Rattle.pgpipe_decode.specs.Backend.{request_name, request_text, value_
 ghost use Rattle.pgpipe_decode.specs.Text.{listed, parted, quoted, whole};
 
 use crate::text::{Readable, put_byte, put_number, put_quoted, put_whole};
-use pg_wire::{BackMessage, Column, CopyHead, LentValues, Seq, Values};
+use pg_wire::{BackMessage, Column, CopyHead, LentValues, RowView, Seq, Values};
 use std::alloc::AllocError;
 
 // Appends a value.
@@ -51,14 +51,30 @@ fn put_values(values: LentValues<'_>, line: &mut Vec<u8>) -> Result<(), AllocErr
     }
 }
 
+// Appends values in parentheses.
+#[tactic(auto, unfolding(crate::specs::Text::listed))]
+fn put_listed(values: LentValues<'_>, line: &mut Vec<u8>) -> Result<(), AllocError>
+    ensures { OnOk result (line.new.items ≡ line.old.items ++ listed value_text values.entry) }
+{
+    line.extend_from_slice(b"(")?;
+    put_values(values, line)?;
+    line.extend_from_slice(b")")
+}
+
+/// Appends a row that is lent.
+pub fn put_row(row: RowView<'_>, line: &mut Vec<u8>) -> Result<(), AllocError>
+    ensures { OnOk result (line.new.items
+        ≡ line.old.items ++ (codes "DataRow " ++ listed value_text row.entry)) }
+{
+    put_name(b"DataRow ", line)?;
+    put_listed(row.values(), line)
+}
+
 impl Readable for Values {
     ghost text = { listed value_text };
 
-    #[tactic(auto, unfolding(crate::specs::Text::listed))]
     fn put(&self, line: &mut Vec<u8>) -> Result<(), AllocError> {
-        line.extend_from_slice(b"(")?;
-        put_values(self.iter(), line)?;
-        line.extend_from_slice(b")")
+        put_listed(self.iter(), line)
     }
 }
 

@@ -1,7 +1,10 @@
 //! What frames are shown as.
 
-ghost use Rattle.std.specs.Prelude.{◌≡◌, ◌≤◌, ◌++◌, ℕ, List, length, OnOk};
+ghost use Rattle.std.specs.Prelude.{◌≡◌, ◌≤◌, ◌++◌, ℕ, List, Some, length, IfSome, OnOk};
+ghost use Rattle.pg_wire.specs.Backend.{backend};
+ghost use Rattle.pg_wire.specs.message.BackMessage.TheVariants.{DataRow};
 ghost use Rattle.pgpipe_frames.specs.Frames.{fewest};
+ghost use Rattle.pgpipe_frames.specs.Reading.{IsReadAs};
 ghost use Rattle.pgpipe_decode.specs.Backend.{back_text};
 ghost use Rattle.pgpipe_decode.specs.Frame.{IsBackText, IsFrontText, IsMessageText, IsPacketText};
 ghost use Rattle.pgpipe_decode.specs.Frame.{IsTextOf, text_or};
@@ -9,9 +12,10 @@ ghost use Rattle.pgpipe_decode.specs.Frontend.{front_text};
 ghost use Rattle.pgpipe_decode.specs.Other.{other_back, other_front, other_packet};
 ghost use Rattle.pgpipe_decode.specs.Packet.{packet_text};
 
+use crate::backend::put_row;
 use crate::other::{put_other_back, put_other_front, put_other_packet};
 use crate::text::Readable;
-use pg_wire::{BackMessage, First, FrontMessage};
+use pg_wire::{BackMessage, First, FrontMessage, RowView};
 use pgpipe_frames::{NextFrame, read_message, read_packet};
 use std::alloc::{AllocError, Global};
 
@@ -31,14 +35,39 @@ fn put_read_back(
     }
 }
 
-// Appends the text of a message of the backend.
-fn put_back(alloc: Global, frame: &[u8], line: &mut Vec<u8>) -> Result<(), AllocError>
+// Appends the text of a message of the backend, which is read whole.
+fn put_whole_back(alloc: Global, frame: &[u8], line: &mut Vec<u8>) -> Result<(), AllocError>
     requires { 5 ≤ length frame.now }
     ensures { OnOk result ((text : List ℕ) × IsBackText frame.now text
         × (line.new.items ≡ line.old.items ++ text)) }
 {
     let read = read_message::<BackMessage>(alloc, frame)?;
     put_read_back(read, frame, line)
+}
+
+// The row that a message of the backend is, lent by it; None where it is none.
+fn lent_row(frame: &[u8]) -> Option<RowView<'_>>
+    requires { 5 ≤ length frame.now }
+    ensures { IfSome result (λ values. IsReadAs backend frame.now (Some (DataRow values))) }
+{
+    let (tag, body) = (frame[0], &frame[5..]);
+    if tag == b'D' && RowView::is_row(body) {
+        Some(RowView::of_body(body))
+    } else {
+        None
+    }
+}
+
+// Appends the text of a message of the backend. Of a row nothing is copied before.
+fn put_back(alloc: Global, frame: &[u8], line: &mut Vec<u8>) -> Result<(), AllocError>
+    requires { 5 ≤ length frame.now }
+    ensures { OnOk result ((text : List ℕ) × IsBackText frame.now text
+        × (line.new.items ≡ line.old.items ++ text)) }
+{
+    match lent_row(frame) {
+        Some(row) => put_row(row, line),
+        None => put_whole_back(alloc, frame, line),
+    }
 }
 
 // Appends the text of what was read of a message of the frontend.
