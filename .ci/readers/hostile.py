@@ -1,4 +1,4 @@
-"""What `test_hostile` writes of a backend alone, some of whose client's bytes are spoiled, and of a pair to which random events happen, as
+"""What `test_programs hostile` writes of a backend alone, some of whose client's bytes are spoiled, and of a pair to which random events happen, as
 docs/PROTOCOL.md and docs/LOOP.md tell it, without a look at the program. The pair is that of `session`, which judges the theorem after each
 event."""
 import ends

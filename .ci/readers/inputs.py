@@ -17,7 +17,7 @@ def recorded(*path):
 
 def sessions():
     """What went each way in the recorded sessions: pairs of a server's bytes and a client's."""
-    for session in recorded("test_sessions", "stdin").decode().split("session ")[1:]:
+    for session in recorded("test_programs", "data", "sessions").decode().split("session ")[1:]:
         back, front = [], []
         for line in session.splitlines():
             word, _, rest = line.partition(" ")
@@ -28,7 +28,7 @@ def sessions():
 
 def vectors():
     """The bytes of each vector: pairs of the side and the bytes."""
-    for line in recorded("test_vectors", "stdin").decode().splitlines():
+    for line in recorded("test_programs", "data", "vectors").decode().splitlines():
         side, _, digits = line.partition("#")[0].strip().partition(" ")
         if side:
             yield side, bytes.fromhex(digits.replace(" ", ""))
@@ -208,7 +208,7 @@ NULLS = (b"\\N", b"\\N", b"", b"x", b"-", b"\\\\", b"\\b", b"\\x4", b"NULL", b"\
 
 class Files:
     def __init__(self):
-        self.kept = {"text": recorded("test_copy_files", "data", "rows.text"), "binary": recorded("test_copy_files", "data", "rows.binary")}
+        self.kept = {kind: recorded("test_programs", "data", f"rows.{kind}") for kind in ("text", "binary")}
 
     def options(self, chance):
         """Two sides of the delimiter and the null mark, which are mostly those of files."""

@@ -1,4 +1,4 @@
-"""Recorded sessions some of whose server's bytes are spoiled, and what `test_sessions` writes of them, as docs/PROTOCOL.md tells it, without
+"""Recorded sessions some of whose server's bytes are spoiled, and what `test_programs sessions` writes of them, as docs/PROTOCOL.md tells it, without
 a look at the program. It makes each session with a client and an early client, and cuts what comes in many ways."""
 import ends
 import inputs
@@ -14,7 +14,7 @@ STEPS = ("parse", "bind", "describe", "execute", "close")
 
 def sessions():
     """The lines of each session, up to its first request, and of each of its requests, with what comes of it."""
-    for session in inputs.recorded("test_sessions", "stdin").decode().split("session ")[1:]:
+    for session in inputs.recorded("test_programs", "data", "sessions").decode().split("session ")[1:]:
         found, before = [[]], ""
         for line in session.splitlines()[1:]:
             word, _, rest = line.partition(" ")

@@ -46,6 +46,15 @@ fn silent(alloc: Global) -> Script {
     }
 }
 
+/// A script whose one answer has this part.
+pub(crate) fn script_with(alloc: Global, part: ScriptPart) -> Result<Script, AllocError> {
+    let answer = answer(alloc, part)?;
+    Ok(Script {
+        answers: Seq::new(vec![in alloc; answer]?),
+        ..silent(alloc)
+    })
+}
+
 fn begin(alloc: Global, script: Script) -> Result<Backend, ScriptFault> {
     script.check(alloc)?;
     Ok(Backend::new(alloc, script, 1_073_741_823))
@@ -228,11 +237,7 @@ fn single_inputs_are_answered(rt: HostRuntime) {
 
 /// A script whose one answer has a tag with a zero byte.
 fn unspelled(alloc: Global) -> Result<Script, AllocError> {
-    let zero = answer(alloc, ScriptPart::Command(text(alloc, b"\0")?))?;
-    Ok(Script {
-        answers: Seq::new(vec![in alloc; zero]?),
-        ..silent(alloc)
-    })
+    script_with(alloc, ScriptPart::Command(text(alloc, b"\0")?))
 }
 
 #[test]

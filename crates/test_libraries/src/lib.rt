@@ -1,4 +1,5 @@
-//! Tests of the client and of the scripted backend, by their public interface alone, and the values that tests are written with.
+//! Tests of the client, of the early client and of the scripted backend, also over a link, by their public interface alone, and the
+//! values that tests are written with.
 //!
 //! They stand in a crate of their own, so that no library is proved once more for the sake of its tests.
 #![tactic(auto)]
@@ -7,6 +8,10 @@
 mod backend;
 #[cfg(test)]
 mod client;
+#[cfg(test)]
+mod early;
+#[cfg(test)]
+mod serve;
 #[cfg(test)]
 mod shown;
 pub mod values;

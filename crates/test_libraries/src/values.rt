@@ -5,6 +5,9 @@ ghost use Rattle.std.specs.Prelude.{◌≡◌, IfOk};
 use pg_wire::{CopyHead, Fields, Request, Seq, Values};
 use std::alloc::{AllocError, Global};
 
+/// AuthenticationOk and ReadyForQuery.
+pub const WELCOME: [u8; 15] = [b'R', 0, 0, 0, 8, 0, 0, 0, 0, b'Z', 0, 0, 0, 5, b'I'];
+
 /// These bytes, as a list of a message or a script.
 pub fn text(alloc: Global, bytes: &[u8]) -> Result<Seq<u8>, AllocError>
     ensures { IfOk result (λ list. list ≡ bytes.now) }
@@ -40,7 +43,8 @@ pub fn head(alloc: Global, binary: bool, columns: usize) -> Result<CopyHead, All
     })
 }
 
-fn fields(alloc: Global, list: &[(u8, &[u8])]) -> Result<Fields, AllocError> {
+/// The fields of an error, each by its code and its text.
+pub fn fields(alloc: Global, list: &[(u8, &[u8])]) -> Result<Fields, AllocError> {
     Fields::from_slice(alloc, list).map_err(|_| AllocError)
 }
 

@@ -1,4 +1,4 @@
-//! Tests of the libraries that show, convert and run for `pgpipe`, by their public interface alone.
+//! Tests of the libraries that show, convert, run and read files for `pgpipe`, by their public interface alone.
 //!
 //! Each is a table that a small function judges. A tool's contract and what it is given cost the prover much in each function that has
 //! them, so one function calls a tool, and others look at what came of it.
@@ -16,6 +16,8 @@ mod conversions;
 mod convert;
 #[cfg(test)]
 mod failures;
+#[cfg(test)]
+mod files;
 #[cfg(test)]
 mod lines;
 #[cfg(test)]

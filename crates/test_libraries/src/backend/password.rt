@@ -1,7 +1,7 @@
 //! Clients that are asked for a password.
 
 use super::{Serving, backend_of, silent};
-use crate::values::text;
+use crate::values::{WELCOME, text};
 use pg_backend::{Auth, BackPhase, BackendFault, Script};
 use pg_wire::WireFault;
 use std::alloc::{AllocError, Global};
@@ -9,9 +9,6 @@ use test_base::holds;
 
 /// A Startup with the users `x` and `c`, of which the last counts.
 const STARTUP: &[u8] = b"\0\0\0\x17\0\x03\0\0user\0x\0user\0c\0\0";
-
-/// AuthenticationOk and ReadyForQuery.
-const WELCOME: &[u8] = b"R\0\0\0\x08\0\0\0\0Z\0\0\0\x05I";
 
 const WRONG: &[u8] = b"E\0\0\0\x3ASFATAL\0VFATAL\0C28P01\0Mpassword authentication failed\0\0";
 
@@ -72,7 +69,7 @@ fn a_cleartext_password_is_asked_for(rt: HostRuntime) {
     let cases = [
         Case {
             input: b"p\0\0\0\x07ab\0",
-            said: WELCOME,
+            said: &WELCOME,
             answer: Ok(true),
             phase: BackPhase::Ready,
         },
@@ -136,7 +133,7 @@ fn an_md5_answer_is_asked_for(rt: HostRuntime) {
     let cases = [
         Case {
             input: b"p\0\0\0\x28md596838e208aad1ff8fc396693d03e488d\0",
-            said: WELCOME,
+            said: &WELCOME,
             answer: Ok(true),
             phase: BackPhase::Ready,
         },
@@ -166,7 +163,7 @@ fn a_client_that_is_let_in_is_answered(rt: HostRuntime) {
         it.asks(b"R\0\0\0\x08\0\0\0\x03")
             && it.takes(b"p\0\0\0\x07ab\0Q\0\0\0\x0DSELECT 1\0")
             && it.runs()
-            && it.has_put_from_to(WELCOME, b"")
+            && it.has_put_from_to(&WELCOME, b"")
             && it.stands(BackPhase::Ready, 1)
             // a password is no message of the session
             && it.takes(b"p\0\0\0\x07ab\0")

@@ -1,8 +1,8 @@
 //! Messages that come where a backend waits for others.
 
-use super::{OPENING, Serving, answer, backend_of, copy_in, silent};
+use super::{OPENING, Serving, backend_of, copy_in, script_with, silent};
 use pg_backend::{BackPhase, BackendFault, Script};
-use pg_wire::{Seq, WireFault};
+use pg_wire::WireFault;
 use std::alloc::{AllocError, Global};
 use test_base::holds;
 
@@ -11,11 +11,7 @@ const QUERY: &[u8] = b"Q\0\0\0\x0DSELECT 1\0";
 
 /// The answer to one request is a copy from the client.
 fn copying(alloc: Global) -> Result<Script, AllocError> {
-    let copy = answer(alloc, copy_in(alloc)?)?;
-    Ok(Script {
-        answers: Seq::new(vec![in alloc; copy]?),
-        ..silent(alloc)
-    })
+    script_with(alloc, copy_in(alloc)?)
 }
 
 impl Serving {

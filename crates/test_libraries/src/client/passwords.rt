@@ -3,6 +3,7 @@
 use super::judge::are_so;
 use super::session::{Session, session_of};
 use super::{TableFault, TableRequest, TableStep};
+use crate::values::WELCOME;
 use pg_client::{CallFault, Cause, Client, Phase, Settings};
 use pg_wire::{EncodeFault, Seq};
 use std::alloc::{AllocError, Global};
@@ -33,9 +34,6 @@ const ASKED: &[u8] = b"R\0\0\0\x08\0\0\0\x03";
 
 /// AuthenticationMD5Password with the salt 1, 2, 3, 4.
 const ASKED_MD5: &[u8] = b"R\0\0\0\x0C\0\0\0\x05\x01\x02\x03\x04";
-
-/// AuthenticationOk and ReadyForQuery.
-const WELCOME: &[u8] = b"R\0\0\0\x08\0\0\0\0Z\0\0\0\x05I";
 
 const CLEARTEXT: [TableStep; 4] = [
     TableStep::Start,
@@ -80,7 +78,7 @@ fn it_is_put_out_once_the_question_is_whole(rt: HostRuntime) {
 const NOT_ASKED: [TableStep; 4] = [
     TableStep::Start,
     TableStep::Send,
-    TableStep::Take(WELCOME),
+    TableStep::Take(&WELCOME),
     TableStep::HasPut(b"", Phase::Ready),
 ];
 
@@ -94,7 +92,7 @@ const FOLLOWED: [TableStep; 7] = [
     TableStep::Send,
     TableStep::Take(ASKED),
     TableStep::Send,
-    TableStep::Take(WELCOME),
+    TableStep::Take(&WELCOME),
     TableStep::Make(TableRequest::Query),
     TableStep::HasPut(b"Q\0\0\0\x0DSELECT 1\0", Phase::Busy),
 ];

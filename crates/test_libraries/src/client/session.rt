@@ -1,12 +1,10 @@
 //! A client, what is done with it, and the requests that it makes.
 
 use super::TableRequest;
+use crate::values::{WELCOME, query};
 use pg_client::{Client, Phase, Settings};
 use pg_wire::{Request, Seq, Step, Target};
 use std::alloc::{AllocError, Global};
-
-/// AuthenticationOk and ReadyForQuery.
-const WELCOME: &[u8] = b"R\0\0\0\x08\0\0\0\0Z\0\0\0\x05I";
 
 fn execute(alloc: Global) -> Step {
     Step::Execute {
@@ -23,10 +21,6 @@ fn unspelled(alloc: Global) -> Result<Step, AllocError> {
     })
 }
 
-fn query(alloc: Global) -> Result<Request, AllocError> {
-    Ok(Request::Query(Seq::from_slice(alloc, b"SELECT 1")?))
-}
-
 fn group(alloc: Global) -> Result<Request, AllocError> {
     Ok(Request::Group(Seq::new(vec![in alloc; execute(alloc)]?)))
 }
@@ -38,7 +32,7 @@ fn unspelled_group(alloc: Global) -> Result<Request, AllocError> {
 
 pub fn request(alloc: Global, request: TableRequest) -> Result<Request, AllocError> {
     match request {
-        TableRequest::Query => query(alloc),
+        TableRequest::Query => query(alloc, b"SELECT 1"),
         TableRequest::Group => group(alloc),
         TableRequest::Unspelled => unspelled_group(alloc),
     }
@@ -94,7 +88,7 @@ impl Session {
 
     /// Starts and is let in, and what was put out is taken off.
     pub fn begins(&mut self) -> bool {
-        self.starts() && self.takes(WELCOME) && self.sends()
+        self.starts() && self.takes(&WELCOME) && self.sends()
     }
 
     fn requests(&mut self, request: Request) -> bool {

@@ -1,0 +1,213 @@
+//! Files of either format, read in pieces and written.
+
+ghost use Rattle.std.specs.Prelude.{◌≡◌, ◌++◌, ℕ, List, Some, IfOk, OnOk};
+ghost use Rattle.std.specs.List.{flat_map};
+ghost use Rattle.pg_copy.specs.Row.{Row};
+ghost use Rattle.pg_copy.specs.Text.{default_options, written_row};
+ghost use Rattle.pg_copy.specs.Binary.{written_head, binary_row, trailer};
+
+use crate::byte_cut::ByteCut;
+use anyhow::{Result, bail};
+use pg_copy::{
+    BinaryReader, Row, TextReader, write_binary_head, write_binary_row, write_binary_trailer,
+    write_text_row,
+};
+use std::alloc::Global;
+
+/// How many columns the files have.
+pub const COLUMNS: u16 = 3;
+
+/// The longest value that is read of a binary file.
+pub const LIMIT: u32 = 65_536;
+
+/// A reader of a format, beside which its writers stand.
+pub trait File: Drop {
+    // the file that is written of rows
+    ghost file_of: { List Row → List ℕ };
+
+    /// Nothing was read yet.
+    fn begin(alloc: Global) -> Self
+    where
+        Self: Sized;
+
+    /// Takes the next piece.
+    fn push(&mut self, piece: &[u8]) -> Result<()>;
+
+    /// The next row that waits.
+    fn next(&mut self) -> Result<Option<Row>>;
+
+    /// The next row that is left at the end of the input.
+    fn finish(&mut self) -> Result<Option<Row>>;
+
+    /// Appends a whole file of these rows.
+    fn write(rows: &[Row], buf: &mut Vec<u8>) -> Result<()>
+        ensures { OnOk result (buf.new.items ≡ buf.old.items ++ file_of rows.now) };
+}
+
+/// Appends the canonical lines of rows.
+fn write_lines(rows: &[Row], buf: &mut Vec<u8>) -> Result<()>
+    ensures { OnOk result (buf.new.items
+        ≡ buf.old.items ++ flat_map (written_row default_options) rows.now) }
+{
+    for row in rows {
+        write_text_row(row, buf)?;
+    }
+    Ok(())
+}
+
+/// Appends the rows of a binary file, which stand between its head and its trailer.
+fn write_binary_rows(rows: &[Row], buf: &mut Vec<u8>) -> Result<()>
+    ensures { OnOk result (buf.new.items ≡ buf.old.items ++ flat_map binary_row rows.now) }
+{
+    for row in rows {
+        write_binary_row(row, buf)?;
+    }
+    Ok(())
+}
+
+impl File for TextReader {
+    ghost file_of = { flat_map (written_row default_options) };
+
+    fn begin(alloc: Global) -> TextReader
+        ensures { result.columns ≡ Some 3 }
+    {
+        TextReader::new(alloc, Some(COLUMNS))
+    }
+
+    fn push(&mut self, piece: &[u8]) -> Result<()> {
+        if self.ended() {
+            bail!("the input has ended");
+        }
+        TextReader::push(self, piece)?;
+        Ok(())
+    }
+
+    fn next(&mut self) -> Result<Option<Row>> {
+        if self.ended() {
+            bail!("the input has ended");
+        }
+        Ok(TextReader::next(self)?)
+    }
+
+    fn finish(&mut self) -> Result<Option<Row>> {
+        Ok(TextReader::finish(self)?)
+    }
+
+    fn write(rows: &[Row], buf: &mut Vec<u8>) -> Result<()> {
+        write_lines(rows, buf)
+    }
+}
+
+impl File for BinaryReader {
+    ghost file_of = { λ rows. written_head ++ flat_map binary_row rows ++ trailer };
+
+    fn begin(alloc: Global) -> BinaryReader
+        ensures { (result.columns ≡ 3) × (result.limit ≡ 65536) }
+    {
+        BinaryReader::new(alloc, COLUMNS, LIMIT)
+    }
+
+    fn push(&mut self, piece: &[u8]) -> Result<()> {
+        if self.ended() {
+            bail!("the input has ended");
+        }
+        BinaryReader::push(self, piece)?;
+        Ok(())
+    }
+
+    fn next(&mut self) -> Result<Option<Row>> {
+        if self.ended() {
+            bail!("the input has ended");
+        }
+        Ok(BinaryReader::next(self)?)
+    }
+
+    fn finish(&mut self) -> Result<Option<Row>> {
+        Ok(BinaryReader::finish(self)?)
+    }
+
+    fn write(rows: &[Row], buf: &mut Vec<u8>) -> Result<()> {
+        write_binary_head(buf)?;
+        write_binary_rows(rows, buf)?;
+        write_binary_trailer(buf)?;
+        Ok(())
+    }
+}
+
+// Pushes a piece, and takes the rows that wait then, of which there are no more than bytes.
+fn read_piece<F: File>(
+    reader: &mut F,
+    piece: &[u8],
+    most: usize,
+    rows: &mut Vec<Row>,
+) -> Result<()> {
+    reader.push(piece)?;
+    for _ in 0..=most {
+        match reader.next()? {
+            Some(row) => rows.push(row)?,
+            None => return Ok(()),
+        }
+    }
+    bail!("there are more rows than bytes")
+}
+
+// Pushes a file that comes in pieces, and takes the rows that wait after each.
+fn push_pieces<F: File>(
+    reader: &mut F,
+    bytes: &[u8],
+    cut: ByteCut,
+    rows: &mut Vec<Row>,
+) -> Result<()> {
+    let most = bytes.len();
+    match cut {
+        ByteCut::Nowhere => read_piece(reader, bytes, most, rows),
+        ByteCut::Everywhere => {
+            for i in 0..bytes.len() {
+                read_piece(reader, &bytes[i..i + 1], most, rows)?;
+            }
+            Ok(())
+        }
+        ByteCut::At(place) => {
+            let (front, back) = bytes.split_at(place.min(bytes.len()));
+            read_piece(reader, front, most, rows)?;
+            read_piece(reader, back, most, rows)
+        }
+    }
+}
+
+// Takes the rows that are left at the end of the input, of which there are no more than bytes.
+fn read_left<F: File>(reader: &mut F, most: usize, rows: &mut Vec<Row>) -> Result<()> {
+    for _ in 0..=most {
+        match reader.finish()? {
+            Some(row) => rows.push(row)?,
+            None => return Ok(()),
+        }
+    }
+    bail!("there are more rows than bytes")
+}
+
+// Reads a file that comes in pieces to its end.
+fn read_pieces<F: File>(
+    reader: &mut F,
+    bytes: &[u8],
+    cut: ByteCut,
+    rows: &mut Vec<Row>,
+) -> Result<()> {
+    push_pieces(reader, bytes, cut, rows)?;
+    read_left(reader, bytes.len(), rows)
+}
+
+/// Appends the rows of a file that comes in pieces.
+pub fn read<F: File>(alloc: Global, bytes: &[u8], cut: ByteCut, rows: &mut Vec<Row>) -> Result<()> {
+    let mut reader = F::begin(alloc);
+    read_pieces(&mut reader, bytes, cut, rows)
+}
+
+/// A whole file of these rows.
+pub fn write<F: File>(alloc: Global, rows: &[Row]) -> Result<Vec<u8>>
+    ensures { IfOk result (λ file. file.items ≡ F.file_of rows.now) }
+{
+    let mut buf = Vec::new(alloc);
+    F::write(rows, &mut buf)?;
+    Ok(buf)
+}

@@ -1,0 +1,168 @@
+//! The loops of a caller: over the rows that wait, and over those that are left.
+
+ghost use Rattle.std.specs.Prelude.{◌≡◌, false, OnOk};
+
+use crate::copy_files::file::{COLUMNS, LIMIT};
+use anyhow::{Result, bail, ensure};
+use pg_copy::{
+    BinaryFault, BinaryReader, Row, write_binary_count, write_binary_field, write_binary_head,
+    write_binary_trailer,
+};
+use std::alloc::Global;
+
+/// Takes the rows that wait.
+fn take_waiting(reader: &mut BinaryReader, rows: &mut Vec<Row>) -> Result<()>
+    requires { reader.old.ended ≡ false }
+{
+    while let Some(row) = reader.next()? {
+        rows.push(row)?;
+    }
+    Ok(())
+}
+
+/// Says that the input has ended, and takes the rows that are left.
+fn take_left(reader: &mut BinaryReader, rows: &mut Vec<Row>) -> Result<()> {
+    while let Some(row) = reader.finish()? {
+        rows.push(row)?;
+    }
+    Ok(())
+}
+
+/// Takes the rows of a file that comes whole.
+fn take_all(reader: &mut BinaryReader, bytes: &[u8], rows: &mut Vec<Row>) -> Result<()>
+    requires { reader.old.ended ≡ false }
+{
+    reader.push(bytes)?;
+    take_waiting(reader, rows)?;
+    take_left(reader, rows)
+}
+
+/// Appends the rows of a binary file that comes whole.
+fn put_rows(alloc: Global, bytes: &[u8], rows: &mut Vec<Row>) -> Result<()> {
+    let mut reader = BinaryReader::new(alloc, COLUMNS, LIMIT);
+    take_all(&mut reader, bytes, rows)
+}
+
+/// Whether a binary file that comes whole has these rows.
+fn has_rows(alloc: Global, bytes: &[u8], rows: &[Row]) -> Result<bool> {
+    let mut found = Vec::new(alloc);
+    put_rows(alloc, bytes, &mut found)?;
+    Ok(found.as_slice() == rows)
+}
+
+/// Writes the row that the reader lends, value by value.
+fn write_held(reader: &BinaryReader, out: &mut Vec<u8>) -> Result<()> {
+    let Some(row) = reader.held() else {
+        bail!("no row is held");
+    };
+    write_binary_count(usize::from(COLUMNS), out)?;
+    for value in row.values() {
+        write_binary_field(value, out)?;
+    }
+    Ok(())
+}
+
+/// Writes the rows that wait, each as it is lent.
+fn write_waiting(reader: &mut BinaryReader, out: &mut Vec<u8>) -> Result<()>
+    requires { reader.old.ended ≡ false }
+    ensures { OnOk result (reader.new.ended ≡ false) }
+{
+    while reader.next_lent()? {
+        write_held(reader, out)?;
+    }
+    Ok(())
+}
+
+/// Writes the rows of a binary file, which comes a byte at a time, each as it is lent.
+fn write_rows(reader: &mut BinaryReader, bytes: &[u8], out: &mut Vec<u8>) -> Result<()>
+    requires { reader.old.ended ≡ false }
+{
+    for i in 0..bytes.len() {
+        reader.push(&bytes[i..i + 1])?;
+        write_waiting(reader, out)?;
+    }
+    Ok(())
+}
+
+/// The reader has to have given so many rows, which end with the trailer of a file of so many bytes.
+fn check_end(reader: &mut BinaryReader, rows: usize, bytes: usize) -> Result<()> {
+    ensure!(reader.finish()?.is_none(), "a row is left");
+    ensure!(reader.rows_given() == rows as u64, "another number of rows");
+    ensure!(
+        reader.offset() == bytes.saturating_sub(2) as u64,
+        "the trailer stands elsewhere"
+    );
+    Ok(())
+}
+
+/// Writes a binary file again from so many rows that the reader lends.
+fn write_file(reader: &mut BinaryReader, bytes: &[u8], rows: usize, out: &mut Vec<u8>) -> Result<()>
+    requires { reader.old.ended ≡ false }
+{
+    write_binary_head(out)?;
+    write_rows(reader, bytes, out)?;
+    check_end(reader, rows, bytes.len())?;
+    Ok(write_binary_trailer(out)?)
+}
+
+fn put_again(alloc: Global, bytes: &[u8], rows: usize, out: &mut Vec<u8>) -> Result<()> {
+    let mut reader = BinaryReader::new(alloc, COLUMNS, LIMIT);
+    write_file(&mut reader, bytes, rows, out)
+}
+
+/// Whether a binary file of so many rows is written again as it was.
+fn is_written_again(alloc: Global, bytes: &[u8], rows: usize) -> Result<bool> {
+    let mut out = Vec::new(alloc);
+    put_again(alloc, bytes, rows, &mut out)?;
+    Ok(out.as_slice() == bytes)
+}
+
+/// Passes the rows by that wait, and says why none stands after them.
+fn fault_after(reader: &mut BinaryReader) -> Option<BinaryFault>
+    requires { reader.old.ended ≡ false }
+{
+    loop {
+        match reader.next_lent() {
+            Ok(true) => {}
+            Ok(false) => return None,
+            Err(fault) => return Some(fault),
+        }
+    }
+}
+
+/// Pushes the rows of a file, and a trailer that has another number of fields: where the row begins in place of which the fault stands.
+fn push_fault(reader: &mut BinaryReader, rows: &[u8]) -> Result<u64>
+    requires { reader.old.ended ≡ false }
+{
+    reader.push(rows)?;
+    reader.push(&[0, 9])?;
+    ensure!(
+        fault_after(reader) == Some(BinaryFault::FieldCount(9)),
+        "another fault"
+    );
+    Ok(reader.offset())
+}
+
+/// Where the row begins in place of which a fault stands, of a file whose trailer has another number of fields.
+fn place_of_fault(alloc: Global, bytes: &[u8]) -> Result<u64> {
+    ensure!(bytes.len() >= 2, "there is no trailer");
+    let mut reader = BinaryReader::new(alloc, COLUMNS, LIMIT);
+    push_fault(&mut reader, &bytes[..bytes.len() - 2])
+}
+
+/// Reads a binary file of these rows by the loops.
+pub fn check(alloc: Global, file: &[u8], rows: &[Row]) -> Result<()> {
+    ensure!(
+        has_rows(alloc, file, rows)?,
+        "a loop over the reader gives other rows"
+    );
+    ensure!(
+        is_written_again(alloc, file, rows.len())?,
+        "another binary file is written of rows that are lent"
+    );
+    ensure!(
+        place_of_fault(alloc, file)? == file.len().saturating_sub(2) as u64,
+        "a fault is told at another place"
+    );
+    Ok(())
+}

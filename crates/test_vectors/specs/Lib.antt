@@ -1,2 +1,0 @@
--- How a vector is written.
-pub mod Vector
