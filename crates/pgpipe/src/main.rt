@@ -2,18 +2,17 @@
 //! scripted backend; and serves clients from a script.
 #![tactic(auto)]
 
-ghost use Rattle.pgpipe_words.specs.Tasks.{IsTask};
+ghost use Rattle.pgpipe_cli.specs.Tasks.{IsTask};
 
 use pg_pair::{Carry, Direct};
 use pg_wire::{Over, Patient};
-use pgpipe_color::Colored;
-use pgpipe_places::Tracked;
-use pgpipe_show::{Form, Line};
-use pgpipe_words::{
+use pgpipe_cli::{
     Asked, Disk, Failure, Listening, NotedDisk, Reason, ServeTask, Showing, Subject, Task, Telling,
     Watched, asked_of, connect_to_itself, do_both, do_task, exit_code, explain, file_failure,
     file_reason, serve_file, stream_reason, task_reason, words_failure,
 };
+use pgpipe_places::Tracked;
+use pgpipe_show::{Colored, Form, Line};
 use standard_streams::{ClosedStream, all_open};
 use std::env::VarError;
 use std::io::{IsTerminal, Read};

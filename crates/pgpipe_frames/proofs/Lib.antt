@@ -1,3 +1,5 @@
 pub mod Judging
 mod Packets
 pub mod Framing
+pub mod Texts
+pub mod Rows

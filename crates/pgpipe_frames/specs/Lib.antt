@@ -1,6 +1,17 @@
--- What a reader must believe: what a frame is, the frames of a stream, what each call of the reader
--- does, and what is read of a frame by the tables of messages.
+-- What a reader must believe. Of the frames: what a frame is, the frames of a stream, what each call
+-- of the reader does, and what is read of a frame by the tables of messages.
 pub mod Frames
 pub mod Reader
 pub mod Reading
 pub mod Laws
+-- Of their texts: what each frame is shown as.
+pub mod FrameText
+pub mod Other
+pub mod Backend
+pub mod Frontend
+pub mod Packet
+pub mod Fields
+pub mod Words
+pub mod Text
+-- Words of private functions, which no public contract cites.
+pub mod Private

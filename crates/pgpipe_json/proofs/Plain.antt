@@ -11,7 +11,7 @@ use Rattle.pg_wire.specs.message.First.{First}
 use Rattle.pg_wire.specs.message.First.TheVariants as first
 use Rattle.pg_wire.specs.value.Column.{Column}
 use Rattle.pg_wire.specs.value.ErrorField.{ErrorField}
-use Rattle.pgpipe_decode.specs.Other.{back_name, front_name}
+use Rattle.pgpipe_frames.specs.Other.{back_name, front_name}
 use Rattle.pgpipe_frames.specs.Frames.{code}
 use Rattle.pgpipe_frames.specs.declared.next.NextFrame.{NextFrame}
 use Rattle.pgpipe_frames.specs.declared.next.NextFrame.TheVariants as next

@@ -9,8 +9,8 @@ use Rattle.pg_wire.specs.message.BackMessage.TheVariants.{AuthOk, AuthCleartext,
 use Rattle.pg_wire.specs.value.Column.{Column}
 use Rattle.pg_wire.specs.value.CopyHead.{CopyHead}
 use Rattle.pg_wire.specs.value.ErrorField.{ErrorField}
-use Rattle.pgpipe_decode.specs.Backend.{named_request}
-use Rattle.pgpipe_decode.specs.Words.{plain_type, other_type, array_type, status_text}
+use Rattle.pgpipe_frames.specs.Backend.{named_request}
+use Rattle.pgpipe_frames.specs.Words.{plain_type, other_type, array_type, status_text}
 use Rattle.serde_json.specs.Data.{Data, boolean, object, string, no_members}
 use Rattle.pgpipe_json.specs.Members.{Member, with_members, object_json, message_json}
 use Rattle.pgpipe_json.specs.Values.{count_json, hex_json, hidden_json, list_json, signed_json, text_json, text_or_null, word_or_null}

@@ -2,7 +2,7 @@
 -- a first packet its code, and its bytes. Its name is the one that its tag or its code has in the
 -- documentation (Frontend/Backend Protocol, "Message Formats").
 use Rattle.std.specs.Prelude.{ℕ, ◌-◌, ◌/◌, ◌==◌, ◌||◌, Bool, false, if◌then◌else◌, List, [], ◌∷◌, length, drop, slice_index, codes, unwrap_or}
-use Rattle.pgpipe_decode.specs.Other.{back_name, front_name, request_of_code}
+use Rattle.pgpipe_frames.specs.Other.{back_name, front_name, request_of_code}
 use Rattle.pgpipe_frames.specs.Frames.{code}
 use Rattle.serde_json.specs.Data.{Data, boolean}
 use Rattle.pgpipe_json.specs.Members.{Member, message_json}

@@ -1,8 +1,8 @@
 //! What the backend's messages are shown as.
 
 ghost use Rattle.std.specs.Prelude.{◌≡◌, codes, option_copied, IfOk, OnOk};
-ghost use Rattle.pgpipe_decode.specs.Backend.{named_request};
-ghost use Rattle.pgpipe_decode.specs.Words.{status_text};
+ghost use Rattle.pgpipe_frames.specs.Backend.{named_request};
+ghost use Rattle.pgpipe_frames.specs.Words.{status_text};
 ghost use Rattle.serde_json.specs.Data.{put as with_member};
 ghost use Rattle.serde_json.specs.View.{members_view, view};
 ghost use Rattle.pgpipe_json.specs.Backend.{back_called, back_json, back_members, column_json};
@@ -16,7 +16,7 @@ ghost use Rattle.pgpipe_json.specs.Values.{word_or_null};
 use crate::members::{begin, put_hidden, put_optional, put_shown, put_text, put_word};
 use crate::values::{Shown, hex_value, word_value};
 use pg_wire::{BackMessage, Column, CopyHead, Fields, Seq, Status};
-use pgpipe_decode::{array_type, other_type, plain_type};
+use pgpipe_frames::{array_type, other_type, plain_type};
 use serde_json::{Map, Value};
 use std::alloc::{AllocError, Global};
 
@@ -149,7 +149,7 @@ fn put_salt(salt: [u8; 4], alloc: Global, object: &mut Map<String, Value>) -> Re
 }
 
 // The name of an authentication request that has no message of its own, where it has a name.
-#[tactic(auto, unfolding(pgpipe_decode::specs::Backend::named_request))]
+#[tactic(auto, unfolding(pgpipe_frames::specs::Backend::named_request))]
 fn named_request(code: i32) -> Option<&'static str>
     ensures { option_copied result ≡ named_request code }
 {

@@ -9,8 +9,7 @@ ghost use Rattle.pgpipe_json.specs.Other.{other_packet_members, packet_name, sho
 ghost use Rattle.pgpipe_json.specs.Other.{version_name};
 
 use crate::members::{begin, put_hidden, put_shown, put_text};
-use pgpipe_decode::{back_name, front_name, request_of_code};
-use pgpipe_frames::code_of;
+use pgpipe_frames::{back_name, code_of, front_name, request_of_code};
 use serde_json::{Map, Value};
 use std::alloc::{AllocError, Global};
 

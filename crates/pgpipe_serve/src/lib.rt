@@ -8,7 +8,7 @@
 //! [`serve`] makes a backend of the script and takes turns of `pg_serve::answer`, one at a time, so that the lines of
 //! what was decided in a turn are sent before the next one waits for the client. They are written from the new entries
 //! of the backend's log, where these stand. `serve_all` has `Clients` give it one link after another, and reads the
-//! script anew for each. It knows no socket: a listener is one kind of `Clients` (`pgpipe_words`). `Serving` of
+//! script anew for each. It knows no socket: a listener is one kind of `Clients` (`pgpipe_cli`). `Serving` of
 //! `specs/` says what a connection comes to and which lines it has, `Clients` what one client after another comes to.
 #![tactic(auto)]
 

@@ -6,7 +6,7 @@ use Rattle.pg_wire.specs.Frontend.{frontend}
 use Rattle.pg_wire.specs.message.First.{First}
 use Rattle.pgpipe_base.specs.Hex.{encode_lower}
 use Rattle.pgpipe_base.specs.Outbox.{line_of}
-use Rattle.pgpipe_decode.specs.Frame.{IsTextOf}
+use Rattle.pgpipe_frames.specs.FrameText.{IsTextOf}
 use Rattle.pgpipe_frames.specs.declared.next.NextFrame.{NextFrame}
 use Rattle.pgpipe_frames.specs.declared.next.NextFrame.TheVariants as next
 use Rattle.pgpipe_frames.specs.Frames.{Frame, AreFramed}

@@ -154,7 +154,7 @@ fn write_decoded(
         line.new.items) }
 {
     line.clear();
-    pgpipe_decode::put_frame(alloc, front, kind, frame, line)?;
+    pgpipe_frames::put_frame(alloc, front, kind, frame, line)?;
     line.extend_from_slice(b"\n")
 }
 

@@ -1,5 +1,5 @@
 use Rattle.std.proofs.Common.{rules}
-use Rattle.pgpipe_decode.specs.Frame.{IsTextOf}
+use Rattle.pgpipe_frames.specs.FrameText.{IsTextOf}
 use Rattle.pgpipe_show.proofs.Framings.{newline_put}
 use Rattle.pgpipe_show.proofs.frame_lines.write_decoded.Goals as goal
 

@@ -1,0 +1,10 @@
+-- The files before the next one stand in their places.
+use Rattle.pgpipe_files.specs.Filling.{files}
+use Rattle.pgpipe_cli.specs.LoopFiles.{Fills}
+use Rattle.pgpipe_cli.proofs.loop_files.fill.Given as goal
+
+abbrev pub invariant-loop-path : goal.invariant-loop-path
+invariant-loop-path g l = Fills (g.F.FileStore.holds l.fn.files) (g.F.FileStore.fails l.fn.files) l.fn.calls l.filled
+
+abbrev pub decreases-loop-path : goal.decreases-loop-path
+decreases-loop-path g l = files l.filled.lines

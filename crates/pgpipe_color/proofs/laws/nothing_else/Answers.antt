@@ -1,5 +1,0 @@
-use Rattle.pgpipe_color.proofs.Escapes.{taken_out}
-use Rattle.pgpipe_color.proofs.laws.nothing_else.Goals as goal
-
-pub returns : goal.returns
-returns c = taken_out

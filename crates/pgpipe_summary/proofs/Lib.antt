@@ -1,4 +1,0 @@
-pub mod Counting
-pub mod Labels
-pub mod Rows
-pub mod Tables

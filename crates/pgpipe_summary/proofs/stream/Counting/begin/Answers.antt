@@ -1,5 +1,0 @@
-use Rattle.pgpipe_summary.proofs.Counting.{begun}
-use Rattle.pgpipe_summary.proofs.stream.Counting.begin.Goals as goal
-
-pub returns-clause-begun : goal.returns-clause-begun
-returns-clause-begun c = rw (c.new.ensures, c.new-2.ensures, c.first_of.ensures) (begun c.args.front)

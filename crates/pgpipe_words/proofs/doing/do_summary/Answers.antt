@@ -1,4 +1,0 @@
-use Rattle.pgpipe_words.proofs.doing.do_summary.Goals as goal
-
-pub returns : goal.returns
-returns g c = (c.summarize.result, c.summarize.ensures, c.show_result_of.ensures)
