@@ -8,8 +8,7 @@ ghost use Rattle.std.specs.Prelude.{IfOk};
 ghost use Rattle.pg_backend.specs.Check.{IsChecked};
 
 use anyhow::Context;
-use pg_backend::{Backend, Script};
-use pg_serve::answer;
+use pg_backend::{Backend, Script, answer};
 use pg_wire::{LONGEST, Over, Patient};
 use pgpipe_files::read_script;
 use standard_streams::all_open;

@@ -5,19 +5,19 @@ use Rattle.pg_wire.specs.message.FrontMessage.{FrontMessage}
 use Rattle.pg_wire.specs.value.CopyHead.{CopyHead}
 use Rattle.pg_wire.specs.declared.session.Request.{Request}
 use Rattle.pg_wire.specs.declared.session.Step.{Step}
-use Rattle.pg_script.specs.declared.meaning.InCopy.{InCopy}
-use Rattle.pg_script.specs.declared.meaning.InCopy.TheVariants as copy
-use Rattle.pg_script.specs.declared.script.Answer.{Answer}
-use Rattle.pg_script.specs.declared.script.Load.{Load}
-use Rattle.pg_script.specs.declared.script.Load.TheVariants.{Accept, Refuse}
-use Rattle.pg_script.specs.declared.script.Script.{Script}
-use Rattle.pg_script.specs.declared.script.ScriptPart.{ScriptPart}
-use Rattle.pg_script.specs.Fitting.{answer_for, others}
-use Rattle.pg_script.specs.Input.{admission_log, packets_log, At, admission_end, packets_end}
-use Rattle.pg_script.specs.Meaning.{in_copy}
-use Rattle.pg_script.specs.Opening.{Sent, Says, by_password, admission_messages, sent_for}
-use Rattle.pg_script.specs.Replies.{Copies, shape}
-use Rattle.pg_script.specs.Session.{Exchange, Session, from_request, session_past, session, replies, log_of}
+use Rattle.pg_backend.specs.declared.meaning.InCopy.{InCopy}
+use Rattle.pg_backend.specs.declared.meaning.InCopy.TheVariants as copy
+use Rattle.pg_backend.specs.declared.script.Answer.{Answer}
+use Rattle.pg_backend.specs.declared.script.Load.{Load}
+use Rattle.pg_backend.specs.declared.script.Load.TheVariants.{Accept, Refuse}
+use Rattle.pg_backend.specs.declared.script.Script.{Script}
+use Rattle.pg_backend.specs.declared.script.ScriptPart.{ScriptPart}
+use Rattle.pg_backend.specs.Fitting.{answer_for, others}
+use Rattle.pg_backend.specs.Input.{admission_log, packets_log, At, admission_end, packets_end}
+use Rattle.pg_backend.specs.Meaning.{in_copy}
+use Rattle.pg_backend.specs.Opening.{Sent, Says, by_password, admission_messages, sent_for}
+use Rattle.pg_backend.specs.Replies.{Copies, shape}
+use Rattle.pg_backend.specs.Session.{Exchange, Session, from_request, session_past, session, replies, log_of}
 use Rattle.pg_backend.specs.declared.stage.Awaits.{Awaits}
 use Rattle.pg_backend.specs.declared.stage.Awaits.TheVariants as awaits
 

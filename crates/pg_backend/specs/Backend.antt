@@ -2,9 +2,9 @@
 use Rattle.std.specs.Prelude.{ℕ, ◌≡◌, ◌<◌, Bool, true, false, List, ◌++◌, length, Result, Ok, Err}
 use Rattle.pg_wire.specs.message.FrontMessage.{FrontMessage}
 use Rattle.pg_wire.specs.Frontend.{frontend}
-use Rattle.pg_script.specs.declared.phase.BackPhase.TheVariants as phase
-use Rattle.pg_script.specs.Input.{Input, is_started, IsFaultyRest, IsOpenRest, HandlesNext, IsStray}
-use Rattle.pg_script.specs.Lists.{IsPrefix}
+use Rattle.pg_backend.specs.declared.phase.BackPhase.TheVariants as phase
+use Rattle.pg_backend.specs.Input.{Input, is_started, IsFaultyRest, IsOpenRest, HandlesNext, IsStray}
+use Rattle.pg_backend.specs.Lists.{IsPrefix}
 use Rattle.pg_backend.specs.declared.fault.BackendFault.{BackendFault}
 use Rattle.pg_backend.specs.declared.fault.BackendFault.TheVariants as faults
 use Rattle.pg_backend.specs.declared.stage.ClosedBy.TheVariants as closed_by

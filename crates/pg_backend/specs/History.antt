@@ -7,9 +7,9 @@ use Rattle.pg_wire.specs.Decoder.{HasTaken}
 use Rattle.pg_wire.specs.First.{IsBeginning}
 use Rattle.pg_wire.specs.FirstDecoder.{HasBegun}
 use Rattle.pg_wire.specs.Frontend.{frontend}
-use Rattle.pg_script.specs.declared.script.Answer.{Answer}
-use Rattle.pg_script.specs.declared.script.Script.{Script}
-use Rattle.pg_script.specs.Input.{Input, is_started, IsInput, transcript, output, IsSpelled, input_log, input_phase}
+use Rattle.pg_backend.specs.declared.script.Answer.{Answer}
+use Rattle.pg_backend.specs.declared.script.Script.{Script}
+use Rattle.pg_backend.specs.Input.{Input, is_started, IsInput, transcript, output, IsSpelled, input_log, input_phase}
 use Rattle.pg_backend.specs.declared.stage.BackStage.{BackStage}
 use Rattle.pg_backend.specs.declared.stage.BackStage.TheVariants as stage
 use Rattle.pg_backend.specs.Awaited.{AwaitsAt}

@@ -5,3 +5,4 @@ pub mod Answering
 pub mod Opening
 pub mod Playing
 pub mod Advancing
+pub mod Turning

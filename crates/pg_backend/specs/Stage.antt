@@ -4,13 +4,13 @@ use Rattle.pg_wire.specs.declared.fault.WireFault.{WireFault}
 use Rattle.pg_wire.specs.First.{IsFaultyPacket, IsOpenPacket}
 use Rattle.pg_wire.specs.Frontend.{frontend}
 use Rattle.pg_wire.specs.Stream.{IsFaulty, IsOpen}
-use Rattle.pg_script.specs.declared.phase.BackPhase.{BackPhase}
-use Rattle.pg_script.specs.declared.phase.BackPhase.TheVariants as phase
-use Rattle.pg_script.specs.declared.script.Answer.{Answer}
-use Rattle.pg_script.specs.declared.script.Logged.{Logged}
-use Rattle.pg_script.specs.declared.script.Script.{Script}
-use Rattle.pg_script.specs.Session.{Copying, place_after}
-use Rattle.pg_script.specs.Input.{End, Asking, At, end_phase}
+use Rattle.pg_backend.specs.declared.phase.BackPhase.{BackPhase}
+use Rattle.pg_backend.specs.declared.phase.BackPhase.TheVariants as phase
+use Rattle.pg_backend.specs.declared.script.Answer.{Answer}
+use Rattle.pg_backend.specs.declared.script.Logged.{Logged}
+use Rattle.pg_backend.specs.declared.script.Script.{Script}
+use Rattle.pg_backend.specs.Session.{Copying, place_after}
+use Rattle.pg_backend.specs.Input.{End, Asking, At, end_phase}
 use Rattle.pg_backend.specs.declared.stage.Awaits.{Awaits}
 use Rattle.pg_backend.specs.declared.stage.Awaits.TheVariants as awaits
 use Rattle.pg_backend.specs.declared.stage.ClosedBy.TheVariants as closed_by

@@ -3,19 +3,19 @@
 ghost use Rattle.std.specs.Prelude.{◌≡◌, ◌++◌, ◌∷◌, [], map, MatchOption, MatchResult, Ok, Err};
 ghost use Rattle.std.specs.Prelude.{Some};
 ghost use Rattle.pg_wire.specs.message.BackMessage.TheVariants.{Ready, CopyIn, CommandComplete};
-ghost use Rattle.pg_script.specs.Outcome.{parts_of, whole_outcome};
-ghost use Rattle.pg_script.specs.Replies.{aside_message, parts_sent, error_sent, end_sent};
-ghost use Rattle.pg_script.specs.declared.script.Load.TheVariants.{Refuse};
+ghost use Rattle.pg_backend.specs.Outcome.{parts_of, whole_outcome};
+ghost use Rattle.pg_backend.specs.Replies.{aside_message, parts_sent, error_sent, end_sent};
+ghost use Rattle.pg_backend.specs.declared.script.Load.TheVariants.{Refuse};
 ghost use Rattle.pg_backend.specs.Awaited.{NotRefused};
 ghost use Rattle.pg_backend.specs.Private.Moves.{parts_before, parts_after};
-ghost use Rattle.pg_script.specs.Telling.{EncodesAll};
+ghost use Rattle.pg_backend.specs.Telling.{EncodesAll};
 ghost use Rattle.pg_backend.specs.Private.Answering.{IsSplit, Gives, BeginsCopy, Opens, Decides};
 
 use crate::fault::BackendFault;
+use crate::outcome::{copy_of_load, outcome, whole_outcome};
+use crate::script::{Answer, Load, Logged, ScriptPart};
 use crate::stage::Loading;
-use pg_script::outcome::{copy_of_load, outcome, whole_outcome};
-use pg_script::telling::{Tell, both, tell_all, tell_error};
-use pg_script::{Answer, Load, Logged, ScriptPart};
+use crate::telling::{Tell, both, tell_all, tell_error};
 use pg_wire::backend::{command_complete, copy_in, encode};
 use pg_wire::{BackMessage, CopyHead, EncodeFault, Fields, Request, Seq, Status};
 use std::alloc::Global;

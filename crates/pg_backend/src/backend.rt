@@ -4,9 +4,9 @@ ghost use Rattle.std.specs.Prelude.{◌≡◌, ◌≤◌, ◌∷◌, [], false, 
 ghost use Rattle.pg_wire.specs.message.BackMessage.TheVariants.{ErrorResponse};
 ghost use Rattle.pg_wire.specs.Direction.{IsLimit};
 ghost use Rattle.pg_wire.specs.First.{is_last};
-ghost use Rattle.pg_script.specs.Check.{IsChecked};
-ghost use Rattle.pg_script.specs.Opening.{No, Says};
-ghost use Rattle.pg_script.specs.OwnError.{no_user};
+ghost use Rattle.pg_backend.specs.Check.{IsChecked};
+ghost use Rattle.pg_backend.specs.Opening.{No, Says};
+ghost use Rattle.pg_backend.specs.OwnError.{no_user};
 ghost use Rattle.pg_backend.specs.declared.stage.BackStage.{BackStage};
 ghost use Rattle.pg_backend.specs.declared.stage.ClosedBy.TheVariants.{Input as ByInput};
 ghost use Rattle.pg_backend.specs.declared.stage.ClosedBy.TheVariants.{Memory as ByMemory};
@@ -20,10 +20,11 @@ ghost use Rattle.pg_backend.specs.Private.Advancing.{named_effect, packet_effect
 use crate::answering::or_memory;
 use crate::fault::BackendFault;
 use crate::opening::{admit, user};
+use crate::own_error::{fatal_bad, no_user};
+use crate::phase::BackPhase;
 use crate::playing::Playing;
+use crate::script::{Logged, Script};
 use crate::stage::{Awaits, BackStage, ClosedBy, Next};
-use pg_script::own_error::{fatal_bad, no_user};
-use pg_script::{BackPhase, Logged, Script};
 use pg_wire::backend::error_response;
 use pg_wire::{First, FirstDecoder, WireFault};
 use std::alloc::Global;

@@ -1,15 +1,15 @@
 //! The beginning of a session.
 
 ghost use Rattle.std.specs.Prelude.{◌≡◌, ◌==◌, ◌<◌, [], length, IsTrue, ◌↔◌};
-ghost use Rattle.pg_script.specs.Opening.{welcome, user_from};
+ghost use Rattle.pg_backend.specs.Opening.{welcome, user_from};
 ghost use Rattle.pg_backend.specs.Private.Opening.{Greets};
-ghost use Rattle.pg_script.specs.Telling.{EncodesAll};
+ghost use Rattle.pg_backend.specs.Telling.{EncodesAll};
 
 use crate::answering::or_memory;
 use crate::fault::BackendFault;
+use crate::script::{Auth, Script};
 use crate::stage::Awaits;
-use pg_script::telling::{both, tell_all, tell_key};
-use pg_script::{Auth, Script};
+use crate::telling::{both, tell_all, tell_key};
 use pg_wire::backend::encode;
 use pg_wire::{BackMessage, EncodeFault, Seq, Status, md5_answer};
 use std::alloc::Global;

@@ -2,10 +2,10 @@
 
 ghost use Rattle.std.specs.Prelude.{◌≡◌, ◌≤◌, ◌∷◌, ◌++◌, [], true, false, drop, MatchOption, Ok};
 ghost use Rattle.std.specs.Prelude.{Err};
-ghost use Rattle.pg_script.specs.declared.meaning.InCopy.TheVariants.{Chunk};
-ghost use Rattle.pg_script.specs.Fitting.{answer_for};
-ghost use Rattle.pg_script.specs.OwnError.{no_answer};
-ghost use Rattle.pg_script.specs.Meaning.{meaning, in_copy};
+ghost use Rattle.pg_backend.specs.declared.meaning.InCopy.TheVariants.{Chunk};
+ghost use Rattle.pg_backend.specs.Fitting.{answer_for};
+ghost use Rattle.pg_backend.specs.OwnError.{no_answer};
+ghost use Rattle.pg_backend.specs.Meaning.{meaning, in_copy};
 ghost use Rattle.pg_backend.specs.Private.Moves.{load_result, refuses_at, requested, between};
 ghost use Rattle.pg_backend.specs.Private.Moves.{effect};
 ghost use Rattle.pg_backend.specs.Private.Moves.{entered, entering, has_effect, move, decided};
@@ -15,12 +15,12 @@ ghost use Rattle.pg_backend.specs.Private.Playing.{Notes, Moves};
 
 use crate::answering::{Opened, decide, open, or_memory};
 use crate::fault::BackendFault;
+use crate::fitting::fits;
+use crate::meaning::{InCopy, Meaning};
 use crate::opening::tell_welcome;
+use crate::own_error::{canceled, fatal_unexpected, no_answer, out_of_copy, wrong_password};
+use crate::script::{Answer, Load, Logged, Script};
 use crate::stage::{Awaits, Loading, Next};
-use pg_script::fitting::fits;
-use pg_script::meaning::{InCopy, Meaning};
-use pg_script::own_error::{canceled, fatal_unexpected, no_answer, out_of_copy, wrong_password};
-use pg_script::{Answer, Load, Logged, Script};
 use pg_wire::backend::error_response;
 use pg_wire::{Fields, FrontMessage, Request, Seq, Step};
 use std::alloc::Global;

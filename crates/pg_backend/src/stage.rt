@@ -1,6 +1,6 @@
 //! Where a backend stands.
 
-use pg_script::Load;
+use crate::script::Load;
 use pg_wire::{FirstDecoder, FrontDecoder, Request, Seq, Step};
 
 /// A copy from the client that isn't decided.

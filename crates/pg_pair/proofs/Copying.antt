@@ -3,7 +3,7 @@ use Rattle.std.proofs.Common.{◌≡◌, ℕ, true, List, [], ◌∷◌, ◌++�
 use Rattle.pg_wire.specs.message.FrontMessage.{FrontMessage}
 use Rattle.pg_wire.specs.message.FrontMessage.TheVariants as front
 use Rattle.pg_client.specs.Answering.{with_copy, last_copies, copies_ended}
-use Rattle.pg_backend.specs.script.Answer.{Answer}
+use Rattle.pg_backend.specs.declared.script.Answer.{Answer}
 use Rattle.pg_backend.specs.Fitting.{others}
 use Rattle.pg_wire.specs.Turns.{Turn, is_copy, IsCopy, AreCopied, chunks_of}
 use Rattle.pg_backend.specs.Turns.{InTurn}

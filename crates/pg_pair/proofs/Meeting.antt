@@ -18,10 +18,10 @@ use Rattle.pg_wire.specs.Stream.{IsStream}
 use Rattle.pg_client.specs.declared.settings.Settings.{Settings}
 use Rattle.pg_client.specs.Sent.{startup_pairs}
 use Rattle.pg_client.specs.Turns.{passwords, first_answer}
-use Rattle.pg_backend.specs.script.Auth.{Auth}
-use Rattle.pg_backend.specs.script.Auth.TheVariants.{Trust, Cleartext, Md5}
-use Rattle.pg_backend.specs.script.Logged.{Logged}
-use Rattle.pg_backend.specs.script.Script.{Script}
+use Rattle.pg_backend.specs.declared.script.Auth.{Auth}
+use Rattle.pg_backend.specs.declared.script.Auth.TheVariants.{Trust, Cleartext, Md5}
+use Rattle.pg_backend.specs.declared.script.Logged.{Logged}
+use Rattle.pg_backend.specs.declared.script.Script.{Script}
 use Rattle.pg_backend.specs.Input.{Input, IsSpelled, transcript, output, sent_bytes, input_log, input_phase, place_phase, end_phase, admission_log, admission_end}
 use Rattle.pg_wire.specs.Turns.{copies_begun}
 use Rattle.pg_backend.specs.Lists.{IsPrefix}

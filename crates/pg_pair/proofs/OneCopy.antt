@@ -8,10 +8,10 @@ use Rattle.pg_wire.specs.value.Status.{Status}
 use Rattle.pg_wire.specs.value.Status.TheVariants.{Idle}
 use Rattle.pg_wire.specs.Segment.{Segments, status_of, put_before, segments}
 use Rattle.pg_wire.specs.Turns.{copies_begun}
-use Rattle.pg_backend.specs.script.Auth.{Auth}
-use Rattle.pg_backend.specs.script.Auth.TheVariants.{Trust, Cleartext, Md5}
-use Rattle.pg_backend.specs.script.Key.{Key}
-use Rattle.pg_backend.specs.script.Script.{Script}
+use Rattle.pg_backend.specs.declared.script.Auth.{Auth}
+use Rattle.pg_backend.specs.declared.script.Auth.TheVariants.{Trust, Cleartext, Md5}
+use Rattle.pg_backend.specs.declared.script.Key.{Key}
+use Rattle.pg_backend.specs.declared.script.Script.{Script}
 use Rattle.pg_backend.specs.Check.{HasOneCopyEach}
 use Rattle.pg_backend.specs.Laws.{HaveOneCopy, OneCopyEach, WelcomeIsSegment}
 use Rattle.pg_backend.specs.Lists.{IsPrefix}

@@ -20,7 +20,7 @@ use Rattle.pg_client.specs.History.{happenings}
 use Rattle.pg_client.specs.Facts.{IsPhase}
 use Rattle.pg_client.specs.Turns.{turns_of, calls_in, farewell}
 use Rattle.pg_client.specs.Answering.{calls_of}
-use Rattle.pg_backend.specs.phase.BackPhase.{BackPhase}
+use Rattle.pg_backend.specs.declared.phase.BackPhase.{BackPhase}
 use Rattle.pg_backend.specs.declared.stage.ClosedBy.TheVariants as ending
 use Rattle.pg_backend.specs.declared.stage.BackStage.{BackStage}
 use Rattle.pg_backend.specs.declared.stage.BackStage.TheVariants as stage

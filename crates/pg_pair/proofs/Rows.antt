@@ -17,10 +17,10 @@ use Rattle.pg_client.specs.declared.settings.Settings.{Settings}
 use Rattle.pg_client.specs.declared.call.Call.TheVariants as call
 use Rattle.pg_client.specs.History.{Calls}
 use Rattle.pg_client.specs.Turns.{messages_after}
-use Rattle.pg_backend.specs.script.Answer.{Answer}
-use Rattle.pg_backend.specs.script.Auth.TheVariants.{Trust, Cleartext, Md5}
-use Rattle.pg_backend.specs.script.Load.TheVariants as load
-use Rattle.pg_backend.specs.script.ScriptPart.TheVariants as script
+use Rattle.pg_backend.specs.declared.script.Answer.{Answer}
+use Rattle.pg_backend.specs.declared.script.Auth.TheVariants.{Trust, Cleartext, Md5}
+use Rattle.pg_backend.specs.declared.script.Load.TheVariants as load
+use Rattle.pg_backend.specs.declared.script.ScriptPart.TheVariants as script
 use Rattle.pg_backend.specs.declared.stage.ClosedBy.TheVariants as ending
 use Rattle.pg_backend.specs.declared.stage.BackStage.TheVariants as stage
 use Rattle.pg_backend.specs.Opening.{Refused, Awaited, Admitted, admission}

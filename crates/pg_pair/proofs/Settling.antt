@@ -22,7 +22,7 @@ use Rattle.pg_client.specs.History.{Calls, happenings}
 use Rattle.pg_client.specs.Facts.{FirstSettled}
 use Rattle.pg_client.specs.Turns.{turns_of, calls_in, passwords, first_answer, messages_after, greeting, farewell}
 use Rattle.pg_client.specs.Answering.{calls_of, turns_in}
-use Rattle.pg_backend.specs.script.Logged.{Logged}
+use Rattle.pg_backend.specs.declared.script.Logged.{Logged}
 use Rattle.pg_backend.specs.Laws.{FitEach, AreFirstOf}
 use Rattle.pg_backend.specs.Lists.{IsPrefix}
 use Rattle.pg_backend.specs.Opening.{welcome, question_for}

@@ -3,14 +3,14 @@ use Rattle.std.proofs.Common.{◌≡◌, ℕ, true, false, Bool, List, [], ◌++
 use Rattle.std.proofs.lemmas.List.{append-nil}
 use Rattle.pg_backend.specs.declared.fault.BackendFault.{BackendFault}
 use Rattle.pg_backend.specs.declared.fault.BackendFault.TheVariants as faults
-use Rattle.pg_backend.specs.script.Script.{Script}
+use Rattle.pg_backend.specs.declared.script.Script.{Script}
 use Rattle.pg_backend.specs.Backend.{BackendState, Steps, StepsFrom, was_lost}
 use Rattle.pg_backend.specs.History.{History, IsHistoryOf, with_handled, with_message}
 use Rattle.pg_backend.specs.Check.{IsChecked}
 use Rattle.pg_backend.specs.Input.{Input, HandlesNext, packet_taken, message_taken}
 use Rattle.pg_backend.specs.Turns.{InTurn}
-use Rattle.pg_backend.specs.phase.BackPhase.{BackPhase}
-use Rattle.pg_backend.specs.phase.BackPhase.TheVariants as back
+use Rattle.pg_backend.specs.declared.phase.BackPhase.{BackPhase}
+use Rattle.pg_backend.specs.declared.phase.BackPhase.TheVariants as back
 use Rattle.pg_pair.specs.declared.event.Applied.{Applied}
 use Rattle.pg_pair.specs.declared.event.Applied.TheVariants as applied
 use Rattle.pg_pair.specs.Breaking.{is_closed_backend}

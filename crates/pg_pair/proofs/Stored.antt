@@ -8,9 +8,9 @@ use Rattle.pg_wire.specs.declared.session.Outcome.{Outcome}
 use Rattle.pg_wire.specs.declared.session.Request.{Request}
 use Rattle.pg_wire.specs.contracts.session.Request as request
 use Rattle.pg_wire.specs.contracts.session.Outcome as outcome
-use Rattle.pg_backend.specs.phase_contracts.BackPhase as back_phase
-use Rattle.pg_backend.specs.phase.BackPhase.{BackPhase}
-use Rattle.pg_backend.specs.script.Logged.{Logged}
+use Rattle.pg_backend.specs.contracts.phase.BackPhase as back_phase
+use Rattle.pg_backend.specs.declared.phase.BackPhase.{BackPhase}
+use Rattle.pg_backend.specs.declared.script.Logged.{Logged}
 use Rattle.pg_backend.specs.Turns.{Took, TookEach}
 use Rattle.pg_pair.specs.Headline.{Headline}
 use Rattle.pg_pair.specs.Invariant.{Tied}

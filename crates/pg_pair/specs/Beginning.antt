@@ -4,7 +4,7 @@ use Rattle.pg_client.specs.declared.phase.Phase.TheVariants as phase
 use Rattle.pg_client.specs.declared.settings.Settings.{Settings}
 use Rattle.pg_client.specs.History.{blank, IsHistoryOf}
 use Rattle.pg_client.specs.Client as client
-use Rattle.pg_backend.specs.script.Script.{Script}
+use Rattle.pg_backend.specs.declared.script.Script.{Script}
 use Rattle.pg_backend.specs.declared.stage.BackStage.TheVariants as stage
 use Rattle.pg_wire.specs.Direction.{longest}
 use Rattle.pg_pair.specs.View.{WayState, PairView}

@@ -7,8 +7,8 @@ use Rattle.pg_client.specs.declared.settled.Loss.{Loss}
 use Rattle.pg_client.specs.Client.{ClientView, phase_of}
 use Rattle.pg_client.specs.History.{Carries, with_handed_back}
 use Rattle.pg_client.specs.Lost.{first_cause, HandsBack}
-use Rattle.pg_backend.specs.phase.BackPhase.{BackPhase}
-use Rattle.pg_backend.specs.phase.BackPhase.TheVariants as back
+use Rattle.pg_backend.specs.declared.phase.BackPhase.{BackPhase}
+use Rattle.pg_backend.specs.declared.phase.BackPhase.TheVariants as back
 use Rattle.pg_backend.specs.Backend.{lost_stage}
 use Rattle.pg_backend.specs.Backend as backend
 use Rattle.pg_pair.specs.declared.carry.Way.{Way}

@@ -11,8 +11,8 @@ use Rattle.pg_client.specs.declared.settled.Settled.{Settled}
 use Rattle.pg_client.specs.declared.phase.Phase.TheVariants as client_phase
 use Rattle.pg_client.specs.History.{History, IsHistoryOf}
 use Rattle.pg_client.specs.Client as client
-use Rattle.pg_backend.specs.script.Logged.{Logged}
-use Rattle.pg_backend.specs.phase.BackPhase.TheVariants as backend_phase
+use Rattle.pg_backend.specs.declared.script.Logged.{Logged}
+use Rattle.pg_backend.specs.declared.phase.BackPhase.TheVariants as backend_phase
 use Rattle.pg_backend.specs.Backend.{HasHandled, had_memory}
 use Rattle.pg_backend.specs.Backend as backend
 use Rattle.pg_backend.specs.Input.{Input}

@@ -1,7 +1,7 @@
 -- What a step of the backend does to a pair.
 use Rattle.std.specs.Prelude.{◌≡◌, ℕ, Bool, true, false, List, Result, Ok, Err}
-use Rattle.pg_backend.specs.phase.BackPhase.{BackPhase}
-use Rattle.pg_backend.specs.phase.BackPhase.TheVariants as back
+use Rattle.pg_backend.specs.declared.phase.BackPhase.{BackPhase}
+use Rattle.pg_backend.specs.declared.phase.BackPhase.TheVariants as back
 use Rattle.pg_backend.specs.declared.fault.BackendFault.{BackendFault}
 use Rattle.pg_backend.specs.Backend.{BackendState, Steps, CarriesStep}
 use Rattle.pg_pair.specs.declared.event.Applied.{Applied}

@@ -11,7 +11,7 @@ use pgpipe_cli::{
     Watched, asked_of, connect_to_itself, do_both, do_task, exit_code, explain, file_failure,
     file_reason, serve_file, stream_reason, task_reason, words_failure,
 };
-use pgpipe_places::Tracked;
+use pgpipe_explain::Tracked;
 use pgpipe_show::{Colored, Form, Line};
 use standard_streams::{ClosedStream, all_open};
 use std::env::VarError;

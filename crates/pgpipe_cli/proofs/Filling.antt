@@ -3,7 +3,7 @@ use Rattle.std.proofs.Common.{◌≡◌, ℕ, Bool, List, Result, Ok, Err, refl,
 use Rattle.pgpipe_files.specs.declared.calls_file.Calls.{Calls}
 use Rattle.pgpipe_files.specs.CallsFile.{calls_of, what_is_said}
 use Rattle.pgpipe_cli.specs.declared.failure.Failure.{Failure}
-use Rattle.pg_backend.specs.script.Script.{Script}
+use Rattle.pg_backend.specs.declared.script.Script.{Script}
 use Rattle.pgpipe_cli.specs.LoopFiles.{calls_limit, HasText, ReadsScript, SaysCalls, SaysScript, Fills, nothing, one_more, ReadsFiles, ReadsCalls}
 
 module _ (holds : List ℕ → List ℕ → Type 0) (fails : List ℕ → Failure → Type 0) where

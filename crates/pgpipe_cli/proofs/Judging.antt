@@ -1,6 +1,6 @@
 -- A script that is judged before clients are served from it.
 use Rattle.std.proofs.Common.{◌≡◌, ℕ, List, Result, Ok, Err, ap, subst}
-use Rattle.pg_backend.specs.script.Script.{Script}
+use Rattle.pg_backend.specs.declared.script.Script.{Script}
 use Rattle.pgpipe_cli.specs.declared.failure.Failure.{Failure}
 use Rattle.pgpipe_cli.specs.Serving.{ServesScript}
 

@@ -3,8 +3,8 @@ use Rattle.std.specs.Prelude.{ℕ, ◌≡◌, Bool, true, false, List, Option, R
 use Rattle.std.specs.List.{FoldsTo, concat}
 use Rattle.pg_copy.specs.Text.{Options}
 use Rattle.pg_wire.specs.Link.{HasRisen}
-use Rattle.pg_backend.specs.fault.ScriptFault.{ScriptFault}
-use Rattle.pg_backend.specs.script.Script.{Script}
+use Rattle.pg_backend.specs.declared.script_fault.ScriptFault.{ScriptFault}
+use Rattle.pg_backend.specs.declared.script.Script.{Script}
 use Rattle.pg_backend.specs.Check.{Checks}
 use Rattle.pg_pair.specs.Beginning.{IsBegun}
 use Rattle.pg_pair.specs.Carrying.{Carrying}

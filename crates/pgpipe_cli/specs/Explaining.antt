@@ -3,12 +3,12 @@ use Rattle.std.specs.Prelude.{ℕ, Bool, if◌then◌else◌, List, Option, Some
 use Rattle.pg_wire.specs.declared.fault.WireFault.{WireFault}
 use Rattle.pgpipe_convert.specs.declared.format.Format.{Format}
 use Rattle.pgpipe_convert.specs.declared.format.Format.TheVariants as format
-use Rattle.pgpipe_places.specs.declared.place.Place.{Place}
-use Rattle.pgpipe_reasons.specs.declared.guess.Guess.{Guess}
-use Rattle.pgpipe_reasons.specs.declared.rule.Rule.{Rule}
-use Rattle.pgpipe_reasons.specs.declared.rule.Rule.TheVariants as rule
-use Rattle.pgpipe_reasons.specs.Faults.{back_rule, binary_rule, front_rule, option_rule, row_rule, script_rule, text_rule}
-use Rattle.pgpipe_reasons.specs.Guess.{guess_of}
+use Rattle.pgpipe_explain.specs.declared.place.Place.{Place}
+use Rattle.pgpipe_explain.specs.declared.guess.Guess.{Guess}
+use Rattle.pgpipe_explain.specs.declared.rule.Rule.{Rule}
+use Rattle.pgpipe_explain.specs.declared.rule.Rule.TheVariants as rule
+use Rattle.pgpipe_explain.specs.Faults.{back_rule, binary_rule, front_rule, option_rule, row_rule, script_rule, text_rule}
+use Rattle.pgpipe_explain.specs.Guess.{guess_of}
 use Rattle.pgpipe_cli.specs.declared.explaining.Subject.{Subject}
 use Rattle.pgpipe_cli.specs.declared.explaining.Subject.TheVariants as subject
 use Rattle.pgpipe_cli.specs.declared.failure.Failure.{Failure}

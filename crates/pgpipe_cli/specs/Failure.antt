@@ -11,10 +11,10 @@ use Rattle.pgpipe_show.specs.declared.both.turn.Ended.TheVariants as ending
 use Rattle.pgpipe_show.specs.declared.both.turn.BothEnds.{BothEnds}
 use Rattle.pgpipe_convert.specs.declared.convert.Converted.{Converted}
 use Rattle.pgpipe_convert.specs.declared.convert.Converted.TheVariants as converted
-use Rattle.pg_backend.specs.fault.ScriptFault.{ScriptFault}
-use Rattle.pg_backend.specs.fault.ScriptFault.TheVariants as check
-use Rattle.pgpipe_files.specs.fault.LineFault.{LineFault}
-use Rattle.pgpipe_files.specs.fault.LineFault.TheVariants as line
+use Rattle.pg_backend.specs.declared.script_fault.ScriptFault.{ScriptFault}
+use Rattle.pg_backend.specs.declared.script_fault.ScriptFault.TheVariants as check
+use Rattle.pgpipe_files.specs.declared.fault.LineFault.{LineFault}
+use Rattle.pgpipe_files.specs.declared.fault.LineFault.TheVariants as line
 use Rattle.pgpipe_loop.specs.declared.run_loop.Ran.{Ran}
 use Rattle.pgpipe_loop.specs.declared.run_loop.Ran.TheVariants as ran
 use Rattle.pgpipe_loop.specs.declared.run_loop.places.Place.{Place}

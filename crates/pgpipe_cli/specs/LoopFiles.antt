@@ -1,9 +1,9 @@
 -- How SCRIPT and CALLS are read, with the files that CALLS names.
 use Rattle.std.specs.Prelude.{ℕ, ◌≡◌, ◌⊎◌, Bool, true, false, List, Some, None, Result, Ok, Err}
-use Rattle.pg_backend.specs.script.Script.{Script}
+use Rattle.pg_backend.specs.declared.script.Script.{Script}
 use Rattle.pgpipe_files.specs.declared.calls_file.Calls.{Calls}
-use Rattle.pgpipe_files.specs.fault.LineFault.{LineFault}
-use Rattle.pgpipe_files.specs.fault.LineFault.TheVariants.{Line}
+use Rattle.pgpipe_files.specs.declared.fault.LineFault.{LineFault}
+use Rattle.pgpipe_files.specs.declared.fault.LineFault.TheVariants.{Line}
 use Rattle.pgpipe_files.specs.CallsFile.{calls_of, what_is_said}
 use Rattle.pgpipe_files.specs.ScriptFile.{script_of}
 use Rattle.pgpipe_files.specs.Filling.{next_file, filled}

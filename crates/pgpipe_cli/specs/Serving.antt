@@ -1,14 +1,14 @@
 -- How clients are served from a file: it is read, its script is judged, and then one client after
 -- another is served.
 use Rattle.std.specs.Prelude.{ℕ, ◌≡◌, ◌-◌, ◌^◌, ◌⊎◌, List, Option, Some, None, Result, Ok, Err}
-use Rattle.pg_backend.specs.fault.ScriptFault.{ScriptFault}
-use Rattle.pg_backend.specs.script.Script.{Script}
+use Rattle.pg_backend.specs.declared.script_fault.ScriptFault.{ScriptFault}
+use Rattle.pg_backend.specs.declared.script.Script.{Script}
 use Rattle.pg_backend.specs.Check.{Checks}
 use Rattle.pgpipe_base.specs.declared.fault.ToolFault.{ToolFault}
 use Rattle.pgpipe_base.specs.declared.fault.ToolFault.TheVariants as fault
-use Rattle.pgpipe_files.specs.fault.LineFault.{LineFault}
+use Rattle.pgpipe_files.specs.declared.fault.LineFault.{LineFault}
 use Rattle.pgpipe_files.specs.ScriptFile.{script_of}
-use Rattle.pgpipe_serve.specs.Clients.{ServesAll}
+use Rattle.pgpipe_loop.specs.Clients.{ServesAll}
 use Rattle.pgpipe_cli.specs.declared.failure.Failure.{Failure}
 use Rattle.pgpipe_cli.specs.declared.failure.Failure.TheVariants as failure
 use Rattle.pgpipe_cli.specs.Failure.{check_failure, script_failure}

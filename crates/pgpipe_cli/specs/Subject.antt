@@ -2,8 +2,8 @@
 use Rattle.std.specs.Prelude.{Bool, if◌then◌else◌}
 use Rattle.pgpipe_convert.specs.declared.format.Format.{Format}
 use Rattle.pgpipe_convert.specs.declared.format.Format.TheVariants as format
-use Rattle.pgpipe_places.specs.declared.tracker.TrackedKind.{TrackedKind}
-use Rattle.pgpipe_places.specs.declared.tracker.TrackedKind.TheVariants as kind
+use Rattle.pgpipe_explain.specs.declared.tracker.TrackedKind.{TrackedKind}
+use Rattle.pgpipe_explain.specs.declared.tracker.TrackedKind.TheVariants as kind
 use Rattle.pgpipe_cli.specs.declared.explaining.Subject.{Subject}
 use Rattle.pgpipe_cli.specs.declared.explaining.Subject.TheVariants as subject
 use Rattle.pgpipe_cli.specs.declared.tasks.Task.{Task}

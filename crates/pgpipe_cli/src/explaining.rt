@@ -14,10 +14,9 @@ use crate::reason::Reason;
 use crate::tasks::Task;
 use pg_wire::WireFault;
 use pgpipe_convert::Format;
-use pgpipe_places::{Place, TrackedKind};
-use pgpipe_reasons::{
-    Guess, Rule, back_rule, binary_rule, calls_reason, front_rule, guess_of, option_rule, row_rule,
-    script_reason, script_rule, text_rule,
+use pgpipe_explain::{
+    Guess, Place, Rule, TrackedKind, back_rule, binary_rule, calls_reason, front_rule, guess_of,
+    option_rule, row_rule, script_reason, script_rule, text_rule,
 };
 use std::alloc::Global;
 use std::io;

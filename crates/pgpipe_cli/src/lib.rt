@@ -9,7 +9,7 @@
 //! | `explaining.rt`, `reason.rt`, `noted_files.rt`, `watched.rt` | `Subject`, `Explaining` | with `--explain` why a task failed, with `--progress` how far it is |
 //!
 //! **Reasons and progress stand beside the task**, which is done alike with them and without: `main` puts source and sink into wrappers that pass on all
-//! that comes. `Tracked` (`pgpipe_places`) follows the bytes: the part that a fault stands in is the next line or row of the output, and its place is looked
+//! that comes. `Tracked` (`pgpipe_explain`) follows the bytes: the part that a fault stands in is the next line or row of the output, and its place is looked
 //! for in the last piece that was received. `Watched` keeps the first 8 bytes, for a guess, and tells how far the work is. `NotedDisk` keeps what came
 //! of the last file that was read.
 #![tactic(auto)]

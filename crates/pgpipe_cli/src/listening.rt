@@ -4,7 +4,7 @@ ghost use Rattle.std.specs.Prelude.{◌≡◌};
 
 use crate::network::{TcpEnd, own_address};
 use pg_wire::{LinkFault, Over, Patient};
-use pgpipe_serve::Clients;
+use pgpipe_loop::Clients;
 use std::io;
 use std::io::ErrorKind;
 use std::net::{Net, OpenListener, OpenStream, TcpListener};

@@ -1,6 +1,6 @@
 //! What a second line on standard error says of a failure.
 
-use pgpipe_reasons::{Guess, LineReason, Rule};
+use pgpipe_explain::{Guess, LineReason, Rule};
 use std::io;
 use thiserror::Error;
 

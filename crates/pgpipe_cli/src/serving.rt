@@ -11,7 +11,7 @@ use pg_backend::Script;
 use pg_wire::{Sink, Source};
 use pgpipe_base::ToolFault;
 use pgpipe_files::read_script;
-use pgpipe_serve::{Clients, serve_all};
+use pgpipe_loop::{Clients, serve_all};
 use std::alloc::Global;
 
 /// Serves the clients that come to a port from the script in a file, which is read first, and then judged.

@@ -3,7 +3,7 @@
 ghost use Rattle.std.specs.Prelude.{◌≡◌};
 
 use pg_wire::{LinkFault, Source};
-use pgpipe_places::{Tracked, TrackedKind, Tracker};
+use pgpipe_explain::{Tracked, TrackedKind, Tracker};
 use std::alloc::Global;
 use std::time::{Clock, Duration, Instant};
 

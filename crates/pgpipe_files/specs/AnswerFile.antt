@@ -7,21 +7,21 @@ use Rattle.pg_wire.specs.declared.session.Aside.{Aside}
 use Rattle.pg_wire.specs.declared.session.Aside.TheVariants as aside
 use Rattle.pg_wire.specs.declared.session.ExecEnd.{ExecEnd}
 use Rattle.pg_wire.specs.declared.session.ExecEnd.TheVariants as end
-use Rattle.pg_backend.specs.script.Answer.{Answer}
-use Rattle.pg_backend.specs.script.Load.{Load}
-use Rattle.pg_backend.specs.script.Load.TheVariants as load
-use Rattle.pg_backend.specs.script.ScriptPart.{ScriptPart}
-use Rattle.pg_backend.specs.script.ScriptPart.TheVariants as part
+use Rattle.pg_backend.specs.declared.script.Answer.{Answer}
+use Rattle.pg_backend.specs.declared.script.Load.{Load}
+use Rattle.pg_backend.specs.declared.script.Load.TheVariants as load
+use Rattle.pg_backend.specs.declared.script.ScriptPart.{ScriptPart}
+use Rattle.pg_backend.specs.declared.script.ScriptPart.TheVariants as part
 use Rattle.pgpipe_files.specs.declared.answer_file.OpenAnswer.{OpenAnswer}
 use Rattle.pgpipe_files.specs.declared.answer_file.Types.{Types}
-use Rattle.pgpipe_lines.specs.declared.verb.AnswerVerb.{AnswerVerb}
-use Rattle.pgpipe_lines.specs.declared.verb.AnswerVerb.TheVariants as verb
-use Rattle.pgpipe_lines.specs.declared.verb.EndWay.{EndWay}
-use Rattle.pgpipe_lines.specs.declared.verb.EndWay.TheVariants as ends
-use Rattle.pgpipe_lines.specs.declared.verb.LoadWay.{LoadWay}
-use Rattle.pgpipe_lines.specs.declared.verb.LoadWay.TheVariants as loads
-use Rattle.pgpipe_lines.specs.Verb.{end_way, load_way}
-use Rattle.pgpipe_lines.specs.Arguments.{◌>>=◌, text_at, read_at, copy_head_at, number, signed_number, if_all, nothing_of, text_of, pair_of, numbers_of, texts_of, error_fields_of}
+use Rattle.pgpipe_files.specs.declared.verb.AnswerVerb.{AnswerVerb}
+use Rattle.pgpipe_files.specs.declared.verb.AnswerVerb.TheVariants as verb
+use Rattle.pgpipe_files.specs.declared.verb.EndWay.{EndWay}
+use Rattle.pgpipe_files.specs.declared.verb.EndWay.TheVariants as ends
+use Rattle.pgpipe_files.specs.declared.verb.LoadWay.{LoadWay}
+use Rattle.pgpipe_files.specs.declared.verb.LoadWay.TheVariants as loads
+use Rattle.pgpipe_files.specs.Verb.{end_way, load_way}
+use Rattle.pgpipe_files.specs.Arguments.{◌>>=◌, text_at, read_at, copy_head_at, number, signed_number, if_all, nothing_of, text_of, pair_of, numbers_of, texts_of, error_fields_of}
 
 -- ---- an answer of which lines are read: what it is without its last part, that part, and the
 -- types of the parameters of the `described` in the next line

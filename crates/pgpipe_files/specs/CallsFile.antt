@@ -14,13 +14,13 @@ use Rattle.pgpipe_files.specs.declared.calls_file.CallLine.{CallLine}
 use Rattle.pgpipe_files.specs.declared.calls_file.CallLine.TheVariants as line
 use Rattle.pgpipe_files.specs.declared.calls_file.Calls.{Calls}
 use Rattle.pgpipe_files.specs.declared.calls_file.Group.{Group}
-use Rattle.pgpipe_lines.specs.declared.verb.CallVerb.{CallVerb}
-use Rattle.pgpipe_lines.specs.declared.verb.CallVerb.TheVariants as verb
-use Rattle.pgpipe_lines.specs.declared.verb.StepVerb.{StepVerb}
-use Rattle.pgpipe_lines.specs.declared.verb.StepVerb.TheVariants as step_line
-use Rattle.pgpipe_lines.specs.Verb.{call_verb, step_verb, target_of}
-use Rattle.pgpipe_lines.specs.Arguments.{◌>>=◌, text_at, read_at, pair_at, signed_number, if_all, nothing_of, text_of, pair_of, number_of, numbers_of}
-use Rattle.pgpipe_lines.specs.Lines.{with_file, in_the_end}
+use Rattle.pgpipe_files.specs.declared.verb.CallVerb.{CallVerb}
+use Rattle.pgpipe_files.specs.declared.verb.CallVerb.TheVariants as verb
+use Rattle.pgpipe_files.specs.declared.verb.StepVerb.{StepVerb}
+use Rattle.pgpipe_files.specs.declared.verb.StepVerb.TheVariants as step_line
+use Rattle.pgpipe_files.specs.Verb.{call_verb, step_verb, target_of}
+use Rattle.pgpipe_files.specs.Arguments.{◌>>=◌, text_at, read_at, pair_at, signed_number, if_all, nothing_of, text_of, pair_of, number_of, numbers_of}
+use Rattle.pgpipe_files.specs.Lines.{with_file, in_the_end}
 
 -- what a line of CALLS asks for: an event; a flow; or that the bytes of the file at this path are
 -- handed over as chunks

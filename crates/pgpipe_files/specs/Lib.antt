@@ -1,16 +1,15 @@
--- What a reader must believe: what each line of CALLS and of SCRIPT is read as in its place, and
--- what stands in the place of a file that CALLS names.
+-- What a reader must believe: which word is which verb, what fields are read as, and what the rows
+-- of a file come to.
+pub mod Verb
+pub mod Arguments
+pub mod Lines
+-- What each line of CALLS and of SCRIPT is read as in its place, and what stands in the place of a
+-- file that CALLS names.
 pub mod CallsFile
 pub mod AnswerFile
 pub mod ScriptFile
 pub mod Filling
+-- What functions answer that read a line, or a file.
+pub mod Reads
 -- Words of private functions, which no public contract cites.
 pub mod Private
--- What pgpipe_lines defines and the contracts here speak of. Who uses pgpipe_files names it through
--- these lines.
-pub use Rattle.pgpipe_lines.specs.Verb
-pub use Rattle.pgpipe_lines.specs.Arguments
-pub use Rattle.pgpipe_lines.specs.Lines
--- Its types.
-pub use Rattle.pgpipe_lines.specs.declared.fault
-pub use Rattle.pgpipe_lines.specs.declared.verb

@@ -5,11 +5,13 @@ ghost use Rattle.pgpipe_files.specs.AnswerFile.{answer_line, begins_part, begins
 ghost use Rattle.pgpipe_files.specs.AnswerFile.{end_of, load_of, new_answer, part_line};
 ghost use Rattle.pgpipe_files.specs.AnswerFile.{says_before, text_column, text_columns, with_part};
 ghost use Rattle.pgpipe_files.specs.AnswerFile.{whole_answer};
-ghost use Rattle.pgpipe_lines.specs.Reads.{ReadsAs, Leaves};
+ghost use Rattle.pgpipe_files.specs.Reads.{ReadsAs, Leaves};
 
+use crate::arguments::Arguments;
+use crate::fault::Refusal;
+use crate::verb::{AnswerVerb, EndWay, LoadWay};
 use pg_backend::{Answer, Load, ScriptPart};
 use pg_wire::{Aside, Column, ExecEnd, Seq, Status};
-use pgpipe_lines::{AnswerVerb, Arguments, EndWay, LoadWay, Refusal};
 use std::alloc::Global;
 
 /// An answer of which lines are read.

@@ -1,10 +1,12 @@
 //! Reading the lines of CALLS that are steps of a group.
 
 ghost use Rattle.pgpipe_files.specs.CallsFile.{named_of, step_of};
-ghost use Rattle.pgpipe_lines.specs.Reads.{ReadsAs};
+ghost use Rattle.pgpipe_files.specs.Reads.{ReadsAs};
 
+use crate::arguments::Arguments;
+use crate::fault::Refusal;
+use crate::verb::{StepVerb, target_of};
 use pg_wire::{Seq, Step, Target};
-use pgpipe_lines::{Arguments, Refusal, StepVerb, target_of};
 use std::alloc::Global;
 
 /// The step of a line.

@@ -9,7 +9,7 @@ use Rattle.pg_client.specs.declared.settings.Settings.{Settings}
 use Rattle.pg_copy.specs.Row.{Row}
 use Rattle.pg_pair.specs.Carrying.{Carrying}
 use Rattle.pg_pair.specs.View.{PairView}
-use Rattle.pg_backend.specs.script.Script.{Script}
+use Rattle.pg_backend.specs.declared.script.Script.{Script}
 use Rattle.pg_backend.specs.Check.{IsChecked}
 use Rattle.pgpipe_base.specs.declared.fault.ToolFault.{ToolFault}
 use Rattle.pgpipe_base.specs.declared.fault.ToolFault.TheVariants as fault

@@ -8,3 +8,6 @@ pub mod Sending
 pub mod Telling
 pub mod Crossing
 pub mod Everywhere
+-- Clients that are served.
+pub mod Turning
+pub mod Coming

@@ -10,7 +10,7 @@ use Rattle.pg_copy.specs.TextLaws.{FieldsAreLine, WritesTextFields}
 use Rattle.pg_copy.specs.Row.{Row, most_fields, Writes}
 use Rattle.pg_copy.specs.Text.{Options, default_options, newline, is_like_null}
 use Rattle.pg_copy.specs.TextWriter.{next_fault, next_written, end_fault}
-use Rattle.pg_backend.specs.script.Logged.{Logged}
+use Rattle.pg_backend.specs.declared.script.Logged.{Logged}
 use Rattle.pgpipe_files.proofs.Lists.{take-least}
 use Rattle.pgpipe_loop.specs.Lines.{text_line, text_lines, most_chunks, loaded_row, loaded_rows_of, loaded_rows}
 use Rattle.pgpipe_loop.specs.Private.Lines.{LineState, whole_lines, with_field, with_fields, with_end, with_row, with_rows}

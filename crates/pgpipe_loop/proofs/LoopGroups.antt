@@ -1,7 +1,7 @@
 -- The groups that a pair has settled stay settled.
 use Rattle.std.proofs.Common.{◌≡◌, ◌≤◌, ℕ, Bool, true, false, inl, inr, List, [], ◌∷◌, length, Option, None, Result, Ok, Err, ap, arith, length-append}
-use Rattle.pg_backend.specs.phase.BackPhase.{BackPhase}
-use Rattle.pg_backend.specs.phase.BackPhase.TheVariants as back
+use Rattle.pg_backend.specs.declared.phase.BackPhase.{BackPhase}
+use Rattle.pg_backend.specs.declared.phase.BackPhase.TheVariants as back
 use Rattle.pg_backend.specs.declared.fault.BackendFault.{BackendFault}
 use Rattle.pg_backend.specs.Backend as backend
 use Rattle.pg_pair.specs.declared.carry.Way.{Way}

@@ -11,7 +11,7 @@ use Rattle.pg_client.specs.declared.fault.CallFault.TheVariants as call
 use Rattle.pg_client.specs.declared.fault.FeedFault.TheVariants as feed
 use Rattle.pg_client.specs.declared.phase.Cause.TheVariants as cause
 use Rattle.pg_client.specs.declared.phase.Phase.TheVariants as phase
-use Rattle.pg_backend.specs.phase.BackPhase.TheVariants as back
+use Rattle.pg_backend.specs.declared.phase.BackPhase.TheVariants as back
 use Rattle.pg_backend.specs.declared.fault.BackendFault.TheVariants as backend
 use Rattle.pg_backend.specs.OwnError.{wrong_password}
 use Rattle.pg_pair.specs.declared.event.Applied.TheVariants as applied

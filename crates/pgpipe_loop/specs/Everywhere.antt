@@ -2,7 +2,7 @@
 use Rattle.std.specs.Prelude.{◌≡◌, ◌-◌, ◌+◌, ℕ, zero, suc, Bool, true, false, List, [], ◌∷◌, ◌++◌, length, take, map, Option, Some, None, Result, Ok, Err, IsErr, codes}
 use Rattle.std.specs.Fmt.{decimal}
 use Rattle.pg_copy.specs.Row.{Row}
-use Rattle.pg_backend.specs.script.Script.{Script}
+use Rattle.pg_backend.specs.declared.script.Script.{Script}
 use Rattle.pg_backend.specs.Check.{IsChecked}
 use Rattle.pg_pair.specs.declared.carry.CarryFault.{CarryFault}
 use Rattle.pg_pair.specs.declared.carry.Direct.{Direct}

@@ -2,3 +2,4 @@
 pub mod Running
 pub mod Telling
 pub mod Lines
+pub mod Turning

@@ -1,10 +1,10 @@
 -- A copy message by message: what a machine has to count.
 use Rattle.std.proofs.Common.{◌≡◌, ℕ, zero, suc, ◌+◌, length, List, [], ◌∷◌, ◌++◌, Option, Some, None, option_map, refl, ap, ◌∙◌, arith}
 use Rattle.pg_wire.specs.value.ErrorField.{ErrorField}
-use Rattle.pg_script.specs.declared.meaning.InCopy.{InCopy}
-use Rattle.pg_script.specs.declared.meaning.InCopy.TheVariants as copy
+use Rattle.pg_backend.specs.declared.meaning.InCopy.{InCopy}
+use Rattle.pg_backend.specs.declared.meaning.InCopy.TheVariants as copy
 use Rattle.pg_backend.specs.Awaited.{chunks_in, AllWait}
-use Rattle.pg_script.specs.Copies.{CopyEnd, with_chunk, with_wait, accepted, refused}
+use Rattle.pg_backend.specs.Copies.{CopyEnd, with_chunk, with_wait, accepted, refused}
 
 -- the end of a copy, where these chunks and so many messages came before
 abbrev pub after : List (List ℕ) → ℕ → CopyEnd → CopyEnd

@@ -8,25 +8,25 @@ use Rattle.pg_wire.specs.value.CopyHead.{CopyHead}
 use Rattle.pg_wire.specs.value.ErrorField.{ErrorField}
 use Rattle.pg_wire.specs.message.FrontMessage.{FrontMessage}
 use Rattle.pg_wire.specs.declared.session.Request.{Request}
-use Rattle.pg_script.specs.declared.meaning.InCopy.{InCopy}
-use Rattle.pg_script.specs.declared.meaning.InCopy.TheVariants as copy
-use Rattle.pg_script.specs.declared.script.Answer.{Answer}
-use Rattle.pg_script.specs.declared.script.Load.{Load}
-use Rattle.pg_script.specs.declared.script.Load.TheVariants.{Accept, Refuse}
-use Rattle.pg_script.specs.declared.script.ScriptPart.{ScriptPart}
-use Rattle.pg_script.specs.declared.script.ScriptPart.TheVariants as part
-use Rattle.pg_script.specs.Fitting.{answer_for, others}
-use Rattle.pg_script.specs.Copies.{CopyEnd, accepted, refused, copy_end}
-use Rattle.pg_script.specs.Meaning.{in_copy}
-use Rattle.pg_script.specs.OwnError.{canceled, out_of_copy}
-use Rattle.pg_script.specs.Replies.{Shape, Whole, Copies, shape, after_part, Verdict, verdict, at_copy_end, outcome_at, aside_message, parts_sent, after_end, after_copy, reply}
-use Rattle.pg_script.specs.Session.{Exchange, exchange, Place, Between, Terminated, Session, only, copy_place, from_exchange, from_request, session_past, farewell, all_sent, decided}
+use Rattle.pg_backend.specs.declared.meaning.InCopy.{InCopy}
+use Rattle.pg_backend.specs.declared.meaning.InCopy.TheVariants as copy
+use Rattle.pg_backend.specs.declared.script.Answer.{Answer}
+use Rattle.pg_backend.specs.declared.script.Load.{Load}
+use Rattle.pg_backend.specs.declared.script.Load.TheVariants.{Accept, Refuse}
+use Rattle.pg_backend.specs.declared.script.ScriptPart.{ScriptPart}
+use Rattle.pg_backend.specs.declared.script.ScriptPart.TheVariants as part
+use Rattle.pg_backend.specs.Fitting.{answer_for, others}
+use Rattle.pg_backend.specs.Copies.{CopyEnd, accepted, refused, copy_end}
+use Rattle.pg_backend.specs.Meaning.{in_copy}
+use Rattle.pg_backend.specs.OwnError.{canceled, out_of_copy}
+use Rattle.pg_backend.specs.Replies.{Shape, Whole, Copies, shape, after_part, Verdict, verdict, at_copy_end, outcome_at, aside_message, parts_sent, after_end, after_copy, reply}
+use Rattle.pg_backend.specs.Session.{Exchange, exchange, Place, Between, Terminated, Session, only, copy_place, from_exchange, from_request, session_past, farewell, all_sent, decided}
 use Rattle.pg_backend.specs.Awaited.{prepend, WithinRequest, chunks_in, AllWait, NotRefused, Undecided}
 use Rattle.pg_backend.specs.Private.Moves.{parts_before, parts_after, CopyEffect, Decides, Keeps, Abandons, effect, has_effect}
 use Rattle.pg_backend.proofs.Definitions.MessageSends.{Beyond, Grown, grown, now}
 use Rattle.pg_backend.proofs.Definitions.CopyCounted.{accepted_on, refused_on}
 use Rattle.pg_backend.proofs.Definitions.ReadOn.{passes}
-use Rattle.pg_script.proofs.Definitions.SessionGrows.{no_farewell_copy, said_open}
+use Rattle.pg_backend.proofs.Definitions.SessionGrows.{no_farewell_copy, said_open}
 use Rattle.std.proofs.lemmas.Option.{same_Some}
 
 -- ---- where a copy stands in its answer

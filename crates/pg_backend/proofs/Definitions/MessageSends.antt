@@ -9,18 +9,18 @@ use Rattle.pg_wire.specs.message.FrontMessage.{FrontMessage}
 use Rattle.pg_wire.specs.declared.session.Request.{Request}
 use Rattle.pg_wire.specs.declared.session.Request.TheVariants as request
 use Rattle.pg_wire.specs.declared.session.Step.{Step}
-use Rattle.pg_script.specs.declared.meaning.Meaning.{Meaning}
-use Rattle.pg_script.specs.declared.meaning.Meaning.TheVariants.{Asks, Adds, Closes, Drops, Leaves, Strays}
-use Rattle.pg_script.specs.declared.script.Answer.{Answer}
-use Rattle.pg_script.specs.declared.script.Logged.{Logged}
-use Rattle.pg_script.specs.Fitting.{answer_for}
-use Rattle.pg_script.specs.Replies.{Verdict, verdict}
-use Rattle.pg_script.specs.Session.{Exchange, exchange, Between, Copying, Session, only, place_after, from_exchange, from_message, session_past, session, farewell, all_sent, replies, decided, log_of}
-use Rattle.pg_script.specs.OwnError.{fatal_unexpected}
-use Rattle.pg_script.specs.Meaning.{meaning}
+use Rattle.pg_backend.specs.declared.meaning.Meaning.{Meaning}
+use Rattle.pg_backend.specs.declared.meaning.Meaning.TheVariants.{Asks, Adds, Closes, Drops, Leaves, Strays}
+use Rattle.pg_backend.specs.declared.script.Answer.{Answer}
+use Rattle.pg_backend.specs.declared.script.Logged.{Logged}
+use Rattle.pg_backend.specs.Fitting.{answer_for}
+use Rattle.pg_backend.specs.Replies.{Verdict, verdict}
+use Rattle.pg_backend.specs.Session.{Exchange, exchange, Between, Copying, Session, only, place_after, from_exchange, from_message, session_past, session, farewell, all_sent, replies, decided, log_of}
+use Rattle.pg_backend.specs.OwnError.{fatal_unexpected}
+use Rattle.pg_backend.specs.Meaning.{meaning}
 use Rattle.pg_backend.specs.Awaited.{prepend, BetweenRequests}
 use Rattle.pg_backend.specs.Private.Moves.{opened, between}
-use Rattle.pg_script.proofs.Definitions.SessionGrows.{no_farewell_after}
+use Rattle.pg_backend.proofs.Definitions.SessionGrows.{no_farewell_after}
 
 said_prepend : (done : List Exchange) (s : Session) → all_sent (prepend done s) ≡ flat_map (λ e. e.reply) done ++ all_sent s
 said_prepend done s = rw (flat_map-append (λ (e : Exchange). e.reply) done s.exchanges)

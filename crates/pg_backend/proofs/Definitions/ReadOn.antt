@@ -4,15 +4,15 @@ use Rattle.pg_wire.specs.message.FrontMessage.{FrontMessage}
 use Rattle.pg_wire.specs.declared.session.Request.{Request}
 use Rattle.pg_wire.specs.declared.session.Request.TheVariants as request
 use Rattle.pg_wire.specs.declared.session.Step.{Step}
-use Rattle.pg_script.specs.declared.script.Answer.{Answer}
-use Rattle.pg_script.specs.Fitting.{answer_for, others}
-use Rattle.pg_script.specs.Replies.{Verdict, verdict}
-use Rattle.pg_script.specs.Meaning.{in_copy, meaning}
-use Rattle.pg_script.specs.declared.meaning.Meaning.TheVariants.{Asks, Adds, Closes, Drops}
-use Rattle.pg_script.specs.Session.{Exchange, exchange, Place, Session, copy_place, from_exchange, from_request, from_message, session_past, session}
+use Rattle.pg_backend.specs.declared.script.Answer.{Answer}
+use Rattle.pg_backend.specs.Fitting.{answer_for, others}
+use Rattle.pg_backend.specs.Replies.{Verdict, verdict}
+use Rattle.pg_backend.specs.Meaning.{in_copy, meaning}
+use Rattle.pg_backend.specs.declared.meaning.Meaning.TheVariants.{Asks, Adds, Closes, Drops}
+use Rattle.pg_backend.specs.Session.{Exchange, exchange, Place, Session, copy_place, from_exchange, from_request, from_message, session_past, session}
 use Rattle.pg_backend.specs.Awaited.{prepend, BetweenRequests, WithinRequest}
-use Rattle.pg_script.proofs.Definitions.DecidedStays.{verdict_more, reply_more}
-use Rattle.pg_script.proofs.Turns.TurnByTurn.{same_exchange}
+use Rattle.pg_backend.proofs.Definitions.DecidedStays.{verdict_more, reply_more}
+use Rattle.pg_backend.proofs.Turns.TurnByTurn.{same_exchange}
 
 pub starts : (answers : List Answer) → BetweenRequests answers [] [] answers []
 starts answers = record { continues = λ more. refl }

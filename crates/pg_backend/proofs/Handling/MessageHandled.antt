@@ -11,15 +11,15 @@ use Rattle.pg_wire.specs.Direction.{spelling}
 use Rattle.pg_wire.specs.First.{IsBeginning}
 use Rattle.pg_wire.specs.Frontend.{frontend}
 use Rattle.pg_wire.specs.Stream.{IsWithin}
-use Rattle.pg_script.specs.declared.script.Answer.{Answer}
-use Rattle.pg_script.specs.declared.script.Logged.{Logged}
-use Rattle.pg_script.specs.declared.script.Script.{Script}
+use Rattle.pg_backend.specs.declared.script.Answer.{Answer}
+use Rattle.pg_backend.specs.declared.script.Logged.{Logged}
+use Rattle.pg_backend.specs.declared.script.Script.{Script}
 use Rattle.pg_backend.specs.declared.stage.Awaits.{Awaits}
 use Rattle.pg_backend.specs.declared.stage.Next.{Next}
 use Rattle.pg_backend.specs.declared.stage.Next.TheVariants as next
 use Rattle.pg_backend.specs.declared.stage.BackStage.TheVariants as stage
-use Rattle.pg_script.specs.Opening.{Says}
-use Rattle.pg_script.specs.Input.{Input, is_started, HandlesNext, message_taken, IsSpelled, sent_bytes, packets_end, end_phase}
+use Rattle.pg_backend.specs.Opening.{Says}
+use Rattle.pg_backend.specs.Input.{Input, is_started, HandlesNext, message_taken, IsSpelled, sent_bytes, packets_end, end_phase}
 use Rattle.pg_backend.specs.History.{History, IsHistoryOf, StandsAt, with_handled}
 use Rattle.pg_backend.specs.Stage.{BackendState, phase_of, phase_by}
 use Rattle.pg_backend.specs.Private.Moves.{Move, move}

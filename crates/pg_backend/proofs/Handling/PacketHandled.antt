@@ -8,16 +8,16 @@ use Rattle.pg_wire.specs.message.First.{First}
 use Rattle.pg_wire.specs.message.First.TheVariants as first
 use Rattle.pg_wire.specs.First.{packet, is_last, IsPacket}
 use Rattle.pg_wire.specs.FirstDecoder.{FirstState, HasBegun, FirstTakes}
-use Rattle.pg_script.specs.declared.script.Answer.{Answer}
-use Rattle.pg_script.specs.declared.script.Logged.{Logged}
-use Rattle.pg_script.specs.declared.script.Script.{Script}
+use Rattle.pg_backend.specs.declared.script.Answer.{Answer}
+use Rattle.pg_backend.specs.declared.script.Logged.{Logged}
+use Rattle.pg_backend.specs.declared.script.Script.{Script}
 use Rattle.pg_backend.specs.declared.stage.ClosedBy.TheVariants as closed_by
 use Rattle.pg_backend.specs.declared.stage.BackStage.{BackStage}
 use Rattle.pg_backend.specs.declared.stage.BackStage.TheVariants as stage
-use Rattle.pg_script.specs.Session.{Stray}
-use Rattle.pg_script.specs.Opening.{Sent, No, Says, user_from, question_for, admission, admission_messages, sent_for}
-use Rattle.pg_script.specs.OwnError.{no_user}
-use Rattle.pg_script.specs.Input.{Input, is_started, HandlesNext, packet_taken, IsSpelled, sent_bytes, packets_log, admission_log, admission_end, At, Opening, Refusal, End, packets_end, end_phase, IsStray}
+use Rattle.pg_backend.specs.Session.{Stray}
+use Rattle.pg_backend.specs.Opening.{Sent, No, Says, user_from, question_for, admission, admission_messages, sent_for}
+use Rattle.pg_backend.specs.OwnError.{no_user}
+use Rattle.pg_backend.specs.Input.{Input, is_started, HandlesNext, packet_taken, IsSpelled, sent_bytes, packets_log, admission_log, admission_end, At, Opening, Refusal, End, packets_end, end_phase, IsStray}
 use Rattle.pg_backend.specs.History.{History, IsHistoryOf, StandsAt, with_handled}
 use Rattle.pg_backend.specs.Stage.{BackendState, awaited_end, phase_of, phase_by}
 use Rattle.pg_backend.specs.Private.Advancing.{Effect, applied, packet_effect, startup_effect, Begun}

@@ -7,11 +7,11 @@ use Rattle.pg_wire.specs.message.First.{First}
 use Rattle.pg_wire.specs.message.First.TheVariants as first
 use Rattle.pg_wire.specs.message.FrontMessage.{FrontMessage}
 use Rattle.pg_wire.specs.First.{EndsIn, is_last}
-use Rattle.pg_script.specs.declared.script.Script.{Script}
-use Rattle.pg_script.specs.Opening.{Sent, No, sent_for}
-use Rattle.pg_script.specs.Input.{Input, is_started, sent_bytes, packets_log, packets_end, transcript, output, IsSpelled}
+use Rattle.pg_backend.specs.declared.script.Script.{Script}
+use Rattle.pg_backend.specs.Opening.{Sent, No, sent_for}
+use Rattle.pg_backend.specs.Input.{Input, is_started, sent_bytes, packets_log, packets_end, transcript, output, IsSpelled}
 use Rattle.pg_backend.specs.History.{History}
-use Rattle.pg_script.proofs.Beginnings.{all_of_both}
+use Rattle.pg_backend.proofs.Beginnings.{all_of_both}
 
 -- a history of which this input was handled
 abbrev pub with_input : Input → History → History

@@ -5,12 +5,12 @@ use Rattle.pg_wire.specs.message.First.{First}
 use Rattle.pg_wire.specs.message.First.TheVariants as first
 use Rattle.pg_wire.specs.message.FrontMessage.{FrontMessage}
 use Rattle.pg_wire.specs.Password.{md5_text}
-use Rattle.pg_script.specs.declared.script.Auth.{Auth}
-use Rattle.pg_script.specs.declared.script.Auth.TheVariants.{Trust, Cleartext, Md5}
-use Rattle.pg_script.specs.declared.script.Script.{Script}
-use Rattle.pg_script.specs.Session.{replies}
-use Rattle.pg_script.specs.Opening.{Says, welcome, user_from, question, question_for, by_password, by_auth, admission, admission_messages, started, sent_for}
-use Rattle.pg_script.specs.Input.{admission_log, packets_log, admission_end}
+use Rattle.pg_backend.specs.declared.script.Auth.{Auth}
+use Rattle.pg_backend.specs.declared.script.Auth.TheVariants.{Trust, Cleartext, Md5}
+use Rattle.pg_backend.specs.declared.script.Script.{Script}
+use Rattle.pg_backend.specs.Session.{replies}
+use Rattle.pg_backend.specs.Opening.{Says, welcome, user_from, question, question_for, by_password, by_auth, admission, admission_messages, started, sent_for}
+use Rattle.pg_backend.specs.Input.{admission_log, packets_log, admission_end}
 use Rattle.pg_backend.specs.Awaited.{IsAsked, LetIn, AwaitsAt}
 use Rattle.pg_backend.specs.Private.Opening.{awaits_first, greeting}
 use Rattle.pg_backend.proofs.Definitions.ReadOn.{starts}

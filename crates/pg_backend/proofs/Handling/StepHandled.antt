@@ -11,9 +11,9 @@ use Rattle.pg_wire.specs.FirstDecoder.{FirstState}
 use Rattle.pg_wire.specs.Frontend.{frontend}
 use Rattle.pg_backend.specs.declared.fault.BackendFault.{BackendFault}
 use Rattle.pg_backend.specs.declared.fault.BackendFault.TheVariants as faults
-use Rattle.pg_script.specs.declared.script.Answer.{Answer}
-use Rattle.pg_script.specs.declared.script.Logged.{Logged}
-use Rattle.pg_script.specs.declared.script.Script.{Script}
+use Rattle.pg_backend.specs.declared.script.Answer.{Answer}
+use Rattle.pg_backend.specs.declared.script.Logged.{Logged}
+use Rattle.pg_backend.specs.declared.script.Script.{Script}
 use Rattle.pg_backend.specs.declared.stage.Awaits.{Awaits}
 use Rattle.pg_backend.specs.declared.stage.ClosedBy.TheVariants as closed_by
 use Rattle.pg_backend.specs.declared.stage.Next.{Next}
@@ -21,9 +21,9 @@ use Rattle.pg_backend.specs.declared.stage.Next.TheVariants as next
 use Rattle.pg_backend.specs.declared.stage.BackStage.{BackStage}
 use Rattle.pg_backend.specs.declared.stage.BackStage.TheVariants as stage
 use Rattle.std.proofs.lemmas.Option.{same_Some}
-use Rattle.pg_script.specs.Session.{Stray}
-use Rattle.pg_script.specs.Opening.{sent_for}
-use Rattle.pg_script.specs.Input.{Input, HandlesNext, IsSpelled, sent_bytes, last_word, At, packets_end}
+use Rattle.pg_backend.specs.Session.{Stray}
+use Rattle.pg_backend.specs.Opening.{sent_for}
+use Rattle.pg_backend.specs.Input.{Input, HandlesNext, IsSpelled, sent_bytes, last_word, At, packets_end}
 use Rattle.pg_backend.specs.Backend.{StepsFrom}
 use Rattle.pg_backend.specs.History.{History, IsHistoryOf, with_handled, with_message, with_fault}
 use Rattle.pg_backend.specs.Stage.{BackendState, IsSound}

@@ -4,15 +4,15 @@ use Rattle.pg_wire.specs.message.BackMessage.TheVariants as back
 use Rattle.pg_wire.specs.value.CopyHead.{CopyHead}
 use Rattle.pg_wire.specs.value.ErrorField.{ErrorField}
 use Rattle.pg_wire.specs.declared.session.Request.{Request}
-use Rattle.pg_script.specs.declared.script.Answer.{Answer}
-use Rattle.pg_script.specs.declared.script.Load.{Load}
-use Rattle.pg_script.specs.declared.script.Load.TheVariants.{Accept, Refuse}
-use Rattle.pg_script.specs.declared.script.Logged.{Logged}
-use Rattle.pg_script.specs.declared.script.ScriptPart.{ScriptPart}
-use Rattle.pg_script.specs.declared.script.ScriptPart.TheVariants as part
+use Rattle.pg_backend.specs.declared.script.Answer.{Answer}
+use Rattle.pg_backend.specs.declared.script.Load.{Load}
+use Rattle.pg_backend.specs.declared.script.Load.TheVariants.{Accept, Refuse}
+use Rattle.pg_backend.specs.declared.script.Logged.{Logged}
+use Rattle.pg_backend.specs.declared.script.ScriptPart.{ScriptPart}
+use Rattle.pg_backend.specs.declared.script.ScriptPart.TheVariants as part
 use Rattle.pg_backend.specs.declared.stage.Loading.{Loading}
-use Rattle.pg_script.specs.Outcome.{parts_of, whole_outcome}
-use Rattle.pg_script.specs.Replies.{Shape, Whole, Copies, after_part, shape, Verdict, verdict, verdict_of, aside_message, parts_sent, end_sent, reply, reply_of}
+use Rattle.pg_backend.specs.Outcome.{parts_of, whole_outcome}
+use Rattle.pg_backend.specs.Replies.{Shape, Whole, Copies, after_part, shape, Verdict, verdict, verdict_of, aside_message, parts_sent, end_sent, reply, reply_of}
 use Rattle.pg_backend.specs.Awaited.{NotRefused}
 use Rattle.pg_backend.specs.Private.Moves.{load_of, parts_before, parts_after}
 use Rattle.pg_backend.specs.Private.Telling.{AreSent}

@@ -12,16 +12,16 @@ use Rattle.pg_wire.specs.Direction.{HasSpelling}
 use Rattle.pg_wire.specs.FirstDecoder.{FirstState}
 use Rattle.pg_backend.specs.declared.fault.BackendFault.{BackendFault}
 use Rattle.pg_backend.specs.declared.fault.BackendFault.TheVariants as faults
-use Rattle.pg_script.specs.declared.script.Script.{Script}
+use Rattle.pg_backend.specs.declared.script.Script.{Script}
 use Rattle.pg_backend.specs.declared.stage.Awaits.{Awaits}
 use Rattle.pg_backend.specs.declared.stage.BackStage.{BackStage}
 use Rattle.pg_backend.specs.declared.stage.BackStage.TheVariants as stage
-use Rattle.pg_script.specs.Opening.{Says}
-use Rattle.pg_script.specs.Input.{sent_bytes, IsSpelled}
+use Rattle.pg_backend.specs.Opening.{Says}
+use Rattle.pg_backend.specs.Input.{sent_bytes, IsSpelled}
 use Rattle.pg_backend.specs.Stage.{BackendState}
 use Rattle.pg_backend.specs.Private.Opening.{awaits_first, greeting, Greets}
 use Rattle.pg_backend.specs.Private.Playing.{PlayingState}
-use Rattle.pg_script.specs.Telling.{EncodesAll}
+use Rattle.pg_backend.specs.Telling.{EncodesAll}
 use Rattle.pg_backend.specs.Private.Telling.{AreSent}
 use Rattle.pg_backend.specs.Private.Advancing.{applied, named_effect, Sends}
 

@@ -6,17 +6,17 @@ use Rattle.pg_wire.specs.message.First.{First}
 use Rattle.pg_wire.specs.message.FrontMessage.{FrontMessage}
 use Rattle.pg_wire.specs.message.FrontMessage.TheVariants as front
 use Rattle.pg_wire.specs.Frontend.{frontend}
-use Rattle.pg_script.specs.declared.phase.BackPhase.TheVariants as phase
-use Rattle.pg_script.specs.declared.script.Answer.{Answer}
-use Rattle.pg_script.specs.declared.script.Script.{Script}
+use Rattle.pg_backend.specs.declared.phase.BackPhase.TheVariants as phase
+use Rattle.pg_backend.specs.declared.script.Answer.{Answer}
+use Rattle.pg_backend.specs.declared.script.Script.{Script}
 use Rattle.pg_backend.specs.declared.stage.Awaits.{Awaits}
 use Rattle.pg_backend.specs.declared.stage.Awaits.TheVariants as awaits
 use Rattle.pg_backend.specs.declared.stage.Next.{Next}
 use Rattle.pg_backend.specs.declared.stage.Next.TheVariants as next
-use Rattle.pg_script.specs.Session.{Terminated, Stray, replies}
-use Rattle.pg_script.specs.Opening.{Says, welcome, Admission, Refused, Stopped, Admitted, by_password, admission_messages, sent_for}
-use Rattle.pg_script.specs.OwnError.{wrong_password}
-use Rattle.pg_script.specs.Input.{admission_log, packets_log, Refusal, At, admission_end, packets_end, end_phase}
+use Rattle.pg_backend.specs.Session.{Terminated, Stray, replies}
+use Rattle.pg_backend.specs.Opening.{Says, welcome, Admission, Refused, Stopped, Admitted, by_password, admission_messages, sent_for}
+use Rattle.pg_backend.specs.OwnError.{wrong_password}
+use Rattle.pg_backend.specs.Input.{admission_log, packets_log, Refusal, At, admission_end, packets_end, end_phase}
 use Rattle.pg_backend.specs.Awaited.{SessionAwaits, IsAsked, LetIn, AwaitsAt}
 use Rattle.pg_backend.specs.Stage.{awaited_end}
 use Rattle.pg_backend.specs.Private.Moves.{Move, strays, entered, entering, move}

@@ -8,24 +8,24 @@ use Rattle.pg_wire.specs.declared.session.Request.{Request}
 use Rattle.pg_wire.specs.declared.session.Request.TheVariants as request
 use Rattle.pg_wire.specs.declared.session.Step.{Step}
 use Rattle.pg_wire.specs.Frontend.{frontend}
-use Rattle.pg_script.specs.declared.meaning.InCopy.{InCopy}
-use Rattle.pg_script.specs.declared.meaning.InCopy.TheVariants as copy
-use Rattle.pg_script.specs.declared.meaning.Meaning.{Meaning}
-use Rattle.pg_script.specs.declared.meaning.Meaning.TheVariants.{Asks, Adds, Closes, Drops, Leaves, Strays}
-use Rattle.pg_script.specs.declared.script.Answer.{Answer}
-use Rattle.pg_script.specs.declared.script.Load.{Load}
-use Rattle.pg_script.specs.declared.script.Load.TheVariants.{Accept, Refuse}
-use Rattle.pg_script.specs.declared.script.Script.{Script}
+use Rattle.pg_backend.specs.declared.meaning.InCopy.{InCopy}
+use Rattle.pg_backend.specs.declared.meaning.InCopy.TheVariants as copy
+use Rattle.pg_backend.specs.declared.meaning.Meaning.{Meaning}
+use Rattle.pg_backend.specs.declared.meaning.Meaning.TheVariants.{Asks, Adds, Closes, Drops, Leaves, Strays}
+use Rattle.pg_backend.specs.declared.script.Answer.{Answer}
+use Rattle.pg_backend.specs.declared.script.Load.{Load}
+use Rattle.pg_backend.specs.declared.script.Load.TheVariants.{Accept, Refuse}
+use Rattle.pg_backend.specs.declared.script.Script.{Script}
 use Rattle.pg_backend.specs.declared.stage.Awaits.{Awaits}
 use Rattle.pg_backend.specs.declared.stage.Awaits.TheVariants as awaits
 use Rattle.pg_backend.specs.declared.stage.Next.{Next}
 use Rattle.pg_backend.specs.declared.stage.Next.TheVariants as next
-use Rattle.pg_script.specs.Fitting.{answer_for, others}
-use Rattle.pg_script.specs.Meaning.{in_copy, meaning}
-use Rattle.pg_script.specs.Replies.{Shape, Whole, Copies, shape, Verdict, verdict, verdict_of, at_copy_end}
-use Rattle.pg_script.specs.Session.{Exchange, exchange, Place, Copying, Terminated, Stray, Session, copy_place, from_exchange, from_request, from_message, session_past, session}
+use Rattle.pg_backend.specs.Fitting.{answer_for, others}
+use Rattle.pg_backend.specs.Meaning.{in_copy, meaning}
+use Rattle.pg_backend.specs.Replies.{Shape, Whole, Copies, shape, Verdict, verdict, verdict_of, at_copy_end}
+use Rattle.pg_backend.specs.Session.{Exchange, exchange, Place, Copying, Terminated, Stray, Session, copy_place, from_exchange, from_request, from_message, session_past, session}
 use Rattle.pg_backend.specs.Awaited.{BetweenRequests, WithinRequest, AllWait, Undecided, SessionAwaits}
-use Rattle.pg_script.specs.Input.{At}
+use Rattle.pg_backend.specs.Input.{At}
 use Rattle.pg_backend.specs.Stage.{awaited_end}
 use Rattle.pg_backend.specs.Private.Moves.{Move, move, between, opened, load_of, CopyEffect, Decides, Keeps, Abandons, effect, has_effect}
 use Rattle.pg_backend.proofs.Definitions.MessageSends.{Grown, now, reading_grows}

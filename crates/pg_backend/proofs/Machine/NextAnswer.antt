@@ -2,12 +2,12 @@
 use Rattle.std.proofs.Common.{◌≡◌, ℕ, ◌+◌, ◌++◌, ◌<◌, ◌≤◌, add-one, length, get_or, drop, true, false, List, [], ◌∷◌, refl, drop-cons}
 use Rattle.std.proofs.lemmas.List.{drop_all}
 use Rattle.pg_wire.specs.declared.session.Request.{Request}
-use Rattle.pg_script.specs.declared.script.Answer.{Answer}
-use Rattle.pg_script.specs.declared.script.Logged.{Logged}
-use Rattle.pg_script.specs.declared.script.Script.{Script}
+use Rattle.pg_backend.specs.declared.script.Answer.{Answer}
+use Rattle.pg_backend.specs.declared.script.Logged.{Logged}
+use Rattle.pg_backend.specs.declared.script.Script.{Script}
 use Rattle.pg_backend.specs.Private.Playing.{PlayingState}
-use Rattle.pg_script.specs.Fitting.{fits, answer_for, others}
-use Rattle.pg_script.specs.OwnError.{no_answer}
+use Rattle.pg_backend.specs.Fitting.{fits, answer_for, others}
+use Rattle.pg_backend.specs.OwnError.{no_answer}
 
 pub none_left : (answers : List Answer) (next : ℕ) (r : Request) → length answers ≤ next → answer_for (drop next answers) r ≡ no_answer
 none_left answers next r le = rw (drop_all next answers le) refl

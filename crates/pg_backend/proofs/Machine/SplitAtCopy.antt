@@ -3,10 +3,10 @@ use Rattle.std.proofs.Common.{◌≡◌, ℕ, suc, ◌+◌, ◌<◌, ◌≤◌, 
 use Rattle.std.proofs.Math.Seq.{take-suc}
 use Rattle.std.proofs.lemmas.List.{append-nil, drop_all}
 use Rattle.pg_wire.specs.value.CopyHead.{CopyHead}
-use Rattle.pg_script.specs.declared.script.Load.{Load}
-use Rattle.pg_script.specs.declared.script.ScriptPart.{ScriptPart}
-use Rattle.pg_script.specs.declared.script.ScriptPart.TheVariants as part
-use Rattle.pg_script.specs.Replies.{Shape, Whole, Copies, after_part, shape}
+use Rattle.pg_backend.specs.declared.script.Load.{Load}
+use Rattle.pg_backend.specs.declared.script.ScriptPart.{ScriptPart}
+use Rattle.pg_backend.specs.declared.script.ScriptPart.TheVariants as part
+use Rattle.pg_backend.specs.Replies.{Shape, Whole, Copies, after_part, shape}
 
 -- the shape of these parts before what has that shape, where none of them is a copy from the client
 abbrev pub onto : List ScriptPart → Shape → Shape

@@ -11,20 +11,20 @@ use Rattle.pg_wire.specs.Decoder.{DecoderState}
 use Rattle.pg_wire.specs.Decoder as decoder
 use Rattle.pg_wire.specs.FirstDecoder.{FirstState, HasBegun, FirstTakes}
 use Rattle.pg_wire.specs.Frontend.{frontend}
-use Rattle.pg_script.specs.declared.phase.BackPhase.TheVariants as phase
+use Rattle.pg_backend.specs.declared.phase.BackPhase.TheVariants as phase
 use Rattle.pg_backend.specs.declared.fault.BackendFault.{BackendFault}
 use Rattle.pg_backend.specs.declared.fault.BackendFault.TheVariants as faults
-use Rattle.pg_script.specs.declared.script.Answer.{Answer}
-use Rattle.pg_script.specs.declared.script.Logged.{Logged}
+use Rattle.pg_backend.specs.declared.script.Answer.{Answer}
+use Rattle.pg_backend.specs.declared.script.Logged.{Logged}
 use Rattle.pg_backend.specs.declared.stage.ClosedBy.TheVariants as closed_by
 use Rattle.pg_backend.specs.declared.stage.Next.{Next}
 use Rattle.pg_backend.specs.declared.stage.Next.TheVariants as next
 use Rattle.pg_backend.specs.declared.stage.BackStage.{BackStage}
 use Rattle.pg_backend.specs.declared.stage.BackStage.TheVariants as stage
-use Rattle.pg_script.specs.Lists.{IsPrefix}
-use Rattle.pg_script.specs.Opening.{Sent, No, Says, user_from}
-use Rattle.pg_script.specs.OwnError.{no_user}
-use Rattle.pg_script.specs.Input.{sent_bytes, IsSpelled, last_word}
+use Rattle.pg_backend.specs.Lists.{IsPrefix}
+use Rattle.pg_backend.specs.Opening.{Sent, No, Says, user_from}
+use Rattle.pg_backend.specs.OwnError.{no_user}
+use Rattle.pg_backend.specs.Input.{sent_bytes, IsSpelled, last_word}
 use Rattle.pg_backend.specs.Stage.{BackendState, phase_of, IsWaiting, HasFaultyRest, WantsMemory}
 use Rattle.pg_backend.specs.Private.Opening.{awaits_first, greeting}
 use Rattle.pg_backend.specs.Private.Moves.{Move, move}

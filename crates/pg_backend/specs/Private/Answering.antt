@@ -11,13 +11,13 @@ use Rattle.pg_backend.specs.declared.answering.Split.{Split}
 use Rattle.pg_backend.specs.declared.answering.Split.TheVariants as split
 use Rattle.pg_backend.specs.declared.fault.BackendFault.{BackendFault}
 use Rattle.pg_backend.specs.declared.fault.BackendFault.TheVariants as faults
-use Rattle.pg_script.specs.declared.script.Answer.{Answer}
-use Rattle.pg_script.specs.declared.script.Load.{Load}
-use Rattle.pg_script.specs.declared.script.Logged.{Logged}
+use Rattle.pg_backend.specs.declared.script.Answer.{Answer}
+use Rattle.pg_backend.specs.declared.script.Load.{Load}
+use Rattle.pg_backend.specs.declared.script.Logged.{Logged}
 use Rattle.pg_backend.specs.declared.stage.Loading.{Loading}
-use Rattle.pg_script.specs.declared.script.ScriptPart.{ScriptPart}
-use Rattle.pg_script.specs.Lists.{IsPrefix}
-use Rattle.pg_script.specs.Replies.{Whole, Copies, shape, Verdict, verdict, outcome_at, aside_message, parts_sent, after_end, reply}
+use Rattle.pg_backend.specs.declared.script.ScriptPart.{ScriptPart}
+use Rattle.pg_backend.specs.Lists.{IsPrefix}
+use Rattle.pg_backend.specs.Replies.{Whole, Copies, shape, Verdict, verdict, outcome_at, aside_message, parts_sent, after_end, reply}
 use Rattle.pg_backend.specs.Private.Moves.{load_of, parts_before, parts_after}
 use Rattle.pg_backend.specs.Private.Telling.{AreSent}
 

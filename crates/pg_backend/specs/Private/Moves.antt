@@ -10,27 +10,27 @@ use Rattle.pg_wire.specs.declared.session.Request.{Request}
 use Rattle.pg_wire.specs.declared.session.Request.TheVariants as request
 use Rattle.pg_wire.specs.declared.session.Step.{Step}
 use Rattle.pg_wire.specs.Frontend.{frontend}
-use Rattle.pg_script.specs.declared.meaning.InCopy.{InCopy}
-use Rattle.pg_script.specs.declared.meaning.InCopy.TheVariants as copy
-use Rattle.pg_script.specs.declared.meaning.Meaning.{Meaning}
-use Rattle.pg_script.specs.declared.meaning.Meaning.TheVariants.{Asks, Adds, Closes, Drops, Leaves, Strays}
-use Rattle.pg_script.specs.declared.script.Answer.{Answer}
-use Rattle.pg_script.specs.declared.script.Load.{Load}
-use Rattle.pg_script.specs.declared.script.Load.TheVariants.{Accept, Refuse}
-use Rattle.pg_script.specs.declared.script.Logged.{Logged}
-use Rattle.pg_script.specs.declared.script.Script.{Script}
-use Rattle.pg_script.specs.declared.script.ScriptPart.{ScriptPart}
-use Rattle.pg_script.specs.declared.script.ScriptPart.TheVariants as part
+use Rattle.pg_backend.specs.declared.meaning.InCopy.{InCopy}
+use Rattle.pg_backend.specs.declared.meaning.InCopy.TheVariants as copy
+use Rattle.pg_backend.specs.declared.meaning.Meaning.{Meaning}
+use Rattle.pg_backend.specs.declared.meaning.Meaning.TheVariants.{Asks, Adds, Closes, Drops, Leaves, Strays}
+use Rattle.pg_backend.specs.declared.script.Answer.{Answer}
+use Rattle.pg_backend.specs.declared.script.Load.{Load}
+use Rattle.pg_backend.specs.declared.script.Load.TheVariants.{Accept, Refuse}
+use Rattle.pg_backend.specs.declared.script.Logged.{Logged}
+use Rattle.pg_backend.specs.declared.script.Script.{Script}
+use Rattle.pg_backend.specs.declared.script.ScriptPart.{ScriptPart}
+use Rattle.pg_backend.specs.declared.script.ScriptPart.TheVariants as part
 use Rattle.pg_backend.specs.declared.stage.Awaits.{Awaits}
 use Rattle.pg_backend.specs.declared.stage.Awaits.TheVariants as awaits
 use Rattle.pg_backend.specs.declared.stage.Next.{Next}
 use Rattle.pg_backend.specs.declared.stage.Next.TheVariants as next
-use Rattle.pg_script.specs.Fitting.{answer_for, others}
-use Rattle.pg_script.specs.Meaning.{in_copy, meaning}
-use Rattle.pg_script.specs.OwnError.{canceled, out_of_copy, fatal_unexpected, wrong_password}
-use Rattle.pg_script.specs.Replies.{Shape, Whole, Copies, shape, Verdict, verdict, outcome_at, after_end, reply}
-use Rattle.pg_script.specs.Session.{logged}
-use Rattle.pg_script.specs.Opening.{welcome}
+use Rattle.pg_backend.specs.Fitting.{answer_for, others}
+use Rattle.pg_backend.specs.Meaning.{in_copy, meaning}
+use Rattle.pg_backend.specs.OwnError.{canceled, out_of_copy, fatal_unexpected, wrong_password}
+use Rattle.pg_backend.specs.Replies.{Shape, Whole, Copies, shape, Verdict, verdict, outcome_at, after_end, reply}
+use Rattle.pg_backend.specs.Session.{logged}
+use Rattle.pg_backend.specs.Opening.{welcome}
 
 -- what a message does: where it leads, the answers that are left, what is sent and what is logged
 pub record Move : Type 0 where

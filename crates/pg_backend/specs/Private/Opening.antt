@@ -4,13 +4,13 @@ use Rattle.pg_wire.specs.message.BackMessage.{BackMessage}
 use Rattle.pg_wire.specs.Password.{md5_text}
 use Rattle.pg_backend.specs.declared.fault.BackendFault.{BackendFault}
 use Rattle.pg_backend.specs.declared.fault.BackendFault.TheVariants as faults
-use Rattle.pg_script.specs.declared.script.Auth.{Auth}
-use Rattle.pg_script.specs.declared.script.Auth.TheVariants.{Trust, Cleartext, Md5}
-use Rattle.pg_script.specs.declared.script.Script.{Script}
+use Rattle.pg_backend.specs.declared.script.Auth.{Auth}
+use Rattle.pg_backend.specs.declared.script.Auth.TheVariants.{Trust, Cleartext, Md5}
+use Rattle.pg_backend.specs.declared.script.Script.{Script}
 use Rattle.pg_backend.specs.declared.stage.Awaits.{Awaits}
 use Rattle.pg_backend.specs.declared.stage.Awaits.TheVariants as awaits
-use Rattle.pg_script.specs.Lists.{IsPrefix}
-use Rattle.pg_script.specs.Opening.{welcome, question}
+use Rattle.pg_backend.specs.Lists.{IsPrefix}
+use Rattle.pg_backend.specs.Opening.{welcome, question}
 use Rattle.pg_backend.specs.Private.Telling.{AreSent}
 
 -- what is awaited then

@@ -2,12 +2,12 @@
 use Rattle.std.specs.Prelude.{ℕ, ◌≡◌, List, [], ◌∷◌, ◌++◌, Result, Ok, Err}
 use Rattle.pg_backend.specs.declared.fault.BackendFault.{BackendFault}
 use Rattle.pg_backend.specs.declared.fault.BackendFault.TheVariants as faults
-use Rattle.pg_script.specs.declared.script.Answer.{Answer}
-use Rattle.pg_script.specs.declared.script.Logged.{Logged}
-use Rattle.pg_script.specs.declared.script.Script.{Script}
+use Rattle.pg_backend.specs.declared.script.Answer.{Answer}
+use Rattle.pg_backend.specs.declared.script.Logged.{Logged}
+use Rattle.pg_backend.specs.declared.script.Script.{Script}
 use Rattle.pg_backend.specs.declared.stage.Next.{Next}
-use Rattle.pg_script.specs.Fitting.{others}
-use Rattle.pg_script.specs.Lists.{IsPrefix}
+use Rattle.pg_backend.specs.Fitting.{others}
+use Rattle.pg_backend.specs.Lists.{IsPrefix}
 use Rattle.pg_backend.specs.Private.Moves.{Move}
 use Rattle.pg_backend.specs.Private.Telling.{AreSent}
 

@@ -2,8 +2,7 @@
 
 use crate::serve::line::{Step, does};
 use crate::values::WELCOME;
-use pg_backend::{BackPhase, BackendFault};
-use pg_serve::{AnswerFault, Answered};
+use pg_backend::{AnswerFault, Answered, BackPhase, BackendFault};
 use pg_wire::WireFault;
 use std::test::Fail;
 use test_base::is_told;

@@ -3,8 +3,7 @@
 
 use crate::backend::script_with;
 use crate::values::text;
-use pg_backend::{BackPhase, Backend, Script, ScriptPart};
-use pg_serve::{AnswerFault, Answered, answer};
+use pg_backend::{AnswerFault, Answered, BackPhase, Backend, Script, ScriptPart, answer};
 use std::alloc::{AllocError, Global};
 use test_base::{Line, holds, line_of};
 

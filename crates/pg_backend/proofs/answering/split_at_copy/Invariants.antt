@@ -1,5 +1,5 @@
 use Rattle.std.proofs.Common.{◌≡◌, take, drop}
-use Rattle.pg_script.specs.Replies.{shape}
+use Rattle.pg_backend.specs.Replies.{shape}
 use Rattle.pg_backend.proofs.Machine.SplitAtCopy.{onto}
 use Rattle.pg_backend.proofs.answering.split_at_copy.Given as goal
 

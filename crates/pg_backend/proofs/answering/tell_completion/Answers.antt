@@ -1,7 +1,7 @@
-use Rattle.pg_script.proofs.Machine.Tellings.{first}
+use Rattle.pg_backend.proofs.Machine.Tellings.{first}
 use Rattle.std.proofs.Common.{◌++◌}
 use Rattle.pg_wire.specs.message.BackMessage.TheVariants as back
-use Rattle.pg_script.specs.Replies.{parts_sent, end_sent}
+use Rattle.pg_backend.specs.Replies.{parts_sent, end_sent}
 use Rattle.pg_backend.proofs.answering.tell_completion.Goals as goal
 
 pub returns : goal.returns

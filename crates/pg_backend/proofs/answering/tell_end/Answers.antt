@@ -1,6 +1,6 @@
-use Rattle.pg_script.proofs.Machine.Tellings.{last}
+use Rattle.pg_backend.proofs.Machine.Tellings.{last}
 use Rattle.pg_wire.specs.message.BackMessage.TheVariants as back
-use Rattle.pg_script.specs.Replies.{error_sent}
+use Rattle.pg_backend.specs.Replies.{error_sent}
 use Rattle.pg_backend.proofs.answering.tell_end.Goals as goal
 
 pub returns : goal.returns

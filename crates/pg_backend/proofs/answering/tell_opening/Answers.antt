@@ -1,7 +1,7 @@
-use Rattle.pg_script.proofs.Machine.Tellings.{tells_both, last, each_told, parts_told}
+use Rattle.pg_backend.proofs.Machine.Tellings.{tells_both, last, each_told, parts_told}
 use Rattle.std.proofs.Common.{◌++◌, [], ◌∷◌, map}
 use Rattle.pg_wire.specs.message.BackMessage.TheVariants as back
-use Rattle.pg_script.specs.Replies.{aside_message, parts_sent}
+use Rattle.pg_backend.specs.Replies.{aside_message, parts_sent}
 use Rattle.pg_backend.proofs.answering.tell_opening.Goals as goal
 
 pub returns : goal.returns

@@ -1,8 +1,8 @@
 use Rattle.std.proofs.Common.{◌++◌, [], ◌∷◌, map}
 use Rattle.pg_wire.specs.message.BackMessage.TheVariants as back
-use Rattle.pg_script.specs.Replies.{aside_message, parts_sent, end_sent}
+use Rattle.pg_backend.specs.Replies.{aside_message, parts_sent, end_sent}
 use Rattle.pg_backend.proofs.Definitions.CopyMessageSends.{joined}
-use Rattle.pg_script.proofs.Machine.Tellings.{tells_both}
+use Rattle.pg_backend.proofs.Machine.Tellings.{tells_both}
 use Rattle.pg_backend.proofs.answering.tell_refusal.Goals as goal
 
 pub returns : goal.returns

@@ -1,5 +1,5 @@
-use Rattle.pg_script.proofs.Machine.Tellings.{tells_both, parts_told}
-use Rattle.pg_script.specs.Replies.{parts_sent, end_sent}
+use Rattle.pg_backend.proofs.Machine.Tellings.{tells_both, parts_told}
+use Rattle.pg_backend.specs.Replies.{parts_sent, end_sent}
 use Rattle.pg_backend.proofs.answering.tell_rest.Goals as goal
 
 pub returns : goal.returns

@@ -1,6 +1,6 @@
-use Rattle.pg_script.proofs.Machine.Tellings.{tells_both, each_told}
+use Rattle.pg_backend.proofs.Machine.Tellings.{tells_both, each_told}
 use Rattle.std.proofs.Common.{◌++◌, map}
-use Rattle.pg_script.specs.Replies.{aside_message, parts_sent, end_sent}
+use Rattle.pg_backend.specs.Replies.{aside_message, parts_sent, end_sent}
 use Rattle.pg_backend.proofs.answering.tell_whole.Goals as goal
 
 pub returns : goal.returns

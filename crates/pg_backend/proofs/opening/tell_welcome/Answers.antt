@@ -1,8 +1,8 @@
 use Rattle.std.proofs.Common.{◌∷◌, ◌++◌, map}
 use Rattle.pg_wire.specs.message.BackMessage.TheVariants as back
 use Rattle.pg_wire.specs.value.Status.TheVariants.{Idle}
-use Rattle.pg_script.specs.Opening.{pair_message, key_messages}
-use Rattle.pg_script.proofs.Machine.Tellings.{first, tells_both, last, each_told}
+use Rattle.pg_backend.specs.Opening.{pair_message, key_messages}
+use Rattle.pg_backend.proofs.Machine.Tellings.{first, tells_both, last, each_told}
 use Rattle.pg_backend.proofs.opening.tell_welcome.Goals as goal
 
 pub returns : goal.returns

@@ -1,5 +1,5 @@
 use Rattle.std.proofs.Common.{◌≡◌, [], drop}
-use Rattle.pg_script.specs.Opening.{user_from}
+use Rattle.pg_backend.specs.Opening.{user_from}
 use Rattle.pg_backend.proofs.opening.user.Given as goal
 
 abbrev pub invariant-loop-pair : goal.invariant-loop-pair

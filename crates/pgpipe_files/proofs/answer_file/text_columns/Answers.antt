@@ -1,7 +1,7 @@
 use Rattle.std.proofs.Common.{◌≡◌, ℕ, List, Option, Some, map, sym, ap, ◌∙◌}
 use Rattle.pg_wire.specs.value.Column.{Column}
 use Rattle.pgpipe_files.specs.AnswerFile.{text_column}
-use Rattle.pgpipe_lines.specs.Arguments.{◌>>=◌}
+use Rattle.pgpipe_files.specs.Arguments.{◌>>=◌}
 use Rattle.pgpipe_files.proofs.Lists.{all-given}
 use Rattle.pgpipe_files.proofs.answer_file.text_columns.Goals as goal
 

@@ -1,0 +1,157 @@
+//! What the log says of a request, copied from the script.
+
+ghost use Rattle.std.specs.Prelude.{◌≡◌, IfOk, option_to_list};
+ghost use Rattle.pg_wire.specs.declared.session.Outcome.{Outcome};
+ghost use Rattle.pg_backend.specs.Outcome.{complete, parts_of, whole_outcome};
+
+use crate::script::{Answer, Load, ScriptPart};
+use pg_wire::{Aside, ExecEnd, Fields, Outcome, Part, Seq, Values};
+use std::alloc::{AllocError, Global};
+
+fn copy_of_rows(alloc: Global, rows: &[Values]) -> Result<Seq<Values>, AllocError>
+    ensures { IfOk result (λ copy. copy ≡ rows.now) }
+{
+    let mut copy = Seq::new(Vec::new(alloc));
+    for row in rows {
+        copy.push(row.clone()?)?;
+    }
+    Ok(copy)
+}
+
+fn copy_of_end(end: &ExecEnd) -> Result<ExecEnd, AllocError>
+    ensures { IfOk result (λ copy. copy ≡ end.now) }
+{
+    match end {
+        ExecEnd::Complete(tag) => Ok(ExecEnd::Complete(tag.clone()?)),
+        ExecEnd::Empty => Ok(ExecEnd::Empty),
+        ExecEnd::Suspended => Ok(ExecEnd::Suspended),
+    }
+}
+
+fn copy_of_aside(aside: &Aside) -> Result<Aside, AllocError>
+    ensures { IfOk result (λ copy. copy ≡ aside.now) }
+{
+    match aside {
+        Aside::Notice(fields) => Ok(Aside::Notice(fields.clone()?)),
+        Aside::Parameter { name, value } => Ok(Aside::Parameter {
+            name: name.clone()?,
+            value: value.clone()?,
+        }),
+        Aside::Notification {
+            process,
+            channel,
+            payload,
+        } => Ok(Aside::Notification {
+            process: *process,
+            channel: channel.clone()?,
+            payload: payload.clone()?,
+        }),
+    }
+}
+
+fn copy_of_asides(alloc: Global, asides: &[Aside]) -> Result<Seq<Aside>, AllocError>
+    ensures { IfOk result (λ copy. copy ≡ asides.now) }
+{
+    let mut copy = Seq::new(Vec::new(alloc));
+    for aside in asides {
+        copy.push(copy_of_aside(aside)?)?;
+    }
+    Ok(copy)
+}
+
+/// What becomes of a copy from the client.
+pub fn copy_of_load(load: &Load) -> Result<Load, AllocError>
+    ensures { IfOk result (λ copy. copy ≡ load.now) }
+{
+    match load {
+        Load::Accept(tag) => Ok(Load::Accept(tag.clone()?)),
+        Load::Refuse { after, fields } => Ok(Load::Refuse {
+            after: *after,
+            fields: fields.clone()?,
+        }),
+    }
+}
+
+// The part once it is complete, which a copy that is refused never is.
+fn complete_part(alloc: Global, part: &ScriptPart) -> Result<Option<Part>, AllocError>
+    ensures { IfOk result (λ o. option_to_list o ≡ complete part.now) }
+{
+    match part {
+        ScriptPart::Rows { columns, rows, tag } => Ok(Some(Part::Rows {
+            columns: columns.clone()?,
+            rows: copy_of_rows(alloc, rows.as_slice())?,
+            tag: tag.clone()?,
+        })),
+        ScriptPart::Command(tag) => Ok(Some(Part::Command(tag.clone()?))),
+        ScriptPart::Empty => Ok(Some(Part::Empty)),
+        ScriptPart::CopyOut { head, chunks, tag } => Ok(Some(Part::CopyOut {
+            head: head.clone()?,
+            chunks: chunks.clone()?,
+            tag: tag.clone()?,
+        })),
+        ScriptPart::CopyIn { head, load } => match load {
+            Load::Accept(tag) => Ok(Some(Part::CopyIn {
+                head: head.clone()?,
+                tag: tag.clone()?,
+            })),
+            Load::Refuse { .. } => Ok(None),
+        },
+        ScriptPart::Parsed => Ok(Some(Part::Parsed)),
+        ScriptPart::Bound => Ok(Some(Part::Bound)),
+        ScriptPart::Described {
+            parameters,
+            columns,
+        } => Ok(Some(Part::Described {
+            parameters: parameters.clone()?,
+            columns: columns.clone()?,
+        })),
+        ScriptPart::Executed { rows, end } => Ok(Some(Part::Executed {
+            rows: copy_of_rows(alloc, rows.as_slice())?,
+            end: copy_of_end(end)?,
+        })),
+        ScriptPart::Shut => Ok(Some(Part::Shut)),
+    }
+}
+
+// The parts that are complete.
+fn complete_parts(alloc: Global, parts: &[ScriptPart]) -> Result<Seq<Part>, AllocError>
+    ensures { IfOk result (λ ps. ps ≡ parts_of parts.now) }
+{
+    let mut complete = Seq::new(Vec::new(alloc));
+    for part in parts {
+        if let Some(part) = complete_part(alloc, part)? {
+            complete.push(part)?;
+        }
+    }
+    Ok(complete)
+}
+
+/// The outcome of an answer of which these parts are complete, and which ended with this error or none.
+pub fn outcome(
+    alloc: Global,
+    answer: &Answer,
+    parts: &[ScriptPart],
+    error: Option<Fields>,
+) -> Result<Outcome, AllocError>
+    ensures { IfOk result (λ o. o ≡ record {
+      parts = parts_of parts.now;
+      error = error;
+      status = answer.now.status;
+      asides = answer.now.before;
+    }) }
+{
+    Ok(Outcome {
+        parts: complete_parts(alloc, parts)?,
+        error,
+        status: answer.status,
+        asides: copy_of_asides(alloc, answer.before.as_slice())?,
+    })
+}
+
+/// The outcome of an answer that is given whole.
+pub fn whole_outcome(alloc: Global, answer: &Answer) -> Result<Outcome, AllocError>
+    ensures { IfOk result (λ o. o ≡ whole_outcome answer.now) }
+{
+    let error = answer.error.clone()?;
+    outcome(alloc, answer, answer.parts.as_slice(), error)
+}

@@ -1,5 +1,0 @@
-use Rattle.pg_script.proofs.Replying.RepliesFit.{reply_begins}
-use Rattle.pg_script.proofs.laws.reply_begins.Goals as goal
-
-pub returns : goal.returns
-returns c = reply_begins

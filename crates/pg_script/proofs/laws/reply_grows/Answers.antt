@@ -1,5 +1,0 @@
-use Rattle.pg_script.proofs.Definitions.DecidedStays.{reply_grows}
-use Rattle.pg_script.proofs.laws.reply_grows.Goals as goal
-
-pub returns : goal.returns
-returns c = reply_grows

@@ -1,5 +1,0 @@
-use Rattle.pg_script.proofs.Definitions.DecidedStays.{reply_more}
-use Rattle.pg_script.proofs.laws.reply_stands.Goals as goal
-
-pub returns : goal.returns
-returns c = reply_more

@@ -1,5 +1,0 @@
-use Rattle.pg_script.proofs.Replying.SegmentsFitLog.{segments_fit_log}
-use Rattle.pg_script.proofs.laws.segments_fit_log.Goals as goal
-
-pub returns : goal.returns
-returns c = segments_fit_log

@@ -1,5 +1,0 @@
-use Rattle.pg_script.proofs.Turns.TurnByTurn.{turns_end}
-use Rattle.pg_script.proofs.laws.turns_end.Goals as goal
-
-pub returns : goal.returns
-returns c = turns_end

@@ -1,5 +1,0 @@
-use Rattle.pg_script.proofs.Turns.PartOfTurns.{turns_go_on}
-use Rattle.pg_script.proofs.laws.turns_go_on.Goals as goal
-
-pub returns : goal.returns
-returns c = turns_go_on

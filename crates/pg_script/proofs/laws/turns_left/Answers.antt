@@ -1,5 +1,0 @@
-use Rattle.pg_script.proofs.Turns.PartOfTurns.{turns_left}
-use Rattle.pg_script.proofs.laws.turns_left.Goals as goal
-
-pub returns : goal.returns
-returns c = turns_left

@@ -1,5 +1,0 @@
-use Rattle.pg_script.proofs.Turns.PartOfTurns.{turns_logged}
-use Rattle.pg_script.proofs.laws.turns_logged.Goals as goal
-
-pub returns : goal.returns
-returns c = turns_logged

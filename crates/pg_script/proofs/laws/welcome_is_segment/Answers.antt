@@ -1,5 +1,0 @@
-use Rattle.pg_script.proofs.Replying.SegmentsFitLog.{welcome_is_segment}
-use Rattle.pg_script.proofs.laws.welcome_is_segment.Goals as goal
-
-pub returns : goal.returns
-returns c = welcome_is_segment

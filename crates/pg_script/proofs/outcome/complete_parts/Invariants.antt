@@ -1,6 +1,0 @@
-use Rattle.std.proofs.Common.{◌≡◌, take}
-use Rattle.pg_script.specs.Outcome.{parts_of}
-use Rattle.pg_script.proofs.outcome.complete_parts.Given as goal
-
-abbrev pub invariant-loop-part : goal.invariant-loop-part
-invariant-loop-part l = l.complete ≡ parts_of (take l.part-index l.parts)

@@ -1,4 +1,0 @@
--- Lemmas, by the subject.
-pub mod Turning
-pub mod Carrying
-pub mod Growing

@@ -1,6 +1,0 @@
-use Rattle.pgpipe_lines.proofs.RowsRead.{Stands}
-use Rattle.pgpipe_lines.proofs.lines.take_lines.Given as goal
-
--- the rows that were given are taken
-abbrev pub invariant-loop-number : goal.invariant-loop-number
-invariant-loop-number g l = Stands g.T.TakesLines.line l.initial.taker l.bytes l.reader l.number l.taker

@@ -1,6 +1,0 @@
-use Rattle.std.proofs.Common.{sym}
-use Rattle.pgpipe_lines.proofs.Words.{no-answer_verb}
-use Rattle.pgpipe_reasons.proofs.verbs.answer_verb.Goals as goal
-
-pub returns-in-Err : goal.returns-in-Err
-returns-in-Err c = sym (no-answer_verb c.args.word.now c.in-Err.ensures.cases.0)

@@ -1,3 +1,0 @@
--- Lemmas, by the subject.
-pub mod Turning
-pub mod Coming
