@@ -1,3 +1,7 @@
+-- What a reader with a limit was given and has given, and which line it refuses.
+pub mod Limited
+-- Words of private functions, which no public contract cites.
+pub mod Private
 -- What the crates below define and the contracts here speak of. Who uses pg_copy names it through
 -- these lines.
 pub use Rattle.pg_copy_rows.specs.Row

@@ -4,6 +4,9 @@
 //! - **Readers.** [`TextReader`] and [`BinaryReader`]: `push` appends bytes, `next` returns the next row that is whole, and `finish`
 //!   those that are left at the end of the input. `next_lent` copies nothing: `held` lends the row until the next call. A fault stands
 //!   in the place of its row, after all rows before it; `rows_given` and `offset` say where.
+//! - **A limit.** A [`TextReader`] keeps a line until it is whole, however long it is. A [`LimitedTextReader`] gives the same rows, and
+//!   rejects a line once more bytes of it are there than its limit, while the line isn't whole ([`LimitedTextFault::LongLine`]). So a
+//!   server or a loader that reads what a stranger sends keeps no more than the limit and one piece.
 //! - **Writers.** [`write_text_row`] and [`write_text_row_with`] append the canonical line of a row; [`write_binary_row`], between
 //!   [`write_binary_head`] and [`write_binary_trailer`], a row of a binary file. Values that don't stand in a [`Row`] are written one by
 //!   one: [`TextRowWriter`], and [`write_binary_count`] with [`write_binary_field`].
@@ -14,7 +17,7 @@
 //! # States of a reader
 //!
 //!     Reading --- next: a row, or None where no whole row waits -----> Reading
-//!     Reading --- next: T1 to T5, B1 to B7 --------------------------> Failed: each later call returns this fault again
+//!     Reading --- next: T1 to T5, LongLine, B1 to B7 ----------------> Failed: each later call returns this fault again
 //!     Reading --- next: memory ran out ------------------------------> Reading, unchanged: the call may be made again
 //!     Reading --- the end mark `\.`, or the trailer -----------------> Done: no row comes any more
 //!     Reading, Done --- finish, until it returns None ---------------> Ended: the input has ended
@@ -27,12 +30,14 @@
 //!
 //! # Files
 //!
-//! This crate has nothing of its own. It passes on what users need of three: `pg_copy_rows` (rows, why one is refused, what a reader
-//! keeps), `pg_copy_text` and `pg_copy_binary` (each format).
+//! `limit` has the reader with a limit, of which `specs/Limited` has the definitions. The rest is passed on from three crates:
+//! `pg_copy_rows` (rows, why one is refused, what a reader keeps), `pg_copy_text` and `pg_copy_binary` (each format).
 #![tactic(auto)]
 
 pub mod laws;
+mod limit;
 
+pub use limit::{LimitedTextFault, LimitedTextReader};
 pub use pg_copy_binary::{
     BinaryReader, BinaryRow, LentValues, write_binary_count, write_binary_field, write_binary_head,
     write_binary_row, write_binary_trailer,

@@ -185,6 +185,10 @@ AnswersNext-finish old mid new (Err fault) pushed given (inr t) (inr e) h =
 
 -- ---- a reader that found the end mark, or a fault
 
+-- the stage of a reader, which a call saw as this value
+pub stage-now : (seen s : TextState) (stage : TextStage) → seen ≡ s → seen.stage ≡ stage → s.stage ≡ stage
+stage-now seen s stage same is = ap (λ (t : TextState). t.stage) (sym same) ∙ is
+
 left-at : (s : TextState) (stage : TextStage) → s.stage ≡ stage → text_left s [] ≡ text_stage_reading stage s.options s.columns s.line_end (s.kept ++ [])
 left-at s stage e = ap (λ (t : TextStage). text_stage_reading t s.options s.columns s.line_end (s.kept ++ [])) e
 

@@ -1,5 +1,6 @@
--- What a reader of text files does with a line that it lends.
-use Rattle.std.proofs.Common.{◌≡◌, ℕ, ◌+◌, ◌<◌, ◌≤◌, Bool, true, false, List, [], ◌++◌, length, Option, Some, None, Result, Ok, Err, refl, sym, ap, subst, ◌∙◌, inl, inr}
+-- What a reader of text files does with the first line that it keeps, and with its row where it
+-- lends it.
+use Rattle.std.proofs.Common.{◌≡◌, ℕ, ◌+◌, ◌<◌, Bool, true, false, List, [], ◌++◌, length, Option, Some, None, Result, Ok, Err, refl, sym, ap, subst, ◌∙◌, inl, inr, arith}
 use Rattle.std.specs.Prelude.{◌⊎◌, IsSome}
 use Rattle.pg_copy_rows.specs.declared.fault.TextFault.{TextFault}
 use Rattle.pg_copy_rows.specs.declared.fault.TextFault.TheVariants.{Memory}
@@ -9,12 +10,15 @@ use Rattle.pg_copy_text.specs.declared.text_stage.TextStage.TheVariants.{Lines, 
 use Rattle.pg_copy_rows.specs.Row.{Row}
 use Rattle.pg_copy_rows.specs.Reading.{given_by, given_after, AnswersNext, RowWaits}
 use Rattle.pg_copy_text.specs.Text.{Options, end_len, text_reading}
-use Rattle.pg_copy_rows.specs.Lent.{as_next}
+use Rattle.pg_copy_rows.specs.Lent.{as_next, Lends}
 use Rattle.pg_copy_text.specs.TextReader.{TextState, HasReadText, text_left, text_ending}
 use Rattle.pg_copy_text.specs.Private.Breaks.{IsFirstLine}
+use Rattle.pg_copy_text.specs.Private.Units.{IsScanned, StandsAt}
+use Rattle.pg_copy_text.specs.declared.scan.Scan.{Scan}
 use Rattle.pg_copy_text.specs.Private.TextRow.{held_line}
-use Rattle.pg_copy_text.specs.Private.TextLine.{let_go, TakesLine, TakesLast, EndsInput, LendsLine}
-use Rattle.pg_copy_text.proofs.TextReads.{HasReadText-goes, Goes-line, AnswersNext-line, given-line, fewer-line, waits-line}
+use Rattle.pg_copy_text.specs.Private.TextLine.{let_go, TakesLine, TakesLast, EndsInput}
+use Rattle.pg_copy_text.proofs.TextPlaces.{end-some}
+use Rattle.pg_copy_text.proofs.TextReads.{Answer, HasReadText-same, HasReadText-goes, Goes-line, AnswersNext-line, AnswersNext-none, given-line, fewer-line, waits-line}
 
 HasReadText-held : (s : TextState) (pushed : List ℕ) (given : List Row) → HasReadText (let_go s) pushed given → HasReadText s pushed given
 HasReadText-held s pushed given h = record { so_far = h.so_far; to_end = h.to_end; in_all = h.in_all; counted = h.counted; placed = h.placed; goes_on = h.goes_on }
@@ -48,18 +52,40 @@ pub no-front : (o : Options) (len : ℕ) (front : Option (List ℕ)) → held_li
 no-front o len None e = refl
 no-front o len (Some bytes) e = absurd cc
 
-pub read-lent : (old new : TextState) (e : LineEnd) (len taken : ℕ) (answer : Result Bool TextFault) → old.stage ≡ Lines → IsFirstLine old.line_end old.kept e len taken → taken ≡ len + end_len e → LendsLine len taken (Some e) (let_go old) answer new
-    → (pushed : List ℕ) (given : List Row) → HasReadText old pushed given → HasReadText new pushed (given ++ given_by (as_next answer new.held))
-read-lent old new e len taken answer among at all t pushed given h =
-    HasReadText-held new pushed _ (HasReadText-goes (let_go old) (let_go new) _ pushed given (Goes-line (let_go old) (let_go new) e len taken (as_next answer new.held) among at all t.0) (HasReadText-free old pushed given h))
+-- ---- a line that is whole
 
-pub gives-lent : (old new : TextState) (e : LineEnd) (len taken : ℕ) (answer : Result Bool TextFault) → old.stage ≡ Lines → old.ended ≡ false → IsFirstLine old.line_end old.kept e len taken → LendsLine len taken (Some e) (let_go old) answer new
-    → (pushed : List ℕ) (given : List Row) → HasReadText old pushed given → AnswersNext Memory (text_reading new.options new.columns pushed) given (text_ending new.stage new.kept) (as_next answer new.held)
-gives-lent old new e len taken answer among going at t pushed given h =
-    AnswersNext-line (let_go old) (let_go new) e len taken (as_next answer new.held) pushed given among going at t.0 (HasReadText-free old pushed given h)
+-- The first line is whole and ends so, and a call took it and answered.
+pub record TakesFirst (old new : TextState) (answer : Answer) : Type 0 where
+  pub end : LineEnd
+  pub len : ℕ
+  pub lines : old.stage ≡ Lines
+  pub first : IsFirstLine old.line_end old.kept end len (len + end_len end)
+  pub takes : TakesLine len (len + end_len end) (Some end) old answer new
 
-pub given-lent : (old new : TextState) (e : LineEnd) (len taken : ℕ) (answer : Result Bool TextFault) → LendsLine len taken (Some e) (let_go old) answer new → new.given ≡ given_after old.given (given_by (as_next answer new.held))
-given-lent old new e len taken answer t = given-line (let_go old) (let_go new) e len taken (as_next answer new.held) t.0
+pub read-first : (old new : TextState) (answer : Answer) → TakesFirst old new answer → (pushed : List ℕ) (given : List Row) → HasReadText old pushed given → HasReadText new pushed (given ++ given_by answer)
+read-first old new answer t pushed given h =
+    HasReadText-goes old new (given_by answer) pushed given (Goes-line old new t.end t.len (t.len + end_len t.end) answer t.lines t.first refl t.takes) h
+
+pub gives-first : (old new : TextState) (answer : Answer) → TakesFirst old new answer → old.ended ≡ false → (pushed : List ℕ) (given : List Row) → HasReadText old pushed given → AnswersNext Memory (text_reading new.options new.columns pushed) given (text_ending new.stage new.kept) answer
+gives-first old new answer t going pushed given h = AnswersNext-line old new t.end t.len (t.len + end_len t.end) answer pushed given t.lines going t.first t.takes h
+
+pub given-first : (old new : TextState) (answer : Answer) → TakesFirst old new answer → new.given ≡ given_after old.given (given_by answer)
+given-first old new answer t = given-line old new t.end t.len (t.len + end_len t.end) answer t.takes
+
+pub fewer-first : (old new : TextState) (answer : Answer) → TakesFirst old new answer → (row : Row) → answer ≡ Ok (Some row) → length new.kept < length old.kept
+fewer-first old new answer t = fewer-line old new t.end t.len (t.len + end_len t.end) answer t.takes (omega (arith, end-some t.end)) t.first.in_range
+
+pub waits-first : (old new : TextState) (answer : Answer) → TakesFirst old new answer → answer ≡ Err Memory → (new ≡ old) × RowWaits (text_left old [])
+waits-first old new answer t = waits-line old new t.end t.len (t.len + end_len t.end) answer t.lines t.first t.takes
+
+held-line : (old new : TextState) (e : LineEnd) (len taken : ℕ) (answer : Answer) → TakesLine len taken (Some e) old answer new → (answer ≡ Err Memory) ⊎ (new.held ≡ None)
+held-line old new e len taken (Ok (Some row)) t = inr (ap (λ (s : TextState). s.held) t.1)
+held-line old new e len taken (Ok None) t = inr (ap (λ (s : TextState). s.held) t.1)
+held-line old new e len taken (Err fault) (inl t) = inl (ap (λ (f : TextFault). Err f) t.0)
+held-line old new e len taken (Err fault) (inr t) = inr (ap (λ (s : TextState). s.held) t.1)
+
+pub held-first : (old new : TextState) (answer : Answer) → TakesFirst old new answer → (answer ≡ Err Memory) ⊎ (new.held ≡ None)
+held-first old new answer t = held-line old new t.end t.len (t.len + end_len t.end) answer t.takes
 
 -- what a line leaves as it was
 pub record Keeps (old new : TextState) : Type 0 where
@@ -67,15 +93,34 @@ pub record Keeps (old new : TextState) : Type 0 where
   pub columns : new.columns ≡ old.columns
   pub ended : new.ended ≡ old.ended
 
-keeps-line : (old new : TextState) (e : LineEnd) (len taken : ℕ) (answer : Result (Option Row) TextFault) → TakesLine len taken (Some e) old answer new → Keeps old new
+keeps-line : (old new : TextState) (e : LineEnd) (len taken : ℕ) (answer : Answer) → TakesLine len taken (Some e) old answer new → Keeps old new
 keeps-line old new e len taken (Ok (Some row)) t = rw t.1 (record { options = refl; columns = refl; ended = refl })
 keeps-line old new e len taken (Ok None) t = rw t.1 (record { options = refl; columns = refl; ended = refl })
 keeps-line old new e len taken (Err fault) (inl t) = rw t.1 (record { options = refl; columns = refl; ended = refl })
 keeps-line old new e len taken (Err fault) (inr t) = rw t.1 (record { options = refl; columns = refl; ended = refl })
 
-pub keeps-lent : (old new : TextState) (e : LineEnd) (len taken : ℕ) (answer : Result Bool TextFault) → LendsLine len taken (Some e) (let_go old) answer new → Keeps old new
-keeps-lent old new e len taken answer t =
-    let k = keeps-line (let_go old) (let_go new) e len taken (as_next answer new.held) t.0 in
+-- ---- a line that is lent
+
+-- The first line is whole and ends so, and a call took it and lends its row in place of giving it.
+pub record LendsFirst (old new : TextState) (answer : Result Bool TextFault) : Type 0 where
+  pub taken : TakesFirst (let_go old) (let_go new) (as_next answer new.held)
+  pub lends : Lends answer new.held
+
+pub read-lent : (old new : TextState) (answer : Result Bool TextFault) → LendsFirst old new answer → (pushed : List ℕ) (given : List Row) → HasReadText old pushed given → HasReadText new pushed (given ++ given_by (as_next answer new.held))
+read-lent old new answer l pushed given h =
+    HasReadText-held new pushed _ (read-first (let_go old) (let_go new) (as_next answer new.held) l.taken pushed given (HasReadText-free old pushed given h))
+
+pub gives-lent : (old new : TextState) (answer : Result Bool TextFault) → LendsFirst old new answer → old.ended ≡ false → (pushed : List ℕ) (given : List Row) → HasReadText old pushed given → AnswersNext Memory (text_reading new.options new.columns pushed) given (text_ending new.stage new.kept) (as_next answer new.held)
+gives-lent old new answer l going pushed given h =
+    gives-first (let_go old) (let_go new) (as_next answer new.held) l.taken going pushed given (HasReadText-free old pushed given h)
+
+pub given-lent : (old new : TextState) (answer : Result Bool TextFault) → LendsFirst old new answer → new.given ≡ given_after old.given (given_by (as_next answer new.held))
+given-lent old new answer l = given-first (let_go old) (let_go new) (as_next answer new.held) l.taken
+
+pub keeps-lent : (old new : TextState) (answer : Result Bool TextFault) → LendsFirst old new answer → Keeps old new
+keeps-lent old new answer l =
+    let t = l.taken in
+    let k = keeps-line (let_go old) (let_go new) t.end t.len (t.len + end_len t.end) (as_next answer new.held) t.takes in
     record { options = k.options; columns = k.columns; ended = k.ended }
 
 -- where a row is lent
@@ -83,28 +128,39 @@ row-of : (held : Option Row) → IsSome held → (row : Row) × (held ≡ Some r
 row-of None h = absurd cc
 row-of (Some row) h = (row, refl)
 
-pub row-lent : (old new : TextState) (e : LineEnd) (len taken : ℕ) (answer : Result Bool TextFault) → old.stage ≡ Lines → LendsLine len taken (Some e) (let_go old) answer new → answer ≡ Ok true → new.stage ≡ Lines
-row-lent old new e len taken (Ok true) among t is =
-    let row = row-of new.held t.1 in
-    let goes : TakesLine len taken (Some e) (let_go old) (Ok (Some row.0)) (let_go new) = subst (λ (o : Option Row). TakesLine len taken (Some e) (let_go old) (Ok o) (let_go new)) row.1 t.0 in
-    ap (λ (s : TextState). s.stage) goes.1 ∙ among
-row-lent old new e len taken (Ok false) among t is = absurd cc
-row-lent old new e len taken (Err fault) among t is = absurd cc
+pub row-lent : (old new : TextState) (answer : Result Bool TextFault) → LendsFirst old new answer → answer ≡ Ok true → new.stage ≡ Lines
+row-lent old new (Ok true) l is =
+    let t = l.taken in
+    let row = row-of new.held l.lends in
+    let goes = subst (λ (o : Option Row). TakesLine t.len (t.len + end_len t.end) (Some t.end) (let_go old) (Ok o) (let_go new)) row.1 t.takes in
+    ap (λ (s : TextState). s.stage) goes.1 ∙ t.lines
+row-lent old new (Ok false) l is = absurd cc
+row-lent old new (Err fault) l is = absurd cc
 
-pub fewer-lent : (old new : TextState) (e : LineEnd) (len taken : ℕ) (answer : Result Bool TextFault) → LendsLine len taken (Some e) (let_go old) answer new → 0 < taken → taken ≤ length old.kept → answer ≡ Ok true → length new.kept < length old.kept
-fewer-lent old new e len taken (Ok true) t some le is =
-    let row = row-of new.held t.1 in
-    fewer-line (let_go old) (let_go new) e len taken (Ok new.held) t.0 some le row.0 (ap (λ (o : Option Row). Ok o) row.1)
-fewer-lent old new e len taken (Ok false) t some le is = absurd cc
-fewer-lent old new e len taken (Err fault) t some le is = absurd cc
+pub fewer-lent : (old new : TextState) (answer : Result Bool TextFault) → LendsFirst old new answer → answer ≡ Ok true → length new.kept < length old.kept
+fewer-lent old new (Ok true) l is =
+    let row = row-of new.held l.lends in
+    fewer-first (let_go old) (let_go new) (Ok new.held) l.taken row.0 (ap (λ (o : Option Row). Ok o) row.1)
+fewer-lent old new (Ok false) l is = absurd cc
+fewer-lent old new (Err fault) l is = absurd cc
 
--- ---- a call of next
+pub waits-lent : (old new : TextState) (answer : Result Bool TextFault) → LendsFirst old new answer → answer ≡ Err Memory → (new ≡ let_go old) × RowWaits (text_left old [])
+waits-lent old new (Ok lent) l is = absurd cc
+waits-lent old new (Err fault) l is =
+    let f : fault ≡ Memory = cc in
+    let w = waits-first (let_go old) (let_go new) (Err fault) l.taken (ap (λ (x : TextFault). Err x) f) in
+    (free new l.lends ∙ w.0, w.1)
 
-pub held-line : (old new : TextState) (e : LineEnd) (len taken : ℕ) (answer : Result (Option Row) TextFault) → TakesLine len taken (Some e) old answer new → (answer ≡ Err Memory) ⊎ (new.held ≡ None)
-held-line old new e len taken (Ok (Some row)) t = inr (ap (λ (s : TextState). s.held) t.1)
-held-line old new e len taken (Ok None) t = inr (ap (λ (s : TextState). s.held) t.1)
-held-line old new e len taken (Err fault) (inl t) = inl (ap (λ (f : TextFault). Err f) t.0)
-held-line old new e len taken (Err fault) (inr t) = inr (ap (λ (s : TextState). s.held) t.1)
+-- ---- no line is whole
+
+pub read-none : (old mid new : TextState) → mid ≡ old → new ≡ let_go mid → (pushed : List ℕ) (given : List Row) → HasReadText old pushed given → HasReadText new pushed (given ++ [])
+read-none old mid new walked free pushed given h = rw (free, walked) (HasReadText-same (let_go old) pushed given (HasReadText-free old pushed given h))
+
+pub gives-none : (old mid new : TextState) (s : Scan) → mid ≡ old → new ≡ let_go mid → old.stage ≡ Lines → old.ended ≡ false → IsScanned old.options.delimiter old.line_end old.kept s → StandsAt old.line_end old.kept s
+    → (pushed : List ℕ) (given : List Row) → HasReadText old pushed given → AnswersNext Memory (text_reading new.options new.columns pushed) given (text_ending new.stage new.kept) (Ok None)
+gives-none old mid new s walked free lines going scanned stands pushed given h = rw (free, walked) (AnswersNext-none old s pushed given lines going scanned stands h)
+
+-- ---- a call of finish
 
 pub held-finish : (old mid new : TextState) (answer : Result (Option Row) TextFault) → TakesLast old answer mid → EndsInput answer mid new → (answer ≡ Err Memory) ⊎ (new.held ≡ None)
 held-finish old mid new (Ok (Some row)) t e = inr (ap (λ (s : TextState). s.held) e ∙ ap (λ (s : TextState). s.held) t.1)
@@ -112,12 +168,3 @@ held-finish old mid new (Ok None) t e = inr (ap (λ (s : TextState). s.held) e �
 held-finish old mid new (Err fault) (inl t) e = inl (ap (λ (f : TextFault). Err f) t.0)
 held-finish old mid new (Err fault) (inr t) (inl e) = inr (ap (λ (s : TextState). s.held) e.1 ∙ ap (λ (s : TextState). s.held) t.2)
 held-finish old mid new (Err fault) (inr t) (inr e) = inr (ap (λ (s : TextState). s.held) e.1 ∙ ap (λ (s : TextState). s.held) t.2)
-
--- ---- memory ran out
-
-pub waits-lent : (old new : TextState) (e : LineEnd) (len taken : ℕ) (answer : Result Bool TextFault) → old.stage ≡ Lines → IsFirstLine old.line_end old.kept e len taken → LendsLine len taken (Some e) (let_go old) answer new → answer ≡ Err Memory → (new ≡ let_go old) × RowWaits (text_left old [])
-waits-lent old new e len taken (Ok lent) among at t is = absurd cc
-waits-lent old new e len taken (Err fault) among at t is =
-    let f : fault ≡ Memory = cc in
-    let w = waits-line (let_go old) (let_go new) e len taken (Err fault) among at t.0 (ap (λ (x : TextFault). Err x) f) in
-    (free new t.1 ∙ w.0, w.1)

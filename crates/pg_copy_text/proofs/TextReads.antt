@@ -292,6 +292,20 @@ before-end : (old : TextState) (e : LineEnd) (len taken : ℕ) (more : List ℕ)
     → text_last (with-more old more) ≡ text_at_end old.options old.columns (line_reading old.options old.columns (take len old.kept) (lines_reading old.options old.columns (lines e (drop taken old.kept ++ more))))
 before-end old e len taken more lines at = last-lines old (old.kept ++ more) lines ∙ last-more old.options old.columns old.line_end old.kept more e len taken at
 
+-- the readers before and after a line at which the rows end
+Goes-stop : (old : TextState) (e : LineEnd) (len taken : ℕ) (stage : TextStage) (end : RowsRead TextFault) → old.stage ≡ Lines → IsFirstLine old.line_end old.kept e len taken → (stage ≡ Lines → ⊥)
+    → ((bytes : List ℕ) → text_stage_reading stage old.options old.columns old.line_end bytes ≡ end) → ((bytes : List ℕ) → text_stage_last stage old.options old.columns old.line_end bytes ≡ text_at_end old.options old.columns end)
+    → ((after : RowsRead TextFault) → line_reading old.options old.columns (take len old.kept) after ≡ end) → ReadsRows old (record old { kept = []; stage = stage; held = None }) []
+Goes-stop old e len taken stage end lines at other reads lasts stops = record {
+  options = refl;
+  columns = refl;
+  ended = refl;
+  left = λ more. before old e len taken more lines at ∙ stops (reading_after old.options old.columns (Some e) (drop taken old.kept ++ more)) ∙ sym (reads more);
+  last = λ more. before-end old e len taken more lines at ∙ ap (text_at_end old.options old.columns) (stops (lines_reading old.options old.columns (text.lines e (drop taken old.kept ++ more)))) ∙ sym (lasts more);
+  passes = Passes-stop old stage false other;
+  given = refl;
+}
+
 -- the readers before and after a line's answer
 pub Goes-line : (old new : TextState) (e : LineEnd) (len taken : ℕ) (answer : Answer) → old.stage ≡ Lines → IsFirstLine old.line_end old.kept e len taken → taken ≡ len + end_len e → TakesLine len taken (Some e) old answer new → ReadsRows old new (given_by answer)
 Goes-line old new e len taken (Ok (Some row)) lines at all t =
@@ -309,31 +323,9 @@ Goes-line old new e len taken (Ok (Some row)) lines at all t =
       passes = Passes-line old e len taken lines at all;
       given = refl;
     })
-Goes-line old new e len taken (Ok None) lines at all t =
-    let o = old.options in
-    let c = old.columns in
-    rw t.1 (record {
-      options = refl;
-      columns = refl;
-      ended = refl;
-      left = λ more. before old e len taken more lines at ∙ t.0 (reading_after o c (Some e) (drop taken old.kept ++ more));
-      last = λ more. before-end old e len taken more lines at ∙ ap (text_at_end o c) (t.0 (lines_reading o c (text.lines e (drop taken old.kept ++ more))));
-      passes = Passes-stop old Marked false (λ f. cc);
-      given = refl;
-    })
+Goes-line old new e len taken (Ok None) lines at all t = rw t.1 (Goes-stop old e len taken Marked _ lines at (λ f. cc) (λ bytes. refl) (λ bytes. refl) t.0)
 Goes-line old new e len taken (Err fault) lines at all (inl t) = rw t.1 (Goes-same old)
-Goes-line old new e len taken (Err fault) lines at all (inr t) =
-    let o = old.options in
-    let c = old.columns in
-    rw t.1 (record {
-      options = refl;
-      columns = refl;
-      ended = refl;
-      left = λ more. before old e len taken more lines at ∙ t.0.is (reading_after o c (Some e) (drop taken old.kept ++ more));
-      last = λ more. before-end old e len taken more lines at ∙ ap (text_at_end o c) (t.0.is (lines_reading o c (text.lines e (drop taken old.kept ++ more))));
-      passes = Passes-stop old (Failed fault) false (λ f. cc);
-      given = refl;
-    })
+Goes-line old new e len taken (Err fault) lines at all (inr t) = rw t.1 (Goes-stop old e len taken (Failed fault) _ lines at (λ f. cc) (λ bytes. refl) (λ bytes. refl) t.0.is)
 
 -- what is left, where a call gave no row
 pub now : (old new : TextState) (pushed : List ℕ) (given : List Row) (ending : RowsEnding TextFault) → old.ended ≡ false → new.options ≡ old.options → new.columns ≡ old.columns → HasReadText old pushed given → text_left old [] ≡ record { rows = []; ending = ending }

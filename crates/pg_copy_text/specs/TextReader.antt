@@ -25,6 +25,20 @@ pub record TextState : Type 0 where
   pub offset : ℕ
   pub held : Option Row
 
+-- a reader with these options and columns that was pushed nothing
+abbrev pub text_begun : Options → Option ℕ → TextState
+text_begun options columns = record {
+  options = options;
+  columns = columns;
+  line_end = None;
+  kept = [];
+  stage = stages.Lines;
+  ended = false;
+  given = 0;
+  offset = 0;
+  held = None;
+}
+
 -- where the first n of these lines end, or all where there are fewer: so many bytes end each line
 -- but the last
 abbrev pub lines_size : ℕ → ℕ → List (List ℕ) → ℕ

@@ -12,8 +12,8 @@ ghost use Rattle.pg_copy_rows.specs.Reading.{RowWaits, given_by, given_after, An
 ghost use Rattle.pg_copy_text.specs.Text.{end_len, default_options, text_reading};
 ghost use Rattle.pg_copy_text.specs.Text.{text_file_reading};
 ghost use Rattle.pg_copy_rows.specs.Lent.{as_next, Lends};
-ghost use Rattle.pg_copy_text.specs.TextReader.{HasReadText, PushesText, text_left, text_last};
-ghost use Rattle.pg_copy_text.specs.TextReader.{text_ending, last_text_ending};
+ghost use Rattle.pg_copy_text.specs.TextReader.{HasReadText, PushesText, text_begun, text_left};
+ghost use Rattle.pg_copy_text.specs.TextReader.{text_last, text_ending, last_text_ending};
 ghost use Rattle.pg_copy_text.specs.TextOptions.{AreOptions};
 ghost use Rattle.pg_copy_text.specs.Private.Breaks.{IsFirstLine};
 ghost use Rattle.pg_copy_text.specs.Private.Units.{IsCounted, IsScanned, StandsAt};
@@ -87,17 +87,7 @@ impl TextReader {
     /// and null is `\N`.
     pub fn new(alloc: Global, columns: Option<u16>) -> Self
         requires { IfSome columns (λ n. (0 < n) × (n ≤ 32767)) }
-        ensures state { result ≡ record {
-          options = default_options;
-          columns = columns;
-          line_end = None;
-          kept = [];
-          stage = Lines;
-          ended = false;
-          given = 0;
-          offset = 0;
-          held = None;
-        } }
+        ensures state { result ≡ text_begun default_options columns }
         ensures read { HasReadText result [] [] }
     {
         TextReader::with_options(alloc, columns, TextOptions::default())
@@ -107,17 +97,7 @@ impl TextReader {
     /// parts the fields, and null is their null mark.
     pub fn with_options(alloc: Global, columns: Option<u16>, options: TextOptions) -> Self
         requires { IfSome columns (λ n. (0 < n) × (n ≤ 32767)) }
-        ensures state { result ≡ record {
-          options = options;
-          columns = columns;
-          line_end = None;
-          kept = [];
-          stage = Lines;
-          ended = false;
-          given = 0;
-          offset = 0;
-          held = None;
-        } }
+        ensures state { result ≡ text_begun options columns }
         ensures read { HasReadText result [] [] }
     {
         TextReader {

@@ -5,21 +5,23 @@
 
 mod binary;
 mod faults;
+mod limit;
 mod options;
 mod single;
 mod text;
 
 use pg_copy::{
-    BinaryFault, BinaryReader, Row, RowFault, Seq, TextFault, TextOptions, TextReader,
-    write_text_row, write_text_row_with,
+    BinaryFault, BinaryReader, LimitedTextFault, LimitedTextReader, Row, RowFault, Seq, TextFault,
+    TextOptions, TextReader, write_text_row, write_text_row_with,
 };
 use std::alloc::{AllocError, Global};
 use std::fmt::Display;
 
-/// A fault of either format.
+/// A fault of either format, or of a reader with a limit.
 #[derive(Clone, Copy, PartialEq, Eq)]
 enum Fault {
     Text(TextFault),
+    Limited(LimitedTextFault),
     Binary(BinaryFault),
 }
 
@@ -29,13 +31,19 @@ impl From<TextFault> for Fault {
     }
 }
 
+impl From<LimitedTextFault> for Fault {
+    fn from(fault: LimitedTextFault) -> Fault {
+        Fault::Limited(fault)
+    }
+}
+
 impl From<BinaryFault> for Fault {
     fn from(fault: BinaryFault) -> Fault {
         Fault::Binary(fault)
     }
 }
 
-/// A reader of either format. At the end of the input `push` and `next` do nothing.
+/// A reader of either format, or with a limit. At the end of the input `push` and `next` do nothing.
 trait Reader {
     fn push(&mut self, piece: &[u8]) -> Result<(), Fault>;
 
@@ -86,6 +94,43 @@ impl Reader for TextReader {
 
     fn offset(&self) -> u64 {
         TextReader::offset(self)
+    }
+}
+
+impl Reader for LimitedTextReader {
+    fn push(&mut self, piece: &[u8]) -> Result<(), Fault> {
+        if self.reader().ended() {
+            return Ok(());
+        }
+        LimitedTextReader::push(self, piece)?;
+        Ok(())
+    }
+
+    fn next(&mut self) -> Result<Option<Row>, Fault> {
+        if self.reader().ended() {
+            return Ok(None);
+        }
+        Ok(LimitedTextReader::next(self)?)
+    }
+
+    fn finish(&mut self) -> Result<Option<Row>, Fault> {
+        Ok(LimitedTextReader::finish(self)?)
+    }
+
+    fn done(&self) -> bool {
+        self.reader().done()
+    }
+
+    fn ended(&self) -> bool {
+        self.reader().ended()
+    }
+
+    fn rows_given(&self) -> u64 {
+        self.reader().rows_given()
+    }
+
+    fn offset(&self) -> u64 {
+        self.reader().offset()
     }
 }
 

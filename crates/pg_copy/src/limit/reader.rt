@@ -2,19 +2,21 @@
 
 ghost use Rattle.std.specs.Prelude.{◌≡◌, ◌≤◌, ◌<◌, ◌++◌, ◌⊎◌, ℕ, List, None, Some, Ok, Err, []};
 ghost use Rattle.std.specs.Prelude.{false, true, length, IfSome, OnOk};
-ghost use Rattle.pg_copy.specs.fault.TextFault.TheVariants.{Memory};
-ghost use Rattle.pg_copy.specs.Reading.{AnswersNext, RowWaits, given_by};
-ghost use Rattle.pg_copy.specs.Row.{Row};
-ghost use Rattle.pg_copy.specs.Text.{text_reading, text_file_reading};
-ghost use Rattle.pg_copy.specs.TextReader.{text_ending, last_text_ending, text_left, text_last};
-ghost use Rattle.pg_copy_limit.specs.declared.fault.LimitedTextFault.TheVariants.{Text, LongLine};
-ghost use Rattle.pg_copy_limit.specs.Limited.{HasReadLimited, JudgesLine, PushesLimited, as_text};
-ghost use Rattle.pg_copy_limit.specs.Limited.{begun};
-ghost use Rattle.pg_copy_limit.specs.Private.Judging.{is_long, judged, after_judging, limited};
+ghost use Rattle.pg_copy_rows.specs.declared.fault.TextFault.TheVariants.{Memory};
+ghost use Rattle.pg_copy_rows.specs.Reading.{AnswersNext, RowWaits, given_by};
+ghost use Rattle.pg_copy_rows.specs.Row.{Row};
+ghost use Rattle.pg_copy_text.specs.Text.{text_reading, text_file_reading};
+ghost use Rattle.pg_copy_text.specs.TextReader.{text_ending, last_text_ending, text_left};
+ghost use Rattle.pg_copy_text.specs.TextReader.{text_last};
+ghost use Rattle.pg_copy.specs.declared.limit.fault.LimitedTextFault.TheVariants.{Text, LongLine};
+ghost use Rattle.pg_copy.specs.Limited.{HasReadLimited, JudgesLine, PushesLimited, as_text};
+ghost use Rattle.pg_copy.specs.Limited.{begun};
+ghost use Rattle.pg_copy.specs.Private.Judging.{is_long, judged, after_judging, limited};
 
-use crate::fault::LimitedTextFault;
-use pg_copy::laws::one_split;
-use pg_copy::{Row, TextFault, TextOptions, TextReader};
+use crate::laws::one_split;
+use crate::limit::fault::LimitedTextFault;
+use pg_copy_rows::{Row, TextFault};
+use pg_copy_text::{TextOptions, TextReader};
 use std::alloc::Global;
 use std::marker::Model;
 
@@ -35,7 +37,7 @@ pub struct LimitedTextReader {
 }
 
 impl Model for LimitedTextReader {
-    ghost use Rattle.pg_copy_limit.specs.Limited.{LimitedState};
+    ghost use Rattle.pg_copy.specs.Limited.{LimitedState};
 
     ghost Value = { LimitedState };
 

@@ -1,6 +1,6 @@
 //! Why a file was refused by a reader with a limit (PostgreSQL documentation, page COPY, "Text Format").
 
-use pg_copy::TextFault;
+use pg_copy_rows::TextFault;
 use thiserror::Error;
 
 /// What stands in the place of a row. After any of them but `Text(Memory)` the reader returns it for good; after that it is

@@ -2,19 +2,19 @@
 use Rattle.std.proofs.Common.{◌≡◌, ℕ, ◌-◌, ◌<◌, ◌≤◌, Bool, true, false, ltb, List, [], ◌++◌, length, Option, Some, None, Result, Ok, Err, refl, sym, ◌∙◌, ◌⊎◌, inl, inr}
 use Rattle.std.specs.Prelude.{◌&&◌, not}
 use Rattle.std.proofs.lemmas.Bool.{cases_lt, lt-ltb, le-ltb}
-use Rattle.pg_copy.specs.fault.TextFault.{TextFault}
-use Rattle.pg_copy.specs.fault.TextFault.TheVariants.{Memory}
-use Rattle.pg_copy.specs.text_stage.TextStage.{TextStage}
-use Rattle.pg_copy.specs.text_stage.TextStage.TheVariants as stages
-use Rattle.pg_copy.specs.Reading.{AnswersNext, IsGood, given_by}
-use Rattle.pg_copy.specs.Row.{Row}
-use Rattle.pg_copy.specs.Text.{text_reading}
-use Rattle.pg_copy.specs.TextLaws.{OneSplit}
-use Rattle.pg_copy.specs.TextReader.{HasReadText, text_ending}
-use Rattle.pg_copy_limit.specs.declared.fault.LimitedTextFault.{LimitedTextFault}
-use Rattle.pg_copy_limit.specs.Limited.{LimitedState, HasReadLimited, JudgesLine}
-use Rattle.pg_copy_limit.specs.Private.Judging.{is_marked, is_long, judged, after_judging}
-use Rattle.pg_copy_limit.proofs.Kept.{kept-longer, kept-no-longer}
+use Rattle.pg_copy_rows.specs.declared.fault.TextFault.{TextFault}
+use Rattle.pg_copy_rows.specs.declared.fault.TextFault.TheVariants.{Memory}
+use Rattle.pg_copy_text.specs.declared.text_stage.TextStage.{TextStage}
+use Rattle.pg_copy_text.specs.declared.text_stage.TextStage.TheVariants as stages
+use Rattle.pg_copy_rows.specs.Reading.{AnswersNext, IsGood, given_by}
+use Rattle.pg_copy_rows.specs.Row.{Row}
+use Rattle.pg_copy_text.specs.Text.{text_reading}
+use Rattle.pg_copy_text.specs.TextLaws.{OneSplit}
+use Rattle.pg_copy_text.specs.TextReader.{HasReadText, text_ending}
+use Rattle.pg_copy.specs.declared.limit.fault.LimitedTextFault.{LimitedTextFault}
+use Rattle.pg_copy.specs.Limited.{LimitedState, HasReadLimited, JudgesLine}
+use Rattle.pg_copy.specs.Private.Judging.{is_marked, is_long, judged, after_judging}
+use Rattle.pg_copy.proofs.Kept.{kept-longer, kept-no-longer}
 
 below : (n m : ℕ) → ltb n m ≡ true → n < m
 below n m e = elim (cases_lt n m) [

@@ -1,12 +1,12 @@
 -- How the length of a line is judged.
 use Rattle.std.specs.Prelude.{◌-◌, ◌&&◌, not, nat_lt, Bool, true, false, Option, Some, None, Result, Ok, Err}
-use Rattle.pg_copy.specs.fault.TextFault.{TextFault}
-use Rattle.pg_copy.specs.text_stage.TextStage.{TextStage}
-use Rattle.pg_copy.specs.text_stage.TextStage.TheVariants as stages
-use Rattle.pg_copy.specs.Row.{Row}
-use Rattle.pg_copy_limit.specs.declared.fault.LimitedTextFault.{LimitedTextFault}
-use Rattle.pg_copy_limit.specs.declared.fault.LimitedTextFault.TheVariants.{Text, LongLine}
-use Rattle.pg_copy_limit.specs.Limited.{LimitedState}
+use Rattle.pg_copy_rows.specs.declared.fault.TextFault.{TextFault}
+use Rattle.pg_copy_text.specs.declared.text_stage.TextStage.{TextStage}
+use Rattle.pg_copy_text.specs.declared.text_stage.TextStage.TheVariants as stages
+use Rattle.pg_copy_rows.specs.Row.{Row}
+use Rattle.pg_copy.specs.declared.limit.fault.LimitedTextFault.{LimitedTextFault}
+use Rattle.pg_copy.specs.declared.limit.fault.LimitedTextFault.TheVariants.{Text, LongLine}
+use Rattle.pg_copy.specs.Limited.{LimitedState}
 
 -- whether the end mark was read
 abbrev pub is_marked : TextStage → Bool

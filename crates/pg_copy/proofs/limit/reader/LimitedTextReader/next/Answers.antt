@@ -1,8 +1,8 @@
 use Rattle.std.proofs.Common.{ap, ◌∙◌}
-use Rattle.pg_copy_limit.proofs.Judged.{judges-next}
-use Rattle.pg_copy_limit.specs.Limited.{LimitedState}
-use Rattle.pg_copy_limit.specs.contracts.reader.LimitedTextReader.{the_view}
-use Rattle.pg_copy_limit.proofs.reader.LimitedTextReader.next.Goals as goal
+use Rattle.pg_copy.proofs.Judged.{judges-next}
+use Rattle.pg_copy.specs.Limited.{LimitedState}
+use Rattle.pg_copy.specs.contracts.limit.reader.LimitedTextReader.{the_view}
+use Rattle.pg_copy.proofs.limit.reader.LimitedTextReader.next.Goals as goal
 
 pub returns-clause-judges : goal.returns-clause-judges
 returns-clause-judges c short p g h =

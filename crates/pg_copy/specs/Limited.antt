@@ -1,14 +1,14 @@
 -- A reader of a text file that refuses a line which is too long to be kept, as its callers see it,
 -- and what its calls answer.
-use Rattle.std.specs.Prelude.{◌≡◌, ℕ, ◌+◌, ◌<◌, ◌≤◌, ◌⊎◌, Bool, true, false, List, [], length, Option, Some, None, Result, Ok, Err}
-use Rattle.pg_copy.specs.fault.TextFault.{TextFault}
-use Rattle.pg_copy.specs.text_stage.TextStage.TheVariants as stages
-use Rattle.pg_copy.specs.Reading.{told}
-use Rattle.pg_copy.specs.Row.{Row}
-use Rattle.pg_copy.specs.Text.{Options}
-use Rattle.pg_copy.specs.TextReader.{TextState, HasReadText, PushesText}
-use Rattle.pg_copy_limit.specs.declared.fault.LimitedTextFault.{LimitedTextFault}
-use Rattle.pg_copy_limit.specs.declared.fault.LimitedTextFault.TheVariants.{Text, LongLine}
+use Rattle.std.specs.Prelude.{◌≡◌, ℕ, ◌+◌, ◌<◌, ◌≤◌, ◌⊎◌, Bool, true, false, List, length, Option, Some, None, Result, Ok, Err}
+use Rattle.pg_copy_rows.specs.declared.fault.TextFault.{TextFault}
+use Rattle.pg_copy_text.specs.declared.text_stage.TextStage.TheVariants as stages
+use Rattle.pg_copy_rows.specs.Reading.{told}
+use Rattle.pg_copy_rows.specs.Row.{Row}
+use Rattle.pg_copy_text.specs.Text.{Options}
+use Rattle.pg_copy_text.specs.TextReader.{TextState, HasReadText, PushesText, text_begun}
+use Rattle.pg_copy.specs.declared.limit.fault.LimitedTextFault.{LimitedTextFault}
+use Rattle.pg_copy.specs.declared.limit.fault.LimitedTextFault.TheVariants.{Text, LongLine}
 
 -- the reader without the limit, the most bytes of a line that isn't whole, how many bytes were
 -- pushed, as readers tell numbers, and whether a line was too long
@@ -21,17 +21,7 @@ pub record LimitedState : Type 0 where
 -- a reader with these options, columns and limit that was pushed nothing
 abbrev pub begun : Options → Option ℕ → ℕ → LimitedState
 begun options columns limit = record {
-  reader = record {
-    options = options;
-    columns = columns;
-    line_end = None;
-    kept = [];
-    stage = stages.Lines;
-    ended = false;
-    given = 0;
-    offset = 0;
-    held = None;
-  };
+  reader = text_begun options columns;
   limit = limit;
   pushed = 0;
   long = false;

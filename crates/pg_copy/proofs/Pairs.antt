@@ -1,9 +1,9 @@
 -- How many bytes lines have that a return and a newline end.
 use Rattle.std.proofs.Common.{◌≡◌, ℕ, zero, suc, ◌+◌, ◌<◌, List, [], ◌∷◌, ◌++◌, length, refl, ◌∙◌, arith}
 use Rattle.std.proofs.lemmas.List.{length-append}
-use Rattle.pg_copy.specs.Text.{newline, carriage_return}
-use Rattle.pg_copy.specs.TextLine.{ArePairs, one, lone, more}
-use Rattle.pg_copy.specs.TextReader.{lines_size}
+use Rattle.pg_copy_text.specs.Text.{newline, carriage_return}
+use Rattle.pg_copy_text.specs.TextLine.{ArePairs, one, lone, more}
+use Rattle.pg_copy_text.specs.TextReader.{lines_size}
 
 pub size-more : (end n : ℕ) (p : List ℕ) (ps : List (List ℕ)) → 0 < length ps → lines_size end (suc n) (p ∷ ps) ≡ length p + end + lines_size end n ps
 size-more end n p [] lt = absurd (omega arith)

@@ -2,16 +2,16 @@
 use Rattle.std.proofs.Common.{◌≡◌, ℕ, zero, suc, ◌+◌, ◌-◌, ◌<◌, ◌≤◌, List, [], ◌∷◌, ◌++◌, length, Option, None, refl, sym, ap, ◌∙◌, ◌⊎◌, inl, inr, arith}
 use Rattle.std.proofs.lemmas.List.{append-nil, length-append}
 use Rattle.std.proofs.lemmas.Bool.{cases_lt, lt-ltb, le-ltb}
-use Rattle.pg_copy.specs.line_end.LineEnd.{LineEnd}
-use Rattle.pg_copy.specs.line_end.LineEnd.TheVariants.{Newline, Return, Both}
-use Rattle.pg_copy.specs.text_stage.TextStage.TheVariants as stages
-use Rattle.pg_copy.specs.Reading.{told}
-use Rattle.pg_copy.specs.Row.{Row}
-use Rattle.pg_copy.specs.Text.{newline, carriage_return, end_len, lines, decided_at_end}
-use Rattle.pg_copy.specs.TextLaws.{OneSplit}
-use Rattle.pg_copy.specs.TextLine.{AreParts, one, lone, more}
-use Rattle.pg_copy.specs.TextReader.{TextState, HasReadText, lines_size, lines_end}
-use Rattle.pg_copy_limit.proofs.Pairs.{size-more, pairs-size}
+use Rattle.pg_copy_text.specs.declared.line_end.LineEnd.{LineEnd}
+use Rattle.pg_copy_text.specs.declared.line_end.LineEnd.TheVariants.{Newline, Return, Both}
+use Rattle.pg_copy_text.specs.declared.text_stage.TextStage.TheVariants as stages
+use Rattle.pg_copy_rows.specs.Reading.{told}
+use Rattle.pg_copy_rows.specs.Row.{Row}
+use Rattle.pg_copy_text.specs.Text.{newline, carriage_return, end_len, lines, decided_at_end}
+use Rattle.pg_copy_text.specs.TextLaws.{OneSplit}
+use Rattle.pg_copy_text.specs.TextLine.{AreParts, one, lone, more}
+use Rattle.pg_copy_text.specs.TextReader.{TextState, HasReadText, lines_size, lines_end}
+use Rattle.pg_copy.proofs.Pairs.{size-more, pairs-size}
 
 -- ---- all the lines end where the bytes do
 
