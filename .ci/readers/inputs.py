@@ -53,7 +53,7 @@ class Streams:
             self.pairs.append((cut_messages(back, False), cut_messages(front, True)))
             self.back += cut_messages(back, False)
             self.take_front(cut_messages(front, True))
-        self.take_front(cut_messages(bytes.fromhex(recorded("test_libraries", "recorded", "psql.hex").decode()), True))
+        self.take_front(cut_messages(bytes.fromhex(recorded("test_ends", "recorded", "psql.hex").decode()), True))
         for side, data in vectors():
             {"back": self.back, "front": self.front, "first": self.first}[side].append(data)
         # each kind of message as often as another

@@ -7,7 +7,7 @@ use crate::convert::write_rows;
 use crate::digest::Digest;
 use crate::fetch::query;
 use crate::orders::{Order, WIDTH};
-use crate::session::{Session, checked};
+use crate::session::{BothEnds, checked};
 use pg_backend::{Answer, Load, Logged, Script, ScriptPart};
 use pg_copy::TextReader;
 use pg_wire::{CopyHead, Seq, Status};
@@ -82,7 +82,7 @@ fn put_loaded(alloc: Global, logged: &Logged, digest: &mut Digest) -> anyhow::Re
 /// A session is started, and a text is copied in it.
 fn copy_text(
     alloc: Global,
-    session: &mut Session,
+    session: &mut BothEnds,
     text: &[u8],
     digest: &mut Digest,
 ) -> anyhow::Result<()> {
@@ -99,7 +99,7 @@ fn copy_text(
 
 /// A text is copied in a session of its own.
 fn load_text(alloc: Global, text: &[u8], digest: &mut Digest) -> anyhow::Result<()> {
-    let mut session = Session::new(alloc, script(alloc)?)?;
+    let mut session = BothEnds::new(alloc, script(alloc)?)?;
     copy_text(alloc, &mut session, text, digest)
 }
 

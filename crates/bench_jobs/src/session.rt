@@ -14,7 +14,7 @@ use std::alloc::Global;
 
 /// A client, a backend, and what each has put out for the other.
 #[derive(Drop)]
-pub struct Session {
+pub struct BothEnds {
     client: Client,
     backend: Backend,
     to_backend: Vec<u8>,
@@ -89,13 +89,13 @@ fn trickle_to_client(
     Ok(())
 }
 
-impl Session {
+impl BothEnds {
     /// A session that hasn't begun.
-    pub fn new(alloc: Global, script: Script) -> anyhow::Result<Session>
+    pub fn new(alloc: Global, script: Script) -> anyhow::Result<BothEnds>
         requires { IsChecked script }
     {
         let settings = settings(alloc)?;
-        Ok(Session {
+        Ok(BothEnds {
             client: Client::new(alloc, settings),
             backend: Backend::new(alloc, script, LONGEST),
             to_backend: Vec::new(alloc),

@@ -5,7 +5,7 @@ ghost use Rattle.pg_backend.specs.Check.{IsChecked};
 
 use crate::digest::Digest;
 use crate::orders::{Order, columns};
-use crate::session::{Session, checked};
+use crate::session::{BothEnds, checked};
 use pg_backend::{Answer, Script, ScriptPart};
 use pg_client::Settled;
 use pg_wire::{Aside, ExecEnd, Fields, Part, Request, Seq, Status, Step, Target, Values};
@@ -209,7 +209,7 @@ fn put_settled(settled: &Settled, digest: &mut Digest) {
 /// The client starts, and asks for group after group.
 fn ask_all(
     alloc: Global,
-    session: &mut Session,
+    session: &mut BothEnds,
     order: &mut Order,
     random: &mut Xoshiro256PlusPlus,
     digest: &mut Digest,
@@ -230,7 +230,7 @@ fn play(
     random: &mut Xoshiro256PlusPlus,
     digest: &mut Digest,
 ) -> anyhow::Result<()> {
-    let mut session = Session::new(alloc, script(alloc, order, random)?)?;
+    let mut session = BothEnds::new(alloc, script(alloc, order, random)?)?;
     ask_all(alloc, &mut session, order, random, digest)
 }
 

@@ -4,26 +4,12 @@
 #![tactic(auto)]
 
 use anyhow::{Context, bail};
-use example_base::{Given, Server};
-use pg_client::CallFault;
+use example_base::{Given, Server, put_chunk};
 use pg_drive::{Event, Session};
 use pg_wire::{BackMessage, Fields, Over, Patient, Sink, Source, send_all};
 use standard_streams::all_open;
 use std::net::TcpStream;
 use std::{env, io, str};
-
-// The server waits for data: it is given a chunk, or told that there is no more, or that it can't be read.
-fn put_chunk<L: Source + Sink, I: Source>(
-    session: &mut Session<L>,
-    input: &mut I,
-) -> Result<(), CallFault> {
-    let mut chunk = [0; 8_192];
-    match input.receive(&mut chunk) {
-        Ok(0) => session.copy_done(),
-        Ok(count) => session.copy_chunk(&chunk[..count]),
-        Err(_) => session.copy_fail(b"the data can't be read"),
-    }
-}
 
 // What an error says, if it is UTF-8.
 fn message_of(fields: &Fields) -> &str {

@@ -2,10 +2,9 @@
 //! of `psql -A`.
 //!
 //! `ask_all` and `print_answer` below are the driver. `opening` opens what it needs, `words` reads the command line, `printing` prints what
-//! comes, `copies` gives the server the data of a copy, and `failure` says how the program ends.
+//! comes, and `failure` says how the program ends. `put_chunk` of `example_base` gives the server the data of a copy.
 #![tactic(auto)]
 
-mod copies;
 mod failure;
 mod opening;
 mod printing;
@@ -13,6 +12,7 @@ mod words;
 
 use crate::failure::Failure;
 use crate::printing::Printer;
+use example_base::put_chunk;
 use pg_drive::{Event, Session};
 use pg_wire::{Over, Patient, Sink, Source, send_all};
 use standard_streams::all_open;
@@ -79,7 +79,7 @@ fn print_answer<L: Source + Sink, I: Source, O: Sink, E: Sink>(
             Event::Message(message) => printer.print(&message)?,
             Event::CopyIn => {
                 printer.flush()?;
-                copies::put_chunk(session, input)?;
+                put_chunk(session, input)?;
             }
             Event::Settled { .. } => is_settled = true,
         }

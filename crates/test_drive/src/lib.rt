@@ -4,20 +4,4 @@
 #![tactic(auto)]
 
 #[cfg(test)]
-mod early;
-#[cfg(test)]
-mod early_failures;
-#[cfg(test)]
-mod early_line;
-#[cfg(test)]
-mod failures;
-#[cfg(test)]
-mod line;
-#[cfg(test)]
-mod requests;
-#[cfg(test)]
-mod session_line;
-#[cfg(test)]
-mod sessions;
-#[cfg(test)]
-mod startup;
+mod tests;

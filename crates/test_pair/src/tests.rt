@@ -21,7 +21,7 @@ use claims::{Claim, are_so};
 use events::{TableEvent, event};
 use pg_pair::{Applied, Carry, Pair};
 use std::alloc::{AllocError, Global};
-use test_base::holds;
+use testing::holds;
 
 // More than a run here takes of one kind.
 const MANY: u32 = 1_000;
@@ -157,10 +157,7 @@ fn carried_out<'a>(list: &'a [TableEvent], cut: u32) -> Plan<'a> {
 fn started<'a>(list: &'a [TableEvent]) -> Plan<'a> {
     Plan {
         lets_in: true,
-        cut: 4_096,
-        whole: &[],
-        single: list,
-        last: &[],
+        ..happened(list)
     }
 }
 

@@ -8,21 +8,26 @@ mod text_loops;
 
 use crate::byte_cut::ByteCut;
 use anyhow::{Result, bail, ensure};
-use file::File;
+use file::CopyFormat;
 use pg_copy::{BinaryReader, Row, TextReader};
 use std::alloc::Global;
 use std::fs;
 use std::io::{BufRead, Read};
 
 /// Whether a file that is cut so has these rows.
-fn has_rows<F: File>(alloc: Global, bytes: &[u8], cut: ByteCut, rows: &[Row]) -> Result<bool> {
+fn has_rows<F: CopyFormat>(
+    alloc: Global,
+    bytes: &[u8],
+    cut: ByteCut,
+    rows: &[Row],
+) -> Result<bool> {
     let mut found = Vec::new(alloc);
     file::read::<F>(alloc, bytes, cut, &mut found)?;
     Ok(found.as_slice() == rows)
 }
 
 /// A file has to have these rows however it is cut.
-fn check_cuts<F: File>(alloc: Global, bytes: &[u8], rows: &[Row]) -> Result<()> {
+fn check_cuts<F: CopyFormat>(alloc: Global, bytes: &[u8], rows: &[Row]) -> Result<()> {
     if !has_rows::<F>(alloc, bytes, ByteCut::Everywhere, rows)? {
         bail!("a byte at a time gives other rows");
     }
@@ -35,13 +40,13 @@ fn check_cuts<F: File>(alloc: Global, bytes: &[u8], rows: &[Row]) -> Result<()> 
 }
 
 /// Appends the rows of a file, which are the same however it is cut.
-fn put_rows<F: File>(alloc: Global, bytes: &[u8], rows: &mut Vec<Row>) -> Result<()> {
+fn put_rows<F: CopyFormat>(alloc: Global, bytes: &[u8], rows: &mut Vec<Row>) -> Result<()> {
     file::read::<F>(alloc, bytes, ByteCut::Nowhere, rows)?;
     check_cuts::<F>(alloc, bytes, rows.as_slice())
 }
 
 /// Whether these rows are written as this file.
-fn is_written<F: File>(alloc: Global, rows: &[Row], wanted: &[u8]) -> Result<bool> {
+fn is_written<F: CopyFormat>(alloc: Global, rows: &[Row], wanted: &[u8]) -> Result<bool> {
     Ok(file::write::<F>(alloc, rows)?.as_slice() == wanted)
 }
 

@@ -4,7 +4,7 @@
 
 mod again;
 
-use again::{Binary, FilePart, Refused, Text, write_again};
+use again::{BinaryAgain, FilePart, Refused, TextAgain, write_again};
 use anyhow::Result;
 use std::alloc::Global;
 use std::io::{self, BufRead, Read, Write};
@@ -14,7 +14,7 @@ const PIECE: usize = 100;
 
 /// Puts the binary file that a reader makes of the text.
 fn put_binary(
-    reader: &mut Text,
+    reader: &mut TextAgain,
     text: &[u8],
     out: &mut Vec<u8>,
     refused: &mut Refused,
@@ -40,13 +40,13 @@ fn put_binary(
 
 /// Puts the file in binary.
 fn to_binary(alloc: Global, text: &[u8], out: &mut Vec<u8>, refused: &mut Refused) -> Result<()> {
-    let mut reader = Text::new(alloc);
+    let mut reader = TextAgain::new(alloc);
     put_binary(&mut reader, text, out, refused)
 }
 
 /// Puts the text that a reader makes of the binary file.
 fn put_text(
-    reader: &mut Binary,
+    reader: &mut BinaryAgain,
     binary: &[u8],
     out: &mut Vec<u8>,
     refused: &mut Refused,
@@ -71,7 +71,7 @@ fn put_text(
 
 /// Puts the binary file in text.
 fn to_text(alloc: Global, binary: &[u8], out: &mut Vec<u8>, refused: &mut Refused) -> Result<()> {
-    let mut reader = Binary::new(alloc);
+    let mut reader = BinaryAgain::new(alloc);
     put_text(&mut reader, binary, out, refused)
 }
 

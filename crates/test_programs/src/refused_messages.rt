@@ -5,7 +5,7 @@
 //! bytes. That is never want of memory. What was refused is said on standard error.
 
 mod driven;
-mod line;
+mod link;
 mod refused;
 mod wrong;
 

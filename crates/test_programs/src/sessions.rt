@@ -5,7 +5,7 @@
 
 mod early;
 mod entry;
-mod line;
+mod link;
 mod print;
 mod replay;
 mod words;
@@ -20,14 +20,14 @@ use words::{write_ending, write_words};
 
 /// What was recorded of one connection.
 #[derive(Drop)]
-struct Session {
+struct RecordedSession {
     /// The program that the client was.
     name: String,
     entries: Vec<Entry>,
 }
 
 // Takes an entry, which belongs to the last of the sessions.
-fn take_entry(entry: Entry, sessions: &mut Vec<Session>) -> Result<()> {
+fn take_entry(entry: Entry, sessions: &mut Vec<RecordedSession>) -> Result<()> {
     match sessions.last_mut() {
         Some(session) => session.entries.push(entry)?,
         None => bail!("an entry stands in a session"),
@@ -36,20 +36,20 @@ fn take_entry(entry: Entry, sessions: &mut Vec<Session>) -> Result<()> {
 }
 
 // Takes a line: a session begins with it, or it is an entry.
-fn take_line(alloc: Global, line: &str, sessions: &mut Vec<Session>) -> Result<()> {
+fn take_line(alloc: Global, line: &str, sessions: &mut Vec<RecordedSession>) -> Result<()> {
     let Some(name) = line.strip_prefix("session ") else {
         let entry = Entry::of_line(alloc, line).context(format_args!("in {line:?}"))?;
         return take_entry(entry, sessions);
     };
-    sessions.push(Session {
+    sessions.push(RecordedSession {
         name: String::from_str(alloc, name)?,
         entries: Vec::new(alloc),
     })?;
     Ok(())
 }
 
-fn read_sessions(alloc: Global, input: impl BufRead + Drop) -> Result<Vec<Session>> {
-    let mut sessions: Vec<Session> = Vec::new(alloc);
+fn read_sessions(alloc: Global, input: impl BufRead + Drop) -> Result<Vec<RecordedSession>> {
+    let mut sessions: Vec<RecordedSession> = Vec::new(alloc);
     for line in input.lines(alloc) {
         let line = line?;
         take_line(alloc, line.as_str(), &mut sessions)?;
@@ -114,7 +114,7 @@ fn write_session(name: &str, ending: &SessionEnd, out: &mut impl Write) -> io::R
 }
 
 // Replays a session, and writes how it ended.
-fn show_session(alloc: Global, session: &Session, out: &mut impl Write) -> Result<()> {
+fn show_session(alloc: Global, session: &RecordedSession, out: &mut impl Write) -> Result<()> {
     let name = session.name.as_str();
     let replayed = replay_cut(alloc, session.entries.as_slice());
     let ending = replayed.context(format_args!("in {name}"))?;
@@ -123,7 +123,7 @@ fn show_session(alloc: Global, session: &Session, out: &mut impl Write) -> Resul
 }
 
 // Replays these sessions, and writes how each ended.
-fn show_sessions(alloc: Global, sessions: &[Session], out: &mut impl Write) -> Result<()> {
+fn show_sessions(alloc: Global, sessions: &[RecordedSession], out: &mut impl Write) -> Result<()> {
     for session in sessions {
         show_session(alloc, session, out)?;
     }

@@ -9,7 +9,7 @@ use anyhow::{Context, bail};
 use pg_wire::{BackDecoder, BackMessage, FirstDecoder, FrontDecoder};
 use std::alloc::Global;
 use std::io::{self, BufRead, BufWriter, Write};
-use subject::{Lending, Shown};
+use subject::{Lending, ShownMessage};
 use trial::{Decoded, Flaw, judge};
 use vector::{Side, Vector};
 
@@ -37,7 +37,7 @@ fn judge_back(alloc: Global, bytes: &[u8]) -> Result<Decoded<BackMessage>, Flaw>
 }
 
 /// Writes what came of the bytes. Memory that was refused says nothing of them, and ends the run.
-fn write_verdict<M: Shown + Drop>(
+fn write_verdict<M: ShownMessage + Drop>(
     out: &mut impl Write,
     reading: Result<Decoded<M>, Flaw>,
 ) -> anyhow::Result<()> {

@@ -8,7 +8,7 @@ use std::convert::AsSlice;
 use std::fmt::Debug;
 use std::hash::{DefaultHasher, Hash, Hasher};
 use std::mem;
-use test_base::holds;
+use testing::holds;
 
 // A list of these numbers.
 fn numbers(alloc: Global, items: &[u32]) -> Option<Seq<u32>> {

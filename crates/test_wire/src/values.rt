@@ -6,7 +6,7 @@ use pg_wire::{
     WireFault, backend, frontend,
 };
 use std::alloc::{AllocError, Global};
-use test_base::holds;
+use testing::holds;
 
 /// A text, a null and the empty text.
 const THREE: [Option<&[u8]>; 3] = [Some(b"a\x00"), None, Some(b"")];

@@ -15,7 +15,7 @@ use pg_wire::{
 };
 use std::alloc::{AllocError, Global};
 use std::test::Fail;
-use test_base::{holds, is_told};
+use testing::{holds, is_told};
 
 /// A decoder with the limit 64, to which these bytes were pushed.
 pub(crate) fn pushed(alloc: Global, bytes: &[u8]) -> Result<BackDecoder, WireFault> {
@@ -44,7 +44,7 @@ enum Came {
 
 /// What is done with a decoder, and what must come of it.
 #[derive(Clone, Copy)]
-enum Step {
+enum DecoderStep {
     /// A piece is taken.
     Push(&'static [u8]),
     /// The bytes are taken one by one, and before each `next` gives nothing.
@@ -120,20 +120,20 @@ fn waits_for_each(decoder: &mut BackDecoder, by_lent: bool, bytes: &[u8]) -> boo
     true
 }
 
-fn is_so(decoder: &mut BackDecoder, step: Step) -> bool {
+fn is_so(decoder: &mut BackDecoder, step: DecoderStep) -> bool {
     match step {
-        Step::Push(piece) => decoder.push(piece).is_ok(),
-        Step::PushEach(bytes) => waits_for_each(decoder, false, bytes),
-        Step::PushEachLent(bytes) => waits_for_each(decoder, true, bytes),
-        Step::Refuse(piece, fault) => decoder.push(piece) == Err(fault),
-        Step::Next(came) => next(decoder) == came,
-        Step::NextLent(came) => next_lent(decoder) == came,
-        Step::Lends(loan) => lends(decoder, loan),
-        Step::Kept(count) => decoder.kept() == count,
+        DecoderStep::Push(piece) => decoder.push(piece).is_ok(),
+        DecoderStep::PushEach(bytes) => waits_for_each(decoder, false, bytes),
+        DecoderStep::PushEachLent(bytes) => waits_for_each(decoder, true, bytes),
+        DecoderStep::Refuse(piece, fault) => decoder.push(piece) == Err(fault),
+        DecoderStep::Next(came) => next(decoder) == came,
+        DecoderStep::NextLent(came) => next_lent(decoder) == came,
+        DecoderStep::Lends(loan) => lends(decoder, loan),
+        DecoderStep::Kept(count) => decoder.kept() == count,
     }
 }
 
-fn are_so(decoder: &mut BackDecoder, steps: &[Step]) -> bool {
+fn are_so(decoder: &mut BackDecoder, steps: &[DecoderStep]) -> bool {
     for step in steps {
         if !is_so(decoder, *step) {
             return false;
@@ -143,7 +143,7 @@ fn are_so(decoder: &mut BackDecoder, steps: &[Step]) -> bool {
 }
 
 // Whether a new decoder with the limit 64 does what these steps say.
-fn does(alloc: Global, steps: &[Step]) -> bool {
+fn does(alloc: Global, steps: &[DecoderStep]) -> bool {
     holds(
         Some(BackDecoder::new(alloc, 64)),
         |decoder| are_so(decoder, steps),
@@ -166,11 +166,11 @@ fn all_come_first(alloc: Global, rows: &[(&[u8], Came)]) -> bool {
 
 // ---- tables
 
-const LAST_BYTE: [Step; 4] = [
-    Step::PushEach(&[0x5A, 0, 0, 0, 5, 0x49]),
-    Step::Kept(6),
-    Step::Next(Came::Ready),
-    Step::Kept(0),
+const LAST_BYTE: [DecoderStep; 4] = [
+    DecoderStep::PushEach(&[0x5A, 0, 0, 0, 5, 0x49]),
+    DecoderStep::Kept(6),
+    DecoderStep::Next(Came::Ready),
+    DecoderStep::Kept(0),
 ];
 
 #[test]
@@ -217,13 +217,13 @@ fn bodies_are_judged(rt: HostRuntime) {
 
 const SHORT: Came = Came::Fault(WireFault::ShortLength(3));
 
-const FAULTY: [Step; 6] = [
-    Step::Push(&[0x49, 0, 0, 0, 4, 0x5A, 0, 0, 0, 3]),
-    Step::Next(Came::EmptyQuery),
-    Step::Next(SHORT),
-    Step::Refuse(&[1], WireFault::ShortLength(3)),
-    Step::Next(SHORT),
-    Step::Kept(5),
+const FAULTY: [DecoderStep; 6] = [
+    DecoderStep::Push(&[0x49, 0, 0, 0, 4, 0x5A, 0, 0, 0, 3]),
+    DecoderStep::Next(Came::EmptyQuery),
+    DecoderStep::Next(SHORT),
+    DecoderStep::Refuse(&[1], WireFault::ShortLength(3)),
+    DecoderStep::Next(SHORT),
+    DecoderStep::Kept(5),
 ];
 
 #[test]

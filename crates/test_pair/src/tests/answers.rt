@@ -4,12 +4,13 @@ ghost use Rattle.std.specs.Prelude.{◌≡◌, IfOk};
 ghost use Rattle.pg_backend.specs.Check.{IsChecked};
 ghost use Rattle.pg_wire.specs.Direction.{IsLimit};
 
-use super::events::{text, values};
+use super::events::values;
 use pg_backend::{Answer, Auth, Load, Script, ScriptPart};
 use pg_client::Settings;
 use pg_pair::{Carry, Pair};
-use pg_wire::{Aside, Column, CopyHead, ExecEnd, Fields, Seq, Status, Values};
+use pg_wire::{Aside, Column, ExecEnd, Fields, Seq, Status, Values};
 use std::alloc::{AllocError, Global};
+use testing::values::{column, fields, head, text};
 
 /// The password that is right.
 pub const SECRET: &[u8] = b"secret";
@@ -76,18 +77,6 @@ pub fn asking(question: Question, password: Option<&'static [u8]>) -> Ends<'stat
 
 // ---- what answers are made of
 
-fn column(alloc: Global, name: &[u8]) -> Result<Column, AllocError> {
-    Ok(Column {
-        name: text(alloc, name)?,
-        table_oid: 0,
-        attribute: 0,
-        type_oid: 25,
-        size: -1,
-        modifier: -1,
-        format: 0,
-    })
-}
-
 pub fn columns(alloc: Global) -> Result<Seq<Column>, AllocError> {
     Ok(Seq::new(vec![in alloc; column(alloc, b"n")?]?))
 }
@@ -112,22 +101,9 @@ fn long(alloc: Global) -> Result<ScriptPart, AllocError> {
     Ok(ScriptPart::Command(Seq::new(vec![in alloc; b'A'; 70_000]?)))
 }
 
-/// One column, in text.
-fn head(alloc: Global) -> Result<CopyHead, AllocError> {
-    Ok(CopyHead {
-        binary: false,
-        formats: Seq::new(vec![in alloc; 0]?),
-    })
-}
-
-/// Fields, each given by its code and its text.
-fn all_fields(alloc: Global, list: &[(u8, &[u8])]) -> Result<Fields, AllocError> {
-    Fields::from_slice(alloc, list).map_err(|_| AllocError)
-}
-
 /// Fields of one message.
-fn fields(alloc: Global, message: &[u8]) -> Result<Fields, AllocError> {
-    all_fields(alloc, &[(b'M', message)])
+fn message_fields(alloc: Global, message: &[u8]) -> Result<Fields, AllocError> {
+    fields(alloc, &[(b'M', message)])
 }
 
 /// The fields of each error that a backend answers.
@@ -137,7 +113,7 @@ fn load(alloc: Global, reply: Reply) -> Result<Load, AllocError> {
     match reply {
         Reply::Refusing(after) => Ok(Load::Refuse {
             after,
-            fields: all_fields(alloc, FAILURE)?,
+            fields: fields(alloc, FAILURE)?,
         }),
         _ => Ok(Load::Accept(text(alloc, b"COPY 2")?)),
     }
@@ -145,7 +121,7 @@ fn load(alloc: Global, reply: Reply) -> Result<Load, AllocError> {
 
 fn copy_in(alloc: Global, reply: Reply) -> Result<ScriptPart, AllocError> {
     Ok(ScriptPart::CopyIn {
-        head: head(alloc)?,
+        head: head(alloc, false, 1)?,
         load: load(alloc, reply)?,
     })
 }
@@ -196,14 +172,14 @@ fn parts(alloc: Global, reply: Reply) -> Result<Vec<ScriptPart>, AllocError> {
 
 fn before(alloc: Global, reply: Reply) -> Result<Seq<Aside>, AllocError> {
     match reply {
-        Reply::Told => Ok(Seq::new(vec![in alloc; Aside::Notice(fields(alloc, b"hi")?)]?)),
+        Reply::Told => Ok(Seq::new(vec![in alloc; Aside::Notice(message_fields(alloc, b"hi")?)]?)),
         _ => Ok(Seq::new(Vec::new(alloc))),
     }
 }
 
 fn error(alloc: Global, reply: Reply) -> Result<Option<Fields>, AllocError> {
     match reply {
-        Reply::Failing | Reply::FailingStep(_) => Ok(Some(all_fields(alloc, FAILURE)?)),
+        Reply::Failing | Reply::FailingStep(_) => Ok(Some(fields(alloc, FAILURE)?)),
         _ => Ok(None),
     }
 }

@@ -10,7 +10,7 @@ use std::alloc::Global;
 
 /// What becomes of a carrier's call.
 #[derive(Clone, Copy, PartialEq, Eq)]
-enum Flaw {
+enum CallFlaw {
     /// The last byte is another one.
     Differs,
     /// Half of the bytes arrive.
@@ -22,7 +22,7 @@ enum Flaw {
 /// Carries whole pieces, but for one call.
 #[derive(Drop)]
 struct Flawed {
-    flaw: Flaw,
+    flaw: CallFlaw,
     at: u64,
     calls: u64,
     failures: u64,
@@ -40,13 +40,13 @@ impl Carry for Flawed {
             return Ok(piece.len());
         }
         match self.flaw {
-            Flaw::Differs => {
+            CallFlaw::Differs => {
                 let last = piece.len() - 1;
                 into[last] ^= 1;
                 Ok(piece.len())
             }
-            Flaw::Fewer => Ok(piece.len() / 2),
-            Flaw::Fails => {
+            CallFlaw::Fewer => Ok(piece.len() / 2),
+            CallFlaw::Fails => {
                 self.failures = self.failures.saturating_add(1);
                 Err(CarryFault)
             }
@@ -55,7 +55,7 @@ impl Carry for Flawed {
 }
 
 // A carrier with a flaw in this call.
-fn with_flaw(flaw: Flaw, at: u64) -> Flawed {
+fn with_flaw(flaw: CallFlaw, at: u64) -> Flawed {
     Flawed {
         flaw,
         at,
@@ -65,7 +65,7 @@ fn with_flaw(flaw: Flaw, at: u64) -> Flawed {
 }
 
 // Whether this holds where the client asks, and all that waits goes to and fro, if this call of the carrier has a flaw.
-fn comes_to(alloc: Global, flaw: Flaw, at: u64, claims: &[Claim<'_, '_>]) -> bool {
+fn comes_to(alloc: Global, flaw: CallFlaw, at: u64, claims: &[Claim<'_, '_>]) -> bool {
     judge(
         alloc,
         answering(&[Reply::Row]),
@@ -80,7 +80,7 @@ const UNBROKEN: [Claim<'static, 'static>; 2] = [Claim::Broken(false, false), Cla
 #[test]
 fn fewer_bytes_break_nothing(rt: HostRuntime) {
     for at in 1..=4 {
-        assert!(rt; comes_to(rt.alloc(), Flaw::Fewer, at, &UNBROKEN));
+        assert!(rt; comes_to(rt.alloc(), CallFlaw::Fewer, at, &UNBROKEN));
     }
 }
 
@@ -93,19 +93,19 @@ fn broken_at(at: u64) -> [Claim<'static, 'static>; 2] {
 #[test]
 fn other_bytes_break_a_way(rt: HostRuntime) {
     for at in 1..=4 {
-        assert!(rt; comes_to(rt.alloc(), Flaw::Differs, at, &broken_at(at)));
+        assert!(rt; comes_to(rt.alloc(), CallFlaw::Differs, at, &broken_at(at)));
     }
 }
 
 #[test]
 fn a_failure_breaks_a_way(rt: HostRuntime) {
     for at in 1..=4 {
-        assert!(rt; comes_to(rt.alloc(), Flaw::Fails, at, &broken_at(at)));
+        assert!(rt; comes_to(rt.alloc(), CallFlaw::Fails, at, &broken_at(at)));
     }
 }
 
 // Whether the delivery of the startup packet of 16 bytes is answered so with that flaw, and so many bytes of it come.
-fn answers(alloc: Global, flaw: Flaw, answer: TableAnswer, reached: usize) -> bool {
+fn answers(alloc: Global, flaw: CallFlaw, answer: TableAnswer, reached: usize) -> bool {
     let claims = [
         Claim::Answer(&[TableEvent::ToBackend(100)], answer),
         Claim::Reached(Way::ToBackend, reached),
@@ -122,7 +122,7 @@ fn answers(alloc: Global, flaw: Flaw, answer: TableAnswer, reached: usize) -> bo
 #[test]
 fn a_flaw_is_answered(rt: HostRuntime) {
     let alloc = rt.alloc();
-    assert!(rt; answers(alloc, Flaw::Differs, TableAnswer::Carrier, 15));
-    assert!(rt; answers(alloc, Flaw::Fewer, TableAnswer::Done, 8));
-    assert!(rt; answers(alloc, Flaw::Fails, TableAnswer::Carrier, 0));
+    assert!(rt; answers(alloc, CallFlaw::Differs, TableAnswer::Carrier, 15));
+    assert!(rt; answers(alloc, CallFlaw::Fewer, TableAnswer::Done, 8));
+    assert!(rt; answers(alloc, CallFlaw::Fails, TableAnswer::Carrier, 0));
 }

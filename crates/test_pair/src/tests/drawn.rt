@@ -5,7 +5,7 @@ use super::events::{ASKS, TableEvent, events};
 use crate::{answers_settled, deliver, play, settled_when_ready};
 use pg_pair::{Direct, Pair, Way};
 use std::alloc::{AllocError, Global};
-use test_base::holds;
+use testing::holds;
 
 /// A start and a query, whose answer of 59 bytes waits for the client.
 const ANSWERED: [TableEvent; 7] = [

@@ -5,7 +5,7 @@ use super::events::{TableEvent, TableRequest, request};
 use pg_client::{Client, Settled};
 use pg_pair::{Carry, Pair, Way};
 use std::alloc::{AllocError, Global};
-use test_base::holds;
+use testing::holds;
 
 fn ask(
     alloc: Global,

@@ -21,7 +21,7 @@ pub const COLUMNS: u16 = 3;
 pub const LIMIT: u32 = 65_536;
 
 /// A reader of a format, beside which its writers stand.
-pub trait File: Drop {
+pub trait CopyFormat: Drop {
     // the file that is written of rows
     ghost file_of: { List Row → List ℕ };
 
@@ -65,7 +65,7 @@ fn write_binary_rows(rows: &[Row], buf: &mut Vec<u8>) -> Result<()>
     Ok(())
 }
 
-impl File for TextReader {
+impl CopyFormat for TextReader {
     ghost file_of = { flat_map (written_row default_options) };
 
     fn begin(alloc: Global) -> TextReader
@@ -98,7 +98,7 @@ impl File for TextReader {
     }
 }
 
-impl File for BinaryReader {
+impl CopyFormat for BinaryReader {
     ghost file_of = { λ rows. written_head ++ flat_map binary_row rows ++ trailer };
 
     fn begin(alloc: Global) -> BinaryReader
@@ -135,7 +135,7 @@ impl File for BinaryReader {
 }
 
 // Pushes a piece, and takes the rows that wait then, of which there are no more than bytes.
-fn read_piece<F: File>(
+fn read_piece<F: CopyFormat>(
     reader: &mut F,
     piece: &[u8],
     most: usize,
@@ -152,7 +152,7 @@ fn read_piece<F: File>(
 }
 
 // Pushes a file that comes in pieces, and takes the rows that wait after each.
-fn push_pieces<F: File>(
+fn push_pieces<F: CopyFormat>(
     reader: &mut F,
     bytes: &[u8],
     cut: ByteCut,
@@ -176,7 +176,7 @@ fn push_pieces<F: File>(
 }
 
 // Takes the rows that are left at the end of the input, of which there are no more than bytes.
-fn read_left<F: File>(reader: &mut F, most: usize, rows: &mut Vec<Row>) -> Result<()> {
+fn read_left<F: CopyFormat>(reader: &mut F, most: usize, rows: &mut Vec<Row>) -> Result<()> {
     for _ in 0..=most {
         match reader.finish()? {
             Some(row) => rows.push(row)?,
@@ -187,7 +187,7 @@ fn read_left<F: File>(reader: &mut F, most: usize, rows: &mut Vec<Row>) -> Resul
 }
 
 // Reads a file that comes in pieces to its end.
-fn read_pieces<F: File>(
+fn read_pieces<F: CopyFormat>(
     reader: &mut F,
     bytes: &[u8],
     cut: ByteCut,
@@ -198,13 +198,18 @@ fn read_pieces<F: File>(
 }
 
 /// Appends the rows of a file that comes in pieces.
-pub fn read<F: File>(alloc: Global, bytes: &[u8], cut: ByteCut, rows: &mut Vec<Row>) -> Result<()> {
+pub fn read<F: CopyFormat>(
+    alloc: Global,
+    bytes: &[u8],
+    cut: ByteCut,
+    rows: &mut Vec<Row>,
+) -> Result<()> {
     let mut reader = F::begin(alloc);
     read_pieces(&mut reader, bytes, cut, rows)
 }
 
 /// A whole file of these rows.
-pub fn write<F: File>(alloc: Global, rows: &[Row]) -> Result<Vec<u8>>
+pub fn write<F: CopyFormat>(alloc: Global, rows: &[Row]) -> Result<Vec<u8>>
     ensures { IfOk result (λ file. file.items ≡ F.file_of rows.now) }
 {
     let mut buf = Vec::new(alloc);

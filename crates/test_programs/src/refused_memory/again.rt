@@ -36,15 +36,15 @@ impl Refused {
 
 /// A reader of the text file.
 #[derive(Drop)]
-pub struct Text {
+pub struct TextAgain {
     reader: TextReader,
 }
 
-impl Text {
-    pub fn new(alloc: Global) -> Text
+impl TextAgain {
+    pub fn new(alloc: Global) -> TextAgain
         ensures { result.reader.columns ≡ Some 3 }
     {
-        Text {
+        TextAgain {
             reader: TextReader::new(alloc, Some(COLUMNS)),
         }
     }
@@ -80,15 +80,15 @@ impl Text {
 
 /// A reader of the binary file.
 #[derive(Drop)]
-pub struct Binary {
+pub struct BinaryAgain {
     reader: BinaryReader,
 }
 
-impl Binary {
-    pub fn new(alloc: Global) -> Binary
+impl BinaryAgain {
+    pub fn new(alloc: Global) -> BinaryAgain
         ensures { (result.reader.columns ≡ 3) × (result.reader.limit ≡ 65536) }
     {
-        Binary {
+        BinaryAgain {
             reader: BinaryReader::new(alloc, COLUMNS, LIMIT),
         }
     }

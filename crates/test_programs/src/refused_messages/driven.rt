@@ -1,6 +1,6 @@
 //! A session that is driven over a link: the startup, and a query with a row.
 
-use crate::refused_messages::line::Line;
+use crate::refused_messages::link::FixedLink;
 use crate::refused_messages::refused::Refused;
 use anyhow::{Result, bail, ensure};
 use pg_client::{CallFault, Cause, Client, FeedFault, Phase, Settings};
@@ -20,7 +20,7 @@ const GIVEN: &[u8] =
 struct Driving {
     client: Client,
     out: Vec<u8>,
-    link: Line,
+    link: FixedLink,
 }
 
 /// A new client of the user `u`, and the link.
@@ -35,7 +35,7 @@ fn fresh(alloc: Global) -> Result<Driving, AllocError> {
     Ok(Driving {
         client: Client::new(alloc, settings),
         out: Vec::new(alloc),
-        link: Line::new(GIVEN, SENT),
+        link: FixedLink::new(GIVEN, SENT),
     })
 }
 

@@ -2,20 +2,20 @@
 
 ghost use Rattle.std.specs.Prelude.{◌≡◌};
 
-use crate::sessions::line::has_taken;
+use crate::sessions::link::has_taken;
 use anyhow::{Result, bail};
 use pg_client::{Call, Client, EarlyClient, FeedFault, Item, Settings, Settled};
 use pg_drive::{DriveFault, DrivenEarly, drive_early};
 use pg_wire::{BackMessage, Request, Status, backend};
 use std::alloc::Global;
-use test_base::{Line, line_of};
+use testing::{MemoryLink, memory_link};
 
 /// An early client.
 #[derive(Drop)]
 pub struct Early<'a> {
     client: EarlyClient,
     out: Vec<u8>,
-    line: Line<'a>,
+    line: MemoryLink<'a>,
     /// The group that was settled since the client was last compared.
     settled: Option<(Request, Status)>,
     /// The messages that it gave since they were last compared.
@@ -29,7 +29,7 @@ impl<'a> Early<'a> {
         Early {
             client: EarlyClient::new(alloc, settings),
             out: Vec::new(alloc),
-            line: line_of(alloc, &[], most),
+            line: memory_link(alloc, &[], most),
             settled: None,
             told: Vec::new(alloc),
         }

@@ -5,14 +5,14 @@ ghost use Rattle.test_programs.specs.Entry.{password_of};
 
 use crate::sessions::early::Early;
 use crate::sessions::entry::Entry;
-use crate::sessions::line::has_taken;
+use crate::sessions::link::has_taken;
 use anyhow::{Result, bail, ensure};
 use pg_client::{Call, Cause, Client, FeedFault, Loss, Phase, Settings, Settled};
 use pg_drive::{DriveFault, Driven, drive};
 use pg_wire::{Part, Request, Seq, Step};
 use std::alloc::Global;
 use std::mem;
-use test_base::{Line, line_of};
+use testing::{MemoryLink, memory_link};
 
 /// How the server's bytes come to a client.
 #[derive(Clone, Copy, Debug)]
@@ -45,7 +45,7 @@ struct Running<'a> {
     client: Client,
     early: Early<'a>,
     /// What the client sends over.
-    line: Line<'a>,
+    line: MemoryLink<'a>,
     /// The steps of the group that isn't asked for yet.
     steps: Vec<Step>,
     /// What the client put out and didn't send.
@@ -127,7 +127,7 @@ impl<'a> Running<'a> {
         Ok(Running {
             early: Early::new(alloc, settings.clone()?, most),
             client: Client::new(alloc, settings),
-            line: line_of(alloc, &[], most),
+            line: memory_link(alloc, &[], most),
             steps: Vec::new(alloc),
             out: Vec::new(alloc),
             settled: Vec::new(alloc),

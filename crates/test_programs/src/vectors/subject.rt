@@ -10,20 +10,20 @@ use std::fmt;
 use std::fmt::Debug;
 
 /// A message as the output has it.
-pub trait Shown {
+pub trait ShownMessage {
     /// Writes it as `{:?}` does, but for a password: of a vector it is written too.
     fn show<W: fmt::Write>(&self, f: &mut fmt::Formatter<W>) -> fmt::Result
     where
         Self: Sized;
 }
 
-impl Shown for BackMessage {
+impl ShownMessage for BackMessage {
     fn show<W: fmt::Write>(&self, f: &mut fmt::Formatter<W>) -> fmt::Result {
         fmt::Debug::fmt(self, f)
     }
 }
 
-impl Shown for FrontMessage {
+impl ShownMessage for FrontMessage {
     fn show<W: fmt::Write>(&self, f: &mut fmt::Formatter<W>) -> fmt::Result {
         match self {
             FrontMessage::Password(text) => f.debug_tuple("Password").field(text).finish(),
@@ -32,7 +32,7 @@ impl Shown for FrontMessage {
     }
 }
 
-impl Shown for First {
+impl ShownMessage for First {
     fn show<W: fmt::Write>(&self, f: &mut fmt::Formatter<W>) -> fmt::Result {
         fmt::Debug::fmt(self, f)
     }

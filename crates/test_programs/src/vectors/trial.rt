@@ -1,7 +1,7 @@
 //! What a decoder makes of the bytes of a vector, however they are cut, and an encoder of the message.
 
 use crate::byte_cut::ByteCut;
-use crate::vectors::subject::{Shown, Subject};
+use crate::vectors::subject::{ShownMessage, Subject};
 use pg_wire::{EncodeFault, WireFault};
 use std::alloc::Global;
 use std::fmt;
@@ -16,7 +16,7 @@ pub enum Decoded<M> {
     Refused(WireFault),
 }
 
-impl<M: Shown> fmt::Display for Decoded<M> {
+impl<M: ShownMessage> fmt::Display for Decoded<M> {
     fn fmt<W: fmt::Write>(&self, f: &mut fmt::Formatter<W>) -> fmt::Result {
         match self {
             Decoded::Open => write!(f, "open"),

@@ -1,6 +1,6 @@
 use pg_wire::{EncodeFault, Seq, frontend};
 use std::alloc::{AllocError, Global};
-use test_base::holds;
+use testing::holds;
 
 // A list with the one parameter `user`, whose value has so many bytes.
 fn user_of_length(alloc: Global, length: usize) -> Result<Vec<(Seq<u8>, Seq<u8>)>, AllocError> {

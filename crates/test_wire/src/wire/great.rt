@@ -2,7 +2,7 @@
 
 use pg_wire::{BackDecoder, BackMessage, Cut, LONGEST, Lent, WireFault};
 use std::alloc::{AllocError, Global};
-use test_base::holds;
+use testing::holds;
 
 /// How many bytes the great messages carry.
 const GREAT: usize = 100_000_000;

@@ -1,6 +1,6 @@
 //! Rows, errors and notices that a decoder lends.
 
-use super::{Came, Step, does, message_came};
+use super::{Came, DecoderStep, does, message_came};
 use pg_wire::{BackDecoder, Cut, Lent, WireFault};
 
 /// What a decoder lends.
@@ -77,12 +77,12 @@ const ERROR: &[u8] = &[
     0x45, 0, 0, 0, 0x10, 0x43, 0x35, 0x37, 0x30, 0x31, 0x34, 0, 0x4D, 0x6E, 0x6F, 0, 0,
 ];
 
-const A_ROW: [Step; 5] = [
-    Step::Push(ROW),
-    Step::Lends(Loan::Nothing),
-    Step::NextLent(Came::Held),
-    Step::Kept(0),
-    Step::Lends(Loan::NullAndEmpty),
+const A_ROW: [DecoderStep; 5] = [
+    DecoderStep::Push(ROW),
+    DecoderStep::Lends(Loan::Nothing),
+    DecoderStep::NextLent(Came::Held),
+    DecoderStep::Kept(0),
+    DecoderStep::Lends(Loan::NullAndEmpty),
 ];
 
 #[test]
@@ -90,10 +90,10 @@ fn a_row_is_lent(rt: HostRuntime) {
     assert!(rt; does(rt.alloc(), &A_ROW));
 }
 
-const AN_ERROR: [Step; 3] = [
-    Step::Push(ERROR),
-    Step::NextLent(Came::Held),
-    Step::Lends(Loan::Error),
+const AN_ERROR: [DecoderStep; 3] = [
+    DecoderStep::Push(ERROR),
+    DecoderStep::NextLent(Came::Held),
+    DecoderStep::Lends(Loan::Error),
 ];
 
 #[test]
@@ -101,10 +101,10 @@ fn an_error_is_lent(rt: HostRuntime) {
     assert!(rt; does(rt.alloc(), &AN_ERROR));
 }
 
-const A_NOTICE: [Step; 3] = [
-    Step::Push(&[0x4E, 0, 0, 0, 5, 0]),
-    Step::NextLent(Came::Held),
-    Step::Lends(Loan::BareNotice),
+const A_NOTICE: [DecoderStep; 3] = [
+    DecoderStep::Push(&[0x4E, 0, 0, 0, 5, 0]),
+    DecoderStep::NextLent(Came::Held),
+    DecoderStep::Lends(Loan::BareNotice),
 ];
 
 #[test]
@@ -112,11 +112,11 @@ fn a_notice_without_fields_is_lent(rt: HostRuntime) {
     assert!(rt; does(rt.alloc(), &A_NOTICE));
 }
 
-const ANOTHER: [Step; 4] = [
-    Step::Push(&[0x5A, 0, 0, 0, 5, 0x49]),
-    Step::NextLent(Came::Ready),
-    Step::Lends(Loan::Nothing),
-    Step::NextLent(Came::Nothing),
+const ANOTHER: [DecoderStep; 4] = [
+    DecoderStep::Push(&[0x5A, 0, 0, 0, 5, 0x49]),
+    DecoderStep::NextLent(Came::Ready),
+    DecoderStep::Lends(Loan::Nothing),
+    DecoderStep::NextLent(Came::Nothing),
 ];
 
 #[test]
@@ -124,10 +124,10 @@ fn another_message_is_given(rt: HostRuntime) {
     assert!(rt; does(rt.alloc(), &ANOTHER));
 }
 
-const BYTE_BY_BYTE: [Step; 3] = [
-    Step::PushEachLent(ROW),
-    Step::NextLent(Came::Held),
-    Step::Lends(Loan::NullAndEmpty),
+const BYTE_BY_BYTE: [DecoderStep; 3] = [
+    DecoderStep::PushEachLent(ROW),
+    DecoderStep::NextLent(Came::Held),
+    DecoderStep::Lends(Loan::NullAndEmpty),
 ];
 
 #[test]
@@ -136,28 +136,28 @@ fn a_row_comes_byte_by_byte(rt: HostRuntime) {
 }
 
 /// Two rows with an error between them, a third row, and a ReadyForQuery that comes in two pieces.
-const EACH_CALL: [Step; 21] = [
-    Step::Push(ROW),
-    Step::Push(ERROR),
-    Step::Push(ROW),
-    Step::Push(ROW),
-    Step::Push(&[0x5A, 0, 0]),
-    Step::NextLent(Came::Held),
-    Step::Lends(Loan::NullAndEmpty),
-    Step::Kept(50),
-    Step::Next(Came::Error),
-    Step::Lends(Loan::Nothing),
-    Step::NextLent(Came::Held),
-    Step::Push(&[]),
-    Step::Lends(Loan::Nothing),
-    Step::NextLent(Came::Held),
-    Step::Lends(Loan::NullAndEmpty),
-    Step::NextLent(Came::Nothing),
-    Step::Lends(Loan::Nothing),
-    Step::Push(&[0, 5, 0x49]),
-    Step::Next(Came::Ready),
-    Step::Kept(0),
-    Step::Lends(Loan::Nothing),
+const EACH_CALL: [DecoderStep; 21] = [
+    DecoderStep::Push(ROW),
+    DecoderStep::Push(ERROR),
+    DecoderStep::Push(ROW),
+    DecoderStep::Push(ROW),
+    DecoderStep::Push(&[0x5A, 0, 0]),
+    DecoderStep::NextLent(Came::Held),
+    DecoderStep::Lends(Loan::NullAndEmpty),
+    DecoderStep::Kept(50),
+    DecoderStep::Next(Came::Error),
+    DecoderStep::Lends(Loan::Nothing),
+    DecoderStep::NextLent(Came::Held),
+    DecoderStep::Push(&[]),
+    DecoderStep::Lends(Loan::Nothing),
+    DecoderStep::NextLent(Came::Held),
+    DecoderStep::Lends(Loan::NullAndEmpty),
+    DecoderStep::NextLent(Came::Nothing),
+    DecoderStep::Lends(Loan::Nothing),
+    DecoderStep::Push(&[0, 5, 0x49]),
+    DecoderStep::Next(Came::Ready),
+    DecoderStep::Kept(0),
+    DecoderStep::Lends(Loan::Nothing),
 ];
 
 #[test]
@@ -167,15 +167,15 @@ fn each_call_ends_the_lending(rt: HostRuntime) {
 
 const BAD: WireFault = WireFault::BadBody(68);
 
-const NO_ROW: [Step; 8] = [
-    Step::Push(ROW),
-    Step::Push(&[0x44, 0, 0, 0, 7, 0, 0, 0]),
-    Step::NextLent(Came::Held),
-    Step::NextLent(Came::Fault(BAD)),
-    Step::Lends(Loan::Nothing),
-    Step::Next(Came::Fault(BAD)),
-    Step::Refuse(&[], BAD),
-    Step::Kept(8),
+const NO_ROW: [DecoderStep; 8] = [
+    DecoderStep::Push(ROW),
+    DecoderStep::Push(&[0x44, 0, 0, 0, 7, 0, 0, 0]),
+    DecoderStep::NextLent(Came::Held),
+    DecoderStep::NextLent(Came::Fault(BAD)),
+    DecoderStep::Lends(Loan::Nothing),
+    DecoderStep::Next(Came::Fault(BAD)),
+    DecoderStep::Refuse(&[], BAD),
+    DecoderStep::Kept(8),
 ];
 
 #[test]

@@ -4,7 +4,7 @@ use pg_wire::{LinkFault, Over, PATIENCE, Patient, Sink, Source};
 use std::io;
 use std::io::{ErrorKind, Read, Write};
 use std::test::Fail;
-use test_base::{holds, is_told};
+use testing::{holds, is_told};
 
 // Gives or takes a byte a call, and fails at some calls in a row, by errors of one kind.
 #[derive(Drop)]
@@ -119,7 +119,7 @@ impl Device for Patient<Flaky> {
 
 /// What is done with a link, and what must come of it.
 #[derive(Clone, Copy)]
-enum Step {
+enum LinkStep {
     /// This byte is received, where there is room for four.
     Receive(u8),
     /// A receive fails.
@@ -146,19 +146,19 @@ fn fails_to_receive<D: Device>(link: &mut Over<D>) -> bool {
     link.receive(&mut into) == Err(LinkFault)
 }
 
-fn is_so<D: Device>(link: &mut Over<D>, step: Step) -> bool {
+fn is_so<D: Device>(link: &mut Over<D>, step: LinkStep) -> bool {
     match step {
-        Step::Receive(byte) => receives(link, byte),
-        Step::ReceiveFails => fails_to_receive(link),
-        Step::Send(piece, count) => link.send(piece) == Ok(count),
-        Step::SendFails(piece) => link.send(piece) == Err(LinkFault),
-        Step::Failures(count) => link.failures() == count,
-        Step::Said(kind) => said(link) == kind,
-        Step::Calls(count) => link.get_ref().calls() == count,
+        LinkStep::Receive(byte) => receives(link, byte),
+        LinkStep::ReceiveFails => fails_to_receive(link),
+        LinkStep::Send(piece, count) => link.send(piece) == Ok(count),
+        LinkStep::SendFails(piece) => link.send(piece) == Err(LinkFault),
+        LinkStep::Failures(count) => link.failures() == count,
+        LinkStep::Said(kind) => said(link) == kind,
+        LinkStep::Calls(count) => link.get_ref().calls() == count,
     }
 }
 
-fn are_so<D: Device>(link: &mut Over<D>, steps: &[Step]) -> bool {
+fn are_so<D: Device>(link: &mut Over<D>, steps: &[LinkStep]) -> bool {
     for step in steps {
         if !is_so(link, *step) {
             return false;
@@ -168,20 +168,20 @@ fn are_so<D: Device>(link: &mut Over<D>, steps: &[Step]) -> bool {
 }
 
 // Whether a link does what these steps say, and has made so many calls then.
-fn does<D: Device>(mut link: Over<D>, steps: &[Step], calls: u32) -> bool {
+fn does<D: Device>(mut link: Over<D>, steps: &[LinkStep], calls: u32) -> bool {
     let done = are_so(&mut link, steps) && link.get_ref().calls() == calls;
     done & (link.into_inner().into_calls() == calls)
 }
 
-const READ_FAILS: [Step; 7] = [
-    Step::Receive(1),
-    Step::Said(None),
-    Step::ReceiveFails,
-    Step::Failures(1),
-    Step::Receive(3),
-    Step::Failures(1),
+const READ_FAILS: [LinkStep; 7] = [
+    LinkStep::Receive(1),
+    LinkStep::Said(None),
+    LinkStep::ReceiveFails,
+    LinkStep::Failures(1),
+    LinkStep::Receive(3),
+    LinkStep::Failures(1),
     // what was said stays until another call fails
-    Step::Said(Some(ErrorKind::BrokenPipe)),
+    LinkStep::Said(Some(ErrorKind::BrokenPipe)),
 ];
 
 #[test]
@@ -189,16 +189,16 @@ fn a_read_fails_in_the_middle(rt: HostRuntime) {
     assert!(rt; does(failing_at(2), &READ_FAILS, 3));
 }
 
-const WRITE_FAILS: [Step; 8] = [
-    Step::Send(b"ab", 1),
-    Step::SendFails(b"b"),
-    Step::Said(Some(ErrorKind::BrokenPipe)),
-    Step::Send(b"b", 1),
+const WRITE_FAILS: [LinkStep; 8] = [
+    LinkStep::Send(b"ab", 1),
+    LinkStep::SendFails(b"b"),
+    LinkStep::Said(Some(ErrorKind::BrokenPipe)),
+    LinkStep::Send(b"b", 1),
     // a write that takes nothing is a failure, but of an empty piece
-    Step::Send(b"", 0),
-    Step::SendFails(b"c"),
-    Step::Failures(2),
-    Step::Said(Some(ErrorKind::WriteZero)),
+    LinkStep::Send(b"", 0),
+    LinkStep::SendFails(b"c"),
+    LinkStep::Failures(2),
+    LinkStep::Said(Some(ErrorKind::WriteZero)),
 ];
 
 #[test]
@@ -206,10 +206,10 @@ fn a_write_fails_in_the_middle(rt: HostRuntime) {
     assert!(rt; does(failing_at(2), &WRITE_FAILS, 5));
 }
 
-const WITHOUT_PATIENCE: [Step; 3] = [
-    Step::Receive(1),
-    Step::ReceiveFails,
-    Step::Said(Some(ErrorKind::Interrupted)),
+const WITHOUT_PATIENCE: [LinkStep; 3] = [
+    LinkStep::Receive(1),
+    LinkStep::ReceiveFails,
+    LinkStep::Said(Some(ErrorKind::Interrupted)),
 ];
 
 #[test]
@@ -218,11 +218,11 @@ fn an_interrupted_read_is_a_failure_without_patience(rt: HostRuntime) {
     assert!(rt; does(source, &WITHOUT_PATIENCE, 2));
 }
 
-const READ_AGAIN: [Step; 4] = [
-    Step::Receive(1),
-    Step::Receive(3),
-    Step::Failures(0),
-    Step::Said(None),
+const READ_AGAIN: [LinkStep; 4] = [
+    LinkStep::Receive(1),
+    LinkStep::Receive(3),
+    LinkStep::Failures(0),
+    LinkStep::Said(None),
 ];
 
 #[test]
@@ -231,37 +231,37 @@ fn an_interrupted_read_is_made_again(rt: HostRuntime) {
 }
 
 /// The call that is interrupted, and what comes of three receives.
-const EACH_CALL: [(u8, [Step; 4]); 3] = [
+const EACH_CALL: [(u8, [LinkStep; 4]); 3] = [
     (
         1,
         [
-            Step::Receive(2),
-            Step::Receive(3),
-            Step::Receive(4),
-            Step::Failures(0),
+            LinkStep::Receive(2),
+            LinkStep::Receive(3),
+            LinkStep::Receive(4),
+            LinkStep::Failures(0),
         ],
     ),
     (
         2,
         [
-            Step::Receive(1),
-            Step::Receive(3),
-            Step::Receive(4),
-            Step::Failures(0),
+            LinkStep::Receive(1),
+            LinkStep::Receive(3),
+            LinkStep::Receive(4),
+            LinkStep::Failures(0),
         ],
     ),
     (
         3,
         [
-            Step::Receive(1),
-            Step::Receive(2),
-            Step::Receive(4),
-            Step::Failures(0),
+            LinkStep::Receive(1),
+            LinkStep::Receive(2),
+            LinkStep::Receive(4),
+            LinkStep::Failures(0),
         ],
     ),
 ];
 
-fn each_is_made_again(rows: &[(u8, [Step; 4])]) -> bool {
+fn each_is_made_again(rows: &[(u8, [LinkStep; 4])]) -> bool {
     for (call, steps) in rows {
         if !does(Over::new(interrupted(*call, *call)), steps, 4) {
             return false;
@@ -275,20 +275,24 @@ fn an_interruption_at_each_call(rt: HostRuntime) {
     assert!(rt; each_is_made_again(&EACH_CALL));
 }
 
-const WRITE_AGAIN: [Step; 3] = [Step::Send(b"ab", 1), Step::Failures(0), Step::Said(None)];
+const WRITE_AGAIN: [LinkStep; 3] = [
+    LinkStep::Send(b"ab", 1),
+    LinkStep::Failures(0),
+    LinkStep::Said(None),
+];
 
 #[test]
 fn an_interrupted_write_is_made_again(rt: HostRuntime) {
     assert!(rt; does(Over::new(interrupted(1, 2)), &WRITE_AGAIN, 3));
 }
 
-const PATIENCE_ENDS: [Step; 5] = [
-    Step::ReceiveFails,
-    Step::Calls(65),
-    Step::Said(Some(ErrorKind::Interrupted)),
+const PATIENCE_ENDS: [LinkStep; 5] = [
+    LinkStep::ReceiveFails,
+    LinkStep::Calls(65),
+    LinkStep::Said(Some(ErrorKind::Interrupted)),
     // the next call has as much of it
-    Step::SendFails(b"a"),
-    Step::Failures(2),
+    LinkStep::SendFails(b"a"),
+    LinkStep::Failures(2),
 ];
 
 #[test]
@@ -298,18 +302,18 @@ fn patience_ends(rt: HostRuntime) {
     assert!(rt; does(link, &PATIENCE_ENDS, 2 * (PATIENCE + 1)));
 }
 
-const LAST_TRY: [Step; 2] = [Step::Receive(65), Step::Failures(0)];
+const LAST_TRY: [LinkStep; 2] = [LinkStep::Receive(65), LinkStep::Failures(0)];
 
 #[test]
 fn patience_lasts_until_the_last_try(rt: HostRuntime) {
     assert!(rt; does(Over::new(interrupted(1, 64)), &LAST_TRY, 65));
 }
 
-const ANOTHER_ERROR: [Step; 4] = [
-    Step::ReceiveFails,
-    Step::Said(Some(ErrorKind::BrokenPipe)),
-    Step::Calls(1),
-    Step::Send(b"a", 1),
+const ANOTHER_ERROR: [LinkStep; 4] = [
+    LinkStep::ReceiveFails,
+    LinkStep::Said(Some(ErrorKind::BrokenPipe)),
+    LinkStep::Calls(1),
+    LinkStep::Send(b"a", 1),
 ];
 
 #[test]
@@ -318,19 +322,19 @@ fn another_error_is_not_tried_again(rt: HostRuntime) {
     assert!(rt; does(link, &ANOTHER_ERROR, 2));
 }
 
-const READ_WOULD_BLOCK: [Step; 5] = [
-    Step::ReceiveFails,
-    Step::Failures(1),
-    Step::Said(Some(ErrorKind::WouldBlock)),
-    Step::Calls(1),
-    Step::Receive(2),
+const READ_WOULD_BLOCK: [LinkStep; 5] = [
+    LinkStep::ReceiveFails,
+    LinkStep::Failures(1),
+    LinkStep::Said(Some(ErrorKind::WouldBlock)),
+    LinkStep::Calls(1),
+    LinkStep::Receive(2),
 ];
 
-const WRITE_WOULD_BLOCK: [Step; 4] = [
-    Step::SendFails(b"a"),
-    Step::Failures(1),
-    Step::Said(Some(ErrorKind::WouldBlock)),
-    Step::Send(b"a", 1),
+const WRITE_WOULD_BLOCK: [LinkStep; 4] = [
+    LinkStep::SendFails(b"a"),
+    LinkStep::Failures(1),
+    LinkStep::Said(Some(ErrorKind::WouldBlock)),
+    LinkStep::Send(b"a", 1),
 ];
 
 #[test]

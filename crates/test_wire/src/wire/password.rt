@@ -1,7 +1,7 @@
 use pg_wire::{FrontMessage, Seq, frontend, md5_answer};
 use std::alloc::Global;
 use std::test::Fail;
-use test_base::holds;
+use testing::holds;
 
 // The answers that are expected here were computed with Python's hashlib.
 

@@ -1,0 +1,10 @@
+mod client;
+mod driving;
+mod early;
+mod early_client;
+mod early_failures;
+mod failures;
+mod requests;
+mod session;
+mod sessions;
+mod startup;

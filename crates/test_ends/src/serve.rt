@@ -1,0 +1,4 @@
+//! Backends that answer over a link.
+
+mod answering;
+mod serving;

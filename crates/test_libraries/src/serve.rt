@@ -1,4 +1,0 @@
-//! Backends that answer over a link.
-
-mod answering;
-mod line;

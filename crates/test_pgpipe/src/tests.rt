@@ -1,0 +1,13 @@
+mod across;
+mod breaks;
+mod carriers;
+mod conversions;
+mod convert;
+mod failures;
+mod files;
+mod lines;
+mod links;
+mod runs;
+mod show;
+mod told;
+mod work;
