@@ -30,7 +30,7 @@ pub fn write_rows(
     Ok(())
 }
 
-/// A file of the other format.
+// A file of the other format.
 fn converted(alloc: Global, from: Format, to: Format, file: &[u8]) -> anyhow::Result<Vec<u8>> {
     let mut source = Over::new(file);
     let mut sink = Over::new(Vec::new(alloc));

@@ -60,7 +60,7 @@ pub fn settings(alloc: Global) -> Result<Settings, AllocError>
     Ok(Settings::new(alloc, Seq::from_slice(alloc, b"clerk")?))
 }
 
-/// A client starts, and is let in.
+// A client starts, and is let in.
 fn begin(alloc: Global, client: &mut Client, out: &mut Vec<u8>) -> anyhow::Result<()> {
     let mut buf = Vec::new(alloc);
     welcome(&mut buf)?;
@@ -69,7 +69,7 @@ fn begin(alloc: Global, client: &mut Client, out: &mut Vec<u8>) -> anyhow::Resul
     Ok(())
 }
 
-/// Puts the rows of a group.
+// Puts the rows of a group.
 fn put_settled(settled: &Settled, digest: &mut Digest) {
     for part in settled.outcome.parts.iter() {
         if let Part::Rows { rows, .. } = part {
@@ -83,7 +83,7 @@ fn put_settled(settled: &Settled, digest: &mut Digest) {
     }
 }
 
-/// Takes the group that was settled.
+// Takes the group that was settled.
 fn take(client: &mut Client, digest: &mut Digest) -> anyhow::Result<()> {
     let Some(settled) = client.take_settled() else {
         bail!("no group is settled");
@@ -92,7 +92,7 @@ fn take(client: &mut Client, digest: &mut Digest) -> anyhow::Result<()> {
     Ok(())
 }
 
-/// A client starts, asks so many queries, is fed the answers, and its groups are taken.
+// A client starts, asks so many queries, is fed the answers, and its groups are taken.
 fn ask_all(
     alloc: Global,
     client: &mut Client,

@@ -20,7 +20,7 @@ const ROWS: u32 = 10_000;
 /// How many bytes the client hands over at once.
 const CHUNK: usize = 8_192;
 
-/// A copy from the client that is accepted.
+// A copy from the client that is accepted.
 fn copy_in(alloc: Global) -> Result<ScriptPart, AllocError> {
     let formats = Seq::new(vec![in alloc; 0i16; WIDTH]?);
     let tag = Seq::from_slice(alloc, b"COPY 10000")?;
@@ -33,7 +33,7 @@ fn copy_in(alloc: Global) -> Result<ScriptPart, AllocError> {
     })
 }
 
-/// An answer that takes one copy from the client.
+// An answer that takes one copy from the client.
 fn answer(alloc: Global) -> Result<Answer, AllocError> {
     Ok(Answer {
         before: Seq::new(Vec::new(alloc)),
@@ -43,14 +43,14 @@ fn answer(alloc: Global) -> Result<Answer, AllocError> {
     })
 }
 
-/// A script that takes one copy from the client.
+// A script that takes one copy from the client.
 fn script(alloc: Global) -> anyhow::Result<Script>
     ensures { IfOk result (λ script. IsChecked script) }
 {
     checked(alloc, vec![in alloc; answer(alloc)?]?)
 }
 
-/// Puts the rows that wait.
+// Puts the rows that wait.
 fn put_rows(reader: &mut TextReader, digest: &mut Digest) -> anyhow::Result<()> {
     for _ in 0..u64::MAX {
         if reader.ended() {
@@ -66,7 +66,7 @@ fn put_rows(reader: &mut TextReader, digest: &mut Digest) -> anyhow::Result<()> 
     Ok(())
 }
 
-/// Reads the rows that were loaded.
+// Reads the rows that were loaded.
 fn put_loaded(alloc: Global, logged: &Logged, digest: &mut Digest) -> anyhow::Result<()> {
     let mut reader = TextReader::new(alloc, Some(WIDTH as u16));
     for chunk in logged.loaded.iter() {
@@ -79,7 +79,7 @@ fn put_loaded(alloc: Global, logged: &Logged, digest: &mut Digest) -> anyhow::Re
     Ok(())
 }
 
-/// A session is started, and a text is copied in it.
+// A session is started, and a text is copied in it.
 fn copy_text(
     alloc: Global,
     session: &mut BothEnds,
@@ -97,7 +97,7 @@ fn copy_text(
     Ok(())
 }
 
-/// A text is copied in a session of its own.
+// A text is copied in a session of its own.
 fn load_text(alloc: Global, text: &[u8], digest: &mut Digest) -> anyhow::Result<()> {
     let mut session = BothEnds::new(alloc, script(alloc)?)?;
     copy_text(alloc, &mut session, text, digest)

@@ -28,7 +28,7 @@ use std::env;
 /// The jobs.
 const JOBS: [&str; 6] = ["fetch", "stream", "load", "convert", "show", "trickle"];
 
-/// Does the job of a name: what came of it.
+// Does the job of a name: what came of it.
 fn do_job(alloc: Global, name: &str, seed: u32, size: u32) -> anyhow::Result<u64> {
     let random = Xoshiro256PlusPlus::seed_from_u64(u64::from(seed));
     match name {

@@ -122,7 +122,7 @@ impl Order {
     }
 }
 
-/// A column of an order, of the type text.
+// A column of an order, of the type text.
 fn column(alloc: Global, name: &[u8]) -> Result<Column, AllocError> {
     Ok(Column {
         name: Seq::from_slice(alloc, name)?,

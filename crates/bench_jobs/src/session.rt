@@ -35,7 +35,7 @@ pub fn checked(alloc: Global, answers: Vec<Answer>) -> anyhow::Result<Script>
     Ok(script)
 }
 
-/// Handles all that waits.
+// Handles all that waits.
 fn step_all(backend: &mut Backend, out: &mut Vec<u8>) -> anyhow::Result<()> {
     for _ in 0..u64::MAX {
         if !backend.step(out)? {
@@ -45,12 +45,12 @@ fn step_all(backend: &mut Backend, out: &mut Vec<u8>) -> anyhow::Result<()> {
     Ok(())
 }
 
-/// How many bytes arrive next, where few do and more wait: 1 to 32.
+// How many bytes arrive next, where few do and more wait: 1 to 32.
 fn few(random: &mut Xoshiro256PlusPlus) -> usize {
     (random.next_u64() >> 59) as usize + 1
 }
 
-/// Gives bytes to a backend, a few at a time.
+// Gives bytes to a backend, a few at a time.
 fn trickle_to_backend(
     backend: &mut Backend,
     bytes: &[u8],
@@ -70,7 +70,7 @@ fn trickle_to_backend(
     Ok(())
 }
 
-/// Gives bytes to a client, a few at a time.
+// Gives bytes to a client, a few at a time.
 fn trickle_to_client(
     client: &mut Client,
     bytes: &[u8],

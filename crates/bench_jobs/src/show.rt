@@ -17,7 +17,7 @@ const ANSWERS: u32 = 64;
 /// How many groups stand in a stream of a client.
 const GROUPS: u32 = 8_192;
 
-/// What a server has sent.
+// What a server has sent.
 fn of_server(
     alloc: Global,
     order: &mut Order,
@@ -40,7 +40,7 @@ fn of_server(
     Ok(())
 }
 
-/// What a client has sent: rows that it inserts.
+// What a client has sent: rows that it inserts.
 fn of_client(
     order: &mut Order,
     random: &mut Xoshiro256PlusPlus,
@@ -57,7 +57,7 @@ fn of_client(
     Ok(())
 }
 
-/// Shows a stream.
+// Shows a stream.
 fn put_shown(alloc: Global, front: bool, stream: &[u8], digest: &mut Digest) -> anyhow::Result<()> {
     let mut source = Over::new(stream);
     let mut sink = Over::new(Vec::new(alloc));

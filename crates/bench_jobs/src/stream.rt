@@ -11,7 +11,7 @@ use std::alloc::Global;
 /// The most bytes that come at once, of a loopback or a socket of the same machine.
 const PIECE: usize = 65_536;
 
-/// An early client starts, and is let in.
+// An early client starts, and is let in.
 fn begin(alloc: Global, client: &mut EarlyClient, out: &mut Vec<u8>) -> anyhow::Result<()> {
     let mut buf = Vec::new(alloc);
     welcome(&mut buf)?;
@@ -20,7 +20,7 @@ fn begin(alloc: Global, client: &mut EarlyClient, out: &mut Vec<u8>) -> anyhow::
     Ok(())
 }
 
-/// Takes all that came: the rows lent, the other items owned.
+// Takes all that came: the rows lent, the other items owned.
 fn take(client: &mut EarlyClient, digest: &mut Digest, out: &mut Vec<u8>) -> anyhow::Result<()> {
     for _ in 0..u64::MAX {
         match client.next_lent(out)? {
@@ -38,7 +38,7 @@ fn take(client: &mut EarlyClient, digest: &mut Digest, out: &mut Vec<u8>) -> any
     Ok(())
 }
 
-/// An early client starts, asks so many queries, and takes the answers as they come.
+// An early client starts, asks so many queries, and takes the answers as they come.
 fn ask_all(
     alloc: Global,
     client: &mut EarlyClient,

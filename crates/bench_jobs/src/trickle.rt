@@ -16,7 +16,7 @@ use std::alloc::{AllocError, Global};
 /// How many groups a session has.
 const GROUPS: u32 = 64;
 
-/// The values of a row, owned.
+// The values of a row, owned.
 fn values(
     alloc: Global,
     order: &mut Order,
@@ -25,7 +25,7 @@ fn values(
     Ok(Values::from_slice(alloc, order.next(random).as_slice())?)
 }
 
-/// The step that parses a statement.
+// The step that parses a statement.
 fn parse(alloc: Global) -> Result<Step, AllocError> {
     let text = b"INSERT INTO orders VALUES ($1, $2, $3, $4, $5, $6, $7) RETURNING *";
     Ok(Step::Parse {
@@ -35,7 +35,7 @@ fn parse(alloc: Global) -> Result<Step, AllocError> {
     })
 }
 
-/// The step that binds values.
+// The step that binds values.
 fn bind(alloc: Global, values: Values) -> Step {
     Step::Bind {
         portal: Seq::new(Vec::new(alloc)),
@@ -46,7 +46,7 @@ fn bind(alloc: Global, values: Values) -> Step {
     }
 }
 
-/// The step that describes what is bound.
+// The step that describes what is bound.
 fn describe(alloc: Global) -> Step {
     Step::Describe {
         target: Target::Portal,
@@ -54,7 +54,7 @@ fn describe(alloc: Global) -> Step {
     }
 }
 
-/// The step that runs what is bound.
+// The step that runs what is bound.
 fn execute(alloc: Global) -> Step {
     Step::Execute {
         portal: Seq::new(Vec::new(alloc)),
@@ -62,7 +62,7 @@ fn execute(alloc: Global) -> Step {
     }
 }
 
-/// Puts the steps of a group: a statement is parsed, bound, described and run.
+// Puts the steps of a group: a statement is parsed, bound, described and run.
 fn put_steps(
     alloc: Global,
     order: &mut Order,
@@ -76,7 +76,7 @@ fn put_steps(
     Ok(())
 }
 
-/// A group of steps.
+// A group of steps.
 fn group(
     alloc: Global,
     order: &mut Order,
@@ -87,7 +87,7 @@ fn group(
     Ok(Request::Group(Seq::new(steps)))
 }
 
-/// The notice that comes before some answers.
+// The notice that comes before some answers.
 fn notices(alloc: Global, comes: bool) -> anyhow::Result<Seq<Aside>> {
     let mut notices = Vec::new(alloc);
     if comes {
@@ -98,13 +98,13 @@ fn notices(alloc: Global, comes: bool) -> anyhow::Result<Seq<Aside>> {
     Ok(Seq::new(notices))
 }
 
-/// The error that ends some.
+// The error that ends some.
 fn error(alloc: Global) -> anyhow::Result<Fields> {
     let text = b"duplicate key value violates unique constraint";
     Ok(Fields::from_slice(alloc, &[(b'S', b"ERROR"), (b'C', b"23505"), (b'M', text)])?)
 }
 
-/// What a run gives: so many rows.
+// What a run gives: so many rows.
 fn executed(
     alloc: Global,
     order: &mut Order,
@@ -122,7 +122,7 @@ fn executed(
     })
 }
 
-/// Puts what a group is answered into an answer: mostly a few rows, sometimes an error, and before some a notice.
+// Puts what a group is answered into an answer: mostly a few rows, sometimes an error, and before some a notice.
 fn fill(
     alloc: Global,
     order: &mut Order,
@@ -147,7 +147,7 @@ fn fill(
     Ok(())
 }
 
-/// What a group is answered.
+// What a group is answered.
 fn answer(
     alloc: Global,
     order: &mut Order,
@@ -163,7 +163,7 @@ fn answer(
     Ok(answer)
 }
 
-/// Puts the answers of a session.
+// Puts the answers of a session.
 fn put_answers(
     alloc: Global,
     order: &mut Order,
@@ -176,7 +176,7 @@ fn put_answers(
     Ok(())
 }
 
-/// What the backend answers.
+// What the backend answers.
 fn script(
     alloc: Global,
     order: &mut Order,
@@ -189,7 +189,7 @@ fn script(
     checked(alloc, answers)
 }
 
-/// Puts a group that was settled.
+// Puts a group that was settled.
 fn put_settled(settled: &Settled, digest: &mut Digest) {
     for part in settled.outcome.parts.iter() {
         if let Part::Executed { rows, .. } = part {
@@ -206,7 +206,7 @@ fn put_settled(settled: &Settled, digest: &mut Digest) {
     digest.put(settled.outcome.asides.len() as u64);
 }
 
-/// The client starts, and asks for group after group.
+// The client starts, and asks for group after group.
 fn ask_all(
     alloc: Global,
     session: &mut BothEnds,
@@ -223,7 +223,7 @@ fn ask_all(
     Ok(())
 }
 
-/// Plays a session.
+// Plays a session.
 fn play(
     alloc: Global,
     order: &mut Order,

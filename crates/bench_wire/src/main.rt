@@ -28,7 +28,7 @@ fn size_of(message: &BackMessage) -> u64 {
     size
 }
 
-/// The same of a row that is lent.
+/// How many bytes the values of a row that is lent have.
 pub(crate) fn size_of_lent(row: &RowView<'_>) -> u64 {
     let mut size = 0u64;
     for value in row.values() {

@@ -26,8 +26,8 @@ fn put_barred(value: Option<&[u8]>, text: &mut Vec<u8>) -> Result<(), AllocError
     put_value(value, text)
 }
 
-/// Appends the names of the columns in a line, with a bar between two. Where memory is refused, a part of it may have been appended; so it
-/// is with each of these functions.
+/// Appends the names of the columns in a line, with a bar between two. Where memory runs out, a part of it may have been appended. So it is with each
+/// function of this file.
 pub fn put_names(columns: &[Column], text: &mut Vec<u8>) -> Result<(), AllocError>
     ensures { OnOk result (text.new.items ≡ text.old.items ++ names_line columns.now) }
 {

@@ -22,7 +22,7 @@ pub enum EnvironmentFault {
     /// The port is no number from 0 to 65,535.
     #[error("the port is no number from 0 to 65535")]
     Port,
-    /// Memory was refused.
+    /// Memory ran out.
     #[error("no memory")]
     Memory,
 }
@@ -33,7 +33,7 @@ impl From<AllocError> for EnvironmentFault {
     }
 }
 
-/// What a program was told, as by the words of a command line. It counts before the environment.
+/// What a program was given, as by the words of a command line. It counts before the environment.
 #[derive(Clone, Copy, Default)]
 pub struct Given<'a> {
     /// The server's host.

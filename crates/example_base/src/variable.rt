@@ -23,7 +23,7 @@ pub fn value<R: Env + AllocGlobal>(
     }
 }
 
-/// The same, and where there is neither, this.
+/// The text that was given, or else that of the environment's variable, unless it is empty; or else `otherwise`.
 pub fn value_or<R: Env + AllocGlobal>(
     rt: &R,
     given: Option<&str>,

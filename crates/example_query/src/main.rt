@@ -12,7 +12,7 @@ use standard_streams::all_open;
 use std::env;
 use std::net::TcpStream;
 
-// Starts the session, makes the query and ends the session: what was answered.
+// Starts the session, makes the query and ends the session. It returns what was answered.
 fn ask<L: Source + Sink>(session: &mut GroupSession<L>, query: &str) -> anyhow::Result<Settled> {
     session.start()?;
     session.query(query)?;

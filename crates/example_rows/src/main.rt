@@ -13,7 +13,7 @@ use std::alloc::Global;
 use std::net::TcpStream;
 use std::{env, io};
 
-// Puts the line of an error. Of the other messages none is printed.
+// Puts the line of an error. No other message is printed.
 fn put_message(message: &BackMessage, line: &mut Vec<u8>) -> anyhow::Result<()> {
     if let BackMessage::ErrorResponse(fields) = message {
         put_error(fields, line)?;

@@ -17,7 +17,7 @@ use std::env;
 use std::io::{Read, Write};
 use std::net::TcpListener;
 
-// What a client is answered: a row to its first request, an error to its second, and to any other one that there is no answer. A tab parts
+// The script: a row for the first request, an error for the second, and an error for any other one, since there is no answer to it. A tab separates
 // the fields of a line; docs/LOOP.md has all lines. A Script may be made of its values too.
 const SCRIPT: &[u8] = b"answer\tI
 rows\tSELECT 1\tgreeting

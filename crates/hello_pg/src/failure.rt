@@ -12,7 +12,7 @@ use thiserror::Error;
 /// Why the program ends with a status other than 0, which stands before each.
 #[derive(Debug, Drop, Error)]
 pub enum Failure {
-    /// 1: the server answered an error, which was printed as it came.
+    /// 1: the server returned an error, which was printed as it came.
     #[error("the server answered an error")]
     Refused,
     /// 2: the server can't be reached.
@@ -30,7 +30,7 @@ pub enum Failure {
     /// 4: the words or the environment are wrong, for this reason.
     #[error("{0}; hello_pg --help tells more")]
     Words(&'static str),
-    /// 5: the client refuses a call, as for a query that is too long.
+    /// 5: the client rejects a call, as for a query that is too long.
     #[error("{0}")]
     Call(#[from] CallFault),
     /// 5: a standard stream is closed, so that what is opened would take its place.
@@ -42,7 +42,7 @@ pub enum Failure {
     /// 5: the output can't be written.
     #[error("the output can't be written")]
     Output,
-    /// 5: memory was refused.
+    /// 5: memory ran out.
     #[error("no memory")]
     Memory(#[from(alloc)] AllocError),
 }
@@ -105,7 +105,7 @@ impl Failure {
         }
     }
 
-    /// Why the words of the command line can't be had: memory was refused, or one isn't text.
+    /// Why the words of the command line can't be had: memory ran out, or one isn't text.
     pub fn of_words(error: io::Error) -> Failure {
         match error.kind() {
             io::ErrorKind::OutOfMemory => Failure::Memory(AllocError),

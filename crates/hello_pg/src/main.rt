@@ -24,7 +24,7 @@ fn main(rt: HostRuntime) -> ExitCode {
     match opening::run(&rt, streams, Over::new(Patient::new(rt.stderr()))) {
         Ok(()) => ExitCode::SUCCESS,
         Err(failure) => {
-            // where this can't be made or written, the status still tells
+            // where this can't be made or written, the status still says it
             let mut text = Vec::new(rt.alloc());
             if failure.put(&mut text).is_ok() {
                 let _ = send_all(text.as_slice(), &mut Over::new(Patient::new(rt.stderr())));

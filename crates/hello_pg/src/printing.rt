@@ -70,7 +70,7 @@ impl<O: Sink, E: Sink> Printer<O, E> {
     fn tell(&mut self, fields: &Fields) -> Result<(), Failure> {
         self.flush()?;
         put_error(fields, &mut self.text)?;
-        // where it can't be written, the status still tells
+        // where it can't be written, the status still says it
         let _ = send_all(self.text.as_slice(), &mut self.errors);
         self.text.clear();
         Ok(())

@@ -56,7 +56,7 @@ AllWait (copy.Chunk bytes ∷ ms) = AllWait ms
 AllWait (copy.Waits ∷ ms) = AllWait ms
 AllWait (m ∷ ms) = ⊥
 
--- A copy with this way to end isn't refused yet where n chunks were taken.
+-- A copy with this way to end isn't rejected yet where n chunks were taken.
 abbrev pub NotRefused : Load → ℕ → Type 0
 NotRefused (Accept tag) n = Unit {0}
 NotRefused (Refuse after fields) n = n < after

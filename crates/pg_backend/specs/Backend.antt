@@ -21,7 +21,7 @@ pub use Rattle.pg_backend.specs.History.{with_fault}
 abbrev pub IsClosed : BackendState → Type 0
 IsClosed b = phase_of b.stage ≡ phase.Closed
 
--- A push stores the whole piece, or refuses it and changes nothing: where the backend is closed, or
+-- A push stores the whole piece, or rejects it and changes nothing: where the backend is closed, or
 -- where memory ran out, which a piece without bytes never meets.
 abbrev pub Stores : BackendState → List ℕ → Result Unit BackendFault → BackendState → Type 0
 Stores old piece (Ok x) new = (IsClosed old → ⊥)
@@ -38,7 +38,7 @@ pub record PlaysOn (old new : BackendState) : Type 0 where
   pub not_starved : had_memory new.stage ≡ true
   pub not_lost : was_lost new.stage ≡ false
 
--- What `step` answers: false where nothing whole waits; true for a packet or message that may stand
+-- What `step` returns: false where nothing whole waits; true for a packet or message that may stand
 -- in its place; K4 for one that may not, K1 for a faulty rest and K2 where memory ran out, each of
 -- which closes; K3 where it was closed. K2 appends and logs nothing.
 abbrev pub Steps : BackendState → List ℕ
@@ -54,7 +54,7 @@ Steps old before (Err faults.Memory) new after = WantsMemory old.stage
     × (new ≡ record old { stage = stage.Closed closed_by.Memory }) × (after ≡ before)
 Steps old before (Err faults.Closed) new after = IsClosed old × (new ≡ old) × (after ≡ before)
 
--- How a step with this answer, which has sent `added`, carries the history h on: by the packet or
+-- How a step with this result, which has sent `added`, carries the history h on: by the packet or
 -- message that it took (true, K4), by the fault of the rest (K1), or by nothing.
 abbrev pub Handles : History → List ℕ
     → BackendState → Result Bool BackendFault → BackendState → Type 0
@@ -74,7 +74,7 @@ Handles h added old (Err (faults.Wire f)) new =
 Handles h added old (Err faults.Memory) new = IsHistoryOf h new
 Handles h added old (Err faults.Closed) new = IsHistoryOf h new
 
--- From this history a step has appended `added` to what was sent, and has handled what its answer
+-- From this history a step has appended `added` to what was sent, and has handled what its result
 -- says.
 abbrev pub StepsFrom : History → BackendState → List ℕ
     → Result Bool BackendFault → BackendState → List ℕ → Type 0

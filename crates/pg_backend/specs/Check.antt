@@ -34,7 +34,7 @@ HasOneCopyEach s = list_all has_one_copy s.answers ≡ true
 
 -- ---- messages
 
--- the messages that may be sent for a part; of a copy that is refused, its CopyInResponse and its
+-- the messages that may be sent for a part; for a copy that is rejected, its CopyInResponse and its
 -- error
 abbrev pub part_messages : ScriptPart → List BackMessage
 part_messages (part.CopyIn head (Refuse after fields)) =
@@ -57,7 +57,7 @@ script_messages s =
 abbrev pub IsSpelledWhole : Script → Type 0
 IsSpelledWhole s = AllByRecursion (HasSpelling backend) (script_messages s)
 
--- No encoder would refuse a message of the script. For a script in a program that means that each
+-- No encoder would reject a message of the script. For a script in a program that means that each
 -- has a spelling, as its numbers are of their types.
 abbrev pub IsEncodable : Script → Type 0
 IsEncodable s = AllByRecursion (λ m. encode_fault backend m ≡ None) (script_messages s)
@@ -68,7 +68,7 @@ pub record IsChecked (s : Script) : Type 0 where
   pub one_copy : HasOneCopyEach s
   pub spelled : IsSpelledWhole s
 
--- What `check` answers: Ok where the script can be played; S1 for an answer with two copies from
+-- What `check` returns: Ok where the script can be played; S1 for an answer with two copies from
 -- the client, else S2 for a message without a spelling; S3 Memory only where neither holds.
 abbrev pub Checks : Script → Result Unit ScriptFault → Type 0
 Checks s (Ok x) = IsChecked s

@@ -20,12 +20,12 @@ pub record CopyEnd : Type 0 where
 abbrev pub ended : Result (List ℕ) (List ErrorField) → Option CopyEnd
 ended result = Some (record { loaded = []; result = result; taken = 1 })
 
--- the same end of a copy, with this chunk taken before
+-- this end of a copy, with this chunk taken before it
 abbrev pub with_chunk : List ℕ → CopyEnd → CopyEnd
 with_chunk bytes e =
     record { loaded = bytes ∷ e.loaded; result = e.result; taken = suc e.taken }
 
--- the same end of a copy, with a message without effect before
+-- this end of a copy, with a message without effect before it
 abbrev pub with_wait : CopyEnd → CopyEnd
 with_wait e = record { loaded = e.loaded; result = e.result; taken = suc e.taken }
 
@@ -40,7 +40,7 @@ accepted tag (Strays ∷ ms) = ended (Err out_of_copy)
 accepted tag (Waits ∷ ms) = option_map with_wait (accepted tag ms)
 accepted tag (Leaves ∷ ms) = None
 
--- how a copy that is refused with these fields at the n-th chunk from here ends by these messages;
+-- how a copy that is rejected with these fields at the n-th chunk from here ends by these messages;
 -- None where they don't end it, or a Terminate ends the session
 abbrev pub refused : List ErrorField → ℕ → List InCopy → Option CopyEnd
 refused fields zero ms = Some (record { loaded = []; result = Err fields; taken = 0 })

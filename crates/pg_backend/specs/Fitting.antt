@@ -10,7 +10,7 @@ use Rattle.pg_backend.specs.declared.script.ScriptPart.{ScriptPart}
 use Rattle.pg_backend.specs.Outcome.{complete}
 use Rattle.pg_backend.specs.OwnError.{no_answer}
 
--- whether the part may answer a Query: it is a result, or a copy from the client that is refused
+-- whether the part may answer a Query: it is a result, or a copy from the client that is rejected
 abbrev pub answers_query : ScriptPart → Bool
 answers_query p = list_all is_result (complete p)
 

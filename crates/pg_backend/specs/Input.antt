@@ -117,7 +117,7 @@ abbrev pub input_log : Script → Input → List Logged
 input_log s i = packets_log s i.packets i.messages
 
 -- where an input ends: among first packets (Opening); before the password (Asking); at a Cancel or
--- a client that was refused (Refusal); or at this place of the messages after the Startup
+-- a client that was rejected (Refusal); or at this place of the messages after the Startup
 pub data End : Type 0 where
   Opening : End
   Asking : End

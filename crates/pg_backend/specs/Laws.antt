@@ -97,8 +97,8 @@ WelcomeIsSegment = (s : Script) (user : List ℕ) (ms : List BackMessage)
 
 -- ---- a client that takes turns
 
--- The session of a client that takes turns has, for each request, what its own copy messages
--- decide. Those that are left over from a copy have no effect on the next request.
+-- In the session of a client that takes turns, each request is decided by its own copy messages.
+-- Those that are left over from a copy have no effect on the next request.
 abbrev pub TurnsRead : Type 0
 TurnsRead = (answers : List Answer) (ts : List Turn) → InTurn answers ts
     → session answers (flat_map turn_messages ts)
@@ -114,15 +114,15 @@ TurnsEnd = (answers : List Answer) (ts : List Turn) → InTurn answers ts
 abbrev pub AreFirstOf : List FrontMessage → List Turn → Type 0
 AreFirstOf handled ts = IsPrefix handled (flat_map turn_messages ts ++ front.Terminate ∷ [])
 
--- The log of a client that takes turns has the first of its requests, in order, however many of its
+-- The log of a client that takes turns has its first requests, in order, however many of its
 -- messages were handled.
 abbrev pub TurnsLogged : Type 0
 TurnsLogged = (answers : List Answer) (ts : List Turn) (handled : List FrontMessage)
     → InTurn answers ts → AreFirstOf handled ts
     → IsPrefix (map (λ l. l.request) (log_of answers handled)) (map (λ t. t.request) ts)
 
--- Of a client that takes turns, the chunks that were taken for each request of the log are the
--- first that it handed over for it, as Took says.
+-- A client takes turns. For each request of the log, the chunks that were taken are the first that
+-- it handed over for it, as Took says.
 abbrev pub TurnsLoaded : Type 0
 TurnsLoaded = (answers : List Answer) (ts : List Turn) (handled : List FrontMessage)
     → InTurn answers ts → AreCopied ts → AreFirstOf handled ts

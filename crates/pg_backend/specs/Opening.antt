@@ -48,14 +48,14 @@ question Trust = []
 question (Cleartext password) = back.AuthCleartext ∷ []
 question (Md5 password salt) = back.AuthMd5 salt ∷ []
 
--- what a client with this user is asked for; one whose user is empty is refused without a question
+-- what a client with this user is asked for; one whose user is empty is rejected without a question
 abbrev pub question_for : Auth → List ℕ → List BackMessage
 question_for auth [] = []
 question_for auth (c ∷ cs) = question auth
 
--- what becomes of a client after its Startup: it is refused with an error; its password is awaited;
--- before its password it sent a Terminate or a message that may not stand there (Stopped); or it is
--- let in, and these messages follow
+-- what becomes of a client after its Startup: it is rejected with an error; its password is
+-- awaited; before its password it sent a Terminate or a message that may not stand there (Stopped);
+-- or it is let in, and these messages follow
 pub data Admission : Type 0 where
   Refused : (fields : List ErrorField) → Admission
   Awaited : Admission
@@ -77,7 +77,7 @@ by_auth Trust user ms = Admitted ms
 by_auth (Cleartext password) user ms = by_password password ms
 by_auth (Md5 password salt) user ms = by_password (md5_text user password salt) ms
 
--- what becomes of a client with this user and these messages: one whose user is empty is refused
+-- what becomes of a client with this user and these messages: one whose user is empty is rejected
 abbrev pub admission : Auth → List ℕ → List FrontMessage → Admission
 admission auth [] ms = Refused no_user
 admission auth (c ∷ cs) ms = by_auth auth (c ∷ cs) ms

@@ -9,7 +9,7 @@ use Rattle.pg_backend.specs.declared.script.Load.TheVariants.{Accept, Refuse}
 use Rattle.pg_backend.specs.declared.script.ScriptPart.{ScriptPart}
 use Rattle.pg_backend.specs.declared.script.ScriptPart.TheVariants as part
 
--- the part of an outcome that a part of an answer becomes; a copy that is refused becomes none
+-- the part of an outcome that a part of an answer becomes; a copy that is rejected becomes none
 abbrev pub complete : ScriptPart → List Part
 complete (part.Rows columns rows tag) = whole.Rows columns rows tag ∷ []
 complete (part.Command tag) = whole.Command tag ∷ []
@@ -23,7 +23,7 @@ complete (part.Described parameters columns) = whole.Described parameters column
 complete (part.Executed rows end) = whole.Executed rows end ∷ []
 complete part.Shut = whole.Shut ∷ []
 
--- the parts of an outcome that these parts of an answer become, in order
+-- the parts of an outcome that come of these parts of an answer, in order
 abbrev pub parts_of : List ScriptPart → List Part
 parts_of parts = flat_map complete parts
 

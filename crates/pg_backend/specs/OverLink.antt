@@ -25,13 +25,13 @@ answer_code fault.Link = codes "A2"
 
 -- ---- the backend
 
--- `step` was called and answered this, and the reply is all that it put out.
+-- `step` was called and returned this, and the reply is all that it put out.
 pub record HasStepped (old : BackendState) (answer : Result Bool BackendFault) (reply : List ℕ)
     (new : BackendState) : Type 0 where
   pub step : Steps old [] answer new reply
   pub history : CarriesStep old [] answer new reply
 
--- `push` was called with this piece and answered this.
+-- `push` was called with this piece and returned this.
 pub record HasPushed (old : BackendState) (piece : List ℕ) (answer : Result Unit BackendFault)
     (new : BackendState) : Type 0 where
   pub push : Stores old piece answer new
@@ -100,10 +100,10 @@ module _ {L : Type 0} (gives takes : L → List ℕ → L → Type 0) (has_ended
     pub stepped : HasStepped old.backend (Err f) reply new.backend
     pub sent : Sends takes send_failures old.link reply new.link
 
-  -- Nothing whole waited, and a piece was received that the backend refused.
+  -- Nothing whole waited, and a piece was received that the backend rejected.
   pub record Refuses (old : Connection L) (f : BackendFault) (new : Connection L) : Type 0 where
     pub piece : List ℕ
-    -- the backend that refused it, before it was told that the connection is gone
+    -- the backend that rejected it, before `lost` was called on it
     pub backend : BackendState
     pub waited : IsWaiting old.backend.stage
     pub received : gives old.link piece new.link
@@ -123,7 +123,7 @@ module _ {L : Type 0} (gives takes : L → List ℕ → L → Type 0) (has_ended
   pub record FailsToReply (old new : Connection L) : Type 0 where
     pub answer : Result Bool BackendFault
     pub reply : List ℕ
-    -- the backend that made the step, before it was told that the link failed
+    -- the backend that made the step, before `lost` was called on it
     pub backend : BackendState
     pub stepped : HasStepped old.backend answer reply backend
     -- the end of the reply, which wasn't sent
@@ -131,7 +131,7 @@ module _ {L : Type 0} (gives takes : L → List ℕ → L → Type 0) (has_ended
     pub sent : FailsToSend takes send_failures old.link reply left new.link
     pub lost : IsLost backend new.backend
 
-  -- The last turn, by what was answered in it. TurnsUsed isn't answered in a turn.
+  -- The last turn, by what was returned in it. TurnsUsed isn't returned in a turn.
   abbrev pub LastTurn : Connection L → Result Answered AnswerFault → Connection L → Type 0
   LastTurn old (Ok answered.Closed) new = IsClosed old.backend × (new ≡ old)
   LastTurn old (Ok answered.Lost) new = Ends old new
@@ -139,7 +139,7 @@ module _ {L : Type 0} (gives takes : L → List ℕ → L → Type 0) (has_ended
   LastTurn old (Err (fault.Backend f)) new = Breaks old f new ⊎ Refuses old f new
   LastTurn old (Err fault.Link) new = FailsToReceive old new ⊎ FailsToReply old new
 
-  -- After so many turns that went on, this was answered: TurnsUsed where as many were given, and
+  -- After so many turns that went on, this was returned: TurnsUsed where as many were given, and
   -- else something in one more turn.
   abbrev pub AnswersThen : ℕ → ℕ → Connection L → Result Answered AnswerFault → Connection L
       → Type 0
@@ -147,7 +147,7 @@ module _ {L : Type 0} (gives takes : L → List ℕ → L → Type 0) (has_ended
   AnswersThen turns count old result new = (count < turns) × LastTurn old result new
 
   -- What `answer` does with so many turns: these went on, one after the other, and then this was
-  -- answered.
+  -- returned.
   pub record Answers (turns : ℕ) (old : Connection L) (result : Result Answered AnswerFault)
       (new : Connection L) : Type 0 where
     pub passed : List Passed

@@ -60,14 +60,14 @@ abbrev pub at_copy_end : Answer → List ScriptPart → CopyEnd → Verdict
 at_copy_end a before e =
     record { outcome = outcome_at a before e.result; loaded = e.loaded; taken = e.taken }
 
--- what a request with an answer of this shape comes to by the messages after it; None where they
+-- the verdict on a request with an answer of this shape, by the messages after it; None where they
 -- don't decide it
 abbrev pub verdict_of : Answer → Shape → List FrontMessage → Option Verdict
 verdict_of a Whole ms = Some (record { outcome = whole_outcome a; loaded = []; taken = 0 })
 verdict_of a (Copies before head load after) ms =
     option_map (at_copy_end a before) (copy_end load ms)
 
--- what a request with this answer comes to by the messages after it; None where they don't decide
+-- the verdict on a request with this answer, by the messages after it; None where they don't decide
 -- it
 abbrev pub verdict : Answer → List FrontMessage → Option Verdict
 verdict a ms = verdict_of a (shape a.parts) ms
@@ -81,7 +81,7 @@ aside_message (aside.Parameter name value) = back.ParameterStatus name value
 aside_message (aside.Notification process channel payload) =
     back.Notification process channel payload
 
--- the messages of these parts; a copy that is refused has none here
+-- the messages of these parts; a copy that is rejected has none here
 abbrev pub parts_sent : List ScriptPart → List BackMessage
 parts_sent parts = flat_map messages_of (parts_of parts)
 

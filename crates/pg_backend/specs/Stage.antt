@@ -73,7 +73,7 @@ HasFaultyRest (stage.First d) f = IsFaultyPacket d.kept f
 HasFaultyRest (stage.Open d a) f = IsFaulty frontend d.limit d.kept f
 HasFaultyRest (stage.Closed by) f = ⊥
 
--- Where a step may be refused memory: the rest is not open, so a whole packet or message waits, or
+-- Where a step may run out of memory: the rest is not open, so a whole packet or message waits, or
 -- the rest is faulty. In a closed backend never.
 abbrev pub WantsMemory : BackStage → Type 0
 WantsMemory (stage.Closed by) = ⊥

@@ -9,7 +9,7 @@ use Rattle.pg_backend.specs.declared.script_fault.ScriptFault.TheVariants as scr
 use Rattle.pg_wire.specs.Backend.{backend}
 use Rattle.pg_wire.specs.Direction.{spelling, encode_fault, HasSpelling}
 
--- No encoder would refuse one of these messages.
+-- No encoder would reject one of these messages.
 abbrev pub AreEncodable : List BackMessage → Type 0
 AreEncodable ms = AllByRecursion (λ m. encode_fault backend m ≡ None) ms
 

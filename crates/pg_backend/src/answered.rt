@@ -1,4 +1,4 @@
-//! What `answer` answers.
+//! What `answer` returns.
 
 ghost use Rattle.std.specs.Prelude.{◌≡◌};
 ghost use Rattle.pg_backend.specs.OverLink.{answer_code};
@@ -6,24 +6,24 @@ ghost use Rattle.pg_backend.specs.OverLink.{answer_code};
 use crate::fault::BackendFault;
 use thiserror::Error;
 
-/// Why a client is answered no further for now.
+/// Why [`answer`](crate::answer) returned.
 #[derive(Clone, Copy, Debug, PartialEq, Eq)]
 pub enum Answered {
     /// The backend is closed, and all that it replied is sent.
     Closed,
-    /// The client's bytes have ended. The backend was told so, and is closed.
+    /// The client's bytes have ended. `lost` was called on the backend, which is closed.
     Lost,
-    /// As many turns were taken as were given.
+    /// As many turns were taken as the call was given.
     TurnsUsed,
 }
 
-/// Why a client can't be answered. The backend is closed.
+/// Why a backend can't answer a client any more. The backend is closed.
 #[derive(Clone, Copy, Debug, PartialEq, Eq, Error)]
 pub enum AnswerFault {
     /// The backend returned this fault to what the client sent. What it replied is sent.
     #[error("A1 Backend {0}")]
     Backend(BackendFault),
-    /// The link failed, and the backend was told that it is gone.
+    /// The link failed, and `lost` was called on the backend.
     #[error("A2 Link")]
     Link,
 }

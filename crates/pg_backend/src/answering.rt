@@ -20,21 +20,21 @@ use pg_wire::backend::{command_complete, copy_in, encode};
 use pg_wire::{BackMessage, CopyHead, EncodeFault, Fields, Request, Seq, Status};
 use std::alloc::Global;
 
-/// What a request comes to at once.
+/// How far a request can be answered at once.
 #[derive(Drop)]
 pub enum Opened {
-    /// It is decided.
+    /// The request is decided.
     Decided(Logged),
-    /// The data of a copy is awaited.
+    /// The backend awaits the data of a copy.
     Copies(Loading),
 }
 
 /// The parts of an answer, split at a copy from the client.
 #[derive(Drop)]
 pub enum Split<'a> {
-    /// There is none.
+    /// There is no copy from the client.
     Whole,
-    /// The parts before it, its formats, what becomes of it, the parts after it.
+    /// The parts before the copy, its formats, how it ends, and the parts after it.
     Copies(&'a [ScriptPart], &'a CopyHead, &'a Load, &'a [ScriptPart]),
 }
 
@@ -52,7 +52,7 @@ fn split_at_copy(parts: &[ScriptPart]) -> Split<'_>
     Split::Whole
 }
 
-// An error, if there is one, and ReadyForQuery.
+// Writes an error, if there is one, and ReadyForQuery.
 fn tell_end(error: &Option<Fields>, status: Status, out: &mut Vec<u8>) -> Result<(), EncodeFault>
     ensures { EncodesAll (error_sent error.now ++ Ready status ∷ [])
         out.old.items result out.new.items }
@@ -61,7 +61,7 @@ fn tell_end(error: &Option<Fields>, status: Status, out: &mut Vec<u8>) -> Result
     both(so_far, encode(&BackMessage::Ready(status), out))
 }
 
-// These parts, and the end of the answer.
+// Writes these parts, and the end of the answer.
 fn tell_rest(answer: &Answer, parts: &[ScriptPart], out: &mut Vec<u8>) -> Result<(), EncodeFault>
     ensures { EncodesAll (parts_sent parts.now ++ end_sent answer.now.error answer.now)
         out.old.items result out.new.items }
@@ -70,7 +70,7 @@ fn tell_rest(answer: &Answer, parts: &[ScriptPart], out: &mut Vec<u8>) -> Result
     both(so_far, tell_end(&answer.error, answer.status, out))
 }
 
-// An answer with these parts.
+// Writes an answer with these parts.
 fn tell_whole(answer: &Answer, parts: &[ScriptPart], out: &mut Vec<u8>) -> Result<(), EncodeFault>
     ensures { EncodesAll (map aside_message answer.now.before
         ++ (parts_sent parts.now ++ end_sent answer.now.error answer.now))
@@ -80,7 +80,7 @@ fn tell_whole(answer: &Answer, parts: &[ScriptPart], out: &mut Vec<u8>) -> Resul
     both(so_far, tell_rest(answer, parts, out))
 }
 
-// An answer up to a copy from the client.
+// Writes an answer up to a copy from the client.
 fn tell_opening(
     answer: &Answer,
     parts: &[ScriptPart],
@@ -97,7 +97,7 @@ fn tell_opening(
     both(asides, so_far)
 }
 
-// An answer up to a copy from the client that is refused at once with this error.
+// Writes an answer up to a copy from the client, and the error with which that copy is rejected at once.
 fn tell_refusal(
     answer: &Answer,
     parts: &[ScriptPart],
@@ -113,7 +113,7 @@ fn tell_refusal(
     both(so_far, tell_end(error, answer.status, out))
 }
 
-// What comes after a copy from the client that is complete with this tag.
+// Writes what comes after a copy from the client that is complete with this tag.
 fn tell_completion(
     answer: &Answer,
     tag: &[u8],
@@ -128,7 +128,7 @@ fn tell_completion(
     both(so_far, tell_rest(answer, parts, out))
 }
 
-/// What telling comes to, where its only fault is Memory: a message of a checked script has a spelling.
+/// The result of writing messages of a checked script. Each of them has a spelling, so the only fault is Memory.
 pub fn or_memory(telling: Result<(), EncodeFault>) -> Result<(), BackendFault>
     ensures { MatchResult telling
         (λ _. result ≡ Ok record {}) (λ _. result ≡ Err BackendFault.Memory) }
@@ -159,7 +159,7 @@ fn give_whole(
     })
 }
 
-// Answers a request whose copy is refused at once.
+// Answers a request whose copy is rejected at once.
 fn refuse(
     alloc: Global,
     request: Request,
@@ -213,7 +213,7 @@ fn begin_copy(
     })
 }
 
-// The error of a copy that is refused at once.
+// The error of a copy that is rejected at once.
 fn refused_at_once(load: &Load) -> Option<&Fields>
     ensures { MatchOption result
         (NotRefused load.now 0) (λ fields. load.now ≡ Refuse 0 fields.now) }

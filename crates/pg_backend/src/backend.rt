@@ -33,8 +33,7 @@ use std::mem;
 
 /// The server's side of a connection, which answers from a script.
 ///
-/// `push` stores a piece of what the client sends, and each `step` handles one first packet or one message of it and appends the
-/// reply.
+/// `push` stores a piece of what the client sends. Each `step` handles one first packet or one message of it, and appends the reply.
 #[derive(Drop)]
 pub struct Backend {
     alloc: Global,
@@ -61,7 +60,7 @@ impl Model for Backend {
         × IsSound b.limit b.stage };
 }
 
-// What a decoder answers to a piece, as it has found no fault.
+// The result of a push for a decoder's result. The decoder has found no fault, so it can only be Memory.
 fn stored(pushed: Result<(), WireFault>) -> Result<(), BackendFault>
     ensures { MatchResult pushed
         (λ _. result ≡ Ok record {}) (λ _. result ≡ Err BackendFault.Memory) }
@@ -79,7 +78,7 @@ fn is_refused(answer: &Result<bool, BackendFault>) -> bool
     matches!(answer, Err(BackendFault::Memory))
 }
 
-// Closes by its input, and refuses what is kept: it is faulty, or memory ran out for it.
+// Closes the backend by its input, and rejects what is kept: it is faulty, or memory ran out for it.
 fn break_off(
     alloc: Global,
     stage: &mut BackStage,
@@ -99,8 +98,8 @@ fn break_off(
 }
 
 impl Backend {
-    /// A backend that plays this script, and takes messages with a length field of at most `limit`, from 64 to
-    /// 1,073,741,823. The script's `check` has returned Ok. It takes no memory.
+    /// A backend that plays this script, and takes messages with a length field of at most `limit`, from 64 to 1,073,741,823. The script's `check`
+    /// must have returned Ok. It takes no memory.
     pub fn new(alloc: Global, script: Script, limit: u32) -> Backend
         requires limit { IsLimit limit }
         requires checked { IsChecked script }
@@ -121,8 +120,8 @@ impl Backend {
         }
     }
 
-    /// Takes the next piece of what the client sends, all of it, and handles nothing of it. After Memory the backend is
-    /// unchanged; a piece without bytes needs no memory. Closed is returned where the backend is closed.
+    /// Takes the next piece of what the client sends, all of it, and handles nothing of it. K2 Memory: memory ran out, and the backend is unchanged;
+    /// a piece without bytes needs no memory. K3 Closed: the backend is closed.
     pub fn push(&mut self, piece: &[u8]) -> Result<(), BackendFault>
         ensures call { Stores self.old piece.now result self.new }
         ensures history { OnOk result (Carries self.old self.new (with_pushed piece.now)) }
@@ -134,8 +133,7 @@ impl Backend {
         }
     }
 
-    /// Says that the connection is gone: the backend is closed, unless it was before. A request
-    /// that isn't decided is never logged.
+    /// Says that the connection is gone: the backend is closed, unless it was before. A request that isn't decided is never logged.
     pub fn lost(&mut self)
         ensures call { self.new ≡ record self.old { stage = lost_stage self.old.stage } }
         ensures history { Carries self.old self.new unchanged }
@@ -146,7 +144,7 @@ impl Backend {
         }
     }
 
-    // Answers a request for encryption: there is none ("SSL Session Encryption").
+    // Tells a client that asks for encryption that there is none ("SSL Session Encryption").
     fn decline(&mut self, decoder: FirstDecoder, out: &mut Vec<u8>) -> Result<(), BackendFault>
         requires { (decoder.fault ≡ None) × (decoder.ended ≡ false) }
         ensures { TakesEffect (only_sends self.old (BackStage.First decoder) (No ∷ []))
@@ -157,7 +155,7 @@ impl Backend {
         Ok(())
     }
 
-    // Refuses a client that names no user.
+    // Rejects a client that names no user.
     fn refuse(&mut self, out: &mut Vec<u8>) -> Result<(), BackendFault>
         ensures { TakesEffect
             (only_sends self.old (BackStage.Closed ByInput) (Says (ErrorResponse no_user) ∷ []))
@@ -186,7 +184,7 @@ impl Backend {
         Ok(())
     }
 
-    // Handles a first packet, after which the decoder stands.
+    // Handles a first packet. The decoder stands after it.
     fn greet(
         &mut self,
         decoder: FirstDecoder,
@@ -215,8 +213,8 @@ impl Backend {
         }
     }
 
-    // Handles the next packet or message. Where none is whole, nothing is moved; for a message only what is awaited is taken out, and what is
-    // awaited next is put in its place. After Memory, bytes may stand after what `out` had, and the stage may have lost what it held.
+    // Handles the next packet or message. Where none is whole, nothing is moved. For a message only what is awaited is taken out, and what is awaited
+    // next is put in its place. After Memory, bytes may stand after what `out` had, and the stage may have lost what it held.
     fn advance(&mut self, out: &mut Vec<u8>) -> Result<bool, BackendFault>
         ensures call { AdvancesUnlessClosed self.old out.old.items result self.new out.new.items }
         ensures sound { IsSound self.old.limit self.old.stage }
@@ -263,13 +261,12 @@ impl Backend {
         self.stage = BackStage::Closed(ClosedBy::Memory);
     }
 
-    /// Handles one first packet or one message, if one is whole, and appends the reply to `out`: Ok(true). Where none is whole,
-    /// and the bytes that wait may become one, it is Ok(false) and nothing changes.
+    /// Handles one first packet or one message, if one is whole, appends the reply to `out`, and returns true. Where none is whole, and the bytes
+    /// that wait may become one, it returns false, and nothing changes. A close by the protocol, as by a Terminate or a wrong password, is true.
     ///
-    /// After Wire and Unexpected the client was told, by an error with severity FATAL, and the backend is closed. After Memory it
-    /// is closed with `out` and the log as they were; memory is wanted only where something whole waits, or what waits can be
-    /// none. Closed is returned where the backend was closed before, and changes nothing. A close by the protocol, as by a
-    /// Terminate or a wrong password, is Ok(true).
+    /// K1 Wire: the client's stream has a fault. K4 Unexpected: a message can't stand in its place. After these two the client was sent an error with
+    /// severity FATAL, and the backend is closed. K2 Memory: memory ran out; the backend is closed, with `out` and the log as they were. It comes
+    /// only where something whole waits, or what waits can't become a message. K3 Closed: the backend was closed before, and nothing changes.
     pub fn step(&mut self, out: &mut Vec<u8>) -> Result<bool, BackendFault>
         ensures call { Steps self.old out.old.items result self.new out.new.items }
         ensures history { CarriesStep self.old out.old.items result self.new out.new.items }
@@ -302,8 +299,7 @@ impl Backend {
         }
     }
 
-    /// The log: each request that is decided, in order, with its outcome and the chunks that were
-    /// taken for it.
+    /// The log: each request that is decided, in order, with its outcome and the chunks that were taken for it.
     pub fn log(&self) -> &[Logged]
         ensures { result.now ≡ self.now.log }
     {

@@ -27,14 +27,14 @@ fn has_one_copy(answer: &Answer) -> bool
     parts.iter().filter(|part| is_copy_in(part)).count() <= 1
 }
 
-// Whether each answer has.
+// Whether each answer has at most one copy from the client.
 fn all_have_one_copy(answers: &[Answer]) -> bool
     ensures { result ≡ list_all has_one_copy answers.now }
 {
     answers.iter().all(|answer| has_one_copy(answer))
 }
 
-// What a part stands for.
+// Writes the messages that a part may be sent as.
 fn tell_part(part: &ScriptPart, out: &mut Vec<u8>) -> Result<(), EncodeFault>
     ensures { EncodesAll (part_messages part.now) out.old.items result out.new.items }
 {
@@ -60,7 +60,7 @@ fn tell_parts(parts: &[ScriptPart], out: &mut Vec<u8>) -> Result<(), EncodeFault
     so_far
 }
 
-/// What an answer stands for, whether it fits its request or not.
+/// The messages that an answer may be sent as, whether it fits its request or not.
 impl Tell for Answer {
     ghost messages = { answer_messages };
 
@@ -72,7 +72,7 @@ impl Tell for Answer {
     }
 }
 
-// What a script stands for.
+// Writes the messages that a script may be sent as.
 fn tell_script(script: &Script, out: &mut Vec<u8>) -> Result<(), EncodeFault>
     ensures { EncodesAll (script_messages script.now) out.old.items result out.new.items }
 {
@@ -96,9 +96,9 @@ fn script_fault(fault: EncodeFault) -> ScriptFault
 }
 
 impl Script {
-    /// Whether the script can be played: no answer has two copies from the client (else Copies), and each message that the
-    /// script stands for has a spelling (else Encode), in an answer that fits its request or not. It writes all of them once;
-    /// Memory is returned where that was refused and no message is without a spelling.
+    /// Whether the script can be played. Copies: an answer has two or more copies from the client. Encode: a message that the script may send has no
+    /// spelling, be it in an answer that fits its request or not. Memory: memory ran out, and neither of the others holds. It writes each message
+    /// once.
     pub fn check(&self, alloc: Global) -> Result<(), ScriptFault>
         ensures { Checks self.now result }
     {

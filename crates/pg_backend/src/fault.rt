@@ -1,4 +1,4 @@
-//! Why a call is refused.
+//! Why a call of a backend fails.
 
 ghost use Rattle.std.specs.Prelude.{◌≡◌};
 ghost use Rattle.pg_backend.specs.Fault.{backend_code};
@@ -8,22 +8,19 @@ use pg_wire::WireFault;
 use std::alloc::{AllocError, AllocFailed};
 use thiserror::Error;
 
-/// What a call of a backend answers where it fails.
+/// Why a call of a backend fails.
 #[derive(Clone, Copy, Debug, PartialEq, Eq, Error)]
 pub enum BackendFault {
-    /// The client's stream has this fault. An ErrorResponse with severity FATAL goes out, and the
-    /// backend is closed.
+    /// The client's stream has this fault. An ErrorResponse with severity FATAL goes out, and the backend is closed.
     #[error("K1 Wire {0}")]
     Wire(WireFault),
-    /// Memory ran out. After `push` nothing has changed; after `step` the backend is closed,
-    /// with its output and log as they were.
+    /// Memory ran out. After `push` nothing has changed. After `step` the backend is closed, with its output and log as they were.
     #[error("K2 Memory")]
     Memory,
     /// The backend was closed before the call, which changed nothing.
     #[error("K3 Closed")]
     Closed,
-    /// A message with this tag may not stand in its place. An ErrorResponse with severity FATAL
-    /// goes out, and the backend is closed.
+    /// A message with this tag can't stand in its place. An ErrorResponse with severity FATAL goes out, and the backend is closed.
     #[error("K4 Unexpected {0}")]
     Unexpected(u8),
 }

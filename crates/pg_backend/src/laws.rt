@@ -35,8 +35,7 @@ pub fn answer_fits()
     ensures { AnswerFits }
 {}
 
-/// The reply to a decided request is a whole segment, which fits the request with the verdict's
-/// outcome.
+/// The reply to a decided request is a whole segment, which fits the request with the verdict's outcome.
 pub fn reply_fits()
     ensures { ReplyFits }
 {}
@@ -66,14 +65,12 @@ pub fn one_copy_each()
     ensures { OneCopyEach }
 {}
 
-/// What a client that is let in is sent up to its first ReadyForQuery, a question for its password
-/// included, is one segment.
+/// What a client that is let in is sent up to its first ReadyForQuery is one segment, with the question for its password, if there is one.
 pub fn welcome_is_segment()
     ensures { WelcomeIsSegment }
 {}
 
-/// The session of a client that takes turns has, for each request, what its own copy messages
-/// decide.
+/// In the session of a client that takes turns, each request is decided by its own copy messages.
 pub fn turns_read()
     ensures { TurnsRead }
 {}
@@ -88,19 +85,17 @@ pub fn turns_logged()
     ensures { TurnsLogged }
 {}
 
-/// The chunks that were taken for each request of the log are the first that a client handed over
-/// for it that takes turns.
+/// For each request of the log, the chunks that were taken are the first that a client that takes turns handed over for it.
 pub fn turns_loaded()
     ensures { TurnsLoaded }
 {}
 
-/// A client that takes turns may make a next request once all that it made are decided.
+/// A client that takes turns may make its next request once all that it made are decided.
 pub fn turns_go_on()
     ensures { TurnsGoOn }
 {}
 
-/// Once all requests of a client that takes turns are decided, the session is between requests, and
-/// copy messages alone are left to handle.
+/// Once all requests of a client that takes turns are decided, the session is between requests, and only copy messages are left to handle.
 pub fn turns_left()
     ensures { TurnsLeft }
 {}
@@ -115,8 +110,8 @@ pub fn log_grows()
     ensures { LogGrows }
 {}
 
-/// Each history of a backend goes on as it answers: what was received is pushed, but for a piece that it refused, and what it put out
-/// is what was sent, but for the end of it where the link failed.
+/// Each history of a backend goes on as it answers. What was received is pushed, but for a piece that it rejected. What it put out is what was sent,
+/// but for the end of it where the link failed.
 pub fn answering_goes_on<L: Source + Sink>()
     ensures { (turns : ℕ) (old : Connection L) (result : Result Answered AnswerFault)
         (new : Connection L) (h : History) → IsHistoryOf h old.backend

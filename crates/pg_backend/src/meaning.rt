@@ -13,27 +13,27 @@ pub enum Meaning {
     Adds(Step),
     /// A Sync: the group is complete, and is a request.
     Closes,
-    /// It has no effect.
+    /// A message that has no effect.
     Drops,
     /// The client leaves.
     Leaves,
-    /// It can't stand there.
+    /// A message that can't stand there.
     Strays,
 }
 
 /// What a message means during a copy from the client.
 pub enum InCopy {
-    /// It is data.
+    /// Data of the copy.
     Chunk(Seq<u8>),
     /// The data is complete.
     Done,
     /// The client gives the copy up, for this reason.
     Fails(Seq<u8>),
-    /// It has no effect.
+    /// A message that has no effect.
     Waits,
     /// The client leaves.
     Leaves,
-    /// It can't stand there, and ends the copy.
+    /// A message that can't stand there, and ends the copy.
     Strays,
 }
 

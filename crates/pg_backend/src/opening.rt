@@ -14,7 +14,7 @@ use pg_wire::backend::encode;
 use pg_wire::{BackMessage, EncodeFault, Seq, Status, md5_answer};
 use std::alloc::Global;
 
-/// The last value of the parameter `user`, and empty where there is none ("StartupMessage").
+/// The last value of the parameter `user`; empty where there is none ("StartupMessage").
 pub fn user(pairs: &[(Seq<u8>, Seq<u8>)]) -> &[u8]
     ensures { result.now ≡ user_from [] pairs.now }
 {
@@ -27,7 +27,7 @@ pub fn user(pairs: &[(Seq<u8>, Seq<u8>)]) -> &[u8]
     user
 }
 
-/// AuthenticationOk, the run-time parameters, the key, and that the server is ready ("Start-up").
+/// Writes AuthenticationOk, the run-time parameters, the key, and that the server is ready ("Start-up").
 pub fn tell_welcome(script: &Script, out: &mut Vec<u8>) -> Result<(), EncodeFault>
     ensures { EncodesAll (welcome script.now) out.old.items result out.new.items }
 {
@@ -37,7 +37,7 @@ pub fn tell_welcome(script: &Script, out: &mut Vec<u8>) -> Result<(), EncodeFaul
     both(so_far, encode(&BackMessage::Ready(Status::Idle), out))
 }
 
-/// Lets a client in, or asks for the password of this user: what is awaited then.
+/// Lets a client in, or asks for the password of this user. It returns what is awaited next.
 pub fn admit(
     alloc: Global,
     script: &Script,

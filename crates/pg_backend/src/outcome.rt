@@ -59,7 +59,7 @@ fn copy_of_asides(alloc: Global, asides: &[Aside]) -> Result<Seq<Aside>, AllocEr
     Ok(copy)
 }
 
-/// What becomes of a copy from the client.
+/// A copy of how a copy from the client ends.
 pub fn copy_of_load(load: &Load) -> Result<Load, AllocError>
     ensures { IfOk result (λ copy. copy ≡ load.now) }
 {
@@ -72,7 +72,7 @@ pub fn copy_of_load(load: &Load) -> Result<Load, AllocError>
     }
 }
 
-// The part once it is complete, which a copy that is refused never is.
+// What the log has of the part once it is complete. None for a copy that is rejected, which never is.
 fn complete_part(alloc: Global, part: &ScriptPart) -> Result<Option<Part>, AllocError>
     ensures { IfOk result (λ o. option_to_list o ≡ complete part.now) }
 {
@@ -126,7 +126,7 @@ fn complete_parts(alloc: Global, parts: &[ScriptPart]) -> Result<Seq<Part>, Allo
     Ok(complete)
 }
 
-/// The outcome of an answer of which these parts are complete, and which ended with this error or none.
+/// The outcome of an answer with these complete parts, and with this error, if there is one.
 pub fn outcome(
     alloc: Global,
     answer: &Answer,

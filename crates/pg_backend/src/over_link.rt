@@ -13,14 +13,14 @@ use std::alloc::Global;
 // How many bytes are received at once.
 const PIECE: usize = 4_096;
 
-/// Has a backend answer over a link, in at most so many turns. In a turn the backend makes a step, and what it put out is sent. Where
-/// nothing whole waits, a piece of at most 4,096 bytes is received in place of that, and pushed.
+/// Has a backend answer over a link, in at most `turns` turns. In a turn the backend makes a step, and what it put out is sent. Where nothing whole
+/// waits, a piece of at most 4,096 bytes is received instead, and pushed.
 ///
-/// Closed is the answer where the backend is closed as a turn begins, Lost at the end of the client's bytes, and TurnsUsed after
-/// `turns` turns, also if there were to be none. So all that the backend replied is sent whatever is answered, but for A2.
+/// It returns Closed where the backend is closed as a turn begins, Lost at the end of the client's bytes, and TurnsUsed after `turns` turns, even
+/// where that is 0. All that the backend replied is sent whatever is returned, except after A2.
 ///
-/// A1 Backend: the backend answered a fault. Where it refused a piece, it was told by [`lost`](Backend::lost) that the connection is
-/// gone. A2 Link: a call of the link failed, and the backend was told so too.
+/// A1 Backend: the backend returned a fault. Where it rejected a piece, [`lost`](Backend::lost) was called on it. A2 Link: a call of the link failed,
+/// and `lost` was called on the backend too.
 pub fn answer<L: Source + Sink>(
     alloc: Global,
     backend: &mut Backend,
@@ -38,7 +38,7 @@ pub fn answer<L: Source + Sink>(
     Ok(Answered::TurnsUsed)
 }
 
-// Makes a step and sends what the backend replied, or receives a piece. None: there is nothing to answer yet.
+// Makes a step and sends what the backend replied, or receives a piece. None: there is nothing to return yet.
 fn turn<L: Source + Sink>(
     alloc: Global,
     backend: &mut Backend,

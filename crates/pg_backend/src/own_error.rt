@@ -8,7 +8,7 @@ use crate::script::Answer;
 use pg_wire::{Fields, Seq, Status};
 use std::alloc::{AllocError, Global};
 
-/// The most bytes of a client's reason that are told.
+/// The most bytes of a client's reason that are repeated to it.
 const SHOWN: usize = 200;
 
 // An error with this severity, SQLSTATE code and message ("Error and Notice Message Fields").
@@ -33,7 +33,7 @@ fn error_of(
     }
 }
 
-/// The answer that stands for one that is missing or doesn't fit: an internal_error.
+/// The answer to a request whose answer is missing or doesn't fit: an internal_error.
 pub fn no_answer(alloc: Global) -> Result<Answer, AllocError>
     ensures { IfOk result (λ answer. answer ≡ no_answer) }
 {
@@ -46,7 +46,7 @@ pub fn no_answer(alloc: Global) -> Result<Answer, AllocError>
     })
 }
 
-// What is told of a client's reason.
+// The part of a client's reason that is repeated to it.
 fn shown(reason: &[u8]) -> &[u8]
     ensures { result.now ≡ take 200 reason.now }
 {
@@ -94,7 +94,7 @@ pub fn no_user(alloc: Global) -> Result<Fields, AllocError>
     error_of(alloc, b"FATAL", b"28000", b"no user in startup")
 }
 
-/// An invalid_password: a password that isn't the one that is awaited.
+/// An invalid_password: the client sent another password than the one that is awaited.
 pub fn wrong_password(alloc: Global) -> Result<Fields, AllocError>
     ensures { IfOk result (λ fields. fields ≡ wrong_password) }
 {

@@ -36,7 +36,7 @@ fn load_end(load: Load) -> Result<Seq<u8>, Fields>
     }
 }
 
-// Whether the chunk of this number is refused.
+// Whether the chunk of this number is rejected.
 fn refuses_at(load: &Load, number: usize) -> bool
     ensures { result ≡ refuses_at load.now number }
 {
@@ -68,7 +68,7 @@ fn fitting<'a>(answers: &'a [Answer], next: usize, request: &Request) -> Option<
 pub struct Playing {
     alloc: Global,
     script: Script,
-    /// The place of the next answer.
+    // The place of the next answer.
     next: usize,
     log: Vec<Logged>,
 }
@@ -243,7 +243,7 @@ impl Playing {
         }
     }
 
-    // Ends a copy with an error that isn't the script's.
+    // Ends a copy with an error that isn't from the script.
     fn break_off(
         &mut self,
         loading: Loading,
@@ -261,7 +261,7 @@ impl Playing {
         self.decide(request, loaded, Err(fields), out)
     }
 
-    // Tells the client that its message can't stand in its place.
+    // Sends the error for a message that can't stand in its place.
     fn stray(&self, tag: u8, out: &mut Vec<u8>) -> Result<Next, BackendFault>
         ensures { Moves (strays self.now.left tag)
             self.now out.old.items result self.now out.new.items }
@@ -302,7 +302,7 @@ impl Playing {
         }
     }
 
-    // Lets a client in whose password is right.
+    // Lets in a client whose password is right.
     fn welcome(&self, out: &mut Vec<u8>) -> Result<Next, BackendFault>
         ensures { Moves (entered self.now.script self.now.left true)
             self.now out.old.items result self.now out.new.items }
@@ -311,7 +311,7 @@ impl Playing {
         Ok(Next::Goes(Awaits::Request(self.no_steps())))
     }
 
-    // Refuses a client whose password is wrong.
+    // Rejects a client whose password is wrong.
     fn refuse(&self, out: &mut Vec<u8>) -> Result<Next, BackendFault>
         ensures { Moves (entered self.now.script self.now.left false)
             self.now out.old.items result self.now out.new.items }

@@ -1,4 +1,4 @@
-//! What a backend is told to answer, and what it says of the requests that it answered.
+//! What a backend is to answer, and what it logs of the requests that it answered.
 
 mod shown;
 
@@ -19,10 +19,9 @@ pub struct Key {
 pub enum Auth {
     /// Each user is let in.
     Trust,
-    /// One that sends this password, when asked by AuthenticationCleartextPassword, is let in.
+    /// A client is let in that sends this password when it is asked by AuthenticationCleartextPassword.
     Cleartext(Seq<u8>),
-    /// One that sends the right answer to AuthenticationMD5Password, made of this password and salt
-    /// and its user, is let in.
+    /// A client is let in that sends the right answer to AuthenticationMD5Password, made of this password, this salt and its user.
     Md5 {
         /// The password.
         password: Seq<u8>,
@@ -36,17 +35,17 @@ pub enum Auth {
 pub enum Load {
     /// Its chunks are taken, and after its CopyDone it is complete with this tag.
     Accept(Seq<u8>),
-    /// It is refused with an error, and its request is decided by that.
+    /// It is rejected with an error, which decides its request.
     Refuse {
-        /// It is refused at the chunk of this number, counted from 1, or at its CopyDone before
-        /// that; at once where this is 0.
+        /// It is rejected at the chunk of this number, counted from 1, or at its CopyDone where that comes before. Where this is 0, it is rejected
+        /// at once.
         after: u32,
         /// The error.
         fields: Fields,
     },
 }
 
-/// A result of a query, or the answer to a step: a [`Part`](pg_wire::Part), but for a copy from the client.
+/// A result of a query, or the answer to a step. It is a [`Part`](pg_wire::Part), except that a copy from the client has how it is to end.
 #[derive(Clone, Debug, PartialEq, Eq, Drop)]
 pub enum ScriptPart {
     /// Rows, of a query.
@@ -75,7 +74,7 @@ pub enum ScriptPart {
     CopyIn {
         /// The copy's formats.
         head: CopyHead,
-        /// What becomes of it.
+        /// How it ends.
         load: Load,
     },
     /// A Parse was done.
@@ -104,8 +103,8 @@ impl DebugElement for ScriptPart {
     type Form = ByElement;
 }
 
-/// The answer to one request. It fits a Query where its parts are results; it fits a group where part i answers step i, and
-/// there are as many parts as steps, or an error and not more parts than steps.
+/// The answer to one request. It fits a Query where all its parts are results. It fits a group where part i answers step i, and there are as many
+/// parts as steps; with an error there may be fewer parts.
 #[derive(Clone, Debug, PartialEq, Eq, Drop)]
 pub struct Answer {
     /// The asides, which are sent before the parts ("Asynchronous Operations").
@@ -135,7 +134,7 @@ pub struct Script {
     pub answers: Seq<Answer>,
 }
 
-/// A request that was decided, how it ended, and the chunks of the copy that were taken up to its decision.
+/// A request that was decided, how it ended, and the chunks that were taken for its copy up to then.
 #[derive(Clone, Debug, PartialEq, Eq, Drop)]
 pub struct Logged {
     /// What the client asked for.

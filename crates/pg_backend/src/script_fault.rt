@@ -1,4 +1,4 @@
-//! Why a script is refused.
+//! Why a script is rejected.
 
 ghost use Rattle.std.specs.Prelude.{◌≡◌};
 ghost use Rattle.pg_backend.specs.declared.script_fault.ScriptFault.TheVariants.{Memory};

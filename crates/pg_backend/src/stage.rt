@@ -8,7 +8,7 @@ use pg_wire::{FirstDecoder, FrontDecoder, Request, Seq, Step};
 pub struct Loading {
     /// The request that began it.
     pub request: Request,
-    /// What becomes of it.
+    /// How it ends.
     pub load: Load,
     /// The chunks that were taken.
     pub loaded: Seq<Seq<u8>>,
@@ -19,7 +19,7 @@ pub struct Loading {
 pub enum Awaits {
     /// A password, which has to be this one.
     Password(Seq<u8>),
-    /// A request, or the next step of a group that has these.
+    /// A request, or the next step of a group that has these steps.
     Request(Seq<Step>),
     /// The data of a copy.
     Data(Loading),
@@ -30,7 +30,7 @@ pub enum Awaits {
 pub enum Next {
     /// The session goes on, and awaits this.
     Goes(Awaits),
-    /// The session is over: the client sent a Terminate, or was refused.
+    /// The session is over: the client sent a Terminate, or was rejected.
     Ends,
     /// The message, which has this tag, can't stand in its place.
     Strays(u8),
@@ -39,7 +39,7 @@ pub enum Next {
 /// What closed a backend.
 #[derive(Clone, Copy, Drop)]
 pub enum ClosedBy {
-    /// Its input: the client left or was refused, or its input can't be handled further.
+    /// Its input: the client left or was rejected, or its input can't be handled further.
     Input,
     /// A step that ran out of memory.
     Memory,
@@ -52,7 +52,7 @@ pub enum ClosedBy {
 pub enum BackStage {
     /// First packets are awaited.
     First(FirstDecoder),
-    /// A Startup was there, and messages are awaited.
+    /// A Startup came, and messages are awaited.
     Open(FrontDecoder, Awaits),
     /// It is closed.
     Closed(ClosedBy),

@@ -22,7 +22,7 @@ use pg_wire::backend::{
 };
 use pg_wire::{Aside, BackMessage, Column, CopyHead, EncodeFault, ExecEnd, Fields, Seq, Values};
 
-/// What two attempts come to: the first fault, but Memory only where there is no other.
+/// The result of two attempts: the first fault, but Memory only where there is no other.
 pub fn both(
     first: Result<(), EncodeFault>,
     second: Result<(), EncodeFault>,
@@ -39,7 +39,7 @@ pub fn both(
     }
 }
 
-/// What is sent as messages.
+/// Something that is sent as messages.
 pub trait Tell: Drop {
     // the messages
     ghost messages: { Self → List BackMessage };
@@ -49,7 +49,7 @@ pub trait Tell: Drop {
         ensures { EncodesAll (messages self.now) out.old.items result out.new.items };
 }
 
-/// Tells each of them, in their order.
+/// Writes the messages of each, in their order.
 pub fn tell_all<T: Tell>(items: &[T], out: &mut Vec<u8>) -> Result<(), EncodeFault>
     ensures { EncodesAll (flat_map T.messages items.now) out.old.items result out.new.items }
 {
@@ -193,7 +193,7 @@ fn tell_executed(rows: &[Values], end: &ExecEnd, out: &mut Vec<u8>) -> Result<()
     both(rows, tell_end(end, out))
 }
 
-/// A part that is complete. A copy that is refused never is.
+/// The messages of a part that is complete. A copy that is rejected never is, and has none.
 impl Tell for ScriptPart {
     ghost messages = { λ part. flat_map messages_of (complete part) };
 

@@ -78,14 +78,14 @@ IsOpenPhase _ = Unit {0}
 
 -- ---- what the messages gave
 
--- What the last message gave of those that gave something, or the old value where none did. What a
+-- The last value that one of these messages gave, or the old value where none gave one. What a
 -- message gives is the first argument; None where it gives nothing.
 abbrev pub last_from : {A : Type 0} → (BackMessage → Option A) → Option A → List BackMessage
     → Option A
 last_from says old [] = old
 last_from says old (m ∷ ms) = last_from says (option_or (says m) old) ms
 
--- What the last message gave of those that gave something; None where none did.
+-- The last value that one of these messages gave; None where none gave one.
 abbrev pub last_said : {A : Type 0} → (BackMessage → Option A) → List BackMessage → Option A
 last_said says ms = last_from says None ms
 

@@ -1,4 +1,4 @@
--- Why a client is closed: what closes it, and which fault feed answers then.
+-- Why a client is closed: what closes it, and which fault feed returns then.
 use Rattle.std.specs.Prelude.{◌≡◌, ℕ, ℤ, List, [], ◌∷◌, ◌++◌, Option, Some, None, ◌⊎◌}
 use Rattle.pg_wire.specs.declared.fault.WireFault.{WireFault}
 use Rattle.pg_wire.specs.message.BackMessage.{BackMessage}
@@ -36,7 +36,7 @@ pub record IsOnlyUnexpected (hs : List Happening) (m : BackMessage) : Type 0 whe
   pub no_error : IsError m → (IsStarting hs ⊎ IsReady hs) → ⊥
   pub no_question : (AsksPassword m ⊎ AsksOther m) → AwaitsAuthentication hs → ⊥
 
--- The fault that feed answers to this message, which may not come after these events. The client
+-- The fault that feed returns for this message, which may not come after these events. The client
 -- has this password or none. StartupError: an ErrorResponse in the startup. ServerEnd: one while no
 -- request is outstanding. PasswordWanted: a question for a password that the client hasn't.
 -- UnsupportedAuth: another authentication is asked for. Unexpected: any other message, by its tag.

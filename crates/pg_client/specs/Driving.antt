@@ -14,7 +14,7 @@ use Rattle.pg_client.specs.Turns.{turns_of}
 abbrev pub requests_by : Calls → List Request
 requests_by calls = map (λ t. t.request) (turns_of (calls_of calls))
 
--- How a client is left by a feed with this answer, if it was open before: open after Ok, and else
+-- How a client is left by a feed with this result, if it was open before: open after Ok, and else
 -- closed with the cause of the fault. The fault Closed doesn't come there.
 abbrev pub IsLeftBy : Result Unit FeedFault → Option Cause → Type 0
 IsLeftBy (Ok x) closed = closed ≡ None

@@ -32,14 +32,15 @@ abbrev pub item_for : Request → BackMessage → Item
 item_for request (back.Ready status) = Settled request status
 item_for request m = Early m
 
--- The items of these whole segments, each of the request at the same place, and then of the
--- messages of the segment that isn't whole, which are all Early.
+-- The items of these whole segments, and then of the messages of the segment that isn't whole,
+-- which are all Early. Segment k belongs to request k.
 abbrev pub items_of : List Request → List (List BackMessage) → List BackMessage → List Item
 items_of requests [] rest = map Early rest
 items_of [] (s ∷ ss) rest = []
 items_of (r ∷ rs) (s ∷ ss) rest = map (item_for r) s ++ items_of rs ss rest
 
--- The same where the first whole segment is that of the startup, which has no items ("Start-up").
+-- The items of these segments, the first of which is that of the startup and has no items
+-- ("Start-up"). The messages of a segment that isn't whole come last.
 abbrev pub items_after_startup : List Request → List (List BackMessage) → List BackMessage
     → List Item
 items_after_startup requests [] rest = []
@@ -116,7 +117,7 @@ pub record IsEarlyHistoryOf (h : History) (given : List Item) (view : EarlyView)
 -- ---- its calls
 
 -- The call is accepted in such a phase and leads to the other, as it is by each client that the
--- early one stands for, and is added to each history. No item tells of it.
+-- early one stands for, and is added to each history. It has no item.
 pub record EarlyAccepts (From : Phase → Type 0) (to : Phase) (c : Call) (old new : EarlyView)
     (before after : List ℕ) : Type 0 where
   pub as_client : (client : ClientView) → StandsFor old client
@@ -126,8 +127,9 @@ pub record EarlyAccepts (From : Phase → Type 0) (to : Phase) (c : Call) (old n
       → IsEarlyHistoryOf (with_call old.settings c h) given new
 
 -- An early client with this history, to which the piece belongs already, handles some more
--- messages, puts out what it has to send for them, and answers as a client does. The items of these
--- messages wait then, after those that waited before. The lists are the output before and after.
+-- messages, puts out what it has to send for them, and returns what a client returns. The items of
+-- these messages wait then, after those that waited before. The lists are the output before and
+-- after.
 pub record EarlyHears (h : History) (given : List Item) (piece : List ℕ)
     (result : Result Unit FeedFault) (new : EarlyView) (before after : List ℕ) : Type 0 where
   pub added : List ℕ
@@ -146,7 +148,7 @@ EarlyFeedsOpen old piece result new before after = (h : History) (given : List I
     → EarlyHears (with_fed piece h) given piece result new before after
 
 -- What feed does to an early client that is closed for this reason, or open (None). A closed one
--- answers Closed, and nothing changes.
+-- returns Closed, and nothing changes.
 abbrev pub EarlyFeedsByCause : Option Cause → EarlyView → List ℕ → Result Unit FeedFault
     → EarlyView → List ℕ → List ℕ → Type 0
 EarlyFeedsByCause (Some c) old piece result new before after = (result ≡ Err feeding.Closed)
@@ -154,7 +156,7 @@ EarlyFeedsByCause (Some c) old piece result new before after = (result ≡ Err f
 EarlyFeedsByCause None old piece result new before after =
     EarlyFeedsOpen old piece result new before after
 
--- What feed does. The arguments are the early client before, the piece, the answer, the early
+-- What feed does. The arguments are the early client before, the piece, the result, the early
 -- client after, and the output before and after.
 abbrev pub EarlyFeeds : EarlyView → List ℕ → Result Unit FeedFault → EarlyView → List ℕ → List ℕ
     → Type 0
@@ -165,7 +167,7 @@ EarlyFeeds old piece result new before after =
 
 -- What a user of an early client may rely on, after these events and with these items given: the
 -- server has kept to the protocol, the items are those of the events, and the phase of each client
--- that it stands for, which phase() answers, is that of which IsPhase holds.
+-- that it stands for, which phase() returns, is that of which IsPhase holds.
 pub record EarlyFacts (hs : List Happening) (given : List Item) (view : EarlyView) : Type 0 where
   pub expected : Expected view.settings.password hs
   pub items : given ++ view.items ≡ items_in hs

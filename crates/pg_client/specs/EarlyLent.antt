@@ -46,7 +46,7 @@ GivesBefore t old new = (unread : List ℕ) (h : History) (given : List Item)
     → IsEarlyHistoryBefore unread h given old
     → IsEarlyHistoryBefore unread h (given ++ t ∷ []) new
 
--- A piece is fed to an early client that is open: with it the bytes are heard that were still to be
+-- A piece is fed to an early client that is open. With it the bytes that were still to be heard are
 -- heard, as if all were fed now.
 abbrev pub FeedsAll : EarlyView → List ℕ → Result Unit FeedFault → EarlyView → List ℕ → List ℕ
     → Type 0
@@ -72,19 +72,19 @@ KeepsAll old piece (Err feeding.Memory) new = (0 < length piece)
 KeepsAll old piece (Err f) new = ⊥
 
 -- What push does to an early client that is closed for this reason, or open (None). A closed one
--- answers Closed, and nothing changes.
+-- returns Closed, and nothing changes.
 abbrev pub PushesByCause : Option Cause → EarlyView → List ℕ → Result Unit FeedFault → EarlyView
     → Type 0
 PushesByCause (Some c) old piece result new = (result ≡ Err feeding.Closed) × (new ≡ old)
 PushesByCause None old piece result new = KeepsAll old piece result new
 
--- What push does. The arguments are the early client before, the piece, the answer, and the early
+-- What push does. The arguments are the early client before, the piece, the result, and the early
 -- client after.
 abbrev pub Pushes : EarlyView → List ℕ → Result Unit FeedFault → EarlyView → Type 0
 Pushes old piece result new = PushesByCause old.closed old piece result new
 
 -- Where push ran out of memory, it is as if the piece had been fed with the bytes that were still
--- to be heard, and feed had been refused memory before it heard a message.
+-- to be heard, and feed had run out of memory before it heard a message.
 abbrev pub RefusesPiece : EarlyView → List ℕ → FeedFault → EarlyView → Type 0
 RefusesPiece old piece f new = old.closed ≡ None → (unread : List ℕ) (h : History)
     (given : List Item) (out : List ℕ) → IsEarlyHistoryBefore unread h given old
@@ -132,7 +132,7 @@ EarlyHearsNext unread h given (Ok (next.Item t)) new before after = IsNoRow t
 EarlyHearsNext unread h given (Err f) new before after = (new.held ≡ None)
     × EarlyHears (with_fed unread h) given unread (Err f) new before after
 
--- Whether a row is lent after this answer: after Held one is, and after Nothing and Item none. Of a
+-- Whether a row is lent after this result: after Held one is, and after Nothing and Item none. Of a
 -- fault EarlyHearsNext says it.
 abbrev pub Lends : Result Next FeedFault → Option Row → Type 0
 Lends (Ok next.Held) held = (row : Row) × (held ≡ Some row)
@@ -140,8 +140,8 @@ Lends (Ok _) held = held ≡ None
 Lends (Err f) held = Unit {0}
 
 -- What next_lent does to an early client that is closed for this reason, or open (None), and has no
--- item. A closed one answers Closed, and nothing changes. After an open one's answer no item waits
--- either: of the messages that it hears, one at most has an item, and that is given.
+-- item. A closed one returns Closed, and nothing changes. After the call of an open one no item
+-- waits either: at most one of the messages that it hears has an item, and that is given.
 abbrev pub NextByCause : Option Cause → EarlyView → Result Next FeedFault → EarlyView → List ℕ
     → List ℕ → Type 0
 NextByCause (Some c) old result new before after = (result ≡ Err feeding.Closed) × (new ≡ old)
@@ -160,7 +160,7 @@ NextByItems (t ∷ ts) old result new before after = (result ≡ Ok (next.Item t
     × GivesBefore t old new
 NextByItems [] old result new before after = NextByCause old.closed old result new before after
 
--- What next_lent does. The arguments are the early client before, the answer, the early client
+-- What next_lent does. The arguments are the early client before, the result, the early client
 -- after, and the output before and after.
 abbrev pub TakesLent : EarlyView → Result Next FeedFault → EarlyView → List ℕ → List ℕ → Type 0
 TakesLent old result new before after = NextByItems old.items old result new before after

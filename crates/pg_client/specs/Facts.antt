@@ -19,10 +19,10 @@ FirstSettled (r ∷ rs) (s ∷ ss) (t ∷ ts) = (t.request ≡ r) × Fits r s t.
     × FirstSettled rs ss ts
 FirstSettled _ _ _ = ⊥
 
--- What each phase means, after these events, of a client that is closed for this reason, or open
--- (None). New: it wasn't started. Starting: it was, and the startup's ReadyForQuery hasn't come.
--- Ready: no request is outstanding. CopyingIn: the server waits for the data of a copy. Busy: none
--- of these. Closed: with the cause for which it is closed.
+-- What each phase means, after these events. The client is closed for this reason, or open (None).
+-- New: it wasn't started. Starting: it was, and the startup's ReadyForQuery hasn't come. Ready: no
+-- request is outstanding. CopyingIn: the server waits for the data of a copy. Busy: none of these.
+-- Closed: with the cause for which it is closed.
 abbrev pub IsPhase : List Happening → Option Cause → Phase → Type 0
 IsPhase hs (Some c) p = p ≡ phase.Closed c
 IsPhase hs None phase.New = IsStarted hs → ⊥

@@ -1,4 +1,4 @@
--- The codes of the faults that a client answers to calls and to bytes. docs/PROTOCOL.md says when
+-- The codes of the faults that a client returns for calls and bytes. docs/PROTOCOL.md says when
 -- each one comes.
 use Rattle.std.specs.Prelude.{List, ℕ, codes}
 use Rattle.pg_client.specs.declared.fault.CallFault.{CallFault}
@@ -6,14 +6,14 @@ use Rattle.pg_client.specs.declared.fault.CallFault.TheVariants as call
 use Rattle.pg_client.specs.declared.fault.FeedFault.{FeedFault}
 use Rattle.pg_client.specs.declared.fault.FeedFault.TheVariants as feed
 
--- The code of the fault with which a call is refused.
+-- The code of the fault with which a call is rejected.
 abbrev pub call_code : CallFault → List ℕ
 call_code (call.NotReady at) = codes "C1"
 call_code (call.NotCopying at) = codes "C2"
 call_code (call.Encode fault) = codes "C3"
 call_code call.NoKey = codes "C4"
 
--- The code of the fault with which feed refuses bytes.
+-- The code of the fault with which feed rejects bytes.
 abbrev pub feed_code : FeedFault → List ℕ
 feed_code (feed.Wire fault) = codes "F1"
 feed_code (feed.Unexpected tag) = codes "F2"

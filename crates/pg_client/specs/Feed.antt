@@ -13,11 +13,11 @@ use Rattle.pg_client.specs.Client.{ClientView}
 use Rattle.pg_client.specs.Closed.{cause_of, IsRefusedAt}
 use Rattle.pg_client.specs.History.{with_fed, IsHistoryOf, with_heard, happenings, History}
 
--- What feed answers to a client that was open. The arguments are the settings, the events after the
--- feed, the bytes left, the piece, the answer, and why the client is closed then. Ok: it stays
--- open. Wire: the bytes left are no message and can't become one. Memory: memory ran out; a
--- piece without bytes takes none. Any other fault but Closed, which doesn't come: the bytes left
--- begin with a message that may not come.
+-- What feed returns for a client that was open. The arguments are the settings, the events after
+-- the feed, the bytes left, the piece, the result, and why the client is closed then. Ok: it stays
+-- open. Wire: the bytes left are no message and can't become one. Memory: memory ran out; a piece
+-- without bytes takes none. Any other fault but Closed, which doesn't come: the bytes left begin
+-- with a message that may not come.
 abbrev pub FeedAnswers : Settings → List Happening → List ℕ → List ℕ → Result Unit FeedFault
     → Option Cause → Type 0
 FeedAnswers settings hs rest piece (Ok x) closed = closed ≡ None
@@ -30,7 +30,7 @@ FeedAnswers settings hs rest piece (Err f) closed = IsRefusedAt settings hs rest
     × (closed ≡ cause_of f)
 
 -- A client with this history, to which the piece belongs already, handles some more messages, puts
--- the added bytes out, and answers as above.
+-- the added bytes out, and returns a result as FeedAnswers says.
 pub record Hears (h : History) (piece added : List ℕ) (result : Result Unit FeedFault)
     (new : ClientView) : Type 0 where
   -- the messages that it handles now
@@ -51,7 +51,7 @@ pub record FeedsOpen (old : ClientView) (piece : List ℕ) (result : Result Unit
   -- the same bytes are added whatever history the client has
   pub hears : (h : History) → IsHistoryOf h old → Hears (with_fed piece h) piece added result new
 
--- What feed does to a client that is closed for this reason, or open (None). A closed one answers
+-- What feed does to a client that is closed for this reason, or open (None). A closed one returns
 -- Closed, and nothing changes.
 abbrev pub FeedsByCause : Option Cause → ClientView → List ℕ → Result Unit FeedFault → ClientView
     → List ℕ → List ℕ → Type 0
@@ -59,7 +59,7 @@ FeedsByCause (Some c) old piece result new before after = (result ≡ Err feedin
     × (new ≡ old) × (after ≡ before)
 FeedsByCause None old piece result new before after = FeedsOpen old piece result new before after
 
--- What feed does. The arguments are the client before, the piece, the answer, the client after, and
+-- What feed does. The arguments are the client before, the piece, the result, the client after, and
 -- the output before and after.
 abbrev pub Feeds : ClientView → List ℕ → Result Unit FeedFault → ClientView → List ℕ → List ℕ
     → Type 0

@@ -18,8 +18,8 @@ pub mod Early
 pub mod EarlyLent
 -- What `{:?}` writes of a client's settings.
 pub mod Shown
--- How the client goes on from message to message. A history is told in these words, and in those of
--- Segment; the law facts_of_a_run says what they mean in those above.
+-- How the client goes on from message to message. A history is stated in these words, and in those
+-- of Segment; the law facts_of_a_run says what they mean in those above.
 pub mod Startup
 pub mod Stand
 -- Words of private functions, which no public contract cites.

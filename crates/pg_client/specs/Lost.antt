@@ -9,8 +9,8 @@ use Rattle.pg_client.specs.Session.{Happening, requests_in, rest_in, groups_in}
 use Rattle.pg_client.specs.Client.{ClientView, has_failed, unsettled_of}
 use Rattle.pg_client.specs.History.{IsHistoryOf, happenings, History}
 
--- Why a client is closed that was closed for the first reason, or open (None), and is closed now
--- for the other: the first reason stays.
+-- Why a client is closed. It was closed for the first reason, or open (None), and is closed now for
+-- the other: the first reason stays.
 abbrev pub first_cause : Option Cause → Cause → Cause
 first_cause None c = c
 first_cause (Some first) c = first
@@ -19,7 +19,7 @@ first_cause (Some first) c = first
 abbrev pub has_error : List BackMessage → Bool
 has_error ms = list_any (λ m. is_some (error_of m)) ms
 
--- What lost answers after these events. The request that isn't settled is the first one without a
+-- What lost returns after these events. The request that isn't settled is the first one without a
 -- whole segment, if there is one; seen_error is whether an ErrorResponse came since the last
 -- ReadyForQuery. Where the request was handed back before (true), nothing is.
 abbrev pub Loses : Bool → List Happening → Loss → Type 0
@@ -27,12 +27,12 @@ Loses false hs loss = (loss.unsettled ≡ slice_get (requests_in hs) (length (gr
     × (loss.seen_error ≡ has_error (rest_in hs))
 Loses true hs loss = (loss.unsettled ≡ None) × (loss.seen_error ≡ false)
 
--- What a client would answer to lost now: its outstanding request, and whether an ErrorResponse
--- came for it.
+-- What lost would return now: the client's outstanding request, and whether an ErrorResponse came
+-- for it.
 abbrev pub known_loss : ClientView → Loss
 known_loss client =
     record { unsettled = unsettled_of client.stand; seen_error = has_failed client.stand }
 
--- What lost answers is right by each history of the client.
+-- What lost returns is right by each history of the client.
 abbrev pub HandsBack : ClientView → Loss → Type 0
 HandsBack old loss = (h : History) → IsHistoryOf h old → Loses h.handed_back (happenings h) loss

@@ -43,7 +43,7 @@ answer_to settings AuthCleartext = password_messages settings.password
 answer_to settings (AuthMd5 salt) = md5_messages settings.user settings.password salt
 answer_to settings _ = []
 
--- The messages that a call sends. Of start there are none, as the startup packet has a form of its
+-- The messages that a call sends. For start there are none, as the startup packet has a form of its
 -- own.
 abbrev pub call_messages : Call → List FrontMessage
 call_messages call.Start = []

@@ -103,7 +103,7 @@ copy_answer_after answer (Did call.Done) = Done
 copy_answer_after answer (Did (call.Fail reason)) = Refused
 copy_answer_after answer _ = answer
 
--- The same after any number of further events.
+-- What was called for the last copy from the client, after any number of further events.
 abbrev pub copy_answer_from : CopyAnswer → List Happening → CopyAnswer
 copy_answer_from answer [] = answer
 copy_answer_from answer (h ∷ hs) = copy_answer_from (copy_answer_after answer h) hs

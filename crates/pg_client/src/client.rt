@@ -21,8 +21,8 @@ use pg_wire::{Request, Status};
 use std::alloc::Global;
 use std::marker::Model;
 
-/// A driver's half of a session, without sockets: calls put bytes for the server out, [`feed`](Client::feed) takes the server's
-/// bytes in, and settled groups come out.
+/// A driver's half of a session, without sockets. Calls put bytes for the server out, [`feed`](Client::feed) takes the server's bytes in, and settled
+/// groups come out: requests with their outcomes.
 #[derive(Drop)]
 pub struct Client {
     machine: Machine<Collecting>,
@@ -72,12 +72,11 @@ impl Client {
         self.machine.parameter(name)
     }
 
-    /// Puts the startup packet out ("Start-up"): `user`, `database` if one is given, then the further pairs. Allowed in phase New,
-    /// and leads to Starting.
+    /// Puts the startup packet out ("Start-up"): `user`, `database` if one is given, then the further pairs. Allowed in phase New, and leads to
+    /// Starting.
     ///
-    /// C1 NotReady: another phase. C3 Encode: HasZero, EmptyName or TooLong for the packet, else HasZero or TooLong for the
-    /// password, which the server may ask for, or Memory where neither has one of these. After a refusal the client and `out` are
-    /// as they were.
+    /// C1 NotReady: another phase. C3 Encode: HasZero, EmptyName or TooLong for the packet, else HasZero or TooLong for the password, which the
+    /// server may ask for, or Memory where neither has one of these. After a fault the client and `out` are as they were.
     pub fn start(&mut self, out: &mut Vec<u8>) -> Result<(), CallFault>
         ensures ok { OnOk result ((phase_of self.old ≡ Phase.New)
             × (phase_of self.new ≡ Phase.Starting)) }
@@ -89,11 +88,11 @@ impl Client {
         self.machine.start(out)
     }
 
-    /// Makes a request: puts a Query out, or the messages of a group's steps and a Sync ("Simple Query", "Extended Query").
-    /// Allowed in phase Ready, and leads to Busy.
+    /// Makes a request: puts a Query out, or the messages of a group's steps and a Sync ("Simple Query", "Extended Query"). Allowed in phase Ready,
+    /// and leads to Busy.
     ///
-    /// C1 NotReady: another phase. C3 Encode: the fault of the first message that has one (HasZero, TooMany, TooLong), or Memory
-    /// where none has. A refusal hands the request back, and the client and `out` are as they were.
+    /// C1 NotReady: another phase. C3 Encode: the fault of the first message that has one (HasZero, TooMany, TooLong), or Memory where none has. A
+    /// fault comes with the request, which is handed back, and leaves the client and `out` as they were.
     pub fn request(
         &mut self,
         request: Request,
@@ -110,10 +109,9 @@ impl Client {
         self.machine.request(request, out)
     }
 
-    /// Puts a chunk of data out, as one CopyData, also where it is empty ("COPY Operations"). Allowed in phase CopyingIn, which
-    /// stays.
+    /// Puts a chunk of data out, as one CopyData, even where it is empty ("COPY Operations"). Allowed in phase CopyingIn, which stays.
     ///
-    /// C2 NotCopying: another phase. C3 Encode: TooLong or Memory. After a refusal the client and `out` are as they were.
+    /// C2 NotCopying: another phase. C3 Encode: TooLong or Memory. After a fault the client and `out` are as they were.
     pub fn copy_chunk(&mut self, bytes: &[u8], out: &mut Vec<u8>) -> Result<(), CallFault>
         ensures ok { OnOk result ((phase_of self.old ≡ Phase.CopyingIn)
             × (phase_of self.new ≡ Phase.CopyingIn)) }
@@ -127,7 +125,7 @@ impl Client {
 
     /// Says that the data of a copy is complete, by a CopyDone ("COPY Operations"). Allowed in phase CopyingIn, and leads to Busy.
     ///
-    /// C2 NotCopying: another phase. C3 Encode: Memory alone. After a refusal the client and `out` are as they were.
+    /// C2 NotCopying: another phase. C3 Encode: Memory alone. After a fault the client and `out` are as they were.
     pub fn copy_done(&mut self, out: &mut Vec<u8>) -> Result<(), CallFault>
         ensures ok { OnOk result ((phase_of self.old ≡ Phase.CopyingIn)
             × (phase_of self.new ≡ Phase.Busy)) }
@@ -139,10 +137,10 @@ impl Client {
         self.machine.copy_done(out)
     }
 
-    /// Says that a copy is to fail for this reason, by a CopyFail ("COPY Operations"). Allowed in phase CopyingIn, and leads to
-    /// Busy; the server answers with an error.
+    /// Says that a copy is to fail for this reason, by a CopyFail ("COPY Operations"). Allowed in phase CopyingIn, and leads to Busy; the server
+    /// answers with an error.
     ///
-    /// C2 NotCopying: another phase. C3 Encode: HasZero, TooLong or Memory. After a refusal the client and `out` are as they were.
+    /// C2 NotCopying: another phase. C3 Encode: HasZero, TooLong or Memory. After a fault the client and `out` are as they were.
     pub fn copy_fail(&mut self, reason: &[u8], out: &mut Vec<u8>) -> Result<(), CallFault>
         ensures ok { OnOk result ((phase_of self.old ≡ Phase.CopyingIn)
             × (phase_of self.new ≡ Phase.Busy)) }
@@ -154,10 +152,10 @@ impl Client {
         self.machine.copy_fail(reason, out)
     }
 
-    /// Ends the session: puts a Terminate out ("Termination"). Allowed but in phases New and Closed, and leads to
-    /// Closed(Terminated). A request that is outstanding stays to be handed back by [`lost`](Client::lost).
+    /// Ends the session: puts a Terminate out ("Termination"). Allowed in all phases but New and Closed, and leads to Closed(Terminated). A request
+    /// that is outstanding stays to be handed back by [`lost`](Client::lost).
     ///
-    /// C1 NotReady: phase New or Closed. C3 Encode: Memory alone. After a refusal the client and `out` are as they were.
+    /// C1 NotReady: phase New or Closed. C3 Encode: Memory alone. After a fault the client and `out` are as they were.
     pub fn terminate(&mut self, out: &mut Vec<u8>) -> Result<(), CallFault>
         ensures ok { OnOk result (IsOpenPhase (phase_of self.old)
             × (phase_of self.new ≡ Phase.Closed Cause.Terminated)) }
@@ -169,25 +167,26 @@ impl Client {
         self.machine.terminate(out)
     }
 
-    /// Appends the packet that asks to cancel the outstanding request, for a connection of its own ("Canceling Requests in
-    /// Progress"). It has the last key that the server sent. Allowed in any phase, and the client is unchanged.
+    /// Appends the packet that asks to cancel the outstanding request, for a connection of its own ("Canceling Requests in Progress"). It has the
+    /// last key that the server sent. Allowed in any phase, and the client is unchanged.
     ///
-    /// C3 Encode: Memory alone. C4 NoKey: the server has sent no key. After a refusal `out` is as it was.
+    /// C3 Encode: Memory alone. C4 NoKey: the server has sent no key. After a fault `out` is as it was.
     pub fn cancel_packet(&self, out: &mut Vec<u8>) -> Result<(), CallFault>
         ensures { Cancels self.now.key out.old.items result out.new.items }
     {
         self.machine.cancel_packet(out)
     }
 
-    /// Takes the bytes that came from the server, all of the piece, in whatever pieces they come. Groups that are settled then
-    /// wait for [`take_settled`](Client::take_settled). Where a password is asked for, it is put out; nothing else is.
+    /// Takes the bytes that came from the server, all of the piece, in whatever pieces they come. Groups that are settled then wait for
+    /// [`take_settled`](Client::take_settled). Where a password is asked for, it is put out; nothing else is.
     ///
-    /// F1 Wire: the stream has a fault. F2 Unexpected: a message goes on with no segment that fits. F3 UnsupportedAuth and F4
-    /// PasswordWanted: the server asks for what the client can't give. F5 StartupError and F6 ServerEnd: an error came in phase
-    /// Starting or Ready. F7 Memory: memory ran out. After these the client is closed with the cause of that name: the
-    /// messages before the fault have had their effect, also on `out`, groups that were settled stay to be taken, and a request
-    /// that is outstanding stays to be handed back by [`lost`](Client::lost). F8 Closed: the client was closed before, and
-    /// nothing changes. A piece without bytes takes no memory.
+    /// F1 Wire: the stream has a fault. F2 Unexpected: no fitting segment goes on with the message that came. F3 UnsupportedAuth and F4
+    /// PasswordWanted: the server asks for what the client can't give. F5 StartupError and F6 ServerEnd: an error came in phase Starting or Ready. F7
+    /// Memory: memory ran out. After any of these the client is closed with the cause of that name. The messages before the fault have had their
+    /// effect, also on `out`. Groups that were settled stay to be taken, and a request that is outstanding stays to be handed back by
+    /// [`lost`](Client::lost).
+    ///
+    /// F8 Closed: the client was closed before, and nothing changes. A piece without bytes takes no memory.
     pub fn feed(&mut self, piece: &[u8], out: &mut Vec<u8>) -> Result<(), FeedFault>
         ensures settings { self.new.settings ≡ self.old.settings }
         ensures feeds { Feeds self.old piece.now result self.new out.old.items out.new.items }
@@ -195,8 +194,8 @@ impl Client {
         self.machine.feed(piece, out)
     }
 
-    /// Takes the oldest settled group that wasn't taken: a request with the outcome that its ReadyForQuery closed. None where all
-    /// were taken. It takes no memory.
+    /// Takes the oldest settled group that wasn't taken: a request with its outcome, which the ReadyForQuery closed. None where all were taken. It
+    /// takes no memory.
     pub fn take_settled(&mut self) -> Option<Settled>
         ensures some { IfSome result (λ t. (self.old.settled ≡ t ∷ self.new.settled)
             × (self.new ≡ record self.old { settled = self.new.settled })) }
@@ -213,9 +212,8 @@ impl Client {
         self.machine.has_settled()
     }
 
-    /// Says that the connection is gone. It hands back the request that isn't settled, and says whether an error came for it.
-    /// It leads to Closed(Lost), or a closed client keeps its cause; what is settled stays to be taken. Asked again, it hands
-    /// nothing back. It takes no memory.
+    /// Says that the connection is gone. It hands back the request that isn't settled, and says whether an error came for it. An open client becomes
+    /// Closed(Lost), and a closed one keeps its cause. Settled groups stay to be taken. A second call hands nothing back. It takes no memory.
     pub fn lost(&mut self) -> Loss
         ensures settings { self.new.settings ≡ self.old.settings }
         ensures closed { self.new.closed ≡ Some (first_cause self.old.closed Cause.Lost) }

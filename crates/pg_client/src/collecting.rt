@@ -16,7 +16,7 @@ use std::alloc::Global;
 use std::collections::VecDeque;
 use std::mem;
 
-/// Where a client stands, with all that came of the segment that isn't whole, and the groups that are settled.
+/// Where a client stands, with all that came of the segment that isn't whole, and the settled groups that weren't taken.
 #[derive(Drop)]
 pub struct Collecting {
     stand: Stand,
@@ -116,7 +116,7 @@ impl Collector for Collecting {
         self.stand.hear_row(alloc, row)
     }
 
-    // Room for the group that it settles is made before, so no other message needs it.
+    // Room for the group that it settles was made before, so no other message needs it.
     fn hear_ready(&mut self, alloc: Global, status: Status) -> Result<(), FeedFault> {
         self.settled.reserve(1)?;
         match self.stand.hear_ready(alloc, status) {

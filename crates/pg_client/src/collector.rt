@@ -30,7 +30,7 @@ pub trait Collector: Drop {
     // which clients have it, and which items it has told of which events
     ghost way: { Collects Self };
 
-    /// That of a client that was not started.
+    /// The collector of a client that was not started.
     fn new(alloc: Global) -> Self
     where
         Self: Sized,
@@ -54,13 +54,13 @@ pub trait Collector: Drop {
             → way.fits self.new (with_request stand request) settled }
         ensures tells { TellsSame way self.old self.new };
 
-    /// Notes what was called for the open copy in.
+    /// Notes which call answered the open copy in.
     fn answer_copy(&mut self, said: CopyAnswer)
         ensures fits { (stand : Stand) (settled : List Settled) → way.fits self.old stand settled
             → way.fits self.new (with_answer stand said) settled }
         ensures tells { TellsSame way self.old self.new };
 
-    /// What is lost with the connection.
+    /// Gives back what is lost with the connection.
     fn lose(&mut self) -> Loss
         ensures loss { IsLostOf way self.old result self.new }
         ensures tells { TellsSame way self.old self.new };
@@ -84,7 +84,7 @@ pub trait Collector: Drop {
     fn hear_error(&mut self, fields: Fields) -> Result<ToSend, FeedFault>
         ensures { HearsIn way HearsAs self.old (ErrorResponse fields) result self.new };
 
-    /// Takes in what the server says of the authentication, which is of the startup alone.
+    /// Takes in a message of the authentication, which belongs to the startup alone.
     fn hear_auth(&mut self, auth: Auth) -> Result<ToSend, FeedFault>
         ensures hears { HearsIn way HearsAuth self.old (auth_message auth) result self.new }
         ensures sends { IfOk result (λ s. IsSentFor (auth_message auth) s) };

@@ -26,7 +26,7 @@ use std::alloc::Global;
 use std::collections::VecDeque;
 use std::mem;
 
-/// Where a client stands, without what has come there.
+/// Where a client stands, without what has come of the segment that isn't whole.
 #[derive(Debug, Drop)]
 pub enum EarlyStand {
     New,
@@ -50,7 +50,7 @@ impl EarlyStand {
         }
     }
 
-    // What is lost with the connection.
+    // Gives back what is lost with the connection.
     fn into_loss(self) -> Loss
         ensures { result ≡ early_loss self }
     {
@@ -85,7 +85,7 @@ impl EarlyStand {
         }
     }
 
-    // Notes what was called for the open copy in.
+    // Notes which call answered the open copy in.
     fn answer_copy(&mut self, said: CopyAnswer)
         ensures { self.new ≡ early_answered self.old said }
     {
@@ -94,7 +94,7 @@ impl EarlyStand {
         }
     }
 
-    // Takes in what the server says of the authentication.
+    // Takes in a message of the authentication.
     fn hear_auth(&mut self, auth: Auth) -> Result<ToSend, FeedFault>
         ensures hears { TakesAuth self.old (auth_message auth) result self.new }
         ensures sends { IfOk result (λ s. IsSentFor (auth_message auth) s) }
@@ -125,7 +125,7 @@ pub struct Queue {
 }
 
 impl Queue {
-    // Takes an aside in. Where memory runs out, nothing changes, as with each message.
+    // Takes an aside in. Where memory runs out, nothing changes; so it is with each message.
     #[tactic(auto, using(crate::proofs::Asides::aside_of_message, crate::proofs::Asides::tag_of_aside_message))]
     fn take_aside(&mut self, aside: Aside) -> Result<ToSend, FeedFault>
         ensures { TakesIn self.old.stand self.old.items.items (aside_message aside) result
@@ -213,7 +213,7 @@ impl Queue {
         }
     }
 
-    // Takes a row in. No message is so long that a row couldn't hold its values.
+    // Takes a row in. No message is so long that its values couldn't stand in a row.
     fn take_row(&mut self, alloc: Global, row: &RowView<'_>) -> Result<ToSend, FeedFault>
         ensures { TakesIn self.old.stand self.old.items.items (DataRow row.now) result
             self.new.stand self.new.items.items }
@@ -224,7 +224,7 @@ impl Queue {
         }
     }
 
-    /// Takes in a row that is lent, so that no item of it waits. Which values it has decides nothing.
+    /// Takes in a row that is lent, so that no item of it waits. Its values decide nothing.
     pub fn pass_row(&mut self, alloc: Global) -> Result<(), FeedFault>
         ensures passes { PassesRow self.old.stand [] result self.new.stand }
         ensures items { self.new.items.items ≡ self.old.items.items }

@@ -27,8 +27,8 @@ use pg_wire::{Request, RowView, Status};
 use std::alloc::Global;
 use std::marker::Model;
 
-/// A driver's half of a session that gives what comes as it comes: each message of a request's segment is an [`Item`] of its own,
-/// and is held only until it is taken. It has the calls of [`Client`](crate::Client), with the same conditions and faults.
+/// A driver's half of a session, without sockets, which gives each message as it comes. Each message of a request's segment is an [`Item`] of its
+/// own, and is held only until it is taken. It has the calls of [`Client`](crate::Client), with the same conditions and faults.
 #[derive(Drop)]
 pub struct EarlyClient {
     machine: Machine<Queue>,
@@ -45,7 +45,7 @@ impl Model for EarlyClient {
 }
 
 impl EarlyClient {
-    /// An early client that was not started, in phase New, as [`Client::new`](crate::Client::new).
+    /// An early client that was not started, in phase New. The limit of the settings is from 64 to 1,073,741,823. It takes no memory.
     pub fn new(alloc: Global, settings: Settings) -> Self
         requires { IsLimit settings.limit }
         ensures settings { result.settings ≡ settings }
@@ -77,7 +77,11 @@ impl EarlyClient {
         self.machine.parameter(name)
     }
 
-    /// Puts the startup packet out, as [`Client::start`](crate::Client::start).
+    /// Puts the startup packet out ("Start-up"): `user`, `database` if one is given, then the further pairs. Allowed in phase New, and leads to
+    /// Starting.
+    ///
+    /// C1 NotReady: another phase. C3 Encode: the packet or the password can't be sent, for the reasons at [`Client::start`](crate::Client::start).
+    /// After a fault the client and `out` are as they were.
     pub fn start(&mut self, out: &mut Vec<u8>) -> Result<(), CallFault>
         ensures accepted { OnOk result (EarlyAccepts (λ p. p ≡ Phase.New) Phase.Starting call.Start
             self.old self.new out.old.items out.new.items) }
@@ -89,7 +93,11 @@ impl EarlyClient {
         self.machine.start(out)
     }
 
-    /// Makes a request, as [`Client::request`](crate::Client::request).
+    /// Makes a request: puts a Query out, or the messages of a group's steps and a Sync ("Simple Query", "Extended Query"). Allowed in phase Ready,
+    /// and leads to Busy.
+    ///
+    /// C1 NotReady: another phase. C3 Encode: the fault of the first message that has one (HasZero, TooMany, TooLong), or Memory where none has. A
+    /// fault comes with the request, which is handed back, and leaves the client and `out` as they were.
     pub fn request(
         &mut self,
         request: Request,
@@ -106,7 +114,9 @@ impl EarlyClient {
         self.machine.request(request, out)
     }
 
-    /// Puts a chunk of data out, as [`Client::copy_chunk`](crate::Client::copy_chunk).
+    /// Puts a chunk of data out, as one CopyData, even where it is empty ("COPY Operations"). Allowed in phase CopyingIn, which stays.
+    ///
+    /// C2 NotCopying: another phase. C3 Encode: TooLong or Memory. After a fault the client and `out` are as they were.
     pub fn copy_chunk(&mut self, bytes: &[u8], out: &mut Vec<u8>) -> Result<(), CallFault>
         ensures accepted { OnOk result (EarlyAccepts (λ p. p ≡ Phase.CopyingIn) Phase.CopyingIn
             (call.Chunk bytes.now) self.old self.new out.old.items out.new.items) }
@@ -118,7 +128,9 @@ impl EarlyClient {
         self.machine.copy_chunk(bytes, out)
     }
 
-    /// Says that the data of a copy is complete, as [`Client::copy_done`](crate::Client::copy_done).
+    /// Says that the data of a copy is complete, by a CopyDone ("COPY Operations"). Allowed in phase CopyingIn, and leads to Busy.
+    ///
+    /// C2 NotCopying: another phase. C3 Encode: Memory alone. After a fault the client and `out` are as they were.
     pub fn copy_done(&mut self, out: &mut Vec<u8>) -> Result<(), CallFault>
         ensures accepted { OnOk result (EarlyAccepts (λ p. p ≡ Phase.CopyingIn) Phase.Busy
             call.Done self.old self.new out.old.items out.new.items) }
@@ -130,7 +142,10 @@ impl EarlyClient {
         self.machine.copy_done(out)
     }
 
-    /// Says that a copy is to fail for this reason, as [`Client::copy_fail`](crate::Client::copy_fail).
+    /// Says that a copy is to fail for this reason, by a CopyFail ("COPY Operations"). Allowed in phase CopyingIn, and leads to Busy; the server
+    /// answers with an error.
+    ///
+    /// C2 NotCopying: another phase. C3 Encode: HasZero, TooLong or Memory. After a fault the client and `out` are as they were.
     pub fn copy_fail(&mut self, reason: &[u8], out: &mut Vec<u8>) -> Result<(), CallFault>
         ensures accepted { OnOk result (EarlyAccepts (λ p. p ≡ Phase.CopyingIn) Phase.Busy
             (call.Fail reason.now) self.old self.new out.old.items out.new.items) }
@@ -142,7 +157,10 @@ impl EarlyClient {
         self.machine.copy_fail(reason, out)
     }
 
-    /// Ends the session, as [`Client::terminate`](crate::Client::terminate).
+    /// Ends the session: puts a Terminate out ("Termination"). Allowed in all phases but New and Closed, and leads to Closed(Terminated). A request
+    /// that is outstanding stays to be handed back by [`lost`](EarlyClient::lost).
+    ///
+    /// C1 NotReady: phase New or Closed. C3 Encode: Memory alone. After a fault the client and `out` are as they were.
     pub fn terminate(&mut self, out: &mut Vec<u8>) -> Result<(), CallFault>
         ensures accepted { OnOk result (EarlyAccepts IsOpenPhase (Phase.Closed Cause.Terminated)
             call.Terminate self.old self.new out.old.items out.new.items) }
@@ -154,17 +172,21 @@ impl EarlyClient {
         self.machine.terminate(out)
     }
 
-    /// Appends the packet that asks to cancel the outstanding request, as
-    /// [`Client::cancel_packet`](crate::Client::cancel_packet).
+    /// Appends the packet that asks to cancel the outstanding request, for a connection of its own ("Canceling Requests in Progress"). It has the
+    /// last key that the server sent. Allowed in any phase, and the client is unchanged.
+    ///
+    /// C3 Encode: Memory alone. C4 NoKey: the server has sent no key. After a fault `out` is as it was.
     pub fn cancel_packet(&self, out: &mut Vec<u8>) -> Result<(), CallFault>
         ensures { Cancels self.now.key out.old.items result out.new.items }
     {
         self.machine.cancel_packet(out)
     }
 
-    /// Takes the bytes that came from the server, as [`Client::feed`](crate::Client::feed). The items of the messages then wait
-    /// for [`take_item`](EarlyClient::take_item). Where memory for an item is refused, its message wasn't handled (F7 Memory). A piece
-    /// without bytes changes nothing, even where pushed bytes are still to be heard.
+    /// Takes the bytes that came from the server, all of the piece, in whatever pieces they come. The items of the messages then wait for
+    /// [`take_item`](EarlyClient::take_item). Where a password is asked for, it is put out; nothing else is.
+    ///
+    /// The faults are those of [`Client::feed`](crate::Client::feed). F7 Memory comes also where memory for an item ran out; its message wasn't
+    /// handled. A piece without bytes changes nothing, even where pushed bytes are still to be heard.
     pub fn feed(&mut self, piece: &[u8], out: &mut Vec<u8>) -> Result<(), FeedFault>
         ensures settings { self.new.settings ≡ self.old.settings }
         ensures feeds { EarlyFeeds self.old piece.now result self.new out.old.items out.new.items }
@@ -177,8 +199,8 @@ impl EarlyClient {
         self.machine.feed(piece, out)
     }
 
-    /// Keeps the bytes that came from the server, all of them, and handles none of their messages: [`next_lent`](EarlyClient::next_lent)
-    /// does, and so does a [`feed`](EarlyClient::feed) that has bytes. No row is lent any more. A closed client returns F8 Closed.
+    /// Keeps the bytes that came from the server, all of them, and handles none of their messages: [`next_lent`](EarlyClient::next_lent) does, and so
+    /// does a [`feed`](EarlyClient::feed) that has bytes. No row is lent any more. A closed client returns F8 Closed.
     pub fn push(&mut self, piece: &[u8]) -> Result<(), FeedFault>
         ensures pushes { Pushes self.old piece.now result self.new }
         ensures history { OnOk result ((unread : List ℕ) (h : History) (given : List Item)
@@ -189,13 +211,12 @@ impl EarlyClient {
         self.machine.push(piece)
     }
 
-    /// The next item, of the bytes that were pushed: the one that [`take_item`](EarlyClient::take_item) would give after a
-    /// [`feed`](EarlyClient::feed) of them. Where it is a row, the answer is Held: its item counts as given, no memory is taken for it, and
-    /// [`held`](EarlyClient::held) lends it; a row comes as an item only where it waited before the call. Nothing says that no message is
-    /// whole any more, and no item waits. The answers to the server are put out, and the faults are those of
-    /// [`feed`](EarlyClient::feed); after one no row is lent.
+    /// The next item of the bytes that were pushed: the one that [`take_item`](EarlyClient::take_item) would give after a [`feed`](EarlyClient::feed)
+    /// of them. A row is returned as Held: its item counts as given and takes no memory, and [`held`](EarlyClient::held) lends it. A row comes as an
+    /// item only where it waited before the call. Nothing means that no item waits, and no message is whole any more.
     ///
-    /// What is called before Nothing was answered comes before the bytes that are still to be heard.
+    /// What is to be sent for a message is put out, and the faults are those of [`feed`](EarlyClient::feed); after one no row is lent. A call that is
+    /// made before Nothing was returned comes before the bytes that are still to be heard.
     pub fn next_lent(&mut self, out: &mut Vec<u8>) -> Result<Next, FeedFault>
         ensures settings { self.new.settings ≡ self.old.settings }
         ensures takes { TakesLent self.old result self.new out.old.items out.new.items }
@@ -203,8 +224,9 @@ impl EarlyClient {
         self.machine.next_lent(out)
     }
 
-    /// The row that [`next_lent`](EarlyClient::next_lent) returned Held for, until the next call of it, of
-    /// [`push`](EarlyClient::push) or of [`feed`](EarlyClient::feed), and else None. A closed client lends none. It takes no memory.
+    /// The row for which [`next_lent`](EarlyClient::next_lent) returned Held. It is lent until the next call of `next_lent` or of
+    /// [`push`](EarlyClient::push), or of a [`feed`](EarlyClient::feed) that has bytes. Else this is None. A closed client lends none. It takes no
+    /// memory.
     pub fn held(&self) -> Option<RowView<'_>>
         ensures row { result ≡ self.now.held }
         ensures closed { (cause : Cause) → self.now.closed ≡ Some cause → result ≡ None }
@@ -232,7 +254,8 @@ impl EarlyClient {
         self.machine.has_item()
     }
 
-    /// Says that the connection is gone, as [`Client::lost`](crate::Client::lost). Items stay to be taken.
+    /// Says that the connection is gone. It hands back the request that isn't settled, and says whether an error came for it. An open client becomes
+    /// Closed(Lost), and a closed one keeps its cause. Items stay to be taken. A second call hands nothing back. It takes no memory.
     pub fn lost(&mut self) -> Loss
         ensures settings { self.new.settings ≡ self.old.settings }
         ensures closed { self.new.closed ≡ Some (first_cause self.old.closed Cause.Lost) }

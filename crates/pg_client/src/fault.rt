@@ -1,4 +1,4 @@
-//! Why a call was refused, and why bytes were.
+//! Why a client rejects a call, or bytes.
 
 ghost use Rattle.std.specs.Prelude.{◌≡◌};
 ghost use Rattle.pg_client.specs.Closed.{cause_of};
@@ -14,16 +14,16 @@ use pg_wire::{EncodeFault, Fields, WireFault};
 use std::alloc::AllocError;
 use thiserror::Error;
 
-/// Why a call was refused: the first of these that holds. The client and its output are then as they were.
+/// Why a client rejects a call: the first of these that holds. The client and its output are then as they were.
 #[derive(Clone, Copy, Debug, PartialEq, Eq, Error)]
 pub enum CallFault {
     /// The call isn't allowed in this phase.
     #[error("C1 NotReady")]
     NotReady(Phase),
-    /// A call of a copy, and this phase isn't CopyingIn.
+    /// The call belongs to a copy, and this phase isn't CopyingIn.
     #[error("C2 NotCopying")]
     NotCopying(Phase),
-    /// What the call would send has no spelling, or memory for it was refused.
+    /// What the call would send has no spelling, or memory for it ran out.
     #[error("C3 Encode {0}")]
     Encode(EncodeFault),
     /// The server has sent no key.
@@ -53,23 +53,23 @@ impl From<EncodeFault> for CallFault {
     }
 }
 
-/// Why bytes were refused. All but Closed leave the client closed with the cause of that name. The messages before the fault
-/// have had their effect.
+/// Why a client rejects the server's bytes. All but Closed leave the client closed with the cause of that name. The messages before the fault have
+/// had their effect.
 #[derive(Clone, Debug, PartialEq, Eq, Drop, Error)]
 pub enum FeedFault {
     /// The stream has this fault.
     #[error("F1 Wire {0}")]
     Wire(WireFault),
-    /// A message with this tag goes on with no segment that fits.
+    /// No fitting segment goes on with the message that came, which has this tag.
     #[error("F2 Unexpected {0}")]
     Unexpected(u8),
-    /// The server wants the way of authentication with this code.
+    /// The server asks for the way of authentication with this code, which the client doesn't have.
     #[error("F3 UnsupportedAuth {0}")]
     UnsupportedAuth(i32),
-    /// The server wants a password, and none was given.
+    /// The server asks for a password, and none was given.
     #[error("F4 PasswordWanted")]
     PasswordWanted,
-    /// The server refused the startup, with this error.
+    /// The server rejected the startup, with this error.
     #[error("F5 StartupError")]
     StartupError(Fields),
     /// The server ended the session while no request was outstanding, with this error.
@@ -119,7 +119,7 @@ impl FeedFault {
         }
     }
 
-    // What a fault of the stream is to the client.
+    // The fault of a client whose decoder returned this one.
     pub(crate) fn of_wire(fault: WireFault) -> FeedFault
         ensures { result ≡ of_wire fault }
     {
@@ -129,7 +129,7 @@ impl FeedFault {
         }
     }
 
-    // The cause that it is of a close.
+    // The cause with which it closes a client; None where the client was closed before.
     pub(crate) fn cause(&self) -> Option<Cause>
         ensures { result ≡ cause_of self.now }
     {

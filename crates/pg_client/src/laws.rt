@@ -33,7 +33,8 @@ pub fn facts_of_an_early_run()
         → EarlyFacts (happenings h) given early }
 {}
 
-/// What a client knows of a loss at each time: the request after those of the settled groups, and whether an error came for it.
+/// What a client knows of a loss at each time: which request is in doubt, the one after those of the settled groups, and whether an error came for
+/// it.
 pub fn loss_of_a_run()
     ensures { (h : History) (client : ClientView) → IsHistoryOf h client
         → Loses h.handed_back (happenings h) (known_loss client) }
@@ -46,14 +47,15 @@ pub fn turns_of_a_run()
         → InTurns client.settings (happenings h) h.sent }
 {}
 
-/// What happened is the calls and what was heard, each in their order. A call more is a new turn, or is the last one's.
+/// The events of a history are the calls and the messages that were heard, each in their order. One more call is a new turn, or belongs to the last
+/// one.
 pub fn story_of_a_run()
     ensures order { (h : History) → KeepsOrder h }
     ensures one_more { (cs : Calls) (c : Call) (place : ℕ)
         → turns_of (calls_of (cs ++ (c, place) ∷ [])) ≡ turns_with (turns_of (calls_of cs)) c }
 {}
 
-/// What is expected was so at each time before, so that with a message that isn't expected nothing after it is.
+/// If the messages so far are expected, so were those at each time before. So nothing after an unexpected message is expected.
 pub fn expected_begins()
     ensures begins { (password : Option (List ℕ)) (hs more : List Happening)
         → Expected password (hs ++ more) → Expected password hs }
@@ -74,7 +76,7 @@ pub fn spelled_in_a_run()
         → SendsSpelled client.settings (happenings h) }
 {}
 
-/// What settles as bytes come is the request that was asked last, and nothing else. In phase Ready all requests are settled.
+/// As bytes come, only the request that was made last can be settled. In phase Ready all requests are settled.
 pub fn settles_the_last()
     ensures fed { (h : History) (old new : ClientView) (piece : List ℕ)
         (result : Result Unit FeedFault) (before after : List ℕ)
@@ -87,8 +89,8 @@ pub fn settles_the_last()
     pg_wire::laws::one_outcome();
 }
 
-/// What a driver goes by. In phase Ready all requests that its calls made are settled, and an open client that made one and has settled
-/// all is Ready. A request more is the last of them.
+/// What a driver can rely on. In phase Ready all requests that its calls made are settled. An open client that made a request and has settled all is
+/// Ready. A request that is made then stands last among them.
 pub fn requests_of_the_calls()
     ensures ready { (h : History) (client : ClientView) → IsHistoryOf h client
         → phase_of client ≡ phase.Ready
@@ -101,7 +103,7 @@ pub fn requests_of_the_calls()
         → requests_by (calls ++ (call.Request r, place) ∷ []) ≡ requests_by calls ++ r ∷ [] }
 {}
 
-/// A feed carries a history on, of a client that was open or closed.
+/// A feed carries on each history of a client, open or closed.
 pub fn feeding_goes_on()
     ensures { (h : History) (old new : ClientView) (piece : List ℕ) (result : Result Unit FeedFault)
         (before after : List ℕ) → IsHistoryOf h old → Feeds old piece result new before after

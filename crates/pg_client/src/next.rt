@@ -2,13 +2,13 @@
 
 use crate::item::Item;
 
-/// What a call of [`next_lent`](crate::EarlyClient::next_lent) came to.
+/// What [`next_lent`](crate::EarlyClient::next_lent) returns.
 #[derive(Debug, PartialEq, Drop)]
 pub enum Next {
-    /// No message is whole any more, and no item waits.
+    /// No item waits, and no message is whole any more.
     Nothing,
     /// A row, which [`held`](crate::EarlyClient::held) lends. Its item counts as given.
     Held,
-    /// The next item. It is no row, unless it waited before the call.
+    /// The next item. It isn't a row, unless it waited before the call.
     Item(Item),
 }

@@ -8,13 +8,13 @@ ghost use Rattle.pg_client.specs.Client.{IsOpenPhase};
 pub enum Cause {
     /// The stream has a fault.
     Wire,
-    /// A message came that goes on with no segment that fits.
+    /// No fitting segment goes on with the message that came.
     Unexpected,
-    /// The server wants another way of authentication than a password.
+    /// The server asks for another way of authentication than a password.
     UnsupportedAuth,
-    /// The server wants a password, and none was given.
+    /// The server asks for a password, and none was given.
     PasswordWanted,
-    /// The server refused the startup.
+    /// The server rejected the startup.
     StartupError,
     /// The server ended the session with an error while no request was outstanding.
     ServerEnd,

@@ -47,7 +47,7 @@ fn password_fault(password: &Option<Seq<u8>>) -> Option<EncodeFault>
     }
 }
 
-/// Puts the startup packet out, or nothing. The password is judged too, also where memory ran out for the packet.
+/// Puts the startup packet out, or nothing. The password is judged too, even where memory ran out for the packet.
 pub fn put_start(settings: &Settings, out: &mut Vec<u8>) -> Result<(), EncodeFault>
     ensures { SendsStart settings.now out.old.items result out.new.items }
 {
@@ -125,7 +125,7 @@ fn starved_after(starved: bool, put: Result<(), EncodeFault>) -> Result<bool, En
     }
 }
 
-// Puts the steps and a Sync out, as far as may be. All are judged, also after one that memory ran out for.
+// Puts the steps and a Sync out, as far as memory allows. All are judged, even after one for which memory ran out.
 fn put_steps(steps: &[Step], out: &mut Vec<u8>) -> Result<(), EncodeFault>
     ensures { Puts (map step_message steps.now ++ Sync ∷ []) out.old.items result out.new.items }
 {

@@ -8,8 +8,7 @@ use pg_wire::Seq;
 use std::alloc::Global;
 use std::fmt;
 
-/// Whom a client connects as, and what it takes ("Start-up").
-/// `{:?}` says of the password only whether there is one.
+/// Whom a client connects as, and what it takes ("Start-up"). `{:?}` writes only whether there is a password.
 #[derive(Clone, PartialEq, Eq, Drop)]
 pub struct Settings {
     /// The user's name.
@@ -25,7 +24,7 @@ pub struct Settings {
 }
 
 impl Settings {
-    /// The settings of this user, with the greatest limit and without all that may be left out. Each field may be set then.
+    /// The settings of this user, with the greatest limit: no database, no further parameters and no password. Each field may be set then.
     pub fn new(alloc: Global, user: Seq<u8>) -> Settings
         ensures user { result.user ≡ user }
         ensures database { result.database ≡ None }

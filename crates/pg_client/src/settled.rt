@@ -14,7 +14,7 @@ pub struct Settled {
 /// What is left of a session whose connection is gone.
 #[derive(Clone, Debug, PartialEq, Eq, Drop)]
 pub struct Loss {
-    /// The request that was made and isn't settled. Whether it took effect isn't known.
+    /// The request that was made and isn't settled, if there is one. Whether it took effect isn't known.
     pub unsettled: Option<Request>,
     /// Whether an error came for it.
     pub seen_error: bool,

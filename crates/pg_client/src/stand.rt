@@ -56,7 +56,7 @@ impl Stand {
         *self = asked_after(alloc, old, request);
     }
 
-    /// Notes what was called for the open copy in.
+    /// Notes which call answered the open copy in.
     pub fn answer_copy(&mut self, said: CopyAnswer)
         ensures { self.new ≡ with_answer self.old said }
     {
@@ -65,7 +65,7 @@ impl Stand {
         }
     }
 
-    /// What is lost with the connection.
+    /// Gives back what is lost with the connection.
     pub fn into_loss(self) -> Loss
         ensures request { result.unsettled ≡ unsettled_of self }
         ensures error { result.seen_error ≡ has_failed self }
@@ -98,8 +98,8 @@ impl Stand {
         Ok(ToSend::Nothing)
     }
 
-    /// Takes a parameter's value in. It is copied only where it stays as an aside: that of the startup is dropped. The answer says
-    /// whether it may stand there.
+    /// Takes a parameter's value in, and returns whether it may stand there. It is copied only where it stays as an aside: that of the startup is
+    /// dropped.
     pub fn hear_parameter(&mut self, name: &Seq<u8>, value: &Seq<u8>) -> Result<bool, AllocError>
         ensures { HearsParameter self.old (ParameterStatus name.now value.now) result self.new }
     {
@@ -127,7 +127,7 @@ impl Stand {
         }
     }
 
-    /// Takes in what the server says of the authentication, which is of the startup alone.
+    /// Takes in a message of the authentication, which belongs to the startup alone.
     pub fn hear_auth(&mut self, auth: Auth) -> Result<ToSend, FeedFault>
         ensures hears { HearsAuth self.old (auth_message auth) result self.new }
         ensures sends { IfOk result (λ s. IsSentFor (auth_message auth) s) }
@@ -176,7 +176,7 @@ impl Stand {
         }
     }
 
-    /// Takes a ReadyForQuery in, and answers the group that it settles; that of the startup settles none.
+    /// Takes a ReadyForQuery in, and returns the group that it settles. The one that ends the startup settles none.
     pub fn hear_ready(
         &mut self,
         alloc: Global,

@@ -11,7 +11,7 @@ use pg_segment::Auth;
 #[derive(Clone, Copy, Debug, PartialEq, Eq)]
 pub enum Welcome {
     Fresh,
-    /// A password was asked for.
+    /// The server asked for a password.
     Asked,
     Admitted,
 }
@@ -25,7 +25,7 @@ pub enum ToSend {
 }
 
 impl Welcome {
-    /// What the server says of the authentication, and what the client is to send for it.
+    /// Takes in a message of the authentication, and returns what the client is to send for it.
     pub fn hear_auth(&mut self, auth: Auth) -> Result<ToSend, FeedFault>
         ensures greets { Greets self.old (auth_message auth) result self.new }
         ensures sends { IfOk result (λ s. IsSentFor (auth_message auth) s) }

@@ -1,4 +1,4 @@
--- What a reader with a limit was given and has given, and which line it refuses.
+-- What a reader with a limit was given and has given, and which line it rejects.
 pub mod Limited
 -- Words of private functions, which no public contract cites.
 pub mod Private

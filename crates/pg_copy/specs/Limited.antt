@@ -1,5 +1,5 @@
--- A reader of a text file that refuses a line which is too long to be kept, as its callers see it,
--- and what its calls answer.
+-- A reader of a text file that rejects a line which is too long to be kept, as its callers see it,
+-- and what its calls return.
 use Rattle.std.specs.Prelude.{◌≡◌, ℕ, ◌+◌, ◌<◌, ◌≤◌, ◌⊎◌, Bool, true, false, List, length, Option, Some, None, Result, Ok, Err}
 use Rattle.pg_copy_rows.specs.declared.fault.TextFault.{TextFault}
 use Rattle.pg_copy_text.specs.declared.text_stage.TextStage.TheVariants as stages
@@ -32,7 +32,7 @@ pub record HasReadLimited (s : LimitedState) (pushed : List ℕ) (given : List R
   pub read : HasReadText s.reader pushed given
   pub counted : s.pushed ≡ told (length pushed)
 
--- A push takes the whole piece, as a reader without a limit does, or refuses it and changes
+-- A push takes the whole piece, as a reader without a limit does, or rejects it and changes
 -- nothing: for a fault of that reader, or a line that was too long.
 abbrev pub PushesLimited : LimitedState → List ℕ → Result Unit LimitedTextFault → LimitedState
     → Type 0
@@ -46,7 +46,7 @@ PushesLimited old piece (Err (Text f)) new = (old.long ≡ false)
     × PushesText old.reader piece (Err f) new.reader × (new ≡ old)
 PushesLimited old piece (Err LongLine) new = (old.long ≡ true) × (new ≡ old)
 
--- what a reader without a limit answers in this place: no row, where a line is too long
+-- what a reader without a limit returns in this place: no row, where a line is too long
 abbrev pub as_text : Result (Option Row) LimitedTextFault → Result (Option Row) TextFault
 as_text (Ok row) = Ok row
 as_text (Err (Text f)) = Err f

@@ -108,7 +108,7 @@ pub record IsOpenHead (bytes : List ℕ) : Type 0 where
 abbrev pub open_head : List ℕ → List ℕ
 open_head bytes = if nat_lt (length bytes) 19 then bytes else []
 
--- Of a file without a whole head these bytes mean this ending: the beginning of a head, or a fault.
+-- The bytes of a file without a whole head mean this ending: the beginning of a head, or a fault.
 abbrev pub IsHeadRest : List ℕ → RowsEnding BinaryFault → Type 0
 IsHeadRest bytes (Open kept) = (kept ≡ open_head bytes) × IsOpenHead bytes
 IsHeadRest bytes Done = ⊥

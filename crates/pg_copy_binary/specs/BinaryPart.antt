@@ -145,7 +145,7 @@ last_ending Done = Done
 last_ending Ended = Ended
 last_ending (Bad fault) = Bad fault
 
--- the same reading, once the input has ended
+-- this reading of the bytes so far, once the input has ended
 abbrev pub binary_at_end : RowsRead BinaryFault → RowsRead BinaryFault
 binary_at_end r = record { rows = r.rows; ending = last_ending r.ending }
 

@@ -132,7 +132,7 @@ IsReading stages.Rows = Unit {0}
 IsReading stages.Closed = ⊥
 IsReading (stages.Failed fault) = ⊥
 
--- A push takes the whole piece, or refuses it and changes nothing: by the fault that was found
+-- A push takes the whole piece, or rejects it and changes nothing: by the fault that was found
 -- before, or because memory ran out, but never a piece of which nothing is kept (no bytes, within an
 -- extension, after the trailer).
 abbrev pub PushesBinary : BinaryState → List ℕ → Result Unit BinaryFault → BinaryState → Type 0

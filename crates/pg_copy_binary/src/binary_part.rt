@@ -30,7 +30,7 @@ pub enum NoPart {
 /// Why no row was made.
 #[derive(Clone, Copy, Debug, Drop, PartialEq, Eq)]
 pub enum NoRow {
-    /// Memory for a row was refused.
+    /// Memory for a row ran out.
     Memory,
     NoPart(NoPart),
 }
@@ -120,7 +120,7 @@ pub fn head_at(bytes: &[u8]) -> Result<(&[u8], &[u8]), NoPart>
     take(rest, len as usize)
 }
 
-/// How many bytes of the extension are to come, where the head isn't whole for want of them alone.
+/// How many bytes of the extension are to come, where the head lacks nothing else.
 pub fn extension_left(bytes: &[u8]) -> Option<u32>
     requires { head_at bytes.now ≡ Err Incomplete }
     ensures left { result ≡ extension_left (fixed_at bytes.now) }
@@ -165,7 +165,7 @@ impl Walk {
     }
 }
 
-/// What stands in the place of a row.
+/// What the bytes in the place of a row are.
 #[derive(Clone, Copy, Debug, Drop, PartialEq, Eq)]
 pub enum RowOrTrailer {
     /// A row, which was walked over.
@@ -179,7 +179,7 @@ fn wrong_count(count: u16) -> NoPart
     NoPart::Faulty(BinaryFault::FieldCount(count.cast_signed()))
 }
 
-/// Walks on over the row at the front, and says whether it is whole.
+/// Walks on over the row at the front, and returns whether it is whole.
 pub fn find_row(
     columns: u16,
     limit: u32,
@@ -309,7 +309,7 @@ pub fn find_part(
     }
 }
 
-/// Copies so many values, which were walked over.
+/// Copies so many values, which were walked over before.
 pub fn values_of(
     alloc: Global,
     limit: u32,
@@ -322,7 +322,7 @@ pub fn values_of(
     let mut values = Vec::with_capacity(alloc, usize::from(count))?;
     let mut rest = bytes;
     for _ in 0..count {
-        // where each was walked over, each is whole
+        // Each was walked over, so each is whole.
         let Ok((value, after)) = value_at(limit, rest) else {
             return Ok(values);
         };

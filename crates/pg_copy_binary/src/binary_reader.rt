@@ -47,7 +47,7 @@ pub enum BinaryStage {
     Failed(BinaryFault),
 }
 
-// Where a row begins that stands so many bytes after the first of those that are kept: only a head stands before it.
+// Where the row begins that stands so many bytes after the first of those that are kept. Only a head may stand before it.
 fn start_offset(offset: u64, start: usize) -> u64
     ensures { result ≡ start_offset offset start }
 {
@@ -56,12 +56,12 @@ fn start_offset(offset: u64, start: usize) -> u64
 
 /// Takes a binary file in any pieces, and gives exactly its rows.
 ///
-/// `push` keeps a piece, `next` gives the rows that are whole, one by one, and `finish` those that are left at the end of the
-/// input, where the trailer must have come; no byte may stand after it. The length -1 is a null. A fault stands in the place
-/// of its row, and is returned by each call from then on. The flags that a reader need not know and the header's extension are
-/// skipped. The extension's bytes are dropped as they come, so that no more is kept than a row until it is whole, and what was
-/// pushed since `next` was last called. A row is looked over once, however the pieces are cut, and its values are copied once
-/// it is whole (PostgreSQL documentation, page COPY, "Binary Format").
+/// `push` keeps a piece. `next` gives the rows that are whole, one by one, and `finish` those that are left at the end of the input. The trailer must
+/// have come by then, and no byte may stand after it. The length -1 is a null. A fault takes the place of its row, and each later call returns it.
+///
+/// The flags that a reader need not know and the header's extension are skipped. The extension's bytes are dropped as they come. So no more is kept
+/// than a row until it is whole, and what was pushed since `next` was last called. A row is looked over once, however the pieces are cut, and its
+/// values are copied once it is whole (PostgreSQL documentation, page COPY, "Binary Format").
 #[derive(Drop)]
 pub struct BinaryReader {
     alloc: Global,
@@ -126,35 +126,35 @@ impl BinaryReader {
         self.stage == BinaryStage::Closed
     }
 
-    /// Whether `finish` was called, calls that returned Memory left out. No more may then be pushed, and `next` not be called.
+    /// Whether `finish` was called; a call that returned Memory doesn't count. Once it was, no more may be pushed, and `next` may not be called.
     pub fn ended(&self) -> bool
         ensures { result ≡ self.now.ended }
     {
         self.ended
     }
 
-    /// How many rows were given, so that a caller can say which row a fault stands in the place of. The number stays at
-    /// `u64::MAX`.
+    /// How many rows were given. A fault stands in the place of the row after these. The number stays at `u64::MAX`.
     pub fn rows_given(&self) -> u64
         ensures { result ≡ self.now.given }
     {
         self.given
     }
 
-    /// Where in the file the row begins that comes next: how many bytes stand before it, those of the head and of the rows that were
-    /// given. So after a fault it tells where the row begins that the fault stands in the place of, and 0 where that is the head.
-    /// Within the head's extension it tells where the first row will begin. The number stays at `u64::MAX`.
+    /// Where in the file the next row begins: how many bytes stand before it, those of the head and of the rows that were given. After a fault it is
+    /// where the row begins in whose place the fault stands, or 0 where that is the head. Within the header's extension it is where the first row
+    /// will begin. The number stays at `u64::MAX`.
     pub fn offset(&self) -> u64
         ensures { result ≡ self.now.offset }
     {
         self.offset
     }
 
-    /// Takes the next piece of the file, all of it. What it has of the head's extension is dropped, once a call of `next` has
-    /// found that only the extension is to come of the head. After the trailer nothing is kept: a byte is a fault, which the
-    /// next call answers. A fault that was found is returned again. After Memory nothing of the piece was taken and the reader
-    /// is unchanged; a piece of which nothing is to be kept needs no memory: one without bytes, one within the extension, or
-    /// one after the trailer.
+    /// Takes the next piece of the file, all of it. Bytes of the header's extension are dropped, once a call of `next` has found that nothing else of
+    /// the head is to come. After the trailer nothing is kept: a byte is a fault, which the next call returns. A fault that was found is returned
+    /// again.
+    ///
+    /// After Memory nothing of the piece was taken, and the reader is unchanged. A piece of which nothing is kept needs no memory: one without bytes,
+    /// one within the extension, or one after the trailer.
     pub fn push(&mut self, piece: &[u8]) -> Result<(), BinaryFault>
         requires { self.old.ended ≡ false }
         ensures call { PushesBinary self.old piece.now result self.new }
@@ -178,10 +178,11 @@ impl BinaryReader {
         }
     }
 
-    /// The next row, or None where no whole row waits or the trailer was read. A fault is found where no more rows stand before
-    /// it, and is then returned for good. Memory is returned only where a row waits, and leaves the reader unchanged. Where it
-    /// returns None, at most 18 bytes of a head are kept, and none of its extension. Where it gives a row, fewer bytes are kept, so
-    /// that a loop over the rows comes to its end (PostgreSQL documentation, page COPY, "Binary Format").
+    /// The next row, or None where no whole row waits or the trailer was read. A fault is returned once all rows before it were given, and by each
+    /// call after that. Memory is returned only where a row waits, and leaves the reader unchanged.
+    ///
+    /// Where it returns None, at most 18 bytes of a head are kept, and none of its extension. Where it gives a row, fewer bytes are kept, so that a
+    /// loop over the rows comes to its end (PostgreSQL documentation, page COPY, "Binary Format").
     pub fn next(&mut self) -> Result<Option<Row>, BinaryFault>
         requires { self.old.ended ≡ false }
         ensures read { (pushed : List ℕ) (given : List Row) → HasReadBinary self.old pushed given
@@ -215,9 +216,8 @@ impl BinaryReader {
         }
     }
 
-    /// Whether a next row waits, which is then lent until the next change of the reader: [`BinaryReader::held`] gives it. It counts as
-    /// given, and the reader has its bytes until then. A fault is returned as `next` returns it, and no memory is asked for (PostgreSQL
-    /// documentation, page COPY, "Binary Format").
+    /// Whether a next row waits. It counts as given, and [`BinaryReader::held`] lends it until the next change of the reader, which keeps its bytes
+    /// until then. A fault is returned as `next` returns it, and no memory is taken (PostgreSQL documentation, page COPY, "Binary Format").
     pub fn next_lent(&mut self) -> Result<bool, BinaryFault>
         requires { self.old.ended ≡ false }
         ensures read { (pushed : List ℕ) (given : List Row) → HasReadBinary self.old pushed given
@@ -255,8 +255,8 @@ impl BinaryReader {
         }
     }
 
-    /// The row that the last call of `next_lent` returned true for; None where another call of `push`, `next`, `next_lent` or
-    /// `finish` came after it, but for those that returned Memory. It takes no memory.
+    /// The row for which the last call of `next_lent` returned true. It is None after any other call of `push`, `next`, `next_lent` or `finish`,
+    /// except one that returned Memory. It takes no memory.
     pub fn held(&self) -> Option<BinaryRow<'_>>
         ensures { result ≡ self.now.held }
     {
@@ -266,9 +266,9 @@ impl BinaryReader {
         }
     }
 
-    /// Says that the input has ended, and gives the next row that is left, or None where none is and the trailer was read.
-    /// Truncated is returned where it was not. It is to be called until it returns None. Memory is returned only where a row is
-    /// left, and leaves the reader unchanged (PostgreSQL documentation, page COPY, "Binary Format").
+    /// Says that the input has ended, and gives the next row that is left. None: no row is left, and the trailer was read. Truncated: no row is left,
+    /// and the trailer wasn't read. Call it until it returns None. Memory is returned only where a row is left, and leaves the reader unchanged
+    /// (PostgreSQL documentation, page COPY, "Binary Format").
     pub fn finish(&mut self) -> Result<Option<Row>, BinaryFault>
         ensures read { (pushed : List ℕ) (given : List Row) → HasReadBinary self.old pushed given
             → HasReadBinary self.new pushed (given ++ given_by result) }
@@ -368,8 +368,8 @@ impl BinaryReader {
         self.find_row(in_head)
     }
 
-    // Finds a row, or takes the trailer, in front of which the head may stand. Where neither is whole, a head that is goes off
-    // alone, so that it isn't kept until the first row has come, and so does one that lacks bytes of its extension alone.
+    // Finds a row, or takes the trailer; the head may stand in front of it. Where neither is whole, a head that is whole is taken off alone, so that
+    // it isn't kept until the first row has come. So is a head that lacks only bytes of its extension.
     fn find_row(&mut self, in_head: bool) -> Result<Option<Place>, NoPart>
         requires { self.old.stage ≡ stage_of in_head }
         ensures { FindsNext result self.old self.new }
@@ -437,7 +437,7 @@ impl BinaryReader {
         self.buffer.take(0);
     }
 
-    // Takes a head off that lacks bytes of its extension alone.
+    // Takes a head off that lacks only bytes of its extension.
     fn enter_extension(&mut self)
         requires stage { self.old.stage ≡ Head }
         requires open { head_at self.old.kept ≡ Err Incomplete }

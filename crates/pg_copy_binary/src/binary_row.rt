@@ -1,4 +1,4 @@
-//! A row of a binary file, read in place: nothing of it is copied, and no memory is asked for.
+//! A row of a binary file, read in place: nothing of it is copied, and no memory is taken.
 
 ghost use Rattle.std.specs.Prelude.{◌≡◌, option_copied};
 ghost use Rattle.std.specs.Iterator.{YieldsFirstBy, item_count};
@@ -26,7 +26,7 @@ impl<'a> Model for BinaryRow<'a> {
 }
 
 impl<'a> BinaryRow<'a> {
-    /// The row of so many values, of at most `limit` bytes each, with which the bytes begin.
+    /// The row of so many values at the front of the bytes, of at most `limit` bytes each.
     pub(crate) fn of_values(limit: u32, count: u16, values: &'a [u8]) -> BinaryRow<'a>
         ensures { result ≡ values_left limit count values.now }
     {

@@ -13,8 +13,8 @@ use pg_copy_rows::{Row, RowFault};
 use pg_seq::Seq;
 use std::alloc::AllocError;
 
-/// Appends the head of a file, with no flags and an empty extension (PostgreSQL documentation, page COPY, "Binary Format").
-/// Memory is returned where the buffer could not grow, and leaves `buf` as it was.
+/// Appends the head of a file, with no flags and an empty extension (PostgreSQL documentation, page COPY, "Binary Format"). Memory: the buffer could
+/// not grow, and `buf` is as it was.
 pub fn write_binary_head(buf: &mut Vec<u8>) -> Result<(), RowFault>
     ensures { Writes None written_head buf.old.items result buf.new.items }
 {
@@ -37,8 +37,8 @@ fn put_head(buf: &mut Vec<u8>) -> Result<(), AllocError>
     buf.extend_from_slice(&[0; 8])
 }
 
-/// Appends the trailer, after which nothing stands (PostgreSQL documentation, page COPY, "Binary Format"). Memory is returned
-/// where the buffer could not grow, and leaves `buf` as it was.
+/// Appends the trailer, which ends a file (PostgreSQL documentation, page COPY, "Binary Format"). Memory: the buffer could not grow, and `buf` is as
+/// it was.
 pub fn write_binary_trailer(buf: &mut Vec<u8>) -> Result<(), RowFault>
     ensures { Writes None trailer buf.old.items result buf.new.items }
 {
@@ -138,10 +138,9 @@ fn put_values(fields: &[Option<Seq<u8>>], buf: &mut Vec<u8>) -> Result<(), Alloc
     Ok(())
 }
 
-/// Appends the number of a row's values, which stands in front of them. A caller whose values don't stand in a `Row` writes a row
-/// by it, and each value by [`write_binary_field`] (PostgreSQL documentation, page COPY, "Binary Format"). Width is returned where
-/// there is no value or there are more than 32,767, and Memory where there are so many and the buffer could not grow. A refusal
-/// leaves `buf` as it was.
+/// Appends the number of a row's values, which stands in front of them. A caller whose values don't stand in a `Row` writes a row by this, and each
+/// value by [`write_binary_field`] (PostgreSQL documentation, page COPY, "Binary Format"). Width: there is no value, or there are more than 32,767.
+/// Else Memory: the buffer could not grow. A fault leaves `buf` as it was.
 pub fn write_binary_count(count: usize, buf: &mut Vec<u8>) -> Result<(), RowFault>
     ensures { Writes (width_fault count)
         (to_be_bytes w16 count) buf.old.items result buf.new.items }
@@ -155,9 +154,8 @@ pub fn write_binary_count(count: usize, buf: &mut Vec<u8>) -> Result<(), RowFaul
     }
 }
 
-/// Appends one value after its length, which is -1 for a null, as a row has it after the number of its values (PostgreSQL
-/// documentation, page COPY, "Binary Format"). FieldLong is returned where it has more than 2,147,483,647 bytes, and Memory where
-/// it has no more and the buffer could not grow. A refusal leaves `buf` as it was.
+/// Appends one value after its length, as a row has it after the number of its values; a null is the length -1 (PostgreSQL documentation, page COPY,
+/// "Binary Format"). FieldLong: it has more than 2,147,483,647 bytes. Else Memory: the buffer could not grow. A fault leaves `buf` as it was.
 pub fn write_binary_field(field: Option<&[u8]>, buf: &mut Vec<u8>) -> Result<(), RowFault>
     ensures { Writes (field_fault (option_copied field.entry))
         (value (option_copied field.entry)) buf.old.items result buf.new.items }
@@ -175,10 +173,9 @@ pub fn write_binary_field(field: Option<&[u8]>, buf: &mut Vec<u8>) -> Result<(),
     }
 }
 
-/// Appends the row: the number of its values, and each value after its length, which is -1 for a null (PostgreSQL
-/// documentation, page COPY, "Binary Format"). Width is returned where the row has no field or more than 32,767, then FieldLong
-/// where a value has more than 2,147,483,647 bytes, and Memory where it has neither fault and the buffer could not grow. A
-/// refusal leaves `buf` as it was.
+/// Appends the row: the number of its values, and each value after its length; a null is the length -1 (PostgreSQL documentation, page COPY, "Binary
+/// Format"). Width: the row has no field or more than 32,767. Else FieldLong: a value has more than 2,147,483,647 bytes. Else Memory: the buffer
+/// could not grow. A fault leaves `buf` as it was.
 pub fn write_binary_row(row: &Row, buf: &mut Vec<u8>) -> Result<(), RowFault>
     ensures { Writes (binary_fault row.now)
         (binary_row row.now) buf.old.items result buf.new.items }

@@ -13,8 +13,7 @@ pub fn binary_round_trip()
     ensures { BinaryRoundTrip }
 {}
 
-/// The number of a row's fields and then each field, written one after the other in binary, are the
-/// row written.
+/// The number of a row's fields and then each field, written one after the other in binary, are the row written.
 pub fn fields_are_row()
     ensures { FieldsAreRow }
 {}

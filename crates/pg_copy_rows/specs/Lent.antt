@@ -2,7 +2,7 @@
 use Rattle.std.specs.Prelude.{◌≡◌, Bool, true, false, Option, None, IsSome, Result, Ok, Err}
 use Rattle.pg_copy_rows.specs.Row.{Row}
 
--- what `next` would have answered, where `next_lent` returned this and the reader lends this row
+-- what `next` would have returned, where `next_lent` returned this and the reader lends this row
 abbrev pub as_next : {F : Type 0} → Result Bool F → Option Row → Result (Option Row) F
 as_next (Ok true) held = Ok held
 as_next (Ok false) held = Ok None

@@ -38,8 +38,8 @@ binary_fault row =
     else if list_any is_long row then Some faults.FieldLong
     else None
 
--- What a writer answers for a row with this fault, or none, and these bytes: Ok, and they are
--- appended; its fault; or, where it has none, Memory. A refusal leaves the buffer as it was.
+-- What a writer returns for a row with this fault, or none, and these bytes: Ok, and they are
+-- appended; its fault; or, where it has none, Memory. A fault leaves the buffer as it was.
 abbrev pub Writes : Option RowFault → List ℕ → List ℕ → Result Unit RowFault → List ℕ → Type 0
 Writes fault spelled old (Ok x) new = (fault ≡ None) × (new ≡ old ++ spelled)
 Writes fault spelled old (Err faults.Memory) new = (fault ≡ None) × (new ≡ old)

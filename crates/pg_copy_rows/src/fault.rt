@@ -1,4 +1,4 @@
-//! Why a file was refused, or a row (PostgreSQL documentation, page COPY, "Text Format" and "Binary Format").
+//! Why a file is rejected, or a row (PostgreSQL documentation, page COPY, "Text Format" and "Binary Format").
 
 ghost use Rattle.std.specs.Prelude.{◌≡◌};
 ghost use Rattle.pg_copy_rows.specs.declared.fault.TextFault.TheVariants as text;
@@ -9,11 +9,11 @@ ghost use Rattle.pg_copy_rows.specs.declared.fault.RowFault.TheVariants as row;
 use std::alloc::AllocError;
 use thiserror::Error;
 
-/// What stands in the place of a row of a text file: the first of these that holds. After any of them but Memory the reader
-/// returns it for good; after Memory it is unchanged (PostgreSQL documentation, page COPY, "Text Format").
+/// What stands in the place of a row of a text file: the first of these that holds. After Memory the reader is unchanged. Any other fault is returned
+/// by each later call (PostgreSQL documentation, page COPY, "Text Format").
 #[derive(Clone, Copy, Debug, Drop, PartialEq, Eq, Error)]
 pub enum TextFault {
-    /// The line has a carriage return that isn't escaped, in a file whose lines don't end by it alone.
+    /// The line has a carriage return that isn't escaped, in a file whose lines don't end by a return alone.
     #[error("T1 RawReturn")]
     RawReturn,
     /// The input ends in a backslash that begins an escape. Only `finish` returns it.
@@ -22,7 +22,7 @@ pub enum TextFault {
     /// The line has this many fields, which isn't the number of columns, or is above 32,767 where none was given.
     #[error("T3 Columns {0}")]
     Columns(usize),
-    /// The line has a newline that isn't escaped, in a file whose lines don't end by it alone.
+    /// The line has a newline that isn't escaped, in a file whose lines don't end by a newline alone.
     #[error("T5 RawNewline")]
     RawNewline,
     /// Memory ran out.
@@ -38,11 +38,10 @@ impl From<AllocError> for TextFault {
     }
 }
 
-/// Why there are no such options of a text file: the first of these that holds (PostgreSQL documentation, page COPY, DELIMITER
-/// and NULL).
+/// Why a text file can't have these options: the first of these that holds (PostgreSQL documentation, page COPY, DELIMITER and NULL).
 #[derive(Clone, Copy, Debug, Drop, PartialEq, Eq, Error)]
 pub enum OptionFault {
-    /// This byte can't part fields: it is a newline, a return, a backslash, a dot, a letter from `a` to `z` or a digit.
+    /// This byte can't separate fields: it is a newline, a return, a backslash, a dot, a letter from `a` to `z` or a digit.
     #[error("O1 Delimiter {0}")]
     Delimiter(u8),
     /// These bytes can't stand for null: a newline, a return or the delimiter is among them, they are `\.`, or they end in a
@@ -62,8 +61,8 @@ impl From<AllocError> for OptionFault {
     }
 }
 
-/// What stands in the place of a part of a binary file: the first of these that holds. After any of them but Memory the
-/// reader returns it for good; after Memory it is unchanged (PostgreSQL documentation, page COPY, "Binary Format").
+/// What stands in the place of a part of a binary file: the first of these that holds. After Memory the reader is unchanged. Any other fault is
+/// returned by each later call (PostgreSQL documentation, page COPY, "Binary Format").
 #[derive(Clone, Copy, Debug, Drop, PartialEq, Eq, Error)]
 pub enum BinaryFault {
     /// The first eleven bytes of the file aren't the signature.

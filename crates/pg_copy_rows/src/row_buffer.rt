@@ -1,4 +1,4 @@
-//! The bytes that a reader of rows keeps, in front of which a row may still stand that was given.
+//! The bytes that a reader of rows keeps. A row that was given may still stand in front of them.
 
 ghost use Rattle.std.specs.Prelude.{◌≡◌, ◌≤◌, ◌++◌, [], None, Some, length, drop, option_copied};
 ghost use Rattle.std.specs.Prelude.{OnOk, OnErr, IsOk};
@@ -51,7 +51,7 @@ impl RowBuffer {
         }
     }
 
-    /// The bytes from the row on that is lent, where one is.
+    /// The bytes from the beginning of the row that is lent; None where no row is.
     pub fn front(&self) -> Option<&[u8]>
         ensures { option_copied result ≡ self.now.front }
     {
@@ -69,7 +69,7 @@ impl RowBuffer {
         kept
     }
 
-    /// Adds a piece, which is all taken or, where memory runs out, not at all. A piece without bytes needs no memory.
+    /// Adds a piece, all of it. Where memory runs out, nothing of it is added. A piece without bytes needs no memory.
     pub fn push(&mut self, piece: &[u8]) -> Result<(), AllocError>
         ensures ok { OnOk result (self.new
             ≡ record { front = None; kept = self.old.kept ++ piece.now }) }
@@ -100,7 +100,7 @@ impl RowBuffer {
         self.held = None;
     }
 
-    /// Takes the bytes off up to the end of a row, and lends the row, which begins at `start`.
+    /// Takes off the bytes up to the end of a row, and lends the row, which begins at `start`.
     pub fn hold(&mut self, start: usize, end: usize)
         requires in_order { start ≤ end }
         requires in_range { end ≤ length self.old.kept }

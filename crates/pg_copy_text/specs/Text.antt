@@ -94,8 +94,8 @@ line_end_from false (b ∷ bs) =
     else if b == carriage_return then after_return bs
     else line_end_from (b == backslash) bs
 
--- how the lines of a file end that begins with these bytes: the first newline or return decides it
--- that isn't escaped
+-- how the lines of a file that begins with these bytes end: the first newline or return that isn't
+-- escaped decides it
 abbrev pub line_end : List ℕ → Option LineEnd
 line_end bytes = line_end_from false bytes
 
@@ -109,7 +109,8 @@ pairs_from false (b ∷ c ∷ bs) =
     if b == carriage_return && c == newline then [] ∷ pairs_from false bs
     else onto_first b (pairs_from (b == backslash) (c ∷ bs))
 
--- the same, by how lines end
+-- the lines of these bytes, where lines end so; `escaped` says that the bytes come after a backslash
+-- that begins an escape
 abbrev pub lines_from : LineEnd → Bool → List ℕ → List (List ℕ)
 lines_from Newline escaped bytes = parts_from escaped newline bytes
 lines_from Return escaped bytes = parts_from escaped carriage_return bytes
@@ -147,7 +148,7 @@ letter_value c =
     else if c == 114 then 13
     else c
 
--- the number that these digits of a base say, the highest first
+-- the number of these digits of a base, the highest first
 abbrev pub digits_value : ℕ → List ℕ → ℕ
 digits_value base digits = fold (λ n c. n * base + digit_value c) 0 digits
 
@@ -186,8 +187,8 @@ text_after zero (b ∷ bs) =
     else b ∷ text_after 0 bs
 text_after (suc n) (b ∷ bs) = text_after n bs
 
--- the value of a field: null if it is the null mark, which is looked at before any escape, and else
--- the text that it spells
+-- the value of a field: null if it is the null mark, and else the text that it spells; whether it is
+-- the null mark is decided before any escape is read
 abbrev pub field_value : Options → List ℕ → Option (List ℕ)
 field_value o bytes = if bytes_eq bytes o.null_mark then None else Some (text_after 0 bytes)
 
@@ -242,8 +243,8 @@ abbrev pub reading_by : Options → Option ℕ → Option LineEnd → List ℕ �
 reading_by o columns None bytes = record { rows = []; ending = Open bytes }
 reading_by o columns (Some e) bytes = lines_reading o columns (lines e bytes)
 
--- what bytes of a file are read as that come after lines which ended so, or after none: the rows of
--- their whole lines, up to the end mark or the first fault
+-- what bytes of a file are read as, where they come after lines that ended so, or after none: the
+-- rows of their whole lines, up to the end mark or the first fault
 unfoldable pub reading_after : Options → Option ℕ → Option LineEnd → List ℕ → RowsRead TextFault
 reading_after o columns before bytes = reading_by o columns (decided_by before bytes) bytes
 
@@ -261,11 +262,12 @@ last_reading o columns Done = record { rows = []; ending = Done }
 last_reading o columns Ended = record { rows = []; ending = Ended }
 last_reading o columns (Bad fault) = record { rows = []; ending = Bad fault }
 
--- the same reading, once the input has ended
+-- this reading of the bytes so far, once the input has ended
 abbrev pub text_at_end : Options → Option ℕ → RowsRead TextFault → RowsRead TextFault
 text_at_end o columns r = after_rows r.rows (last_reading o columns r.ending)
 
--- what the bytes of a file are read as that come last, after lines which ended so, or after none
+-- what the last bytes of a file are read as, where they come after lines that ended so, or after
+-- none
 unfoldable pub last_after : Options → Option ℕ → Option LineEnd → List ℕ → RowsRead TextFault
 last_after o columns before bytes =
     text_at_end o columns (lines_reading o columns (lines (decided_at_end before bytes) bytes))

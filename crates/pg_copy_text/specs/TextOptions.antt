@@ -8,14 +8,14 @@ use Rattle.pg_copy_rows.specs.declared.fault.OptionFault.{OptionFault}
 use Rattle.pg_copy_rows.specs.declared.fault.OptionFault.TheVariants as faults
 use Rattle.pg_copy_text.specs.Text.{Options, backslash, newline, carriage_return, end_mark, null_mark, ends_escaped}
 
--- whether a byte can't part fields: a newline, a return, a backslash, a dot, a letter from a to z or
--- a digit
+-- whether a byte can't separate fields: a newline, a return, a backslash, a dot, a letter from a to
+-- z or a digit
 abbrev pub is_no_delimiter : ℕ → Bool
 is_no_delimiter b =
     b == newline || b == carriage_return || b == backslash || b == 46 || is_ascii_lowercase b
     || is_ascii_digit b
 
--- whether a byte ends a line or a field, where the fields are parted by this delimiter
+-- whether a byte ends a line or a field, where this delimiter separates the fields
 abbrev pub ends_field : ℕ → ℕ → Bool
 ends_field delimiter b = b == newline || b == carriage_return || b == delimiter
 
@@ -36,7 +36,7 @@ options_fault delimiter mark =
 abbrev pub AreOptions : Options → Type 0
 AreOptions o = options_fault o.delimiter o.null_mark ≡ None
 
--- What is answered where options with this delimiter and this null mark are asked for: the options;
+-- What is returned where options with this delimiter and this null mark are asked for: the options;
 -- their fault; or, where they have none, Memory.
 abbrev pub MakesOptions : ℕ → List ℕ → Result Options OptionFault → Type 0
 MakesOptions delimiter mark (Ok o) = (options_fault delimiter mark ≡ None)

@@ -13,7 +13,7 @@ use Rattle.pg_copy_text.specs.Text.{Options, end_len, lines, decided_at_end, rea
 -- a reader's options, its columns (None for any number), how the lines of the rows that it gave
 -- ended (None before the first), the bytes that it keeps since they are no whole row yet, its
 -- stage, whether `finish` has ended the input, how many rows it has given, where in the file the
--- line begins that comes next, and the row that it lends, if it lends one
+-- next line begins, and the row that it lends, if it lends one
 pub record TextState : Type 0 where
   pub options : Options
   pub columns : Option ℕ
@@ -120,7 +120,7 @@ kept_at (stages.Failed fault) s piece = s
 abbrev pub kept_after : TextState → List ℕ → TextState
 kept_after s piece = kept_at s.stage s piece
 
--- A push takes the whole piece, or refuses it and changes nothing: by the fault that was found
+-- A push takes the whole piece, or rejects it and changes nothing: by the fault that was found
 -- before, or because memory ran out, but never a piece without bytes or after the end mark.
 abbrev pub PushesText : TextState → List ℕ → Result Unit TextFault → TextState → Type 0
 PushesText old piece (Ok x) new = ((f : TextFault) → old.stage ≡ stages.Failed f → ⊥)

@@ -17,7 +17,7 @@ next_fault o n field =
     if nat_lt n most_fields then (if is_like_null o field then Some (faults.LikeNull n) else None)
     else Some (faults.Width (suc n))
 
--- how a field is written that stands in a row after n others: the delimiter parts it from them
+-- how a field is written that stands in a row after n others: the delimiter separates it from them
 abbrev pub next_written : Options → ℕ → Option (List ℕ) → List ℕ
 next_written o zero field = written_field o field
 next_written o (suc n) field = o.delimiter ∷ written_field o field

@@ -1,6 +1,6 @@
 //! The bytes that a text file has for its structure, where no options say other ones.
 
-/// The byte that parts two fields.
+/// The byte that separates two fields.
 pub const DELIMITER: u8 = b'\t';
 
 /// The bytes of a null.

@@ -3,14 +3,12 @@
 
 ghost use Rattle.pg_copy_text.specs.TextLaws.{OneSplit, OneValue, TextRoundTrip, FieldsAreLine};
 
-/// The bytes of a text file are lines in one way, and a line is fields in one way: those that a
-/// reader takes.
+/// The bytes of a text file are lines in one way, and a line is fields in one way: those that a reader takes.
 pub fn one_split()
     ensures { OneSplit }
 {}
 
-/// A field of a text file spells one value at most: the one that a reader gives in its place of the
-/// row.
+/// A field of a text file spells one value at most: the one that a reader gives in its place of the row.
 pub fn one_value()
     ensures { OneValue }
 {}

@@ -4,8 +4,7 @@ ghost use Rattle.std.specs.Prelude.{◌≡◌};
 ghost use Rattle.pg_copy_text.specs.Private.Breaks.{is_break, at_newline, at_return, break_at};
 ghost use Rattle.pg_copy_text.specs.Text.{end_len};
 
-/// What ends each line of a file: the first newline or return that isn't escaped decides it (PostgreSQL documentation, page COPY,
-/// "Text Format").
+/// What ends each line of a file. The first newline or return that isn't escaped decides it (PostgreSQL documentation, page COPY, "Text Format").
 #[derive(Clone, Copy, Debug, Drop, PartialEq, Eq)]
 pub enum LineEnd {
     Newline,
@@ -15,7 +14,7 @@ pub enum LineEnd {
 }
 
 impl LineEnd {
-    /// How many bytes it has.
+    /// How many bytes the end has.
     pub fn len(self) -> usize
         ensures { result ≡ end_len self }
     {
@@ -26,14 +25,14 @@ impl LineEnd {
     }
 }
 
-/// What a newline or a return is that isn't escaped.
+/// What a newline or a return that isn't escaped does.
 #[derive(Clone, Copy, Debug, Drop, PartialEq, Eq)]
 pub enum LineBreak {
     /// It begins the end of the line.
     Ends(LineEnd),
     /// It ends no line.
     Stays,
-    /// It is a return, and what comes after it decides, which isn't there yet.
+    /// It is a return, and the byte after it, which hasn't come yet, decides.
     Waits,
 }
 
@@ -43,7 +42,7 @@ pub fn is_break(byte: u8) -> bool
     byte == b'\n' || byte == b'\r'
 }
 
-// What a newline is, where lines before it ended so.
+// What a newline does, where the lines before it ended so.
 fn at_newline(before: Option<LineEnd>) -> LineBreak
     ensures { result ≡ at_newline before }
 {
@@ -53,7 +52,7 @@ fn at_newline(before: Option<LineEnd>) -> LineBreak
     }
 }
 
-// What a return is with these bytes after it, where lines before it ended so.
+// What a return with these bytes after it does, where the lines before it ended so.
 fn at_return(before: Option<LineEnd>, after: &[u8]) -> LineBreak
     ensures { result ≡ at_return before after.now }
 {
@@ -73,7 +72,7 @@ fn at_return(before: Option<LineEnd>, after: &[u8]) -> LineBreak
     }
 }
 
-/// What the newline or the return is that stands first, where lines before it ended so.
+/// What the newline or return at the front does, where the lines before it ended so.
 pub fn break_at(before: Option<LineEnd>, rest: &[u8]) -> LineBreak
     ensures { result ≡ break_at before rest.now }
 {

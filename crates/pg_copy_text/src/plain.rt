@@ -9,20 +9,20 @@ use std::simd::prelude::*;
 /// How many bytes are looked at side by side.
 const BLOCK: usize = 16;
 
-/// How many are, where there are fewer.
+/// How many bytes are looked at side by side, where fewer than a block are left.
 const HALF: usize = 8;
 
-/// How many are, where there are fewer still.
+/// How many bytes are looked at side by side, where fewer than half a block are left.
 const QUARTER: usize = 4;
 
-/// Whether a byte surely stands for itself: most bytes of most texts do.
+/// Whether a byte surely stands for itself. Most bytes of most texts do.
 pub fn is_plain(byte: u8, delimiter: u8) -> bool
     ensures { result ≡ true → IsPlain delimiter byte }
 {
     byte > b'\r' && byte != b'\\' && byte != delimiter
 }
 
-// The bytes of a block that are at most so great: a bit for each, the lowest for the first.
+// Which bytes of a block are at most so great: a bit for each, the lowest for the first.
 #[inline(always)]
 fn bits_up_to(block: u8x16, most: u8) -> u64
     ensures { (k : ℕ) → k < 16 → bit_at result k ≡ 0 → most < slice_index block k }
@@ -30,7 +30,7 @@ fn bits_up_to(block: u8x16, most: u8) -> u64
     block.simd_le(u8x16::splat(most)).to_bitmask()
 }
 
-// Those that are this byte.
+// Which bytes of a block are this byte: a bit for each, the lowest for the first.
 #[inline(always)]
 fn bits_of(block: u8x16, byte: u8) -> u64
     ensures { (k : ℕ) → k < 16 → bit_at result k ≡ 0 → slice_index block k ≢ byte }
@@ -38,7 +38,7 @@ fn bits_of(block: u8x16, byte: u8) -> u64
     block.simd_eq(u8x16::splat(byte)).to_bitmask()
 }
 
-// Those that may not be plain.
+// Which bytes of a block may not be plain: a bit for each, the lowest for the first.
 #[inline(always)]
 fn special_bits(block: u8x16, delimiter: u8) -> u64
     ensures { (k : ℕ) → k < 16 → bit_at result k ≡ 0 → IsPlain delimiter (slice_index block k) }
@@ -46,7 +46,7 @@ fn special_bits(block: u8x16, delimiter: u8) -> u64
     bits_up_to(block, b'\r') | bits_of(block, b'\\') | bits_of(block, delimiter)
 }
 
-// The place of the lowest bit, or the place after those of the block, which this mark has.
+// The place of the lowest bit that is set, or `end` where no bit before it is. Of `mark` the bit at `end` is set.
 #[inline(always)]
 fn lowest(bits: u64, mark: u64, end: usize) -> usize
     requires { bit_at mark end ≡ 1 }
@@ -91,7 +91,7 @@ fn plain_in_quarter(bytes: &[u8], from: usize, delimiter: u8) -> usize
     lowest(special_bits(often, delimiter), 16, QUARTER)
 }
 
-// Where the plain bytes end, of fewer than sixteen that are left, and more than seven: the last eight may be some of the first.
+// Where the plain bytes end, with eight to fifteen bytes left. The last eight may overlap the first.
 fn end_in_halves(bytes: &[u8], from: usize, delimiter: u8) -> usize
     requires few { length bytes.now < from + 16 }
     requires some { from + 8 ≤ length bytes.now }
@@ -107,7 +107,7 @@ fn end_in_halves(bytes: &[u8], from: usize, delimiter: u8) -> usize
     last + plain_in_half(bytes, last, delimiter)
 }
 
-// Where the plain bytes end, of fewer than eight that are left, and more than three: the last four may be some of the first.
+// Where the plain bytes end, with four to seven bytes left. The last four may overlap the first.
 fn end_in_quarters(bytes: &[u8], from: usize, delimiter: u8) -> usize
     requires few { length bytes.now < from + 8 }
     requires some { from + 4 ≤ length bytes.now }
@@ -131,7 +131,7 @@ fn is_backslash_in_block(bytes: &[u8], from: usize) -> bool
     bits_of(u8x16::from_slice(&bytes[from..]), b'\\') != 0
 }
 
-// Whether a byte may be a backslash, looked at one by one.
+// Whether a byte may be a backslash. They are looked at one by one.
 fn is_backslash_among(bytes: &[u8]) -> bool
     ensures { result ≡ false → NoBackslash bytes.now }
 {
@@ -161,7 +161,7 @@ pub fn may_have_backslash(bytes: &[u8]) -> bool
     is_backslash_in_block(bytes, last)
 }
 
-/// Where the plain bytes end that stand from a place on.
+/// Where the plain bytes that begin at a place end.
 pub fn plain_end(bytes: &[u8], from: usize, delimiter: u8) -> usize
     requires { from ≤ length bytes.now }
     ensures in_order { from ≤ result }

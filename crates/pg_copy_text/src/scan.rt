@@ -14,13 +14,13 @@ use crate::plain::{is_plain, plain_end};
 pub struct Scan {
     /// How many bytes were walked over.
     pub at: usize,
-    /// The last of them is a backslash that begins a unit.
+    /// Whether the last of them is a backslash that begins a unit.
     pub escaped: bool,
     /// How many units were a delimiter.
     pub delimiters: usize,
-    /// A unit was a carriage return.
+    /// Whether a unit was a carriage return.
     pub returned: bool,
-    /// A unit was a newline.
+    /// Whether a unit was a newline.
     pub newlined: bool,
 }
 
@@ -43,7 +43,7 @@ impl Scan {
         }
     }
 
-    /// The walk after one byte more, which doesn't end the line.
+    /// The walk after one more byte, which doesn't end the line.
     pub fn after(self, byte: u8, delimiter: u8) -> Self
         requires few { self.delimiters ≤ self.at }
         requires room { self.at + 1 < 2 ^ 64 }
@@ -67,7 +67,7 @@ impl Scan {
         }
     }
 
-    /// Goes on to what ends the line, where lines before it ended so, and says how it ends, if it does.
+    /// Walks on to what ends the line, where the lines before it ended so, and returns how it ends, if it does.
     pub fn find_end(
         &mut self,
         bytes: &[u8],

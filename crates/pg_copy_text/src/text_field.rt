@@ -26,7 +26,7 @@ fn letter_value(letter: u8) -> u8
     }
 }
 
-// The digit of the base that stands first.
+// The first byte as a digit of this base, if it is one.
 fn leading_digit(bytes: &[u8], base: u32) -> Option<u32>
     requires low { 2 ≤ base }
     requires high { base ≤ 36 }
@@ -131,7 +131,7 @@ fn text_of(alloc: Global, bytes: &[u8]) -> Result<Vec<u8>, AllocError>
     Ok(text)
 }
 
-/// The value of a field, which is plain where it has no backslash. Null is looked at before any escape.
+/// The value of a field, which is plain where it has no backslash. Whether it is null is decided before any escape is read.
 pub fn field_value(
     alloc: Global,
     bytes: &[u8],

@@ -16,7 +16,7 @@ use pg_copy_rows::format::MOST_FIELDS;
 use pg_seq::Seq;
 use std::alloc::{AllocError, Global};
 
-/// What a line is.
+/// What a line is found to be.
 #[derive(Debug, Drop)]
 pub enum JudgedLine {
     /// The end mark.
@@ -66,9 +66,9 @@ pub fn judge(options: &TextOptions, columns: Option<u16>, line: &[u8], scan: Sca
 #[derive(Clone, Copy, Debug, Drop)]
 pub struct FieldEnd {
     pub len: usize,
-    /// It has no backslash.
+    /// Whether it has no backslash.
     pub plain: bool,
-    /// No delimiter stands after it.
+    /// Whether no delimiter stands after it.
     pub last: bool,
 }
 

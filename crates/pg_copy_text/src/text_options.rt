@@ -13,8 +13,8 @@ use pg_seq::Seq;
 use std::alloc::Global;
 use std::marker::Model;
 
-/// The byte that parts two fields of a text file, and the bytes of a field that is null (PostgreSQL documentation, page COPY,
-/// DELIMITER and NULL). By default they are a tab and `\N`.
+/// The byte that separates two fields of a text file, and the bytes of a field that is null (PostgreSQL documentation, page COPY, DELIMITER and
+/// NULL). By default they are a tab and `\N`.
 #[derive(Drop)]
 pub struct TextOptions {
     delimiter: u8,
@@ -81,9 +81,9 @@ fn is_no_mark(delimiter: u8, mark: &[u8]) -> bool
 }
 
 impl TextOptions {
-    /// Options with this delimiter and these bytes for null. Delimiter is returned for a newline, a return, a backslash, a dot, a
-    /// letter from `a` to `z` or a digit; then NullMark, where a newline, a return or the delimiter is among the bytes, they are
-    /// `\.`, or they end in a backslash that begins an escape; and Memory, where they have neither fault.
+    /// Options with this delimiter and these bytes for null. The fault is the first of these that holds. Delimiter: it is a newline, a return, a
+    /// backslash, a dot, a letter from `a` to `z` or a digit. NullMark: a newline, a return or the delimiter is among the bytes, they are `\.`, or
+    /// they end in a backslash that begins an escape. Memory: memory ran out.
     pub fn new(alloc: Global, delimiter: u8, null_mark: &[u8]) -> Result<TextOptions, OptionFault>
         ensures { MakesOptions delimiter null_mark.now result }
     {
@@ -102,7 +102,7 @@ impl TextOptions {
         }
     }
 
-    /// The byte that parts two fields.
+    /// The byte that separates two fields.
     pub fn delimiter(&self) -> u8
         ensures value { result ≡ self.now.delimiter }
         ensures options { AreOptions self.now }

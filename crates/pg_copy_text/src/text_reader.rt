@@ -35,11 +35,12 @@ use std::marker::Model;
 
 /// Takes a text file in any pieces, and gives exactly its rows.
 ///
-/// `push` keeps a piece, `next` gives the rows of the lines that are closed, one by one, and `finish` those that are left at the
-/// end of the input. All lines end alike: by a newline, by a return, or by a return and a newline directly after it, as the first
-/// newline or return decides that isn't escaped. While that is a return and stands last, its line isn't whole. A fault stands in the
-/// place of its row, and is returned by each call from then on. The line `\.` ends the rows, and what follows it is dropped. Each byte
-/// is walked over once to find where its line ends, however the pieces are cut (PostgreSQL documentation, page COPY, "Text Format").
+/// `push` keeps a piece. `next` gives the rows of the lines that are closed, one by one, and `finish` those that are left at the end of the input. A
+/// fault takes the place of its row, and each later call returns it. The line `\.` ends the rows, and what follows it is dropped.
+///
+/// All lines end alike: by a newline, by a return, or by a return and a newline directly after it. The first newline or return that isn't escaped
+/// decides which. While that is a return and is the last byte, its line isn't whole. Each byte is walked over once to find where its line ends,
+/// however the pieces are cut (PostgreSQL documentation, page COPY, "Text Format").
 #[derive(Drop)]
 pub struct TextReader {
     alloc: Global,
@@ -83,8 +84,8 @@ impl Model for TextReader {
 }
 
 impl TextReader {
-    /// A reader of rows of so many columns, 1 to 32,767; or of any number up to 32,767, where None is given. A tab parts the fields,
-    /// and null is `\N`.
+    /// A reader of rows of so many columns, 1 to 32,767; where None is given, a row may have any number up to 32,767. A tab separates the fields, and
+    /// null is `\N`.
     pub fn new(alloc: Global, columns: Option<u16>) -> Self
         requires { IfSome columns (λ n. (0 < n) × (n ≤ 32767)) }
         ensures state { result ≡ text_begun default_options columns }
@@ -93,8 +94,8 @@ impl TextReader {
         TextReader::with_options(alloc, columns, TextOptions::default())
     }
 
-    /// A reader of rows of so many columns, 1 to 32,767; or of any number up to 32,767, where None is given. The options' delimiter
-    /// parts the fields, and null is their null mark.
+    /// A reader of rows of so many columns, 1 to 32,767; where None is given, a row may have any number up to 32,767. The options' delimiter
+    /// separates the fields, and their null mark is a null.
     pub fn with_options(alloc: Global, columns: Option<u16>, options: TextOptions) -> Self
         requires { IfSome columns (λ n. (0 < n) × (n ≤ 32767)) }
         ensures state { result ≡ text_begun options columns }
@@ -123,33 +124,30 @@ impl TextReader {
         self.stage == TextStage::Marked
     }
 
-    /// Whether `finish` was called, calls that returned Memory left out. No more may then be pushed, and `next` not be called.
+    /// Whether `finish` was called; a call that returned Memory doesn't count. Once it was, no more may be pushed, and `next` may not be called.
     pub fn ended(&self) -> bool
         ensures { result ≡ self.now.ended }
     {
         self.ended
     }
 
-    /// How many rows were given, so that a caller can say which row a fault stands in the place of. The number stays at
-    /// `u64::MAX`.
+    /// How many rows were given. A fault stands in the place of the row after these. The number stays at `u64::MAX`.
     pub fn rows_given(&self) -> u64
         ensures { result ≡ self.now.given }
     {
         self.given
     }
 
-    /// Where in the file the line begins that comes next: how many bytes stand before it, those of the rows that were given, with
-    /// what ends their lines. So after a fault it tells where the line begins that the fault stands in, and after the end mark where
-    /// that begins. The number stays at `u64::MAX`.
+    /// Where in the file the next line begins: how many bytes stand before it, those of the rows that were given and of their line ends. After a
+    /// fault it is where the line with the fault begins, and after the end mark where that begins. The number stays at `u64::MAX`.
     pub fn offset(&self) -> u64
         ensures { result ≡ self.now.offset }
     {
         self.offset
     }
 
-    /// Takes the next piece of the file, all of it, and drops it after the end mark. A fault that was found is returned again.
-    /// After Memory nothing of the piece was taken and the reader is unchanged; a piece without bytes, or one that is dropped,
-    /// needs no memory.
+    /// Takes the next piece of the file, all of it, and drops it after the end mark. A fault that was found is returned again. After Memory nothing
+    /// of the piece was taken, and the reader is unchanged. A piece without bytes, or one that is dropped, needs no memory.
     pub fn push(&mut self, piece: &[u8]) -> Result<(), TextFault>
         requires { self.old.ended ≡ false }
         ensures call { PushesText self.old piece.now result self.new }
@@ -167,9 +165,9 @@ impl TextReader {
         }
     }
 
-    /// The next row, or None where no whole line waits or the end mark was read. A fault is returned once all rows before it were
-    /// given, and then for good. Memory is returned only where a row waits, and leaves the reader unchanged. Where it gives a row,
-    /// fewer bytes are kept, so that a loop over the rows comes to its end (PostgreSQL documentation, page COPY, "Text Format").
+    /// The next row, or None where no whole line waits or the end mark was read. A fault is returned once all rows before it were given, and by each
+    /// call after that. Memory is returned only where a row waits, and leaves the reader unchanged. Where it gives a row, fewer bytes are kept, so
+    /// that a loop over the rows comes to its end (PostgreSQL documentation, page COPY, "Text Format").
     pub fn next(&mut self) -> Result<Option<Row>, TextFault>
         requires { self.old.ended ≡ false }
         ensures read { (pushed : List ℕ) (given : List Row) → HasReadText self.old pushed given
@@ -207,11 +205,12 @@ impl TextReader {
         }
     }
 
-    /// Whether a next row waits, which is then lent until the next change of the reader: [`TextReader::held`] gives it. It counts as
-    /// given, and the reader has its bytes until then; the text of a field that has an escape is copied, into a block that the reader
-    /// uses again, and which gives much room back once no row needs it. A fault is returned as `next` returns it. Memory is returned
-    /// only where a row waits and that block could not grow, and leaves the reader unchanged, but that it lends none (PostgreSQL
-    /// documentation, page COPY, "Text Format").
+    /// Whether a next row waits. It counts as given, and [`TextReader::held`] lends it until the next change of the reader, which keeps its bytes
+    /// until then. The text of a field that has an escape is copied into a block that the reader uses again; a block with much more room than is
+    /// needed gives it back.
+    ///
+    /// A fault is returned as `next` returns it. Memory is returned only where a row waits and that block could not grow. The reader is then
+    /// unchanged, but lends no row (PostgreSQL documentation, page COPY, "Text Format").
     pub fn next_lent(&mut self) -> Result<bool, TextFault>
         requires { self.old.ended ≡ false }
         ensures read { (pushed : List ℕ) (given : List Row) → HasReadText self.old pushed given
@@ -249,8 +248,8 @@ impl TextReader {
         }
     }
 
-    /// The row that the last call of `next_lent` returned true for; None where another call of `push`, `next`, `next_lent` or
-    /// `finish` came after it, but for those of `push`, `next` and `finish` that returned Memory. It takes no memory.
+    /// The row for which the last call of `next_lent` returned true. It is None after any other call of `push`, `next`, `next_lent` or `finish`,
+    /// except a `push`, `next` or `finish` that returned Memory. It takes no memory.
     pub fn held(&self) -> Option<TextRow<'_>>
         ensures { result ≡ self.now.held }
     {
@@ -263,10 +262,9 @@ impl TextReader {
         }
     }
 
-    /// Says that the input has ended, and gives the next row that is left, or None where none is: the last line need not be
-    /// closed, and no line stands there where it is empty; a return that stands last ends its line, where it is the first newline or
-    /// return that isn't escaped. It is to be called until it returns None. Memory is returned only where a row is left, and leaves
-    /// the reader unchanged (PostgreSQL documentation, page COPY, "Text Format").
+    /// Says that the input has ended, and gives the next row that is left, or None where none is. Call it until it returns None. The last line need
+    /// not be closed; an empty rest is no line. A return at the very end ends its line, where it is the first newline or return that isn't escaped.
+    /// Memory is returned only where a row is left, and leaves the reader unchanged (PostgreSQL documentation, page COPY, "Text Format").
     pub fn finish(&mut self) -> Result<Option<Row>, TextFault>
         ensures read { (pushed : List ℕ) (given : List Row) → HasReadText self.old pushed given
             → HasReadText self.new pushed (given ++ given_by result) }
@@ -305,7 +303,7 @@ impl TextReader {
         }
     }
 
-    // Walks on over the first line, and says how far it goes and how the line ends, if it does.
+    // Walks on over the first line, and returns how far it goes and how the line ends, if it does.
     fn walk(&mut self) -> (Scan, Option<LineEnd>)
         ensures scanned { IsScanned self.old.options.delimiter self.old.line_end self.old.kept
             result.0 }
@@ -322,7 +320,8 @@ impl TextReader {
         (self.scan, found)
     }
 
-    // Answers for the first line, which was walked over, and takes so many bytes with what ends it. Lines end so from then on.
+    // Judges the first line, which was walked over. Where it is a row, the row is returned, and its bytes are taken with what ends it. Lines end so
+    // from then on.
     fn take_line(
         &mut self,
         scan: Scan,
@@ -360,7 +359,8 @@ impl TextReader {
         }
     }
 
-    // Answers for the first line as `take_line` does, but lends its row.
+    // Judges the first line, which was walked over. Where it is a row, the row is lent, and its bytes are taken with what ends it. Lines end so from
+    // then on.
     fn lend_line(
         &mut self,
         scan: Scan,
@@ -391,7 +391,7 @@ impl TextReader {
         }
     }
 
-    // Takes a line off of so many bytes, with what ends it, and lends its row. Lines end so from then on.
+    // Takes off a line of so many bytes, with what ends it, and lends its row. Lines end so from then on.
     fn hold(
         &mut self,
         len: usize,
@@ -434,7 +434,7 @@ impl TextReader {
         self.stage = stage;
     }
 
-    // Answers for the next line, where the last one may be open.
+    // Returns the row of the next line, or its fault. The last line may be open.
     fn last_line(&mut self) -> Result<Option<Row>, TextFault>
         requires { self.old.stage ≡ Lines }
         ensures { TakesLast self.old result self.new }
@@ -450,7 +450,7 @@ impl TextReader {
         self.open_line(scan)
     }
 
-    // Answers for the last line, which is open and was walked over, but for a return that stands last.
+    // Returns the row of the last line, or its fault. The line is open, and was walked over, but for a return at its end.
     fn open_line(&mut self, scan: Scan) -> Result<Option<Row>, TextFault>
         requires lines { self.old.stage ≡ Lines }
         requires options { AreOptions self.old.options }

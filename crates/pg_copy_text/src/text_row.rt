@@ -19,7 +19,7 @@ use std::marker::Model;
 // A block of texts that is left empty keeps its room up to so many bytes.
 const KEPT_ROOM: usize = 64 * 1024;
 
-// The length in front of a text takes so many bytes. So whoever reads the text needn't count it again.
+// How many bytes the length in front of a text takes. With it a reader of the text needn't count again.
 const LENGTH: usize = 8;
 
 // Writes the length of a text where it stands in a block.
@@ -36,7 +36,7 @@ fn put_counted_text(field: &[u8], texts: &mut Vec<u8>) -> Result<(), AllocError>
     ensures { OnOk result (texts.new.items
         ≡ texts.old.items ++ counted (text_after 0 field.now)) }
 {
-    // its text is no longer than it is; with an eighth more the block needn't double for a short text after a long one
+    // Its text is no longer than it is. With an eighth more the block needn't double for a short text after a long one.
     let room = field.len().saturating_add(field.len() / 8);
     texts.reserve(room.saturating_add(LENGTH))?;
     let at = texts.len();
@@ -79,7 +79,7 @@ fn put_field_text(
     put_counted_text(field, texts)
 }
 
-// The line after the nulls that stand first in it, each with the delimiter after it: no text is copied of them.
+// The line after the nulls at its front, each with the delimiter after it: no text of them is copied.
 fn after_nulls<'a>(line: &'a [u8], options: &TextOptions) -> &'a [u8]
     ensures texts { line_texts options.now result.now ≡ line_texts options.now line.now }
     ensures no_longer { length result.now ≤ length line.now }
@@ -120,8 +120,7 @@ fn put_texts(line: &[u8], options: &TextOptions, texts: &mut Vec<u8>) -> Result<
     put_field_text(rest, end.plain, options, texts)
 }
 
-/// Empties a block of texts, where those of a line of so many bytes come next. A block with much more room than they need gives it
-/// back.
+/// Empties a block of texts before those of a line of so many bytes. A block with much more room than they need gives it back.
 pub fn empty_texts(texts: &mut Vec<u8>, line_len: usize)
     ensures { texts.new.items ≡ [] }
 {
@@ -133,8 +132,7 @@ pub fn empty_texts(texts: &mut Vec<u8>, line_len: usize)
     }
 }
 
-/// Puts the texts of a line's fields that have an escape in place of those that stand in a block. Where memory runs out, it is left
-/// without much room.
+/// Replaces the texts of a block by those of a line's fields that have an escape. Where memory runs out, the block is left without much room.
 pub fn replace_texts(
     line: &[u8],
     options: &TextOptions,

@@ -13,13 +13,13 @@ use pg_copy_rows::format::MOST_FIELDS;
 use std::alloc::AllocError;
 use std::marker::Model;
 
-/// Writes the canonical lines of rows whose values don't stand in a [`Row`](crate::Row): `field` for each value of a row, in the
-/// order of its columns, and then `end`. What was so written is what [`write_text_row_with`](crate::write_text_row_with) writes of
-/// the row (PostgreSQL documentation, page COPY, "Text Format").
+/// Writes the canonical lines of rows whose values don't stand in a [`Row`](crate::Row): call `field` for each value of a row, in the order of its
+/// columns, and then `end`. The bytes are those that [`write_text_row_with`](crate::write_text_row_with) writes for the row (PostgreSQL
+/// documentation, page COPY, "Text Format").
 #[derive(Drop)]
 pub struct TextRowWriter {
     options: TextOptions,
-    // how many fields were written of the row that isn't ended
+    // How many fields of the row that isn't ended were written.
     fields: usize,
 }
 
@@ -35,24 +35,23 @@ impl Model for TextRowWriter {
 }
 
 impl TextRowWriter {
-    /// A writer of rows whose fields a tab parts, and whose nulls are `\N`.
+    /// A writer of rows whose fields a tab separates, and whose nulls are `\N`.
     pub fn new() -> Self
         ensures { result ≡ record { options = default_options; fields = 0 } }
     {
         TextRowWriter::with_options(TextOptions::default())
     }
 
-    /// A writer of rows whose fields the options' delimiter parts, and whose nulls are their null mark.
+    /// A writer of rows whose fields the options' delimiter separates, and whose nulls are their null mark.
     pub fn with_options(options: TextOptions) -> Self
         ensures { result ≡ record { options = options; fields = 0 } }
     {
         TextRowWriter { options, fields: 0 }
     }
 
-    /// Appends the next field of the row, after the delimiter, where it isn't the first. None is null. Width is returned where the
-    /// row has 32,767 fields already; then LikeNull with the field's number, where it is a text that would be written as the null
-    /// mark is; and Memory where it has neither fault and the buffer could not grow. A refusal leaves `buf` and the row as they were
-    /// (PostgreSQL documentation, page COPY, "Text Format").
+    /// Appends the next field of the row, after the delimiter unless it is the first. None is null. Width: the row has 32,767 fields already. Else
+    /// LikeNull, with the field's number: it is a text that would be written as the null mark is. Else Memory: the buffer could not grow. A fault
+    /// leaves `buf` and the row as they were (PostgreSQL documentation, page COPY, "Text Format").
     // else a program that calls it in more than one loop pays for a call with each value
     #[inline(always)]
     pub fn field(&mut self, field: Option<&[u8]>, buf: &mut Vec<u8>) -> Result<(), RowFault>
@@ -79,9 +78,8 @@ impl TextRowWriter {
         }
     }
 
-    /// Appends the newline that ends the row; the next field is then the first of a row. Width is returned where the row has no
-    /// field, and Memory where it has one and the buffer could not grow. A refusal leaves `buf` and the row as they were (PostgreSQL
-    /// documentation, page COPY, "Text Format").
+    /// Appends the newline that ends the row. The next field is then the first of a row. Width: the row has no field. Else Memory: the buffer could
+    /// not grow. A fault leaves `buf` and the row as they were (PostgreSQL documentation, page COPY, "Text Format").
     pub fn end(&mut self, buf: &mut Vec<u8>) -> Result<(), RowFault>
         ensures written { Writes (end_fault self.old.fields)
             (newline ∷ []) buf.old.items result buf.new.items }
@@ -100,14 +98,14 @@ impl TextRowWriter {
         }
     }
 
-    /// Gives up the row that isn't ended: the next field is the first of a row. What was written of it stays in the buffer.
+    /// Gives up the row that isn't ended. The next field is then the first of a row. What was written of it stays in the buffer.
     pub fn give_up(&mut self)
         ensures { self.new ≡ record self.old { fields = 0 } }
     {
         self.fields = 0;
     }
 
-    // Why the field can't be the next of the row.
+    // Why the row can't have this field next.
     fn next_fault(&self, field: Option<&[u8]>) -> Option<RowFault>
         ensures { result
             ≡ next_fault self.now.options self.now.fields (option_copied field.entry) }

@@ -32,7 +32,7 @@ fn letter_for(byte: u8, delimiter: u8) -> Option<u8>
     }
 }
 
-// Appends the bytes of a text, runs of which are copied at once.
+// Appends the bytes of a text. Runs of plain bytes are copied at once.
 fn put_text(text: &[u8], delimiter: u8, buf: &mut Vec<u8>) -> Result<(), AllocError>
     ensures ok { OnOk result (buf.new.items
         ≡ buf.old.items ++ flat_map (written_byte delimiter) text.now) }
@@ -110,7 +110,7 @@ fn write_fields(
     }
 }
 
-// How many of these bytes are the byte as it is written, if they begin with it.
+// How many of these bytes spell the byte as it is written, if they begin with it.
 fn written_len(byte: u8, delimiter: u8, bytes: &[u8]) -> Option<usize>
     ensures { IsWrittenFirst (written_byte delimiter byte) bytes.now result }
 {
@@ -140,7 +140,7 @@ fn is_written_as(text: &[u8], delimiter: u8, bytes: &[u8]) -> bool
     rest.is_empty()
 }
 
-/// Whether a field is a text that is written as null is.
+/// Whether a field is a text that would be written as the null mark is.
 pub fn is_like_null(field: Option<&[u8]>, options: &TextOptions) -> bool
     ensures { result ≡ is_like_null options.now (option_copied field.entry) }
 {
@@ -152,7 +152,7 @@ pub fn is_like_null(field: Option<&[u8]>, options: &TextOptions) -> bool
     }
 }
 
-// The first field that is like null.
+// The first field that is a text and would be written as the null mark is.
 fn first_like_null(fields: &[Option<Seq<u8>>], options: &TextOptions) -> Option<usize>
     ensures { result ≡ position_from (is_like_null options.now) 0 fields.now }
 {
@@ -164,10 +164,9 @@ fn first_like_null(fields: &[Option<Seq<u8>>], options: &TextOptions) -> Option<
     None
 }
 
-/// Appends one field as a line has it: null is `\N`, the bytes 08 to 0D are written by their letters, a backslash is doubled, and all
-/// other bytes are written as they are. A caller whose values don't stand in a `Row` writes a line by a
-/// [`TextRowWriter`](crate::TextRowWriter) (PostgreSQL documentation, page COPY, "Text Format"). Memory is returned where the buffer
-/// could not grow, and leaves `buf` as it was.
+/// Appends one field as a line has it: null is `\N`, the bytes 08 to 0D are written by their letters, a backslash is doubled, and all other bytes are
+/// written as they are. A caller whose values don't stand in a `Row` writes a line by a [`TextRowWriter`](crate::TextRowWriter) (PostgreSQL
+/// documentation, page COPY, "Text Format"). Memory: the buffer could not grow, and `buf` is as it was.
 pub fn write_text_field(field: Option<&[u8]>, buf: &mut Vec<u8>) -> Result<(), RowFault>
     ensures { Writes None (written_field default_options (option_copied field.entry)) buf.old.items
         result buf.new.items }
@@ -182,10 +181,9 @@ pub fn write_text_field(field: Option<&[u8]>, buf: &mut Vec<u8>) -> Result<(), R
     }
 }
 
-/// Appends the canonical line of the row: null is `\N`, the bytes 08 to 0D are written by their letters, a backslash is
-/// doubled, all other bytes are written as they are, a tab parts two fields, and a newline ends the line (PostgreSQL
-/// documentation, page COPY, "Text Format"). Width is returned where the row has no field or more than 32,767, and Memory
-/// where it has neither and the buffer could not grow. A refusal leaves `buf` as it was.
+/// Appends the canonical line of the row: null is `\N`, the bytes 08 to 0D are written by their letters, a backslash is doubled, and all other bytes
+/// are written as they are. A tab separates two fields, and a newline ends the line (PostgreSQL documentation, page COPY, "Text Format"). Width: the
+/// row has no field or more than 32,767. Else Memory: the buffer could not grow. A fault leaves `buf` as it was.
 pub fn write_text_row(row: &Row, buf: &mut Vec<u8>) -> Result<(), RowFault>
     ensures { Writes (text_fault default_options row.now)
         (written_row default_options row.now) buf.old.items result buf.new.items }
@@ -197,10 +195,12 @@ pub fn write_text_row(row: &Row, buf: &mut Vec<u8>) -> Result<(), RowFault>
     write_fields(fields, &TextOptions::default(), buf)
 }
 
-/// Appends the canonical line of the row with these options: as `write_text_row` does, but null is their mark, their delimiter
-/// parts two fields, and it stands in a text after a backslash, unless it has a letter there (PostgreSQL documentation, page COPY,
-/// "Text Format"). Width is returned where the row has no field or more than 32,767; then LikeNull, where a text would be written
-/// as the null mark is; and Memory where it has neither fault and the buffer could not grow. A refusal leaves `buf` as it was.
+/// Appends the canonical line of the row with these options. Their null mark is a null, and their delimiter separates two fields. The bytes 08 to 0D
+/// are written by their letters, a backslash is doubled, and a delimiter in a text, unless it has such a letter, is written after a backslash. All
+/// other bytes are written as they are (PostgreSQL documentation, page COPY, "Text Format").
+///
+/// Width: the row has no field or more than 32,767. Else LikeNull: a text would be written as the null mark is. Else Memory: the buffer could not
+/// grow. A fault leaves `buf` as it was.
 pub fn write_text_row_with(
     row: &Row,
     options: &TextOptions,

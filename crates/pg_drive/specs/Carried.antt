@@ -22,8 +22,8 @@ pub record IsDrivenOn (past : History) (bytes : List ℕ) (new : ClientView) : T
   pub given : history.given ≡ past.given
   pub fed : history.fed ≡ past.fed ++ bytes
 
--- How a client that was open is left by this answer of `drive`: closed as Lost, where the server's
--- bytes have ended or the link failed; closed with the cause of the fault, where it refused a
+-- How a client that was open is left by this result of `drive`: closed as Lost, where the server's
+-- bytes have ended or the link failed; closed with the cause of the fault, where it rejected a
 -- piece; and else open.
 abbrev pub IsLeftDriven : Result Driven DriveFault → Option Cause → Type 0
 IsLeftDriven (Ok (driven.Lost loss)) closed = closed ≡ Some cause.Lost

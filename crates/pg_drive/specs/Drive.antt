@@ -1,4 +1,4 @@
--- What `drive` does: it sends, receives and feeds, until there is something to answer.
+-- What `drive` does: it sends, receives and feeds, until there is something to return.
 use Rattle.std.specs.Prelude.{◌≡◌, ◌≢◌, ℕ, ◌<◌, ◌≤◌, ◌⊎◌, List, [], length, codes, Option, Some, None, Result, Ok, Err}
 use Rattle.std.specs.List.{FoldsTo}
 use Rattle.pg_wire.specs.Link.{HasRisen}
@@ -30,10 +30,10 @@ longest_piece = 4096
 
 -- What a kind of client does as it is driven.
 pub record ClientKind (C : Type 0) : Type 1 where
-  -- what `feed` does. The arguments are the client before, the piece, the answer, the client after,
+  -- what `feed` does. The arguments are the client before, the piece, the result, the client after,
   -- and the output before and after.
   pub feeds : C → List ℕ → Result Unit FeedFault → C → List ℕ → List ℕ → Type 0
-  -- `lost` was called and answered this
+  -- `lost` was called and returned this
   pub is_lost : C → Loss → C → Type 0
 
 -- What is driven: a link, the client over it, and the bytes that wait to be sent.
@@ -64,7 +64,7 @@ module _ {C L : Type 0} (kind : ClientKind C) (gives takes : L → List ℕ → 
     pub sent : Sends takes send_failures between put new.link
     pub none_left : new.out ≡ []
 
-  -- The client refused a piece, and was fed nothing after it. What it put out before isn't sent.
+  -- The client rejected a piece, and was fed nothing after it. What it put out before isn't sent.
   pub record Refuses (old : Linked C L) (f : FeedFault) (new : Linked C L) : Type 0 where
     pub piece : List ℕ
     pub received : gives old.link piece new.link
@@ -85,7 +85,7 @@ module _ {C L : Type 0} (kind : ClientKind C) (gives takes : L → List ℕ → 
     pub piece : List ℕ
     pub between : L
     pub put : List ℕ
-    -- the client that was fed, before it was told that the link failed
+    -- the client that was fed, before `lost` was called on it
     pub client : C
     pub received : gives old.link piece between
     pub none_failed : receive_failures between ≡ receive_failures old.link
@@ -103,7 +103,7 @@ module _ {C L : Type 0} (kind : ClientKind C) (gives takes : L → List ℕ → 
     pub lost : kind.is_lost old.client loss new.client
     pub out : new.out ≡ old.out
 
-  -- The last turn, by the fault that was answered in it.
+  -- The last turn, by the fault that was returned in it.
   abbrev pub Fails : Linked C L → DriveFault → Linked C L → Type 0
   Fails old (fault.Feed f) new = Refuses old f new
   Fails old (fault.Link loss) new = FailsToReceive old loss new ⊎ FailsToAnswer old loss new
@@ -117,7 +117,7 @@ module _ {C L : Type 0} (kind : ClientKind C) (gives takes : L → List ℕ → 
     pub lost : kind.is_lost old.client loss new.client
 
   -- All that waited was sent, then these pieces were received and fed, one after the other, each in
-  -- a turn that went on, and then this was answered.
+  -- a turn that went on, and then this was returned.
   pub record TakesTurns {A : Type 0} (goes_on : Linked C L → List ℕ → Linked C L → Type 0)
       (answers : ℕ → Linked C L → Result A DriveFault → Linked C L → Type 0) (old : Linked C L)
       (result : Result A DriveFault) (new : Linked C L) : Type 0 where
@@ -131,7 +131,7 @@ module _ {C L : Type 0} (kind : ClientKind C) (gives takes : L → List ℕ → 
 
 -- ---- the client
 
--- The client's `lost` was called and answered this: the client is closed, with the cause Lost
+-- The client's `lost` was called and returned this: the client is closed, with the cause Lost
 -- unless it had one before, and handed back the request that isn't settled. Its settled groups
 -- stay.
 pub record IsLost (old : ClientView) (loss : Loss) (new : ClientView) : Type 0 where
@@ -150,14 +150,14 @@ client_kind = record { feeds = Feeds; is_lost = IsLost }
 abbrev pub HasStarted : Phase → ClientView → Type 0
 HasStarted began client = (began ≡ phase.Starting) × (phase_of client ≡ phase.Ready)
 
--- After a piece there is nothing to answer: no settled group waits, the startup hasn't ended in
+-- After a piece there is nothing to return: no settled group waits, the startup hasn't ended in
 -- this call, and the server doesn't wait for a copy's data.
 pub record GoesOn (began : Phase) (client : ClientView) : Type 0 where
   pub none_waits : client.settled ≡ []
   pub not_started : HasStarted began client → ⊥
   pub no_copy : phase_of client ≢ phase.CopyingIn
 
--- What is answered after a piece, the first of these that holds: a settled group waits, the startup
+-- What is returned after a piece, the first of these that holds: a settled group waits, the startup
 -- has ended in this call, the server waits for a copy's data; or that it goes on (None).
 abbrev pub IsSeen : Phase → ClientView → Option Driven → Type 0
 IsSeen began client None = GoesOn began client
@@ -175,14 +175,14 @@ Connection L = Linked ClientView L
 
 module _ {L : Type 0} (gives takes : L → List ℕ → L → Type 0) (has_ended : L → Type 0)
     (receive_failures send_failures : L → ℕ) where
-  -- A turn after which there is nothing to answer. `began` is the client's phase when the call
+  -- A turn after which there is nothing to return. `began` is the client's phase when the call
   -- began.
   abbrev pub TurnsOn : Phase → Connection L → List ℕ → Connection L → Type 0
   TurnsOn began old piece new =
       Turn client_kind gives takes has_ended receive_failures send_failures old piece new
       × GoesOn began new.client
 
-  -- The last turn, by what was answered in it. TurnsUsed isn't answered in a turn.
+  -- The last turn, by what was returned in it. TurnsUsed isn't returned in a turn.
   abbrev pub LastTurn : Phase → Connection L → Result Driven DriveFault → Connection L → Type 0
   LastTurn began old (Ok driven.TurnsUsed) new = ⊥
   LastTurn began old (Ok (driven.Lost loss)) new =
@@ -193,7 +193,7 @@ module _ {L : Type 0} (gives takes : L → List ℕ → L → Type 0) (has_ended
   LastTurn began old (Err f) new =
       Fails client_kind gives takes has_ended receive_failures send_failures old f new
 
-  -- After so many turns with nothing to answer, this was answered: TurnsUsed where as many were
+  -- After so many turns with nothing to return, this was returned: TurnsUsed where as many were
   -- wanted, and else something in one more turn.
   abbrev pub Answers : Phase → ℕ → ℕ → Connection L → Result Driven DriveFault → Connection L
       → Type 0

@@ -17,7 +17,7 @@ use Rattle.pg_drive.specs.Drive.{ClientKind, Ends, Fails, FailsAtFirst, Linked, 
 
 -- ---- the early client
 
--- The early client's `lost` was called and answered this: the client is closed, with the cause Lost
+-- The early client's `lost` was called and returned this: the client is closed, with the cause Lost
 -- unless it had one before, and handed back the request that isn't settled. The items that wait are
 -- those of its history, as before.
 pub record IsEarlyLost (old : EarlyView) (loss : Loss) (new : EarlyView) : Type 0 where
@@ -81,7 +81,7 @@ module _ {L : Type 0} (gives takes : L → List ℕ → L → Type 0) (has_ended
   EarlyTurnsOn began old piece new = Looks began old.client None old.client
       × Turn early_kind gives takes has_ended receive_failures send_failures old piece new
 
-  -- After so many turns this was answered: what a look found; TurnsUsed, where it found nothing and
+  -- After so many turns this was returned: what a look found; TurnsUsed, where it found nothing and
   -- as many turns were wanted; and else, where it found nothing, the end of the server's bytes or a
   -- fault in one more turn.
   abbrev pub EarlyAnswers : Phase → ℕ → ℕ → EarlyConnection L → Result DrivenEarly DriveFault

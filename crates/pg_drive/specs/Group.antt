@@ -27,8 +27,8 @@ GroupBegins old new before after =
     × Accepts call.Start old new before after)
     ⊎ ((phase_of old ≡ phase.Starting) × (new ≡ old) × (after ≡ before))
 
--- What an answer of `drive` is to `start`: that the startup has ended; that the connection is lost;
--- and else that the pieces are used. In a startup nothing is settled, and no copy begins.
+-- What `start` returns for a result of `drive`: that the startup has ended; that the connection is
+-- lost; and else that the pieces are used. In a startup nothing is settled, and no copy begins.
 abbrev pub group_start_told : Driven → Result Unit SessionFault
 group_start_told driven.Ready = Ok tt
 group_start_told (driven.Lost loss) = Err (fault.Lost loss)
@@ -36,8 +36,8 @@ group_start_told _ = Err fault.PiecesUsed
 
 module _ {L : Type 0} (gives takes : L → List ℕ → L → Type 0) (has_ended : L → Type 0)
     (receive_failures send_failures : L → ℕ) where
-  -- What `start` does, where at most so many pieces are received: it is refused, or the startup
-  -- packet waits, the client is driven as by `drive`, and this is answered.
+  -- What `start` does, where at most so many pieces are received: it is rejected, or the startup
+  -- packet waits, the client is driven as by `drive`, and this is returned.
   abbrev pub GroupStarts : ℕ → Connection L → Result Unit SessionFault → Connection L → Type 0
   GroupStarts most old result new =
       RefusesStart (λ client f. RefusesUnless phase.New client call.Start f) old result new
@@ -53,8 +53,8 @@ pub record TakesGroup (old : ClientView) (result : Result GroupEvent SessionFaul
   pub others : new ≡ record old { settled = new.settled }
   pub history : Carries old new (with_given group)
 
--- What `next` answers by what driving the client came to: the group that is settled, that the
--- server awaits the data of a copy, that the connection is lost, that what came was refused, and
+-- What `next` returns for what driving the client came to: the group that is settled, that the
+-- server awaits the data of a copy, that the connection is lost, that what came was rejected, and
 -- else that the pieces are used.
 abbrev pub GroupTells : Result Driven DriveFault → ClientView → Result GroupEvent SessionFault
     → ClientView → Type 0
@@ -67,7 +67,7 @@ GroupTells (Err f) old result new = (why : SessionFault) × (result ≡ Err why)
 
 module _ {L : Type 0} (gives takes : L → List ℕ → L → Type 0) (has_ended : L → Type 0)
     (receive_failures send_failures : L → ℕ) where
-  -- Where the server awaits the data of a copy: all that waits is sent, and this is answered, or a
+  -- Where the server awaits the data of a copy: all that waits is sent, and this is returned, or a
   -- call of `send` failed.
   abbrev pub AwaitsCopy : Connection L → Result GroupEvent SessionFault → Connection L → Type 0
   AwaitsCopy old (Ok answer) new = (answer ≡ event.CopyIn)
@@ -79,8 +79,8 @@ module _ {L : Type 0} (gives takes : L → List ℕ → L → Type 0) (has_ended
   AwaitsCopy old (Err _) new = ⊥
 
   -- What `next` does where at most so many pieces are received. Where a settled group waits, that
-  -- is given, and nothing of the link is touched; where none does, and the server awaits the data
-  -- of a copy, that is answered; and else the client is driven.
+  -- is given, and nothing of the link is touched. Where none does, and the server awaits the data
+  -- of a copy, that is returned. Else the client is driven.
   abbrev pub GivesGroup : ℕ → Connection L → Result GroupEvent SessionFault → Connection L
       → Type 0
   GivesGroup most old result new =
@@ -96,7 +96,7 @@ abbrev pub GroupAcceptsEnd : ClientView → ClientView → List ℕ → List ℕ
 GroupAcceptsEnd old new before after = IsOpenPhase (phase_of old)
     × (phase_of new ≡ phase.Closed cause.Terminated) × Accepts call.Terminate old new before after
 
--- What `end` does that isn't refused.
+-- What `end` does that isn't rejected.
 abbrev pub GroupTerminates : {L : Type 0} → (L → List ℕ → L → Type 0) → (L → ℕ) → Connection L
     → Loss → Connection L → Type 0
 GroupTerminates takes send_failures old loss new =

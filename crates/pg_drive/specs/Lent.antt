@@ -31,8 +31,8 @@ use Rattle.pg_drive.specs.Session.{RefusesStart, StartsBy, TellsCame, Terminates
 
 -- ---- an early client that lends its rows
 
--- A piece was pushed and this answered, so that its bytes are still to be heard after those that
--- were. Nothing was put out.
+-- A piece was pushed, and `push` returned this, so that its bytes are still to be heard after those
+-- that were. Nothing was put out.
 pub record PushesPiece (old : EarlyView) (piece : List ℕ) (result : Result Unit FeedFault)
     (new : EarlyView) (before after : List ℕ) : Type 0 where
   pub pushes : Pushes old piece result new
@@ -42,7 +42,7 @@ pub record PushesPiece (old : EarlyView) (piece : List ℕ) (result : Result Uni
   pub refused : IfErr result (λ f. RefusesPiece old piece f new)
   pub out : after ≡ before
 
--- The early client's `lost` was called and answered this, also where bytes are still to be heard.
+-- The early client's `lost` was called and returned this, also where bytes are still to be heard.
 pub record IsLentLost (old : EarlyView) (loss : Loss) (new : EarlyView) : Type 0 where
   pub lost : IsEarlyLost old loss new
   pub before : LosesBefore old loss new
@@ -59,7 +59,7 @@ pub record HearsNext {L : Type 0} (old : EarlyConnection L) (heard : Next)
   pub takes : TakesLent old.client (Ok heard) new.client old.out new.out
   pub link : new.link ≡ old.link
 
--- What had come was heard up to what the client refused, which handed back what is lost then.
+-- What had come was heard up to what the client rejected, which handed back what is lost then.
 pub record HearsFault {L : Type 0} (old : EarlyConnection L) (f : FeedFault) (loss : Loss)
     (new : EarlyConnection L) : Type 0 where
   -- the client before it handed that back
@@ -84,7 +84,7 @@ module _ {L : Type 0} (takes : L → List ℕ → L → Type 0) (send_failures :
   -- All that had come was heard, and gave nothing, and then a call of `send` failed.
   pub record FailsHeard (old : EarlyConnection L) (loss : Loss) (new : EarlyConnection L)
       : Type 0 where
-    -- what waited to be sent, and the client before it was told that the link failed
+    -- what waited to be sent, and the client before `lost` was called on it
     pub put : List ℕ
     pub client : EarlyView
     pub heard : TakesLent old.client (Ok next.Nothing) client old.out put
@@ -108,8 +108,8 @@ module _ {L : Type 0} (takes : L → List ℕ → L → Type 0) (send_failures :
 
 -- ---- what comes
 
--- What is answered for an event that is to be owned, where this row is lent: a row as a message, or
--- that memory for it was refused, and any other event as it is.
+-- What is returned for an event that is to be owned, where this row is lent: a row as a message, or
+-- that memory for it ran out, and any other event as it is.
 abbrev pub Owns : Event → Option Row → Result Event SessionFault → Type 0
 Owns event.Row held (Ok owned) = (row : Row) × (held ≡ Some row)
     × (owned ≡ event.Message (DataRow row))
@@ -129,7 +129,7 @@ module _ {L : Type 0} (gives takes : L → List ℕ → L → Type 0) (has_ended
         new
 
   -- Why no piece was pushed: the server's bytes have ended, or a call of `receive` failed; or the
-  -- client refused the piece, and handed back what is lost then.
+  -- client rejected the piece, and handed back what is lost then.
   abbrev pub PushesNone : EarlyConnection L → SessionFault → EarlyConnection L → Type 0
   PushesNone old (fault.Lost loss) new =
       Ends lending_kind gives takes has_ended receive_failures send_failures old loss new
@@ -147,7 +147,7 @@ module _ {L : Type 0} (gives takes : L → List ℕ → L → Type 0) (has_ended
     pub heard : Hears takes send_failures old (Ok None) between
     pub failed : PushesNone between f new
 
-  -- After so many turns this was answered: an event that was found in what had come; that the
+  -- After so many turns this was returned: an event that was found in what had come; that the
   -- pieces are used, where nothing was found and as many were wanted; and else a fault, in what had
   -- come or in one more turn.
   abbrev pub LentAnswers : ℕ → ℕ → EarlyConnection L → Result Event SessionFault
@@ -161,7 +161,7 @@ module _ {L : Type 0} (gives takes : L → List ℕ → L → Type 0) (has_ended
       ⊎ ((count < most) × FailsTurn old f new)
 
   -- What `next_lent` does, where at most so many pieces are received: these were, one after the
-  -- other, each in a turn, and then this was answered.
+  -- other, each in a turn, and then this was returned.
   pub record GivesLent (most : ℕ) (old : EarlyConnection L) (result : Result Event SessionFault)
       (new : EarlyConnection L) : Type 0 where
     pub pieces : List (List ℕ)
@@ -169,7 +169,7 @@ module _ {L : Type 0} (gives takes : L → List ℕ → L → Type 0) (has_ended
     pub went_on : FoldsTo LentTurn old pieces last
     pub answered : LentAnswers most (length pieces) last result new
 
-  -- What `next` does: what `next_lent` does, and its event is owned; a fault is answered as it is.
+  -- What `next` does: what `next_lent` does, and its event is owned; a fault is returned as it is.
   abbrev pub Gives : ℕ → EarlyConnection L → Result Event SessionFault → EarlyConnection L → Type 0
   Gives most old result new =
       ((lent : Event) × GivesLent most old (Ok lent) new × Owns lent new.client.held result)
@@ -185,8 +185,9 @@ Begins old new before after =
     × ComesBefore call.Start old new)
     ⊎ (IsInPhase old phase.Starting × (new ≡ old) × (after ≡ before))
 
--- What an answer of `drive_early` is to `start`: that the startup has ended; that the connection is
--- lost; and else that the pieces are used. In a startup no item comes, and no copy begins.
+-- What `start` returns for a result of `drive_early`: that the startup has ended; that the
+-- connection is lost; and else that the pieces are used. In a startup no item comes, and no copy
+-- begins.
 abbrev pub start_told : DrivenEarly → Result Unit SessionFault
 start_told driven.Ready = Ok tt
 start_told (driven.Lost loss) = Err (fault.Lost loss)
@@ -194,8 +195,8 @@ start_told _ = Err fault.PiecesUsed
 
 module _ {L : Type 0} (gives takes : L → List ℕ → L → Type 0) (has_ended : L → Type 0)
     (receive_failures send_failures : L → ℕ) where
-  -- What `start` does, where at most so many pieces are received: it is refused, or the startup
-  -- packet waits, the client is driven as by `drive_early`, and this is answered.
+  -- What `start` does, where at most so many pieces are received: it is rejected, or the startup
+  -- packet waits, the client is driven as by `drive_early`, and this is returned.
   abbrev pub Starts : ℕ → EarlyConnection L → Result Unit SessionFault → EarlyConnection L → Type 0
   Starts most old result new =
       RefusesStart (λ view f. (client : ClientView) → StandsFor view client
@@ -211,7 +212,7 @@ AcceptsEnd old new before after =
     EarlyAccepts IsOpenPhase (phase.Closed cause.Terminated) call.Terminate old new before after
     × ComesBefore call.Terminate old new
 
--- What `end` does that isn't refused.
+-- What `end` does that isn't rejected.
 abbrev pub Terminates : {L : Type 0} → (L → List ℕ → L → Type 0) → (L → ℕ) → EarlyConnection L
     → Loss → EarlyConnection L → Type 0
 Terminates takes send_failures old loss new =

@@ -21,16 +21,16 @@ session_code fault.Memory = codes "N5"
 
 -- ---- the start
 
--- What a fault of driving is to a session: that the connection is lost; or that what came was
--- refused, and then the client was told that the connection is gone, which handed this back.
+-- The fault of a session for a fault of driving: that the connection is lost; or that what came was
+-- rejected, and then `lost` was called on the client and handed this back.
 abbrev pub TellsFault : {C : Type 0} → (C → Loss → C → Type 0) → C → DriveFault → SessionFault → C
     → Type 0
 TellsFault is_lost old (drive.Link loss) result new = (result ≡ fault.Lost loss) × (new ≡ old)
 TellsFault is_lost old (drive.Feed f) result new = (loss : Loss) × (result ≡ fault.Feed f loss)
     × is_lost old loss new
 
--- What is answered by what driving the client came to. The first two arguments say what an answer
--- of driving is to a session, and what `lost` does.
+-- What is returned for what driving the client came to. The first two arguments say what a session
+-- returns for a result of driving, and what `lost` does.
 abbrev pub TellsCame : {A B C : Type 0} → (A → Result B SessionFault) → (C → Loss → C → Type 0)
     → Result A DriveFault → C → Result B SessionFault → C → Type 0
 TellsCame told is_lost (Ok answer) old result new = (result ≡ told answer) × (new ≡ old)
@@ -38,7 +38,7 @@ TellsCame told is_lost (Err f) old result new = (why : SessionFault) × (result 
     × TellsFault is_lost old f why new
 
 module _ {C L : Type 0} where
-  -- The client refused the call for this reason, and nothing has changed.
+  -- The client rejected the call for this reason, and nothing has changed.
   pub record RefusesStart (refuses : C → CallFault → Type 0) (old : Linked C L)
       (result : Result Unit SessionFault) (new : Linked C L) : Type 0 where
     pub reason : CallFault
@@ -46,7 +46,7 @@ module _ {C L : Type 0} where
     pub refused : refuses old.client reason
     pub same : new ≡ old
 
-  -- A client was driven, and this was answered by what that came to.
+  -- A client was driven, and this was returned for what that came to.
   pub record Tells {A B : Type 0} (drives : Linked C L → Result A DriveFault → Linked C L → Type 0)
       (told : Result A DriveFault → C → B → C → Type 0) (old : Linked C L) (result : B)
       (new : Linked C L) : Type 0 where
@@ -56,8 +56,8 @@ module _ {C L : Type 0} where
     pub driven : drives old came (connected new.link client new.out)
     pub tells : told came client result new.client
 
-  -- What `start` does that isn't refused: the startup packet waits, the client is driven, and this
-  -- is answered.
+  -- What `start` does that isn't rejected: the startup packet waits, the client is driven, and this
+  -- is returned.
   pub record StartsBy {A : Type 0} (begins : C → C → List ℕ → List ℕ → Type 0)
       (drives : Linked C L → Result A DriveFault → Linked C L → Type 0)
       (told : Result A DriveFault → C → Result Unit SessionFault → C → Type 0) (old : Linked C L)
@@ -70,9 +70,8 @@ module _ {C L : Type 0} where
 
 -- ---- the end
 
--- What `end` does that isn't refused: the client accepts to terminate, all that waits is sent,
--- unless a call of `send` fails, and then the client is told that the connection is gone, and hands
--- this back.
+-- What `end` does that isn't rejected: the client accepts to terminate, all that waits is sent,
+-- unless a call of `send` fails, and then `lost` is called on the client, which hands this back.
 pub record TerminatesBy {C L : Type 0} (accepts : C → C → List ℕ → List ℕ → Type 0)
     (is_lost : C → Loss → C → Type 0) (takes : L → List ℕ → L → Type 0) (send_failures : L → ℕ)
     (old : Linked C L) (loss : Loss) (new : Linked C L) : Type 0 where

@@ -1,4 +1,4 @@
-//! What `drive` and `drive_early` answer.
+//! What `drive` and `drive_early` return.
 
 ghost use Rattle.std.specs.Prelude.{◌≡◌};
 ghost use Rattle.pg_drive.specs.Drive.{drive_code};
@@ -7,7 +7,7 @@ ghost use Rattle.pg_drive.specs.declared.answer.DriveFault.TheVariants as faults
 use pg_client::{FeedFault, Item, Loss};
 use thiserror::Error;
 
-/// Why a client is driven no further for now.
+/// Why [`drive`](crate::drive) returned: what there is to do for the caller.
 #[derive(Clone, Debug, PartialEq, Eq, Drop)]
 pub enum Driven {
     /// A settled group waits to be taken.
@@ -16,24 +16,24 @@ pub enum Driven {
     Ready,
     /// The server waits for the data of a copy.
     CopyIn,
-    /// As many pieces were received as there were turns.
+    /// As many pieces were received as the call was given turns.
     TurnsUsed,
-    /// The server's bytes have ended. The client is closed, and hands back what is lost.
+    /// The server's bytes have ended. The client is closed, and this is the request that is in doubt, if there is one.
     Lost(Loss),
 }
 
-/// What driving an early client came to.
+/// Why [`drive_early`](crate::drive_early) returned.
 #[derive(Clone, Debug, PartialEq, Eq, Drop)]
 pub enum DrivenEarly {
     /// The startup has ended: a request may be made.
     Ready,
-    /// The oldest item that waited. It is taken.
+    /// The oldest item that waited, which was taken.
     Item(Item),
     /// The server waits for the data of a copy.
     CopyIn,
-    /// As many pieces were received as there were turns.
+    /// As many pieces were received as the call was given turns.
     TurnsUsed,
-    /// The server's bytes have ended. The client is closed, and hands back what is lost.
+    /// The server's bytes have ended. The client is closed, and this is the request that is in doubt, if there is one.
     Lost(Loss),
 }
 
@@ -43,7 +43,7 @@ pub enum DriveFault {
     /// The client returned this fault to what the server sent, and is closed.
     #[error("D1 Feed {0}")]
     Feed(FeedFault),
-    /// The link failed. The client is closed, and hands back what is lost.
+    /// The link failed. The client is closed, and this is the request that is in doubt, if there is one.
     #[error("D2 Link")]
     Link(Loss),
 }

@@ -10,15 +10,18 @@ use crate::receiving::{PIECE, receive};
 use pg_client::{Client, Phase};
 use pg_wire::{Sink, Source, send_out};
 
-/// Drives a client: sends all of `out` over a link, then receives pieces of at most 4,096 bytes, at most `turns` times, feeds each to the
-/// client and sends what it put out. What was sent is taken off the front of `out`.
+/// Drives a client: sends all of `out` over a link, then receives pieces of at most 4,096 bytes, at most `turns` times, feeds each to the client and
+/// sends what it put out. What was sent is taken off the front of `out`.
 ///
-/// After each piece it looks whether there is something to do, in this order: a settled group waits (Settled); the client stood in phase
-/// Starting when the call began, and is Ready (Ready); it stands in phase CopyingIn (CopyIn). Lost is the answer at the end of the server's
-/// bytes, and TurnsUsed after `turns` pieces, also if there were to be none.
+/// After each piece it returns the first of these that holds, if one does:
+/// - Settled: a settled group waits.
+/// - Ready: the client stood in phase Starting when the call began, and is Ready.
+/// - CopyIn: the client stands in phase CopyingIn.
 ///
-/// D1 Feed: the client refused a piece, and what it put out before the fault isn't sent. D2 Link: a call of the link failed, and the client
-/// was told so by [`lost`](Client::lost).
+/// It returns Lost at the end of the server's bytes, and TurnsUsed after `turns` pieces, even where that is 0.
+///
+/// D1 Feed: the client rejected a piece, and what it put out before the fault isn't sent. D2 Link: a call of the link failed, and
+/// [`lost`](Client::lost) was called on the client.
 pub fn drive<L: Source + Sink>(
     client: &mut Client,
     out: &mut Vec<u8>,

@@ -10,18 +10,21 @@ use crate::receiving::{PIECE, receive};
 use pg_client::{EarlyClient, Loss, Phase};
 use pg_wire::{Sink, Source, send_out};
 
-/// Drives an early client: sends all of `out` over a link, then looks whether there is something for the caller. Where there is nothing
-/// it receives a piece of at most 4,096 bytes, feeds it, sends what the client put out, and looks again, at most `turns` times. What was
-/// sent is taken off the front of `out`.
+/// Drives an early client: sends all of `out` over a link, then looks whether there is something for the caller. Where there is nothing it receives a
+/// piece of at most 4,096 bytes, feeds it, sends what the client put out, and looks again, at most `turns` times. What was sent is taken off the
+/// front of `out`.
 ///
-/// A look finds the first of these: the client stood in phase Starting when the call began, and is Ready (Ready); an item waits, which is
-/// taken and given (Item); the client stands in phase CopyingIn (CopyIn). So nothing is received while an item waits, or the server waits
-/// for data. Lost is the answer at the end of the server's bytes, where all items are taken, and TurnsUsed after `turns` pieces, also if
-/// there were to be none.
+/// A look finds the first of these that holds:
+/// - Ready: the client stood in phase Starting when the call began, and is Ready.
+/// - Item: an item waits, which is taken and given.
+/// - CopyIn: the client stands in phase CopyingIn.
 ///
-/// D1 Feed: the client refused a piece, and what it put out before the fault isn't sent. D2 Link: a call of the link failed, and the client
-/// was told so by [`lost`](EarlyClient::lost). Items that wait in a closed client are given by further calls, or by
-/// [`take_item`](EarlyClient::take_item), which wants no link.
+/// So nothing is received while an item waits, or the server waits for data. It returns Lost at the end of the server's bytes, where all items are
+/// taken, and TurnsUsed after `turns` pieces, even where that is 0.
+///
+/// D1 Feed: the client rejected a piece, and what it put out before the fault isn't sent. D2 Link: a call of the link failed, and
+/// [`lost`](EarlyClient::lost) was called on the client. Items that wait in a closed client are given by further calls, or by
+/// [`take_item`](EarlyClient::take_item), which needs no link.
 pub fn drive_early<L: Source + Sink>(
     client: &mut EarlyClient,
     out: &mut Vec<u8>,
@@ -67,8 +70,8 @@ fn look(client: &mut EarlyClient, began: Phase) -> Option<DrivenEarly>
     None
 }
 
-// Receives a piece, feeds it and sends what the client put out. The room of the piece stands here, since a function clears the room of all
-// its locals as it begins, and an item that waits is to be given without that.
+// Receives a piece, feeds it and sends what the client put out. The room of the piece is a local of this function alone: a function clears the room
+// of all its locals as it begins. An item that waits is to be given without that.
 fn receive_piece<L: Source + Sink>(
     client: &mut EarlyClient,
     out: &mut Vec<u8>,

@@ -8,10 +8,10 @@ use pg_client::{CallFault, FeedFault, Loss, Settled};
 use pg_wire::{BackMessage, Request, Status};
 use thiserror::Error;
 
-/// What comes of a request, in order.
+/// What a session gives of a request, in order.
 #[derive(Clone, Debug, PartialEq, Eq, Drop)]
 pub enum Event {
-    /// A message of the answer, but not its last one. Whether the request takes effect isn't known yet.
+    /// A message of the answer, but not its ReadyForQuery. Whether the request takes effect isn't known yet.
     Message(BackMessage),
     /// A row, which [`Session::held`](crate::Session::held) lends until the next call. Only
     /// [`next_lent`](crate::Session::next_lent) and [`try_next_lent`](crate::Session::try_next_lent) give it.
@@ -23,14 +23,14 @@ pub enum Event {
         /// The transaction status after it.
         status: Status,
     },
-    /// The server awaits the data of a copy, and nothing was received.
+    /// The server awaits the data of a copy. Nothing was received in this call.
     CopyIn,
 }
 
-/// What comes of a request whose answer is given whole.
+/// What a session that gives whole answers gives of a request.
 #[derive(Clone, Debug, PartialEq, Eq, Drop)]
 pub enum GroupEvent {
-    /// The request is settled: here it is, with its whole answer.
+    /// The request is settled: this is it, with its whole answer.
     Settled(Settled),
     /// The server awaits the data of a copy, and nothing was received.
     CopyIn,
@@ -39,26 +39,25 @@ pub enum GroupEvent {
 /// Why a session gives nothing.
 #[derive(Clone, Debug, PartialEq, Eq, Drop, Error)]
 pub enum SessionFault {
-    /// The client refused the call, and nothing has changed.
+    /// The client rejected the call, and nothing has changed.
     #[error("N1 Call {0}")]
     Call(CallFault),
-    /// The client refused what the server sent, and the session is closed.
+    /// The client rejected what the server sent, and the session is closed.
     #[error("N2 Feed {fault}")]
     Feed {
-        /// Why it was refused.
+        /// Why the client rejected it.
         fault: FeedFault,
         /// The request that is in doubt, if there is one.
         loss: Loss,
     },
-    /// The connection is lost, with the request that is in doubt, if there is one: the server's bytes have ended, or a call of the link
-    /// failed. The session is closed.
+    /// The connection is lost, with the request that is in doubt, if there is one. The server's bytes have ended, or a call of the link failed. The
+    /// session is closed.
     #[error("N3 Lost")]
     Lost(Loss),
-    /// As many pieces were received as a call receives at most. Nothing is lost: the call is made again.
+    /// The call received as many pieces as it may. Nothing is lost: the call can be made again.
     #[error("N4 PiecesUsed")]
     PiecesUsed,
-    /// Memory for the copy of a row was refused. Nothing is lost: [`Session::held`](crate::Session::held) lends the row, and the next call
-    /// goes on.
+    /// Memory for the copy of a row ran out. Nothing is lost: [`Session::held`](crate::Session::held) lends the row, and the next call goes on.
     #[error("N5 Memory")]
     Memory,
 }

@@ -16,10 +16,10 @@ use pg_client::{CallFault, Client, Loss, Phase, Settings};
 use pg_wire::{EncodeFault, Request, Seq, Sink, Source, Step, send_out};
 use std::alloc::Global;
 
-/// A session over a link, which gives the answer to a request whole. Its calls are those of [`Client`], whose conditions and faults they
-/// have. They put out and send nothing; what waits is sent by the calls that receive, and by [`end`](GroupSession::end).
+/// A session over a link, which gives the answer to a request whole. Its calls are those of [`Client`], with the same conditions and faults. The
+/// calls only put bytes out, and send nothing. What waits is sent by the calls that receive, and by [`end`](GroupSession::end).
 ///
-/// A connection that is lost is told by [`SessionFault::Lost`] or [`SessionFault::Feed`], which hold the request that is in doubt.
+/// Where the connection is lost, [`SessionFault::Lost`] or [`SessionFault::Feed`] is returned, which holds the request that is in doubt.
 #[derive(Drop)]
 pub struct GroupSession<L> {
     /// The client: where the session stands, and what it knows.
@@ -46,7 +46,7 @@ impl<L> GroupSession<L> {
         GroupSession::over(alloc, Client::new(alloc, settings), link)
     }
 
-    /// A session of a client that has nothing to send. It takes no memory.
+    /// A session of a client that was made before, with nothing that waits to be sent. It takes no memory.
     pub fn over(alloc: Global, client: Client, link: L) -> GroupSession<L>
         ensures client { result.client ≡ client }
         ensures out { result.out.items ≡ [] }
@@ -76,7 +76,10 @@ impl<L> GroupSession<L> {
         (client, out, link)
     }
 
-    /// Makes a request, as [`Client::request`].
+    /// Makes a request, which waits to be sent. Allowed in phase Ready, and leads to Busy.
+    ///
+    /// C1 NotReady: another phase. C3 Encode: the request can't be sent, as [`Client::request`] says. A fault comes with the request, which is handed
+    /// back, and leaves the session as it was.
     pub fn request(&mut self, request: Request) -> Result<(), (Request, CallFault)>
         ensures ok { OnOk result ((phase_of self.old.client ≡ Phase.Ready)
             × (phase_of self.new.client ≡ Phase.Busy)) }
@@ -91,7 +94,10 @@ impl<L> GroupSession<L> {
         self.client.request(request, &mut self.out)
     }
 
-    /// Makes a simple query, as [`Client::request`]. C3 Encode Memory is answered too where memory for a copy of the text is refused.
+    /// Makes a simple query of this text, which waits to be sent. Allowed in phase Ready, and leads to Busy.
+    ///
+    /// C1 NotReady: another phase. C3 Encode: HasZero, TooLong or Memory; Memory also where memory for a copy of the text runs out. After a fault the
+    /// session is as it was.
     pub fn query(&mut self, text: &str) -> Result<(), CallFault>
         ensures ok { OnOk result ((phase_of self.old.client ≡ Phase.Ready)
             × (phase_of self.new.client ≡ Phase.Busy)) }
@@ -114,7 +120,9 @@ impl<L> GroupSession<L> {
         }
     }
 
-    /// Makes a request of steps, as [`Client::request`].
+    /// Makes a request of these steps and a Sync, which waits to be sent. Allowed in phase Ready, and leads to Busy.
+    ///
+    /// C1 NotReady: another phase. C3 Encode: a step can't be sent (HasZero, TooMany, TooLong), or Memory. After a fault the session is as it was.
     pub fn group(&mut self, steps: Seq<Step>) -> Result<(), CallFault>
         ensures ok { OnOk result ((phase_of self.old.client ≡ Phase.Ready)
             × (phase_of self.new.client ≡ Phase.Busy)) }
@@ -132,7 +140,9 @@ impl<L> GroupSession<L> {
         }
     }
 
-    /// Puts a chunk of data out, as [`Client::copy_chunk`].
+    /// Puts a chunk of data out, as one CopyData, which waits to be sent. Allowed in phase CopyingIn, which stays.
+    ///
+    /// C2 NotCopying: another phase. C3 Encode: TooLong or Memory. After a fault the session is as it was.
     pub fn copy_chunk(&mut self, bytes: &[u8]) -> Result<(), CallFault>
         ensures ok { OnOk result ((phase_of self.old.client ≡ Phase.CopyingIn)
             × (phase_of self.new.client ≡ Phase.CopyingIn)) }
@@ -146,7 +156,9 @@ impl<L> GroupSession<L> {
         self.client.copy_chunk(bytes, &mut self.out)
     }
 
-    /// Says that the data of a copy is complete, as [`Client::copy_done`].
+    /// Says that the data of a copy is complete, by a CopyDone, which waits to be sent. Allowed in phase CopyingIn, and leads to Busy.
+    ///
+    /// C2 NotCopying: another phase. C3 Encode: Memory alone. After a fault the session is as it was.
     pub fn copy_done(&mut self) -> Result<(), CallFault>
         ensures ok { OnOk result ((phase_of self.old.client ≡ Phase.CopyingIn)
             × (phase_of self.new.client ≡ Phase.Busy)) }
@@ -160,7 +172,9 @@ impl<L> GroupSession<L> {
         self.client.copy_done(&mut self.out)
     }
 
-    /// Says that a copy is to fail for this reason, as [`Client::copy_fail`].
+    /// Says that a copy is to fail for this reason, by a CopyFail, which waits to be sent. Allowed in phase CopyingIn, and leads to Busy.
+    ///
+    /// C2 NotCopying: another phase. C3 Encode: HasZero, TooLong or Memory. After a fault the session is as it was.
     pub fn copy_fail(&mut self, reason: &[u8]) -> Result<(), CallFault>
         ensures ok { OnOk result ((phase_of self.old.client ≡ Phase.CopyingIn)
             × (phase_of self.new.client ≡ Phase.Busy)) }
@@ -174,7 +188,8 @@ impl<L> GroupSession<L> {
         self.client.copy_fail(reason, &mut self.out)
     }
 
-    /// Says that the connection is of no more use, as [`Client::lost`]: hands the request back that isn't settled.
+    /// Says that the connection is of no more use, and hands back the request that isn't settled, if there is one. An open client becomes
+    /// Closed(Lost), and a closed one keeps its cause.
     pub fn lost(&mut self) -> Loss
         ensures lost { IsLost self.old.client result self.new.client }
         ensures others { (self.new.link ≡ self.old.link) × (self.new.pieces ≡ self.old.pieces)
@@ -185,11 +200,11 @@ impl<L> GroupSession<L> {
 }
 
 impl<L: Source + Sink> GroupSession<L> {
-    /// Starts the session: sends the startup packet and what the server asks for, and waits until a request may be made. Called again in
-    /// phase Starting it goes on.
+    /// Starts the session: sends the startup packet and what the server asks for, and waits until a request may be made. In phase Starting the call
+    /// goes on where the last one stopped.
     ///
-    /// N1 Call: the client refused to start, and nothing has changed. N2 Feed: it refused what came. N3 Lost: the connection is lost. N4
-    /// PiecesUsed: as many pieces were received as a call may receive.
+    /// N1 Call: the client rejected the call, and nothing has changed. N2 Feed: it rejected what came. N3 Lost: the connection is lost. N4
+    /// PiecesUsed: the call received as many pieces as it may.
     pub fn start(&mut self) -> Result<(), SessionFault>
         ensures start { GroupStarts L.gives L.takes L.has_ended L.Source.failures
             L.Sink.failures self.old.pieces
@@ -200,11 +215,11 @@ impl<L: Source + Sink> GroupSession<L> {
         start_whole(&mut self.client, &mut self.out, &mut self.link, self.pieces)
     }
 
-    /// The request that is settled next, with its whole answer, or that the server awaits the data of a copy: sends what waits, receives
+    /// Gives the request that is settled next, with its whole answer, or that the server awaits the data of a copy. It sends what waits, receives
     /// pieces and feeds them until there is one of the two.
     ///
-    /// N2 Feed: the client refused what came; a group that was settled by the piece is given by the next call. N3 Lost: the connection is
-    /// lost. N4 PiecesUsed: as many pieces were received as a call may receive.
+    /// N2 Feed: the client rejected what came; a group that the piece settled is given by the next call. N3 Lost: the connection is lost. N4
+    /// PiecesUsed: the call received as many pieces as it may.
     pub fn next(&mut self) -> Result<GroupEvent, SessionFault>
         ensures gives { GivesGroup L.gives L.takes L.has_ended L.Source.failures L.Sink.failures
             self.old.pieces (connected self.old.link self.old.client self.old.out.items) result
@@ -214,10 +229,10 @@ impl<L: Source + Sink> GroupSession<L> {
         next_group(&mut self.client, &mut self.out, &mut self.link, self.pieces)
     }
 
-    /// Ends the session: sends a Terminate after all that waits, and closes the client. The server learns of it, unless the link fails, of
-    /// which it learns too. What is handed back is the request that isn't settled, if there is one.
+    /// Ends the session: sends a Terminate after all that waits, and closes the client. Where the link fails, the server may not get it. It returns
+    /// the request that isn't settled, if there is one.
     ///
-    /// The faults are those of [`Client::terminate`]. Then nothing has changed.
+    /// C1 NotReady: phase New or Closed. C3 Encode: Memory alone. After a fault nothing has changed.
     pub fn end(&mut self) -> Result<Loss, CallFault>
         ensures ends { IfOk result (λ loss. GroupTerminates L.takes L.Sink.failures
             (connected self.old.link self.old.client self.old.out.items) loss

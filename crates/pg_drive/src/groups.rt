@@ -59,7 +59,7 @@ fn drive_start<L: Source + Sink>(
     tell_start(client, came)
 }
 
-// What driving came to, as `start` answers it.
+// What `start` returns for what driving came to.
 fn tell_start(client: &mut Client, came: Result<Driven, DriveFault>) -> Result<(), SessionFault>
     ensures { TellsCame group_start_told IsLost came client.old result client.new }
 {
@@ -69,7 +69,7 @@ fn tell_start(client: &mut Client, came: Result<Driven, DriveFault>) -> Result<(
     }
 }
 
-// What an answer of driving is to `start`.
+// What `start` returns for this result of driving.
 fn group_start_told(driven: Driven) -> Result<(), SessionFault>
     ensures { result ≡ group_start_told driven }
 {
@@ -80,7 +80,7 @@ fn group_start_told(driven: Driven) -> Result<(), SessionFault>
     }
 }
 
-// What a fault of driving is to a session.
+// The fault of a session for this fault of driving.
 fn tell_fault(client: &mut Client, fault: DriveFault) -> SessionFault
     ensures { TellsFault IsLost client.old fault result client.new }
 {
@@ -93,7 +93,7 @@ fn tell_fault(client: &mut Client, fault: DriveFault) -> SessionFault
     }
 }
 
-// Says that the connection is gone.
+// Calls `lost` on the client.
 fn lose(client: &mut Client) -> Loss
     ensures { IsLost client.old result client.new }
 {
@@ -151,7 +151,7 @@ fn drive_on<L: Source + Sink>(
     tell_group(client, came)
 }
 
-// What driving came to, as `next` answers it.
+// What `next` returns for what driving came to.
 fn tell_group(
     client: &mut Client,
     came: Result<Driven, DriveFault>,
@@ -164,7 +164,7 @@ fn tell_group(
     }
 }
 
-// What an answer of driving is to `next`. Where a group is settled, it is taken.
+// What `next` returns for this result of driving. Where a group is settled, it is taken.
 fn tell_driven(client: &mut Client, driven: Driven) -> Result<GroupEvent, SessionFault>
     ensures { GroupTells (Ok driven) client.old result client.new }
 {

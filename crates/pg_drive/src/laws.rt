@@ -11,7 +11,7 @@ ghost use Rattle.pg_drive.specs.declared.answer.Driven.{Driven};
 use pg_wire::{Sink, Source};
 
 /// Each history of a client that was open goes on as it is driven: the pieces are fed one after the other, and no call is made and no
-/// group taken. The client is left open, unless the connection is lost or it refused a piece.
+/// group taken. The client is left open, unless the connection is lost or it rejected a piece.
 pub fn driving_goes_on<L: Source + Sink>()
     ensures history { (turns : ℕ) (old : Connection L) (result : Result Driven DriveFault)
         (new : Connection L) (h : History) → IsHistoryOf h old.client → old.client.closed ≡ None

@@ -68,7 +68,7 @@ pub(crate) fn hear<L: Source + Sink>(
     }
 }
 
-// Tells what was heard.
+// What a session gives for what was heard.
 fn tell<L: Source + Sink>(
     heard: Next,
     client: &mut EarlyClient,
@@ -96,7 +96,7 @@ fn event_of(item: Item) -> Event
     }
 }
 
-// Sends what waits, where all that has come was heard, and says whether the server awaits the data of a copy.
+// Sends what waits, where all that has come was heard, and returns whether the server awaits the data of a copy.
 fn wait<L: Source + Sink>(
     client: &mut EarlyClient,
     out: &mut Vec<u8>,
@@ -114,8 +114,8 @@ fn wait<L: Source + Sink>(
     }
 }
 
-// Receives a piece and pushes it, where nothing waits to be sent. The room of the piece stands here, since a function clears the room of
-// all its locals as it begins, and what has come is to be given without that.
+// Receives a piece and pushes it, where nothing waits to be sent. The room of the piece is a local of this function alone: a function clears the room
+// of all its locals as it begins. What has come is to be given without that.
 fn push_piece<L: Source + Sink>(client: &mut EarlyClient, link: &mut L) -> Result<(), SessionFault>
     ensures { TakesPiece L.gives L.takes L.has_ended L.Source.failures L.Sink.failures
         (connected link.old client.old []) result (connected link.new client.new []) }
@@ -149,7 +149,7 @@ fn receive_pushed<L: Source + Sink>(
     }
 }
 
-/// Says that the connection is gone.
+/// Calls `lost` on the client.
 pub(crate) fn lose(client: &mut EarlyClient) -> Loss
     ensures { IsLentLost client.old result client.new }
 {

@@ -53,7 +53,7 @@ impl Drivable for EarlyClient {
     }
 }
 
-// Receives a piece, feeds it and sends what the client put out. A loss is answered at the end of the server's bytes.
+// Receives a piece, feeds it and sends what the client put out. At the end of the server's bytes it returns the loss.
 pub(crate) fn receive<C: Drivable, L: Source + Sink>(
     client: &mut C,
     out: &mut Vec<u8>,

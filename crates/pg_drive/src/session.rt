@@ -21,13 +21,13 @@ use pg_wire::{
 };
 use std::alloc::Global;
 
-/// How many pieces a call of a session receives at most, unless the session says otherwise. No message has so many.
+/// How many pieces a call of a session receives at most, unless the session says otherwise. No message takes so many.
 pub const MOST_PIECES: u32 = 4_294_967_295;
 
-/// A session over a link, which gives the answer to a request message by message. Its calls are those of [`EarlyClient`], whose conditions
-/// and faults they have. They put out and send nothing; what waits is sent by the calls that receive, and by [`end`](Session::end).
+/// A session over a link, which gives the answer to a request message by message. Its calls are those of [`EarlyClient`], with the same conditions
+/// and faults. The calls only put bytes out, and send nothing. What waits is sent by the calls that receive, and by [`end`](Session::end).
 ///
-/// A connection that is lost is told by [`SessionFault::Lost`] or [`SessionFault::Feed`], which hold the request that is in doubt.
+/// Where the connection is lost, [`SessionFault::Lost`] or [`SessionFault::Feed`] is returned, which holds the request that is in doubt.
 #[derive(Drop)]
 pub struct Session<L> {
     /// The client: where the session stands, and what it knows.
@@ -53,7 +53,7 @@ impl<L> Session<L> {
         Session::over(alloc, EarlyClient::new(alloc, settings), link)
     }
 
-    /// A session of a client that has nothing to send. It takes no memory.
+    /// A session of a client that was made before, with nothing that waits to be sent. It takes no memory.
     pub fn over(alloc: Global, client: EarlyClient, link: L) -> Session<L>
         ensures client { result.client ≡ client }
         ensures out { result.out.items ≡ [] }
@@ -83,7 +83,10 @@ impl<L> Session<L> {
         (client, out, link)
     }
 
-    /// Makes a request, as [`EarlyClient::request`].
+    /// Makes a request, which waits to be sent. Allowed in phase Ready, and leads to Busy.
+    ///
+    /// C1 NotReady: another phase. C3 Encode: the request can't be sent, as [`EarlyClient::request`] says. A fault comes with the request, which is
+    /// handed back, and leaves the session as it was.
     pub fn request(&mut self, request: Request) -> Result<(), (Request, CallFault)>
         ensures accepted { OnOk result (EarlyAccepts (λ p. p ≡ Phase.Ready) Phase.Busy
             (call.Request request) self.old.client self.new.client self.old.out.items
@@ -101,7 +104,10 @@ impl<L> Session<L> {
         self.client.request(request, &mut self.out)
     }
 
-    /// Makes a simple query, as [`EarlyClient::request`]. C3 Encode Memory is answered too where memory for a copy of the text is refused.
+    /// Makes a simple query of this text, which waits to be sent. Allowed in phase Ready, and leads to Busy.
+    ///
+    /// C1 NotReady: another phase. C3 Encode: HasZero, TooLong or Memory; Memory also where memory for a copy of the text runs out. After a fault the
+    /// session is as it was.
     pub fn query(&mut self, text: &str) -> Result<(), CallFault>
         ensures accepted { OnOk result (EarlyAccepts (λ p. p ≡ Phase.Ready) Phase.Busy
             (call.Request (Request.Query text.now)) self.old.client self.new.client
@@ -125,7 +131,9 @@ impl<L> Session<L> {
         }
     }
 
-    /// Makes a request of steps, as [`EarlyClient::request`].
+    /// Makes a request of these steps and a Sync, which waits to be sent. Allowed in phase Ready, and leads to Busy.
+    ///
+    /// C1 NotReady: another phase. C3 Encode: a step can't be sent (HasZero, TooMany, TooLong), or Memory. After a fault the session is as it was.
     pub fn group(&mut self, steps: Seq<Step>) -> Result<(), CallFault>
         ensures accepted { OnOk result (EarlyAccepts (λ p. p ≡ Phase.Ready) Phase.Busy
             (call.Request (Request.Group steps)) self.old.client self.new.client
@@ -145,7 +153,9 @@ impl<L> Session<L> {
         }
     }
 
-    /// Puts a chunk of data out, as [`EarlyClient::copy_chunk`].
+    /// Puts a chunk of data out, as one CopyData, which waits to be sent. Allowed in phase CopyingIn, which stays.
+    ///
+    /// C2 NotCopying: another phase. C3 Encode: TooLong or Memory. After a fault the session is as it was.
     pub fn copy_chunk(&mut self, bytes: &[u8]) -> Result<(), CallFault>
         ensures accepted { OnOk result (EarlyAccepts (λ p. p ≡ Phase.CopyingIn) Phase.CopyingIn
             (call.Chunk bytes.now) self.old.client self.new.client self.old.out.items
@@ -161,7 +171,9 @@ impl<L> Session<L> {
         self.client.copy_chunk(bytes, &mut self.out)
     }
 
-    /// Says that the data of a copy is complete, as [`EarlyClient::copy_done`].
+    /// Says that the data of a copy is complete, by a CopyDone, which waits to be sent. Allowed in phase CopyingIn, and leads to Busy.
+    ///
+    /// C2 NotCopying: another phase. C3 Encode: Memory alone. After a fault the session is as it was.
     pub fn copy_done(&mut self) -> Result<(), CallFault>
         ensures accepted { OnOk result (EarlyAccepts (λ p. p ≡ Phase.CopyingIn) Phase.Busy
             call.Done self.old.client self.new.client self.old.out.items self.new.out.items) }
@@ -175,7 +187,9 @@ impl<L> Session<L> {
         self.client.copy_done(&mut self.out)
     }
 
-    /// Says that a copy is to fail for this reason, as [`EarlyClient::copy_fail`].
+    /// Says that a copy is to fail for this reason, by a CopyFail, which waits to be sent. Allowed in phase CopyingIn, and leads to Busy.
+    ///
+    /// C2 NotCopying: another phase. C3 Encode: HasZero, TooLong or Memory. After a fault the session is as it was.
     pub fn copy_fail(&mut self, reason: &[u8]) -> Result<(), CallFault>
         ensures accepted { OnOk result (EarlyAccepts (λ p. p ≡ Phase.CopyingIn) Phase.Busy
             (call.Fail reason.now) self.old.client self.new.client self.old.out.items
@@ -191,14 +205,15 @@ impl<L> Session<L> {
         self.client.copy_fail(reason, &mut self.out)
     }
 
-    /// The row of the last [`Event::Row`], until the next call that gives an event. Else None.
+    /// The row of the last [`Event::Row`], which is lent until the next call that gives an event. None where no row is lent.
     pub fn held(&self) -> Option<RowView<'_>>
         ensures { result ≡ self.now.client.held }
     {
         self.client.held()
     }
 
-    /// Says that the connection is of no more use, as [`EarlyClient::lost`]: hands the request back that isn't settled.
+    /// Says that the connection is of no more use, and hands back the request that isn't settled, if there is one. An open client becomes
+    /// Closed(Lost), and a closed one keeps its cause.
     pub fn lost(&mut self) -> Loss
         ensures lost { IsLentLost self.old.client result self.new.client }
         ensures others { (self.new.link ≡ self.old.link) × (self.new.pieces ≡ self.old.pieces)
@@ -209,11 +224,11 @@ impl<L> Session<L> {
 }
 
 impl<L: Source + Sink> Session<L> {
-    /// Starts the session: sends the startup packet and what the server asks for, and waits until a request may be made. Called again in
-    /// phase Starting it goes on.
+    /// Starts the session: sends the startup packet and what the server asks for, and waits until a request may be made. In phase Starting the call
+    /// goes on where the last one stopped.
     ///
-    /// N1 Call: the client refused to start, and nothing has changed. N2 Feed: it refused what came. N3 Lost: the connection is lost. N4
-    /// PiecesUsed: as many pieces were received as a call may receive.
+    /// N1 Call: the client rejected the call, and nothing has changed. N2 Feed: it rejected what came. N3 Lost: the connection is lost. N4
+    /// PiecesUsed: the call received as many pieces as it may.
     pub fn start(&mut self) -> Result<(), SessionFault>
         ensures start { Starts L.gives L.takes L.has_ended L.Source.failures L.Sink.failures
             self.old.pieces (connected self.old.link self.old.client self.old.out.items) result
@@ -223,11 +238,10 @@ impl<L: Source + Sink> Session<L> {
         start_early(&mut self.client, &mut self.out, &mut self.link, self.pieces)
     }
 
-    /// The next event, with rows lent: looks for it in what has come, and where there is none sends what waits, receives a piece and looks
-    /// again. Each event comes before what came after it, faults too. In phase Ready it waits for what the server says unasked.
+    /// The next event, with rows lent. It looks for one in what has come. Where there is none it sends what waits, receives a piece and looks again.
+    /// Events and faults come in the order of the stream. In phase Ready it waits for what the server sends unasked.
     ///
-    /// N2 Feed: the client refused what came. N3 Lost: the connection is lost. N4 PiecesUsed: as many pieces were received as a call may
-    /// receive.
+    /// N2 Feed: the client rejected what came. N3 Lost: the connection is lost. N4 PiecesUsed: the call received as many pieces as it may.
     pub fn next_lent(&mut self) -> Result<Event, SessionFault>
         ensures gives { GivesLent L.gives L.takes L.has_ended L.Source.failures L.Sink.failures
             self.old.pieces (connected self.old.link self.old.client self.old.out.items) result
@@ -237,9 +251,11 @@ impl<L: Source + Sink> Session<L> {
         next_event(&mut self.client, &mut self.out, &mut self.link, self.pieces)
     }
 
-    /// The next event, with rows owned: a row is a [`Event::Message`]. It is [`next_lent`](Session::next_lent) but for that.
+    /// The next event, with rows owned: a row is an [`Event::Message`]. Else it is as [`next_lent`](Session::next_lent): where what has come has no
+    /// event, it sends what waits, receives a piece and looks again.
     ///
-    /// N5 Memory: memory for the copy of a row was refused, which [`held`](Session::held) lends. The other faults are those of `next_lent`.
+    /// N2 Feed: the client rejected what came. N3 Lost: the connection is lost. N4 PiecesUsed: the call received as many pieces as it may. N5 Memory:
+    /// memory for the copy of a row ran out, and [`held`](Session::held) lends the row.
     pub fn next(&mut self) -> Result<Event, SessionFault>
         ensures gives { Gives L.gives L.takes L.has_ended L.Source.failures L.Sink.failures
             self.old.pieces (connected self.old.link self.old.client self.old.out.items) result
@@ -252,9 +268,9 @@ impl<L: Source + Sink> Session<L> {
         }
     }
 
-    /// The next event of what has come, with rows lent, and nothing is received: where there is none (None), what waits is sent.
+    /// The next event of what has come, with rows lent. Nothing is received. None: there is no event, and what waits was sent.
     ///
-    /// N2 Feed: the client refused what came. N3 Lost: the link failed.
+    /// N2 Feed: the client rejected what came. N3 Lost: the link failed.
     pub fn try_next_lent(&mut self) -> Result<Option<Event>, SessionFault>
         ensures hears { Hears L.takes L.Sink.failures
             (connected self.old.link self.old.client self.old.out.items) result
@@ -264,10 +280,10 @@ impl<L: Source + Sink> Session<L> {
         hear(&mut self.client, &mut self.out, &mut self.link)
     }
 
-    /// Ends the session: sends a Terminate after all that waits, and closes the client. The server learns of it, unless the link fails, of
-    /// which it learns too. What is handed back is the request that isn't settled, if there is one.
+    /// Ends the session: sends a Terminate after all that waits, and closes the client. Where the link fails, the server may not get it. It returns
+    /// the request that isn't settled, if there is one.
     ///
-    /// The faults are those of [`EarlyClient::terminate`]. Then nothing has changed.
+    /// C1 NotReady: phase New or Closed. C3 Encode: Memory alone. After a fault nothing has changed.
     pub fn end(&mut self) -> Result<Loss, CallFault>
         ensures ends { IfOk result (λ loss. Terminates L.takes L.Sink.failures
             (connected self.old.link self.old.client self.old.out.items) loss
@@ -294,7 +310,7 @@ fn own(alloc: Global, lent: Event, client: &EarlyClient) -> Result<Event, Sessio
     }
 }
 
-// The row that is lent, as a message. Where an event is a row, one is lent.
+// The row that is lent, as a message. A row is lent where an event is a row.
 fn own_row(alloc: Global, client: &EarlyClient) -> Result<Event, SessionFault>
     ensures { Owns Event.Row client.now.held result }
 {

@@ -62,7 +62,7 @@ fn drive_start<L: Source + Sink>(
     tell_start(client, came)
 }
 
-// What driving came to, as `start` answers it.
+// What `start` returns for what driving came to.
 fn tell_start(
     client: &mut EarlyClient,
     came: Result<DrivenEarly, DriveFault>,
@@ -75,7 +75,7 @@ fn tell_start(
     }
 }
 
-// What an answer of driving is to `start`.
+// What `start` returns for this result of driving.
 fn start_told(driven: DrivenEarly) -> Result<(), SessionFault>
     ensures { result ≡ start_told driven }
 {
@@ -88,7 +88,7 @@ fn start_told(driven: DrivenEarly) -> Result<(), SessionFault>
     }
 }
 
-// What a fault of driving is to a session.
+// The fault of a session for this fault of driving.
 fn tell_fault(client: &mut EarlyClient, fault: DriveFault) -> SessionFault
     ensures { TellsFault IsLentLost client.old fault result client.new }
 {

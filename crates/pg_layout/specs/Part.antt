@@ -53,19 +53,19 @@ content_fault no_name content = packet_fault_of content.has_zero no_name (8 + le
 
 -- ---- appending
 
--- What has no fault is appended, and its numbers are of their types; what has one is refused with it; and memory may be
--- refused where there is no fault. A refusal leaves the buffer as it was.
+-- What has no fault is appended, and its numbers are of their types; what has one is rejected with
+-- it; and memory may run out where there is no fault. A refusal leaves the buffer as it was.
 abbrev pub EncodesAs : Type 0 → Option EncodeFault → List ℕ → List ℕ → Result Unit EncodeFault
     → List ℕ → Type 0
 EncodesAs OfType fault spelled old (Ok x) new = OfType × (fault ≡ None) × (new ≡ old ++ spelled)
 EncodesAs OfType fault spelled old (Err faults.Memory) new = (fault ≡ None) × (new ≡ old)
 EncodesAs OfType fault spelled old (Err f) new = (fault ≡ Some f) × (new ≡ old)
 
--- The message of this tag and this body is appended, or refused.
+-- The message of this tag and this body is appended, or rejected.
 abbrev pub Appends : ℕ → Body → List ℕ → Result Unit EncodeFault → List ℕ → Type 0
 Appends t body = EncodesAs body.IsOfType (body_fault body) (tagged t body.bytes)
 
--- The first packet of this code and this content is appended, or refused.
+-- The first packet of this code and this content is appended, or rejected.
 abbrev pub AppendsPacket : ℕ → Bool → Body → List ℕ → Result Unit EncodeFault → List ℕ → Type 0
 AppendsPacket code no_name content = EncodesAs content.IsOfType (content_fault no_name content)
     (packet_of code content.bytes)

@@ -1,4 +1,4 @@
-//! What is left of a body after a value that isn't made: no memory is asked for.
+//! What is left of a body after a value that isn't made: no memory is taken.
 
 ghost use Rattle.std.specs.Prelude.{◌≡◌, option_copied};
 ghost use Rattle.std.specs.Int.{w32};

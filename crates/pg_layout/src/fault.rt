@@ -7,8 +7,8 @@ ghost use Rattle.pg_layout.specs.declared.fault.EncodeFault.TheVariants as encod
 use std::alloc::{AllocError, AllocFailed};
 use thiserror::Error;
 
-/// Why an encoder refused a message: the first of these that holds. The buffer is then as it was. What has no spelling follows
-/// from "Message Formats".
+/// Why an encoder rejected a message: the first of these that holds. The buffer is then as it was. Which messages have no spelling follows from
+/// "Message Formats".
 #[derive(Clone, Copy, Debug, PartialEq, Eq, Error)]
 pub enum EncodeFault {
     /// A String holds a zero byte, or the code of an error field is 0.

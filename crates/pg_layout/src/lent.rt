@@ -1,4 +1,4 @@
-//! A value and a field that are read in place: nothing of them is copied, and no memory is asked for.
+//! A value and a field that are read in place: nothing of them is copied, and no memory is taken.
 
 ghost use Rattle.std.specs.Prelude.{◌≡◌, option_copied};
 ghost use Rattle.std.specs.Option.{option_map};

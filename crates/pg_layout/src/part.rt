@@ -332,8 +332,7 @@ fn write_packet<P: BodyPart>(
     content.write(out)
 }
 
-/// Appends the first packet of this code and this content: the length, the code, the content. A content in which a name is
-/// empty is refused.
+/// Appends the first packet of this code and this content: the length, the code, the content. A content in which a name is empty is rejected.
 pub fn append_packet<P: BodyPart>(
     code: u32,
     has_no_name: bool,

@@ -21,12 +21,12 @@ use std::io::{self, ErrorKind, Read, Write};
 use std::marker::Model;
 use thiserror::Error;
 
-/// A link took or gave nothing, since the device behind it failed.
+/// A link took or gave nothing, because the device behind it failed.
 #[derive(Clone, Copy, Debug, PartialEq, Eq, Error)]
 #[error("the link failed")]
 pub struct LinkFault;
 
-/// Gives bytes.
+/// A source of bytes.
 pub trait Source {
     // How many calls have failed.
     ghost failures: { Self → ℕ };
@@ -37,8 +37,8 @@ pub trait Source {
     // The last call found the end.
     ghost has_ended: { Self → Type 0 };
 
-    /// Puts bytes at the beginning of `into`, and returns how many, at most as many as there is room for. 0 is the end,
-    /// where there was room. A fault gives nothing and is counted; the source may be asked again.
+    /// Puts bytes at the beginning of `into`, and returns how many: at most its length. 0 is the end, unless `into` is empty. A fault gives no bytes
+    /// and is counted; the source may be asked again.
     fn receive(&mut self, into: &mut [u8]) -> Result<usize, LinkFault>
         ensures bound { IfOk result (λ n. n ≤ length into.new) }
         ensures bytes { gives self.old (passed_on result into.new) self.new }
@@ -46,7 +46,7 @@ pub trait Source {
         ensures counted { Counts (failures self.old) result (failures self.new) };
 }
 
-/// Takes bytes.
+/// A sink of bytes.
 pub trait Sink {
     // How many calls have failed.
     ghost failures: { Self → ℕ };
@@ -54,8 +54,8 @@ pub trait Sink {
     // A call may take these bytes and leave the sink so. Where it fails it takes none.
     ghost takes: { Self → List ℕ → Self → Type 0 };
 
-    /// Takes bytes from the beginning of `piece`, and returns how many: at most its length, and at least 1 unless it is
-    /// empty. A fault takes nothing and is counted; the sink may be asked again.
+    /// Takes bytes from the beginning of `piece`, and returns how many: at most its length, and at least 1 unless it is empty. A fault takes no bytes
+    /// and is counted; the call may be made again.
     fn send(&mut self, piece: &[u8]) -> Result<usize, LinkFault>
         ensures bound { IfOk result (λ n. n ≤ length piece.now) }
         ensures some { IfOk result (λ n. 0 < length piece.now → 0 < n) }
@@ -63,8 +63,8 @@ pub trait Sink {
         ensures counted { Counts (failures self.old) result (failures self.new) };
 }
 
-/// Makes a source of a reader and a sink of a writer: one read for each `receive`, one write for each `send`. Each
-/// error is a fault, also an interruption ([`Patient`] tries again), and so is a write that takes nothing of a piece that isn't empty.
+/// Makes a source of a reader and a sink of a writer: one read for each `receive`, one write for each `send`. Each error is a fault, even an
+/// interruption ([`Patient`] tries again). So is a write that takes nothing of a piece that isn't empty.
 #[derive(Debug, Drop)]
 pub struct Over<T> {
     inner: T,
@@ -118,8 +118,7 @@ impl<T> Over<T> {
         self.failures.count
     }
 
-    /// What the device said last: the error of the last call that failed, [`ErrorKind::WriteZero`] where that was a write that
-    /// took nothing, and None where no call has failed.
+    /// The error of the last call that failed; [`ErrorKind::WriteZero`] where that was a write that took nothing. None where no call has failed.
     pub fn last_error(&self) -> Option<&io::Error>
         ensures { (self.now.failures ≡ 0) ↔ IsNone result }
     {

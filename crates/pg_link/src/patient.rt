@@ -10,9 +10,8 @@ use std::marker::Model;
 /// How many times a [`Patient`] makes one read or write again.
 pub const PATIENCE: u32 = 64;
 
-/// A reader or writer with patience: where a read or a write is interrupted ([`ErrorKind::Interrupted`]), it is made again, up to
-/// [`PATIENCE`] times. Each other answer is passed on unchanged, and so is the last one, also where that was interrupted too.
-/// A flush is made once.
+/// A reader or writer with patience: where a read or a write is interrupted ([`ErrorKind::Interrupted`]), it is made again, up to [`PATIENCE`] times.
+/// Any other result is passed on unchanged, and so is the last one, even where that was interrupted too. A flush is made once.
 #[derive(Debug, Drop)]
 pub struct Patient<T> {
     inner: T,
@@ -76,7 +75,7 @@ impl<W: Write> Write for Patient<W> {
 
 // A read or a write that can be made again.
 trait Attempt {
-    // It may answer so, and leave its state so.
+    // An attempt may give this result, and leave its state so.
     ghost gives: { Self → Result ℕ Error → Self → Type 0 };
 
     fn make(&mut self) -> io::Result<usize>

@@ -14,8 +14,8 @@ pub fn send_all<K: Sink>(bytes: &[u8], sink: &mut K) -> Result<(), LinkFault>
     send_front(bytes, sink).1
 }
 
-/// Sends all that stands in a buffer. What was sent is taken off its front, also where a call of the sink fails: then some bytes are left,
-/// which may be sent later.
+/// Sends all that stands in a buffer. What was sent is taken off its front, even where a call of the sink fails. Then some bytes are left, which may
+/// be sent later.
 pub fn send_out<K: Sink>(out: &mut Vec<u8>, sink: &mut K) -> Result<(), LinkFault>
     ensures sends { SendsOut K.takes K.failures sink.old out.old.items result sink.new
         out.new.items }

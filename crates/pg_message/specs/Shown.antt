@@ -5,8 +5,8 @@ use Rattle.pg_seq.specs.Text.{byte_text}
 use Rattle.pg_message.specs.declared.message.FrontMessage.{FrontMessage}
 use Rattle.pg_message.specs.declared.message.FrontMessage.TheVariants.{Password}
 
--- what `{:?}` writes of a message of the frontend: of each password the same. Of any other message
--- nothing is claimed.
+-- what `{:?}` writes of a message of the frontend: one text for every password. Nothing is claimed
+-- about any other message.
 abbrev pub shown_front : FrontMessage → Option (List ℕ)
 shown_front (Password password) = Some (codes "Password(..)")
 shown_front _ = None

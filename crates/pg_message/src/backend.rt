@@ -1,9 +1,8 @@
 //! The backend's messages: written by [`encode`], read by a `BackDecoder` of `pg_wire`.
 //!
-//! A message that holds bytes or lists has a function of its own too, which is lent them. Each appends the one spelling of a message
-//! ("Message Formats", those marked B) to `buf`, and copies each byte once. A fault is the first that holds of those that a function
-//! names, in their order: Memory, for a buffer that could not grow, is answered only where there is no other. After a fault `buf` is
-//! as it was.
+//! A message that holds bytes or lists has a function of its own too, which is lent them. Each appends the one spelling of a message ("Message
+//! Formats", those marked B) to `buf`, and copies each byte once. A function names its faults in their order, and returns the first that holds.
+//! Memory means that the buffer could not grow, and is returned only where no other holds. After a fault `buf` is as it was.
 
 mod judging;
 mod kind;
@@ -167,8 +166,8 @@ pub fn copy_data(bytes: &[u8], buf: &mut Vec<u8>) -> Result<(), EncodeFault>
 
 /// Appends the one spelling of a message: its tag, its length field, its body ("Message Formats").
 ///
-/// The fault is the first that holds of HasZero, TooMany, ReservedCode, TooLong and, where there is none of these, Memory
-/// for a buffer that could not grow. After a fault `buf` is as it was.
+/// The fault is the first that holds of HasZero, TooMany, ReservedCode and TooLong. Where none of these holds and the buffer could not grow, it is
+/// Memory. After a fault `buf` is as it was.
 pub fn encode(message: &BackMessage, buf: &mut Vec<u8>) -> Result<(), EncodeFault>
     ensures { Encodes backend message.now buf.old.items result buf.new.items }
 {
@@ -244,7 +243,7 @@ impl BackMessage {
     }
 }
 
-// The message of this kind and this body. Memory is a fault of a message alone, and one that holds a list.
+// The message of this kind and this body. Memory is returned only where there is such a message, and it holds a list.
 fn read_whole(alloc: Global, kind: BackKind, body: &[u8]) -> Result<BackMessage, BodyFault>
     ensures { ReadsWhole backend.holds_list result ((back_reading kind).message body.now) }
 {

@@ -20,12 +20,12 @@ pub trait Message: Drop {
     fn encode(&self, buf: &mut Vec<u8>) -> Result<(), EncodeFault>
         ensures { Encodes direction self.now buf.old.items result buf.new.items };
 
-    /// Whether this is the body, all of it, of a message with this tag. No message is made and no memory asked for.
+    /// Whether this is the body, all of it, of a message with this tag. No message is made, and no memory is taken.
     fn is_message(tag: u8, body: &[u8]) -> bool
         ensures { JudgesBody direction tag body.now result };
 
-    /// The message of this tag and this body, all of the body. `Bad` where there is none, `Memory` where there is one,
-    /// which holds a text or another list, and memory for that was refused.
+    /// The message of this tag and this body, all of the body. `Bad`: there is none. `Memory`: there is one, which holds a text or another list, and
+    /// memory for that ran out.
     fn of_body(alloc: Global, tag: u8, body: &[u8]) -> Result<Self, BodyFault>
     where
         Self: Sized,

@@ -1,9 +1,9 @@
 //! The frontend's messages: written by the functions here, read by a `FrontDecoder` of `pg_wire`.
 //!
-//! The first packets of a connection come from [`startup`], [`startup_message`], [`cancel_request`], [`ssl_request`] and
-//! [`gss_request`], or from [`encode_first`]. Each other function appends the one spelling of a message ("Message Formats", those
-//! marked F) to `buf`, and copies each byte once. A fault is the first that holds of those that a function names, in their order:
-//! Memory, for a buffer that could not grow, is answered only where there is no other. After a fault `buf` is as it was.
+//! The first packets of a connection come from [`startup`], [`startup_message`], [`cancel_request`], [`ssl_request`] and [`gss_request`], or from
+//! [`encode_first`]. Each other function appends the one spelling of a message ("Message Formats", those marked F) to `buf`, and copies each byte
+//! once. A function names its faults in their order, and returns the first that holds. Memory means that the buffer could not grow, and is returned
+//! only where no other holds. After a fault `buf` is as it was.
 
 mod judging;
 mod kind;
@@ -65,8 +65,8 @@ pub fn startup_message<P: ParameterList>(pairs: P, buf: &mut Vec<u8>) -> Result<
     append_startup(pairs.has_no_name(), &TerminatedParameters(pairs), buf)
 }
 
-/// Appends the startup packet with `user`, `database` if one is given, and then these further parameters, owned or lent ("Start-up"). It
-/// makes no copy of them. The fault is as that of [`startup_message`].
+/// Appends the startup packet with `user`, `database` if one is given, and then these further parameters, owned or lent ("Start-up"). It makes no
+/// copy of them. The fault is the first that holds of HasZero, EmptyName, TooLong (the packet would pass 10,000 bytes) and Memory.
 pub fn startup<P: ParameterList>(
     user: &[u8],
     database: Option<&[u8]>,
@@ -116,7 +116,7 @@ pub fn gss_request(buf: &mut Vec<u8>) -> Result<(), EncodeFault>
     append_packet(80_877_104, false, &Bytes(&[]), buf)
 }
 
-/// Appends a first packet as the function of its name does, with its faults.
+/// Appends a first packet, by the function of this module that writes it, and returns that function's faults.
 pub fn encode_first(packet: &First, buf: &mut Vec<u8>) -> Result<(), EncodeFault>
     ensures { EncodesPacket packet.now buf.old.items result buf.new.items }
 {
@@ -238,7 +238,7 @@ pub fn password_message(password: &[u8], buf: &mut Vec<u8>) -> Result<(), Encode
     append(b'p', &Text(password), buf)
 }
 
-/// Appends a message as the function of its name does, with its faults.
+/// Appends the one spelling of a message, by the function of this module that writes it, and returns that function's faults.
 pub fn encode(message: &FrontMessage, buf: &mut Vec<u8>) -> Result<(), EncodeFault>
     ensures { Encodes frontend message.now buf.old.items result buf.new.items }
 {
@@ -297,7 +297,7 @@ impl FrontMessage {
     }
 }
 
-// The message of this kind and this body. Memory is a fault of a message alone, and one that holds a list.
+// The message of this kind and this body. Memory is returned only where there is such a message, and it holds a list.
 fn read_whole(alloc: Global, kind: FrontKind, body: &[u8]) -> Result<FrontMessage, BodyFault>
     ensures { ReadsWhole frontend.holds_list result ((front_reading kind).message body.now) }
 {

@@ -36,7 +36,7 @@ impl<'a> Lent<'a> {
         }
     }
 
-    /// The message of this tag and this body, of which [`Lent::of_body`] made one.
+    /// The message of this tag and this body, for which [`Lent::of_body`] returns one.
     pub fn of_judged(tag: u8, body: &'a [u8]) -> Lent<'a>
         requires { IsSome (lent_body tag body.now) }
         ensures { lent_body tag body.now ≡ Some result }

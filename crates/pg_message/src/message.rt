@@ -12,9 +12,9 @@ use pg_values::{Fields, Values};
 pub enum BackMessage {
     /// `R` with code 0, AuthenticationOk.
     AuthOk,
-    /// `R` with code 3: a password in clear text is asked for.
+    /// `R` with code 3: the server asks for a password in clear text.
     AuthCleartext,
-    /// `R` with code 5: an MD5 password is asked for, with this salt.
+    /// `R` with code 5: the server asks for the MD5 text of a password, made with this salt.
     AuthMd5([u8; 4]),
     /// `R` with any other code, and what follows it.
     AuthOther {
@@ -59,9 +59,9 @@ pub enum BackMessage {
     PortalSuspended,
     /// `t`: the object ids of the types of a statement's parameters.
     ParameterDescription(Seq<u32>),
-    /// `E`: an error. What it cut off doesn't come.
+    /// `E`: an error. The rest of what it cuts off doesn't come.
     ErrorResponse(Fields),
-    /// `N`: a notice, which changes nothing of what comes.
+    /// `N`: a notice. It doesn't change what may follow.
     NoticeResponse(Fields),
     /// `A`, NotificationResponse.
     Notification {
@@ -82,8 +82,8 @@ pub enum BackMessage {
     CopyDone,
 }
 
-/// A message of the frontend ("Message Formats", those marked F). What is said of the backend's strings and lists holds of
-/// these too. `{:?}` doesn't write a password.
+/// A message of the frontend ("Message Formats", those marked F). A String has no zero byte, and a list after a 16-bit count has at most 65,535
+/// elements: a message in which this isn't so has no spelling. `{:?}` doesn't write a password.
 #[derive(Clone, PartialEq, Eq, Drop)]
 pub enum FrontMessage {
     /// `Q`: a simple query.

@@ -36,7 +36,7 @@ is_closed ToClient p = is_closed_client (phase_of p.client)
 abbrev pub is_shut : {C : Type 0} → Way → PairView C → Bool
 is_shut w p = (way_state w p).broken || is_closed w p
 
--- The client's `lost` was called and answered this: the client is closed, with the cause Lost
+-- The client's `lost` was called and returned this: the client is closed, with the cause Lost
 -- unless it had one before, and handed back the request that isn't settled. Its settled groups
 -- stay.
 pub record LosesConnection (old : ClientView) (loss : Loss) (new : ClientView) : Type 0 where
@@ -46,12 +46,12 @@ pub record LosesConnection (old : ClientView) (loss : Loss) (new : ClientView) :
   pub says : HandsBack old loss
   pub history : Carries old new with_handed_back
 
--- the same way, broken
+-- this way, broken
 abbrev pub broken : WayState → WayState
 broken s = record s { broken = true }
 
 -- The way to the client breaks. An open client (false) is closed by `lost`, and the pair keeps what
--- that answered; of a closed one (true) nothing changes.
+-- that returned; a closed one (true) doesn't change.
 abbrev pub BreaksToClient : {C : Type 0} → Bool → PairView C → PairView C → Type 0
 BreaksToClient true p q = q ≡ record p { to_client = broken p.to_client }
 BreaksToClient false p q = (loss : Loss) × LosesConnection p.client loss q.client
@@ -65,7 +65,7 @@ Breaks ToBackend p q = q ≡ record p {
 }
 Breaks ToClient p q = BreaksToClient (is_closed ToClient p) p q
 
--- A break event: the way breaks, and the answer is Done. Where the way is shut (true) nothing
+-- A break event: the way breaks, and it comes to Done. Where the way is shut (true) nothing
 -- happens.
 abbrev pub BreaksUnless : {C : Type 0} → Bool → Way → PairView C → Applied → PairView C → Type 0
 BreaksUnless true w p result q = DoesNothing p result q

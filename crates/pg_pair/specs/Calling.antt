@@ -21,7 +21,7 @@ IsAllowedIn call.Done p = p ≡ phase.CopyingIn
 IsAllowedIn (call.Fail reason) p = p ≡ phase.CopyingIn
 IsAllowedIn call.Terminate p = IsOpenPhase p
 
--- The client has this reason to refuse the call: C1 or C2 in another phase, and C3 where what it
+-- The client has this reason to reject the call: C1 or C2 in another phase, and C3 where what it
 -- would send has no spelling or memory ran out.
 abbrev pub RefusesCall : ClientView → Call → CallFault → Type 0
 RefusesCall c call.Start f = RefusesUnless phase.New c call.Start f
@@ -56,8 +56,8 @@ pub record Accepted {C : Type 0} (c : Call) (p q : PairView C) : Type 0 where
     handed = handed_after c p.handed;
   }
 
--- What a call of the client does: accepted, its answer is Done; refused, it is Refused with the
--- request handed back, and the pair is as it was.
+-- What a call of the client does. Accepted, it comes to Done. Rejected, it comes to Refused with
+-- the request handed back, and the pair is as it was.
 abbrev pub CallsClient : {C : Type 0} → Call → PairView C → Applied → PairView C → Type 0
 CallsClient c p applied.Done q = Accepted c p q
 CallsClient c p (applied.Refused request f) q =

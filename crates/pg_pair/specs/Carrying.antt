@@ -13,7 +13,7 @@ Carrying C = C → Way → List ℕ → Result (List ℕ) CarryFault → C → T
 abbrev pub longest_piece : ℕ
 longest_piece = 4096
 
--- what arrived by a call's answer: the first n bytes of the buffer that the carrier filled, or its
+-- what arrived, by a call's result: the first n bytes of the buffer that the carrier filled, or its
 -- fault
 abbrev pub arrival : Result ℕ CarryFault → List ℕ → Result (List ℕ) CarryFault
 arrival (Ok n) buffer = Ok (take n buffer)

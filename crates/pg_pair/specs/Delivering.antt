@@ -29,7 +29,7 @@ pub record CarriesPiece {C : Type 0} (carries : Carrying C) (w : Way) (most : �
 abbrev pub reached_more : WayState → List ℕ → WayState
 reached_more s bytes = record s { reached = s.reached + length bytes }
 
--- Bytes reach the client, and its `feed` answers this: what it puts out is sent to the backend, and
+-- Bytes reach the client, and its `feed` returns this: what it puts out is sent to the backend, and
 -- the groups that it has settled go to the pair.
 pub record Feeding {C : Type 0} (p : PairView C) (bytes : List ℕ)
     (result : Result Unit FeedFault) (q : PairView C) : Type 0 where
@@ -47,7 +47,7 @@ pub record IsStored (old : BackendState) (bytes : List ℕ) (new : BackendState)
   pub stores : Stores old bytes (Ok record {}) new
   pub history : back.Carries old new (back.with_pushed bytes)
 
--- Bytes are pushed to the backend. Where `push` answers a fault nothing changes: they haven't
+-- Bytes are pushed to the backend. Where `push` returns a fault nothing changes: they haven't
 -- reached the backend and are still on their way.
 abbrev pub Pushing : {C : Type 0}
     → PairView C → List ℕ → Result Unit BackendFault → PairView C → Type 0
@@ -55,18 +55,18 @@ Pushing p bytes (Ok x) q = IsStored p.backend bytes q.backend
     × (q ≡ record p { backend = q.backend; to_backend = reached_more p.to_backend bytes })
 Pushing p bytes (Err f) q = Stores p.backend bytes (Err f) p.backend × (q ≡ p)
 
--- the event's answer by that of `feed`: None, or the client's fault
+-- what `feed` returned, as what the event comes to: None, or the client's fault
 abbrev pub client_answer : Result Unit FeedFault → Option Applied
 client_answer (Ok x) = None
 client_answer (Err f) = Some (applied.Client f)
 
--- the event's answer by that of `push`: None, or the backend's fault
+-- what `push` returned, as what the event comes to: None, or the backend's fault
 abbrev pub backend_answer : Result Unit BackendFault → Option Applied
 backend_answer (Ok x) = None
 backend_answer (Err f) = Some (applied.Backend f)
 
--- Bytes arrive at the receiving end of this way, and `answer` is the fault that the end answers, if
--- it does. Without bytes the end isn't called.
+-- Bytes arrive at the receiving end of this way, and `answer` is the fault that the end returns, if
+-- it returns one. Without bytes the end isn't called.
 abbrev pub ArrivesAt : {C : Type 0}
     → Way → PairView C → List ℕ → Option Applied → PairView C → Type 0
 ArrivesAt w p [] answer q = (answer ≡ None) × (q ≡ p)
@@ -78,7 +78,7 @@ ArrivesAt ToClient p (b ∷ bytes) answer q = (result : Result Unit FeedFault)
 -- ---- piece by piece
 
 -- From the pair `p` pieces of n bytes in all were delivered, one after the other. Each arrived
--- whole and unchanged, and the end answered no fault.
+-- whole and unchanged, and the end returned no fault.
 pub data DeliversPieces {C : Type 0} (carries : Carrying C) (w : Way) (most : ℕ)
     (p : PairView C) : ℕ → PairView C → Type 0 where
   no_piece : DeliversPieces carries w most p 0 p
@@ -89,8 +89,8 @@ pub data DeliversPieces {C : Type 0} (carries : Carrying C) (w : Way) (most : �
       → ArrivesAt w (record m { carrier = carrier }) piece None q
       → DeliversPieces carries w most p (n + length piece) q
 
--- the answer of a delivery that moved so many bytes: the fault of the receiving end, else Carrier
--- where the carrier was bad, else Nothing for no byte, and Done
+-- what a delivery that moved so many bytes comes to: the fault of the receiving end; else Carrier
+-- where the carrier was bad; else Nothing for no byte, and Done
 abbrev pub delivery_applied : Option Applied → Bool → ℕ → Applied
 delivery_applied (Some a) bad moved = a
 delivery_applied None true moved = applied.Carrier
@@ -105,7 +105,7 @@ pub record EndsWithoutPiece {C : Type 0} (w : Way) (most n : ℕ)
   pub same : q ≡ m
 
 -- After n bytes the delivery ends with this piece: the carrier failed, fewer or other bytes
--- arrived, or the end answered a fault to it. The bytes before a changed one are still delivered.
+-- arrived, or the end returned a fault to it. The bytes before a changed one are still delivered.
 pub record EndsWithPiece {C : Type 0} (carries : Carrying C) (w : Way) (most n : ℕ)
     (m : PairView C) (result : Applied) (q : PairView C) : Type 0 where
   pub piece : List ℕ

@@ -14,7 +14,7 @@ use Rattle.pg_pair.specs.Delivering.{DeliversUnless}
 use Rattle.pg_pair.specs.Stepping.{StepsUnlessClosed}
 use Rattle.pg_pair.specs.View.{PairView}
 
--- The event happens to `p`, this is its answer, and `q` is the pair after it.
+-- The event happens to `p`, this is what it comes to, and `q` is the pair after it.
 abbrev pub Happens : {C : Type 0}
     → Carrying C → Event → PairView C → Applied → PairView C → Type 0
 Happens carries (event.Call c) p result q = CallsClient c p result q
@@ -29,21 +29,21 @@ Happens carries event.BreakToBackend p result q =
 Happens carries event.BreakToClient p result q =
     BreaksUnless (is_shut ToClient p) ToClient p result q
 
--- The events to which P1 Memory may be answered: calls alone. Room for a settled group is made with
--- its request, so the pair itself asks for memory at no other event.
+-- The events for which P1 Memory may be returned: calls alone. Room for a settled group is made
+-- with its request, so the pair itself asks for memory at no other event.
 abbrev pub KeepsMore : Event → Type 0
 KeepsMore (event.Call c) = Unit {0}
 KeepsMore _ = ⊥
 
--- What `apply` does: the event happens and is answered; or it is dropped because memory ran out (P1),
--- and both ways break.
+-- What `apply` does: the event happens, and what it came to is returned; or it is dropped because
+-- memory ran out (P1), and both ways break.
 abbrev pub Applies : {C : Type 0}
     → Carrying C → Event → PairView C → Result Applied PairFault → PairView C → Type 0
 Applies carries e p (Ok result) q = Happens carries e p result q
 Applies carries e p (Err fault.Memory) q = KeepsMore e × BreaksBoth p q
 
--- What `run` does: the events are applied in order, up to the first that is dropped for want of
--- memory, whose fault it answers.
+-- What `run` does: the events are applied in order, up to the first for which memory ran out. That
+-- one is dropped, and its fault returned.
 abbrev pub Ran : {C : Type 0}
     → Carrying C → List Event → PairView C → Result Unit PairFault → PairView C → Type 0
 Ran carries [] p (Ok x) q = q ≡ p

@@ -1,4 +1,4 @@
--- What the groups that the client has settled say of those that the backend has answered.
+-- What the groups that the client has settled say about those that the backend has answered.
 use Rattle.std.specs.Prelude.{◌≡◌, ◌≤◌, suc, ℕ, true, false, List, ◌++◌, length, map, take}
 use Rattle.std.specs.List.{flat_map}
 use Rattle.pg_wire.specs.message.FrontMessage.{FrontMessage}
@@ -83,9 +83,9 @@ pub record Headline {C : Type 0} (p : PairView C) : Type 0 where
   -- it, and all of them where its outcome has a copy from the client
   pub copied : TookEach p.backend.log p.handed
   -- the log's requests are the first that the client's calls made; entry k of the log and list k of
-  -- `handed` are of one request, also where it isn't settled
+  -- `handed` belong to one request, even where it isn't settled
   pub asked : ∥ MatchesCalls p ∥₁
-  -- of the requests that were made at most one isn't settled
+  -- at most one of the requests that were made isn't settled
   pub one_at_most : length p.handed ≤ suc (length p.settled)
   -- where the client's phase is Ready, so is the backend's, with copy messages alone left to drop,
   -- unless the way to the backend is broken or a step of the backend ran out of memory

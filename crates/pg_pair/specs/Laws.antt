@@ -64,7 +64,7 @@ pub record MovesAll {C : Type 0} (w : Way) (most : ℕ)
   pub whole : (way_state w q).broken ≡ false
 
 -- The delivery ended with a piece that didn't go whole: the carrier failed, gave fewer or other
--- bytes, or the end answered a fault.
+-- bytes, or the end returned a fault.
 pub record FallsShort {C : Type 0} (carries : Carrying C)
     (w : Way) (most : ℕ) (p : PairView C) (result : Applied) (q : PairView C) : Type 0 where
   pub before : ℕ
@@ -94,7 +94,7 @@ pub record Delivers {C : Type 0} (carries : Carrying C)
   pub other : LeavesOther w p (take moved (waiting_at w p)) q
   pub ends : MovesUnless (is_shut w p) carries w most p moved result q
 
--- Law: each delivery that is answered does what Delivers says.
+-- Law: each delivery for which memory doesn't run out does what Delivers says.
 abbrev pub DeliveryMoves : {C : Type 0} → Carrying C → Type 0
 DeliveryMoves {C} carries =
     (w : Way) (most : ℕ) (p : PairView C) (result : Applied) (q : PairView C)
@@ -127,7 +127,7 @@ pub record CarriedBadly {C : Type 0}
   pub bad : is_bad piece came ≡ true
 
 -- Why an event has broken a way: it is the break event of this way, a delivery along it in which
--- the carrier failed or gave other bytes, or it was answered P1 Memory.
+-- the carrier failed or gave other bytes, or P1 Memory was returned.
 pub data WhyBroken {C : Type 0} (carries : Carrying C)
     (w : Way) (e : Event) (result : Result Applied PairFault) (q : PairView C) : Type 0 where
   break_event : e ≡ break_of w → WhyBroken carries w e result q

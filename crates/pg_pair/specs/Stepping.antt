@@ -8,15 +8,15 @@ use Rattle.pg_pair.specs.declared.event.Applied.{Applied}
 use Rattle.pg_pair.specs.declared.event.Applied.TheVariants as applied
 use Rattle.pg_pair.specs.View.{DoesNothing, PairView}
 
--- One `step` of the backend, with its answer. `before` is all that was sent to the client until
--- then, and `after` what was sent with it; each history of the backend is carried on.
+-- One `step` of the backend, with its result. `before` is all that was sent to the client until
+-- then, and `after` what was sent with it. Each history of the backend is carried on.
 pub record BackendSteps (old : BackendState) (before : List ℕ)
     (answer : Result Bool BackendFault) (new : BackendState) (after : List ℕ) : Type 0 where
   pub call : Steps old before answer new after
   pub history : CarriesStep old before answer new after
 
--- the event's answer by that of `step`: Done where a packet or message was handled, Nothing where
--- no whole one waits, or the backend's fault
+-- what the event comes to, by what `step` returned: Done where a packet or message was handled,
+-- Nothing where no whole one waits, or the backend's fault
 abbrev pub step_applied : Result Bool BackendFault → Applied
 step_applied (Ok true) = applied.Done
 step_applied (Ok false) = applied.Nothing

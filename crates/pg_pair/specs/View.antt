@@ -52,6 +52,6 @@ way_state ToClient p = p.to_client
 abbrev pub waiting_at : {C : Type 0} → Way → PairView C → List ℕ
 waiting_at w p = waiting (way_state w p)
 
--- An event did nothing: Nothing is its answer, and the pair is as it was.
+-- An event did nothing: it comes to Nothing, and the pair is as it was.
 abbrev pub DoesNothing : {C : Type 0} → PairView C → Applied → PairView C → Type 0
 DoesNothing p result q = (result ≡ applied.Nothing) × (q ≡ p)

@@ -28,9 +28,8 @@ pub trait Carry: Drop {
     // A call may carry a piece along a way so, with these bytes arriving or with a fault, and leave the carrier so.
     ghost carries: { Carrying Self };
 
-    /// Carries a piece of 1 to 4,096 bytes, and returns how many bytes arrived, at most those of
-    /// the piece. They stand at the beginning of `into`, which is as long as the piece. A fault is
-    /// answered only where carrying failed in this call, and is counted.
+    /// Carries a piece of 1 to 4,096 bytes, and returns how many bytes arrived, at most those of the piece. They stand at the beginning of `into`,
+    /// which is as long as the piece. A fault is returned only where carrying failed in this call, and is counted.
     fn carry(&mut self, way: Way, piece: &[u8], into: &mut [u8]) -> Result<usize, CarryFault>
         requires same_length { length into.old ≡ length piece.now }
         requires some { 0 < length piece.now }

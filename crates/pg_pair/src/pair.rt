@@ -88,9 +88,8 @@ impl<C: Carry> Pair<C> {
     ghost use Rattle.pg_pair.specs.Private.Passing.{Passes};
     ghost use Rattle.pg_pair.specs.View.{way_state};
 
-    /// A new client with these settings, whose limit is from 64 to 1,073,741,823, and a new backend
-    /// that plays this script, whose `check` has returned Ok. Nothing is sent yet. It takes no
-    /// memory.
+    /// A new client with these settings, whose limit is from 64 to 1,073,741,823, and a new backend that plays this script, whose `check` has
+    /// returned Ok. Nothing is sent yet. It takes no memory.
     pub fn new(alloc: Global, settings: Settings, script: Script, carrier: C) -> Pair<C>
         requires limit { IsLimit settings.limit }
         requires checked { IsChecked script }
@@ -110,12 +109,12 @@ impl<C: Carry> Pair<C> {
         }
     }
 
-    /// Applies an event. A call that the client refuses returns Refused; a delivery goes in pieces of at most 4,096 bytes,
-    /// and ends where the carrier gives fewer than its piece or where the end returns a fault. What the client puts out as it is fed
-    /// is sent to the backend. Steps, deliveries and breaks for a closed end or a broken way do nothing.
+    /// Applies an event. A call that the client rejects returns Refused. A delivery goes in pieces of at most 4,096 bytes, and ends where the carrier
+    /// gives fewer than its piece or where the end returns a fault. What the client puts out as it is fed is sent to the backend. Steps, deliveries
+    /// and breaks for a closed end or a broken way do nothing.
     ///
-    /// P1 Memory: memory for what the pair keeps of a call was refused. Both ways break as by the two break events, the call is
-    /// dropped, and what was settled stays.
+    /// P1 Memory: memory for what the pair keeps of a call ran out. Both ways break as by the two break events, the call is dropped, and what was
+    /// settled stays.
     pub fn apply(&mut self, event: Event) -> Result<Applied, PairFault>
         ensures applies { Applies C.carries event self.old result self.new }
         ensures headline { Headline self.new }
@@ -132,7 +131,8 @@ impl<C: Carry> Pair<C> {
         result
     }
 
-    /// Applies events one after the other. Only P1 Memory, as [`apply`](Pair::apply) says it, ends this early.
+    /// Applies events one after the other. It ends early only at P1 Memory: memory for what the pair keeps of a call ran out, and both ways are
+    /// broken.
     pub fn run(&mut self, events: Vec<Event>) -> Result<(), PairFault>
         ensures ran { Ran C.carries events.items self.old result self.new }
         ensures headline { Headline self.new }
@@ -146,7 +146,7 @@ impl<C: Carry> Pair<C> {
         Ok(())
     }
 
-    // Applies an event, and says no more of it than whether it was dropped.
+    // Applies an event, and returns only whether memory ran out for it.
     fn pass(&mut self, event: Event) -> Result<(), PairFault>
         ensures passes { Passes C.carries event self.old result self.new }
         ensures headline { Headline self.new }
@@ -182,8 +182,8 @@ impl<C: Carry> Pair<C> {
         self.handed.as_slice()
     }
 
-    /// What the client's `lost` returned when the way to it broke: the request in doubt, if there
-    /// is one. None before that, and where the client was closed already.
+    /// What the client's `lost` returned when the way to it broke: the request in doubt, if there is one. None before that, and where the client was
+    /// closed already.
     pub fn loss(&self) -> Option<&Loss>
         ensures { option_copied result ≡ self.now.loss }
     {

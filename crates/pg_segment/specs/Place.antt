@@ -35,12 +35,12 @@ abbrev pub ends_parse : BackMessage → Option Pending
 ends_parse ParseComplete = Some pending.Nothing
 ends_parse _ = None
 
--- The same of a Bind: BindComplete is the whole answer.
+-- What is open after the first message of the answer to a Bind: BindComplete is the whole answer.
 abbrev pub ends_bind : BackMessage → Option Pending
 ends_bind BindComplete = Some pending.Nothing
 ends_bind _ = None
 
--- The same of a Close: CloseComplete is the whole answer.
+-- What is open after the first message of the answer to a Close: CloseComplete is the whole answer.
 abbrev pub ends_close : BackMessage → Option Pending
 ends_close CloseComplete = Some pending.Nothing
 ends_close _ = None

@@ -58,7 +58,7 @@ LeadsTo old m (Some p) new = new ≡ moved_to old m p
 LeadsTo old m None new = ⊥
 
 -- What a message of a result does to a segment. Ok: the segment is where it leads. Memory: memory
--- was refused. Unexpected: the message, which has this tag, may not come there. After a fault the
+-- ran out. Unexpected: the message, which has this tag, may not come there. After a fault the
 -- segment is as it was.
 abbrev pub ReadsAs : SegmentView → BackMessage → Result Unit ReadFault → SegmentView → Type 0
 ReadsAs old m (Ok x) new = LeadsTo old m (next_reading old m) new

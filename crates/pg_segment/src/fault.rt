@@ -5,10 +5,10 @@ ghost use Rattle.pg_segment.specs.declared.fault.ReadFault.TheVariants.{Memory};
 
 use std::alloc::AllocError;
 
-/// Why a segment doesn't take a message in.
+/// Why a segment rejects a message.
 #[derive(Clone, Copy, Debug, PartialEq, Eq)]
 pub enum ReadFault {
-    /// The message, which has this tag, may not stand there.
+    /// The protocol doesn't allow the message, which has this tag, at that place.
     Unexpected(u8),
     /// Memory ran out.
     Memory,

@@ -7,7 +7,7 @@ use pg_wire::{Aside, BackMessage, Fields, Seq, Status};
 /// What kind of message it is.
 #[derive(Debug, Drop)]
 pub enum Kind {
-    /// What may come at any time and answers nothing, but for a parameter's value.
+    /// A message that may come at any time and belongs to no answer, except a parameter's value.
     Aside(Aside),
     /// ParameterStatus.
     Parameter { name: Seq<u8>, value: Seq<u8> },
@@ -17,22 +17,22 @@ pub enum Kind {
     Ready(Status),
     /// BackendKeyData.
     Key { process: i32, secret: i32 },
-    /// What the server says of the authentication.
+    /// A message of the authentication.
     Auth(Auth),
     /// Any other message: one of a result, or of the answer to a step.
     Result(BackMessage),
 }
 
-/// What the server says of the authentication.
+/// What the server asks for, or says, in a message of the authentication.
 #[derive(Debug, Drop)]
 pub enum Auth {
     /// The client is let in.
     Ok,
-    /// A password is asked for in clear text.
+    /// The server asks for a password in clear text.
     Cleartext,
-    /// The MD5 text of a password is asked for, with this salt.
+    /// The server asks for the MD5 text of a password, made with this salt.
     Md5([u8; 4]),
-    /// Another way is asked for: its code, and what follows it.
+    /// The server asks for another way: its code, and what follows it.
     Other { code: i32, rest: Seq<u8> },
 }
 

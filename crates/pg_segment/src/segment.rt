@@ -85,7 +85,7 @@ impl Segment {
         self.collected.note_aside(aside)
     }
 
-    /// Takes an error in; a later one is dropped.
+    /// Takes an error in. A later one is dropped.
     pub fn note_error(&mut self, fields: Fields)
         ensures { self.new ≡ with_error self.old fields }
     {
@@ -93,7 +93,7 @@ impl Segment {
         self.collected.note_error(fields);
     }
 
-    /// Notes what was called for the open copy in.
+    /// Notes which call answered the open copy in.
     pub fn answer_copy(&mut self, said: CopyAnswer)
         ensures { self.new ≡ answering self.old said }
     {
@@ -113,9 +113,9 @@ impl Segment {
         Ok(())
     }
 
-    /// Takes in a row that is lent, as `read` takes in the DataRow of its values. Its contract is that of `read` for this message (`ReadsAs`):
-    /// where memory isn't refused, both answer the same and leave the same segment. While rows come, the row is copied once, to where it
-    /// is kept; else `read` is given a copy.
+    /// Takes in a row that is lent, as `read` takes in the DataRow of its values. Its contract is that of `read` for this message (`ReadsAs`): unless
+    /// memory runs out, both return the same and leave the same segment. While rows come, the row is copied once, to where it is kept. Else `read` is
+    /// given a copy.
     pub fn read_row(&mut self, alloc: Global, row: &RowView<'_>) -> Result<(), ReadFault>
         ensures { ReadsAs self.old (DataRow row.now) result self.new }
     {

@@ -58,8 +58,8 @@ impl Buffer {
         &self.bytes[self.start..]
     }
 
-    /// Adds a piece, which is all taken or, where memory runs out, not at all. A piece without bytes needs no memory. A byte is
-    /// moved once on average, however small the pieces.
+    /// Adds a piece, all of it. Where memory runs out, nothing of it is added. A piece without bytes needs no memory. A byte is moved once on
+    /// average, however small the pieces.
     pub fn push(&mut self, piece: &[u8]) -> Result<(), AllocError>
         ensures ok { OnOk result (self.new ≡ self.old ++ piece.now) }
         ensures err { OnErr result (self.new ≡ self.old) }

@@ -119,7 +119,8 @@ impl<T: Copy> Seq<T> {
     }
 }
 
-/// `clone` clones each element, and fails only where memory runs out. Where a clone of an element equals it, as at numbers, the new list equals the old one.
+/// `clone` clones each element, and fails only where memory runs out. Where a clone of an element equals it, as with numbers, the new list equals the
+/// old one.
 impl<T: Clone> Clone for Seq<T> {
     ghost is_clone = { λ list copy. AllZip T.is_clone list copy
         × (((x y : T) → T.is_clone x y → y ≡ x) → copy ≡ list) };
@@ -129,7 +130,7 @@ impl<T: Clone> Clone for Seq<T> {
     }
 }
 
-/// The same as `Seq::new`.
+/// Makes a list of the elements of a `Vec`, as `Seq::new` does. It takes no memory.
 impl<T> From<Vec<T>> for Seq<T> {
     ghost from_gives = { λ items list. list ≡ items.items };
 
@@ -138,7 +139,7 @@ impl<T> From<Vec<T>> for Seq<T> {
     }
 }
 
-/// The same as `Seq::into_vec`.
+/// Gives the elements back as a `Vec`, as `Seq::into_vec` does. It takes no memory.
 impl<T> From<Seq<T>> for Vec<T> {
     ghost from_gives = { λ list items. items.items ≡ list };
 

@@ -1,5 +1,5 @@
--- What is asked of the fields of an error or a notice, and how they are spelled (Frontend/Backend Protocol, "Error and Notice
--- Message Fields").
+-- The fields of an error or a notice that callers ask for by name, and how fields are spelled
+-- (Frontend/Backend Protocol, "Error and Notice Message Fields").
 use Rattle.std.specs.Prelude.{ℕ, ◌==◌, if◌then◌else◌, List, [], ◌∷◌, Option, None, Some}
 use Rattle.std.specs.Option.{option_or}
 use Rattle.pg_layout.specs.declared.value.ErrorField.{ErrorField}

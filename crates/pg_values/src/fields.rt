@@ -55,7 +55,7 @@ fn put(block: &mut Vec<u8>, code: u8, text: &[u8]) -> Result<(), AllocError>
         ≡ block.old.items ++ (error_field (record { code = code; value = text.now })).bytes) }
     ensures err { OnErr result (block.new.items ≡ block.old.items) }
 {
-    // once there is room nothing is refused
+    // once there is room nothing fails
     block.reserve(text.len() + 2)?;
     block.push(code)?;
     block.extend_from_slice(text)?;
@@ -98,7 +98,7 @@ impl Fields {
         }
     }
 
-    /// Copies these fields, each given by its code and its text. Its faults are TooLong, where no message could hold them, and Memory.
+    /// Copies these fields, each given by its code and its text. TooLong: no message could hold them. Memory: memory ran out.
     pub fn from_slice(alloc: Global, list: &[(u8, &[u8])]) -> Result<Fields, EncodeFault>
         ensures ok { IfOk result (λ fields. fields ≡ map lent_field list.now) }
         ensures too_long { result ≡ Err TooLong
@@ -113,7 +113,7 @@ impl Fields {
         Ok(fields)
     }
 
-    /// Copies fields that are lent. Its faults are TooLong, where no message could hold them, and Memory.
+    /// Copies fields that are lent. TooLong: no message could hold them. Memory: memory ran out.
     pub fn of_view(alloc: Global, view: &FieldsView<'_>) -> Result<Fields, EncodeFault>
         ensures ok { IfOk result (λ fields. fields ≡ view.now) }
         ensures too_long { (result ≡ Err TooLong)
@@ -172,8 +172,7 @@ impl Fields {
         self.get(b'C')
     }
 
-    /// The severity: the text of the field `V`, which is never translated, or where that is absent, as it is before PostgreSQL 9.6,
-    /// that of `S`.
+    /// The severity: the text of the field `V`, which is never translated. Where there is no `V`, as before PostgreSQL 9.6, it is the text of `S`.
     pub fn severity(&self) -> Option<&[u8]>
         ensures { option_copied result ≡ severity_text self.now }
     {
@@ -200,8 +199,8 @@ impl Fields {
         }
     }
 
-    /// Adds a field at the end. Any code and any text are taken, also those that no message can have. TooLong says that no message could
-    /// hold the fields any more, and Memory that memory ran out; the list then stays as it was.
+    /// Adds a field at the end. Any code and any text are taken, even those that no message can have. TooLong: no message could hold the fields any
+    /// more. Memory: memory ran out. After either the list is as it was.
     pub fn push(&mut self, code: u8, text: &[u8]) -> Result<(), EncodeFault>
         ensures ok { OnOk result (self.new
             ≡ self.old ++ record { code = code; value = text.now } ∷ []) }
@@ -281,7 +280,7 @@ impl DebugElement for Fields {
     type Form = ByElement;
 }
 
-/// The fields of an error or a notice that are kept, one after the other. A clause sees the list of those that are still to come.
+/// The fields of a [`Fields`], one after the other. A clause sees the list of those that are still to come.
 #[derive(Drop)]
 pub struct KeptFields<'a> {
     lengths: &'a [u32],

@@ -23,7 +23,7 @@ pub trait ParameterList: Drop {
     fn has_zero(&self) -> bool
         ensures { result ≡ (terminated parameter (pairs self.now)).has_zero };
 
-    /// The room that is left after them and the zero byte that closes them.
+    /// How many of `room` bytes are left after them and the zero byte that closes them; None where they don't fit.
     fn room_after(&self, room: u32) -> Option<u32>
         ensures { LeavesRoom room (length (terminated parameter (pairs self.now)).bytes) result };
 

@@ -19,7 +19,7 @@ pub trait ValueList: Drop {
     fn has_too_many(&self) -> bool
         ensures { result ≡ exceeds_count (values self.now) };
 
-    /// The room that is left after their count and them.
+    /// How many of `room` bytes are left after their count and them; None where they don't fit.
     fn room_after(&self, room: u32) -> Option<u32>
         ensures { LeavesRoom room (length (counted value (values self.now)).bytes) result };
 
@@ -80,7 +80,7 @@ impl<const N: usize> ValueList for &[Option<Seq<u8>>; N] {
     }
 }
 
-/// They are written as they are kept: with one copy.
+/// A block of values is written as it is kept, by one copy.
 impl ValueList for &Values {
     ghost values = { λ list. list.now };
 

@@ -8,7 +8,7 @@ use crate::fields::Fields;
 use pg_layout::{Appender, BodyPart, text_has_zero};
 use std::alloc::AllocError;
 
-/// Fields and the zero byte that closes them. They are written as they are kept: with one copy.
+/// Fields and the zero byte that closes them. They are written as they are kept, by one copy.
 #[derive(Drop)]
 pub struct TerminatedFields<'a>(pub &'a Fields);
 

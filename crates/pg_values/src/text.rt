@@ -3,7 +3,7 @@
 ghost use Rattle.std.specs.Prelude.{option_copied};
 ghost use Rattle.pg_values.specs.Text.{IsText};
 
-/// A value as text. What encoding the bytes have is the client's to choose (the run-time parameter `client_encoding`).
+/// A value as text. Which encoding its bytes have is the client's choice (the run-time parameter `client_encoding`).
 #[derive(Clone, Copy, Debug, PartialEq, Eq)]
 pub enum Text<'a> {
     /// The value is null.

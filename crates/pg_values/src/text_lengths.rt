@@ -7,8 +7,7 @@ ghost use Rattle.pg_values.specs.Private.Kept.{text_lengths_at};
 use pg_layout::{BodyFault, after_zero, lent_field_at};
 use std::alloc::Global;
 
-/// How long the text of each field is that stands at the beginning of the bytes, up to the zero byte that closes the fields, and the
-/// bytes after it.
+/// The length of the text of each field at the beginning of the bytes, up to the zero byte that closes the fields; and the bytes after it.
 #[tactic(auto, unfolding(pg_layout::specs::Private::Reader::terminated_at))]
 pub fn text_lengths_at(alloc: Global, bytes: &[u8]) -> Result<(Vec<u32>, &[u8]), BodyFault>
     requires short { length bytes.now < 2 ^ 32 }

@@ -57,7 +57,7 @@ fn put(block: &mut Vec<u8>, value: Option<&[u8]>) -> Result<(), AllocError>
     let Some(bytes) = value else {
         return block.extend_from_slice(&[255; 4]);
     };
-    // once there is room nothing is refused
+    // once there is room nothing fails
     block.reserve(4 + bytes.len())?;
     block.extend_from_slice(&(bytes.len() as u32).to_be_bytes())?;
     block.extend_from_slice(bytes)
@@ -88,7 +88,7 @@ fn block_at(alloc: Global, count: u16, bytes: &[u8]) -> Result<(Values, &[u8]), 
     Ok((Values { places, block }, rest))
 }
 
-/// The values at the beginning of the bytes, after their count, and the bytes after them: they are read once, and copied at once.
+/// The values at the beginning of the bytes, after their count, and the bytes after them. They are read once, and copied at once.
 #[tactic(auto, unfolding(pg_layout::specs::Private::Reader::counted_at))]
 pub fn values_at(alloc: Global, bytes: &[u8]) -> Result<(Values, &[u8]), BodyFault>
     ensures { Gives (λ x. (x.0, x.1.now)) result (counted_at value_at bytes.now) }
@@ -112,7 +112,7 @@ impl Values {
         }
     }
 
-    // No values yet, and room for `count` of them, which take `room` bytes in all. It asks for that memory now, and for none where `room` is 0.
+    // A list without values, with room for `count` of them, which take `room` bytes in all. It takes that memory now, and none where `room` is 0.
     fn with_room(alloc: Global, count: usize, room: usize) -> Result<Values, AllocError>
         ensures { IfOk result (λ values. values ≡ []) }
     {
@@ -125,7 +125,7 @@ impl Values {
         })
     }
 
-    /// Copies these values. Its faults are TooLong, where no message could hold them, and Memory.
+    /// Copies these values. TooLong: no message could hold them. Memory: memory ran out.
     pub fn from_slice(alloc: Global, list: &[Option<&[u8]>]) -> Result<Values, EncodeFault>
         ensures ok { IfOk result (λ values. values ≡ map option_copied list.now) }
         ensures too_long { result ≡ Err TooLong
@@ -139,7 +139,7 @@ impl Values {
         Ok(values)
     }
 
-    /// Copies the values of a row that is lent. Its faults are TooLong, where no message could hold them, and Memory.
+    /// Copies the values of a row that is lent. TooLong: no message could hold them. Memory: memory ran out.
     pub fn of_row(alloc: Global, row: &RowView<'_>) -> Result<Values, EncodeFault>
         ensures ok { IfOk result (λ values. values ≡ row.now) }
         ensures too_long { (result ≡ Err TooLong) ↔ (longest_block < length (spelled row.now)) }
@@ -202,8 +202,7 @@ impl Values {
         LentValues::new(self.places.len(), self.block.as_slice())
     }
 
-    /// Adds a value at the end. TooLong says that no message could hold the values any more, and Memory that memory ran out; the list
-    /// then stays as it was.
+    /// Adds a value at the end. TooLong: no message could hold the values any more. Memory: memory ran out. After either the list is as it was.
     pub fn push(&mut self, value: Option<&[u8]>) -> Result<(), EncodeFault>
         ensures ok { OnOk result (self.new ≡ self.old ++ option_copied value.entry ∷ []) }
         ensures err { OnErr result (self.new ≡ self.old) }

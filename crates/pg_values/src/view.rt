@@ -1,4 +1,4 @@
-//! The bodies of rows, errors and notices, read in place: nothing of them is copied, and no memory is asked for.
+//! The bodies of rows, errors and notices, read in place: nothing of them is copied, and no memory is taken.
 
 ghost use Rattle.std.specs.Prelude.{◌≡◌, Some};
 ghost use Rattle.std.specs.Prelude.{is_some, option_copied, option_map, slice_get, IsSome};
@@ -44,7 +44,7 @@ impl<'a> RowView<'a> {
         matches!(after_counted::<Option<Seq<u8>>>(body), Some([]))
     }
 
-    /// The row of this body, which is one: [`RowView::is_row`] tells.
+    /// The row of this body, for which [`RowView::is_row`] returns true.
     pub fn of_body(body: &'a [u8]) -> RowView<'a>
         requires { IsSome (row_of body.now) }
         ensures { row_of body.now ≡ Some result }
@@ -73,14 +73,14 @@ impl<'a> RowView<'a> {
         LentValues::new(usize::from(self.count), self.values)
     }
 
-    /// The value at `index`, or `None` past the end: the values before it are passed over. A value that is None is null.
+    /// The value at `index`, or `None` past the end. A value that is None is null. It walks over the values before it.
     pub fn get(&self, index: usize) -> Option<Option<&'a [u8]>>
         ensures { option_map option_copied result ≡ slice_get self.now index }
     {
         self.values().nth(index)
     }
 
-    /// The value at `index` as text, or `None` past the end: the values before it are passed over.
+    /// The value at `index` as text, or `None` past the end. It walks over the values before it.
     pub fn text(&self, index: usize) -> Option<Text<'a>>
         ensures { IsTextAt result self.now index }
     {
@@ -106,7 +106,7 @@ impl<'a> Model for LentValues<'a> {
 }
 
 impl<'a> LentValues<'a> {
-    /// So many values, which these bytes spell one after the other, or fewer where the bytes have no more.
+    /// At most `count` values, which these bytes spell one after the other. There are fewer where the bytes have no more.
     pub(crate) fn new(count: usize, values: &'a [u8]) -> LentValues<'a>
         ensures { result ≡ values_left count values.now }
     {
@@ -160,7 +160,7 @@ impl<'a> FieldsView<'a> {
         matches!(after_terminated::<ErrorField>(body), Some([]))
     }
 
-    /// The fields of this body, which has them: [`FieldsView::is_fields`] tells.
+    /// The fields of this body, for which [`FieldsView::is_fields`] returns true.
     pub fn of_body(body: &'a [u8]) -> FieldsView<'a>
         requires { IsSome (fields_of body.now) }
         ensures { fields_of body.now ≡ Some result }
@@ -202,8 +202,7 @@ impl<'a> FieldsView<'a> {
         self.get(b'C')
     }
 
-    /// The severity: the text of the field `V`, which is never translated, or where that is absent, as it is before PostgreSQL 9.6,
-    /// that of `S`.
+    /// The severity: the text of the field `V`, which is never translated. Where there is no `V`, as before PostgreSQL 9.6, it is the text of `S`.
     pub fn severity(&self) -> Option<&'a [u8]>
         ensures { option_copied result ≡ severity_text self.now }
     {

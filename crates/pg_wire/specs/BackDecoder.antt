@@ -22,7 +22,7 @@ LetsGo old (Ok x) new = new ≡ None
 LetsGo old (Err wire.Memory) new = new ≡ old
 LetsGo old (Err f) new = new ≡ None
 
--- what `next` would have answered, by what is held now
+-- what `next` would have returned, by what is held now
 abbrev pub as_next : Result Cut WireFault → Option Lent → Result (Option BackMessage) WireFault
 as_next (Ok cut.Nothing) held = Ok None
 as_next (Ok cut.Held) None = Ok None

@@ -12,8 +12,8 @@ pub record DecoderState : Type 0 where
   pub limit : ℕ
   pub fault : Option WireFault
 
--- A decoder may store this fault, as it is answered for good. Out of memory passes and is never
--- stored.
+-- A decoder may store this fault, as each later call returns it. Memory isn't stored: the next call
+-- may have some.
 abbrev pub IsLasting : Option WireFault → Type 0
 IsLasting None = Unit {0}
 IsLasting (Some wire.Memory) = ⊥
@@ -31,7 +31,7 @@ pub record HasTaken {M : Type 0} (d : Direction M) (s : DecoderState) (pushed : 
   pub stream : IsStream d s.limit pushed given s.kept
   pub fault : HasStoredFault d s.limit s.kept s.fault
 
--- A push keeps the whole piece, or refuses it and changes nothing: by the fault that was found
+-- A push keeps the whole piece, or rejects it and changes nothing: by the fault that was found
 -- before, or because memory ran out, but never a piece without bytes.
 abbrev pub Pushes : DecoderState → List ℕ → Result Unit WireFault → DecoderState → Type 0
 Pushes old piece (Ok x) new = (old.fault ≡ None) × (new ≡ record old { kept = old.kept ++ piece })
@@ -44,7 +44,7 @@ abbrev pub WantsMemory : {M : Type 0} → Direction M → ℕ → List ℕ → T
 WantsMemory {M} d limit rest = (m : M) × (more : List ℕ) × IsWithin d limit m
     × (d.holds_list m ≡ true) × (rest ≡ spelling d m ++ more)
 
--- What `next` answers: the first message of the rest, which is dropped from it; None where the rest
+-- What `next` returns: the first message of the rest, which is dropped from it; None where the rest
 -- is open; a fault exactly where the rest has it, then and for good. Memory leaves the decoder as
 -- it was.
 abbrev pub Takes : {M : Type 0} → Direction M → DecoderState → Result (Option M) WireFault
@@ -58,7 +58,7 @@ Takes d old (Err wire.Memory) new = (old.fault ≡ None) × (new ≡ old)
 Takes d old (Err f) new = ((old.fault ≡ Some f) × (new ≡ old))
     ⊎ ((old.fault ≡ None) × (new ≡ record old { fault = Some f }) × IsFaulty d old.limit old.kept f)
 
--- all messages given, after a call of `next` with this answer
+-- all messages given, after a call of `next` that returned this
 abbrev pub given_after : {M : Type 0} → List M → Result (Option M) WireFault → List M
 given_after given (Ok None) = given
 given_after given (Ok (Some m)) = given ++ m ∷ []

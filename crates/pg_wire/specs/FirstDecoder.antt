@@ -24,7 +24,7 @@ pub record HasBegun (s : FirstState) (pushed : List ℕ) (given : List First) : 
   pub beginning : IsBeginning pushed given s.ended s.kept
   pub fault : PacketFaultHolds s s.fault
 
--- A push keeps the whole piece, or refuses it and changes nothing: by the fault that was found
+-- A push keeps the whole piece, or rejects it and changes nothing: by the fault that was found
 -- before, or because memory ran out, but never a piece without bytes.
 abbrev pub FirstPushes : FirstState → List ℕ → Result Unit WireFault → FirstState → Type 0
 FirstPushes old piece (Ok x) new = (old.fault ≡ None)
@@ -44,7 +44,7 @@ abbrev pub PacketWantsMemory : List ℕ → Type 0
 PacketWantsMemory rest = (p : First) × (more : List ℕ) × IsPacket p × (packet_holds_list p ≡ true)
     × (rest ≡ packet p ++ more)
 
--- What `next` answers: the first packet of the rest, which is dropped from it; None as
+-- What `next` returns: the first packet of the rest, which is dropped from it; None as
 -- NoMorePackets says; a fault exactly where the rest has it. Memory leaves the decoder as it was.
 abbrev pub FirstTakes : FirstState → Result (Option First) WireFault → FirstState → Type 0
 FirstTakes old (Ok None) new = (old.fault ≡ None) × (new ≡ old) × NoMorePackets old.ended old.kept
@@ -57,7 +57,7 @@ FirstTakes old (Err f) new = ((old.fault ≡ Some f) × (new ≡ old))
     ⊎ ((old.fault ≡ None) × (old.ended ≡ false) × (new ≡ record old { fault = Some f })
     × IsFaultyPacket old.kept f)
 
--- all packets given, after a call of `next` with this answer
+-- all packets given, after a call of `next` that returned this
 abbrev pub packets_after : List First → Result (Option First) WireFault → List First
 packets_after given (Ok None) = given
 packets_after given (Ok (Some p)) = given ++ p ∷ []

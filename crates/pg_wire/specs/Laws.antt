@@ -24,8 +24,9 @@ abbrev pub OneSpelling : {M : Type 0} → Direction M → Type 0
 OneSpelling {M} d = (m n : M) (x y : List ℕ) → HasSpelling d m → HasSpelling d n
     → spelling d m ++ x ≡ spelling d n ++ y → (m ≡ n) × (x ≡ y)
 
--- A stream has one reading: of two, where no message begins the rest of the second, the first is
--- its beginning, and what the first leaves is the second's further messages and its rest.
+-- A stream has one reading. Take two, the second with a rest that no message begins: the messages
+-- of the first begin those of the second, and what the first leaves is the second's further
+-- messages and its rest.
 abbrev pub OneReading : {M : Type 0} → Direction M → Type 0
 OneReading {M} d = (limit : ℕ) (bytes : List ℕ) (ms ns : List M) (x y : List ℕ)
     → IsStream d limit bytes ms x → IsStream d limit bytes ns y → BeginsNoMessage d limit y
@@ -41,8 +42,8 @@ abbrev pub OneFault : {M : Type 0} → Direction M → Type 0
 OneFault d = (limit : ℕ) (rest : List ℕ) (f g : WireFault) → 64 ≤ limit → IsFaulty d limit rest f
     → IsFaulty d limit rest g → f ≡ g
 
--- A fault that `next` answers is Memory, and nothing has changed; or it was found before; or
--- the rest has it, and it is answered for good.
+-- A fault that `next` returns is Memory, and nothing has changed; or it was found before; or
+-- the rest has it, and each later call returns it.
 abbrev pub FaultOfNext : {M : Type 0} → Direction M → Type 0
 FaultOfNext {M} d = (old : DecoderState) (f : WireFault) (new : DecoderState)
     → Takes {M = M} d old (Err f) new
@@ -71,8 +72,9 @@ abbrev pub ReadsNoFurther : Bool → List ℕ → Type 0
 ReadsNoFurther true rest = Unit {0}
 ReadsNoFurther false rest = BeginsNoPacket rest
 
--- A connection's beginning has one reading: of two, where the second can't go further, the first is
--- its beginning, and what the first leaves is the second's further packets and its rest.
+-- A connection's beginning has one reading. Take two, where the second can't go further: the packets
+-- of the first begin those of the second, and what the first leaves is the second's further packets
+-- and its rest.
 abbrev pub OneBeginning : Type 0
 OneBeginning = (bytes : List ℕ) (ps qs : List First) (e f : Bool) (x y : List ℕ)
     → IsBeginning bytes ps e x → IsBeginning bytes qs f y → ReadsNoFurther f y

@@ -1,4 +1,4 @@
--- What a frontend answers to AuthenticationMD5Password ("Start-up" in "Message Flow").
+-- The text of a frontend's answer to AuthenticationMD5Password ("Start-up" in "Message Flow").
 use Rattle.std.specs.Prelude.{List, ℕ, ◌++◌, codes}
 use Rattle.hex.specs.Hex.{encode_lower}
 use Rattle.md5.specs.Md5.{md5}

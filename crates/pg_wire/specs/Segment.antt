@@ -133,7 +133,7 @@ Answers Results (p ∷ ps) rest = (is_result p ≡ true) × Answers Results ps r
 Answers (Steps []) (p ∷ ps) rest = ⊥
 Answers (Steps (s ∷ ss)) (p ∷ ps) rest = (is_answer s p ≡ true) × Answers (Steps ss) ps rest
 
--- Nothing more has to be answered: of a query that holds at any time, of a group after all steps.
+-- Nothing more has to be answered. For a query that holds at any time, for a group after all steps.
 abbrev pub IsDone : Asked → Type 0
 IsDone Results = Unit {0}
 IsDone (Steps []) = Unit {0}

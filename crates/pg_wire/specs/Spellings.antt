@@ -17,7 +17,7 @@ LetsBytes old (Ok x) new = new ≡ []
 LetsBytes old (Err wire.Memory) new = new ≡ old
 LetsBytes old (Err f) new = new ≡ []
 
--- What `next` answers: whether there is a next message, which is taken as a decoder takes it, and
+-- What `next` returns: whether there is a next message, which is taken as a decoder takes it, and
 -- its bytes are held. It needs no memory.
 abbrev pub TakesSpelling : {M : Type 0} → Direction M → DecoderState → Result Bool WireFault
     → SpellingsState → Type 0

@@ -14,10 +14,10 @@ use pg_message::{BackMessage, Lent};
 use std::alloc::Global;
 use std::marker::Model;
 
-/// What a call of [`next_lent`](BackDecoder::next_lent) came to.
+/// What [`next_lent`](BackDecoder::next_lent) returns.
 #[derive(Debug, PartialEq, Drop)]
 pub enum Cut {
-    /// More bytes are to come.
+    /// No whole message waits: more bytes are to come.
     Nothing,
     /// A row, an error or a notice, which [`held`](BackDecoder::held) lends until the next call.
     Held,
@@ -27,8 +27,8 @@ pub enum Cut {
 
 /// Takes what a backend sends in any pieces, and gives exactly its messages ("Overview", "Message Formats").
 ///
-/// `push` keeps a piece, and `next` gives the messages one by one. What is kept is bounded: after `next` has returned None
-/// fewer than `limit + 1` bytes are. A fault stands in the place of a message, and is returned by each call from then on.
+/// `push` keeps a piece, and `next` gives the messages one by one. After `next` has returned None at most `limit` bytes are kept. A fault of the
+/// stream takes the place of a message, and each later call returns it.
 ///
 /// `next_lent` gives the same messages, but leaves a row, an error or a notice where it stands, so that it isn't copied.
 #[derive(Drop)]
@@ -60,15 +60,15 @@ impl BackDecoder {
         }
     }
 
-    /// The greatest length field of a message that it takes, as `new` was told.
+    /// The greatest length field of a message that it takes, as given to `new`.
     pub fn limit(&self) -> u32
         ensures { result ≡ self.now.stream.limit }
     {
         self.stream.limit()
     }
 
-    /// The bytes that are kept: what was pushed after the messages that were given. A reader of what follows in the stream goes on with
-    /// them, where the connection changes what it speaks. It takes no memory.
+    /// Gives back the bytes that are kept: what was pushed after the messages that were given. Where the connection changes its protocol, the next
+    /// reader goes on with them. It takes no memory.
     pub fn into_rest(self) -> BytesMut
         ensures { result.items ≡ self.stream.kept }
     {
@@ -82,8 +82,8 @@ impl BackDecoder {
         self.stream.kept()
     }
 
-    /// Takes the next piece of the stream, all of it. A fault that `next` has found is returned, and after Memory nothing of
-    /// the piece was taken and the decoder is unchanged. A piece without bytes needs no memory.
+    /// Takes the next piece of the stream, all of it. Where `next` has found a fault, that fault is returned. After Memory nothing of the piece was
+    /// taken, and the decoder is unchanged. A piece without bytes needs no memory.
     pub fn push(&mut self, piece: &[u8]) -> Result<(), WireFault>
         ensures call { Pushes self.old.stream piece.now result self.new.stream }
         ensures held { LetsGo self.old.held result self.new.held }
@@ -94,9 +94,8 @@ impl BackDecoder {
         self.stream.push(piece)
     }
 
-    /// The next message, or None where more bytes are to come. A fault is found where no more messages stand before it, and
-    /// is then returned for good. Memory is returned only for a message that is whole and holds a text or another list, and leaves
-    /// the decoder unchanged.
+    /// The next message, or None where more bytes are to come. A fault is returned once all messages before it were given, and by each call after
+    /// that. Memory is returned only for a message that is whole and holds a text or another list, and leaves the decoder unchanged.
     pub fn next(&mut self) -> Result<Option<BackMessage>, WireFault>
         ensures call { Takes backend self.old.stream result self.new.stream }
         ensures held { LetsGo self.old.held result self.new.held }
@@ -107,8 +106,8 @@ impl BackDecoder {
         self.stream.next()
     }
 
-    /// The next message, as `next` gives it, but a row, an error or a notice is Held: it counts as given, and `held` lends it
-    /// until the next call of `push`, `next` or `next_lent` that doesn't return Memory. For such a message no memory is taken.
+    /// The next message, as `next` gives it, but a row, an error or a notice is returned as Held. Such a message counts as given, and takes no
+    /// memory. `held` lends it until the next call of `push`, `next` or `next_lent` that doesn't return Memory.
     #[inline(always)]
     pub fn next_lent(&mut self) -> Result<Cut, WireFault>
         ensures call { TakesLent self.old result self.new }
@@ -120,8 +119,8 @@ impl BackDecoder {
         self.stream.next_lent()
     }
 
-    /// The row, error or notice that the last call of `next_lent` returned Held for; None where another call came after it, but
-    /// for those that returned Memory. It takes no memory.
+    /// The row, error or notice for which the last call of `next_lent` returned Held. It is None after any other call of `push`, `next` or
+    /// `next_lent`, except one that returned Memory. It takes no memory.
     pub fn held(&self) -> Option<Lent<'_>>
         ensures { result ≡ self.now.held }
     {

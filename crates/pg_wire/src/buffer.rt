@@ -7,7 +7,7 @@ use bytes::BytesMut;
 // A buffer that is left empty keeps its room up to so many bytes.
 const KEPT_ROOM: usize = 64 * 1024;
 
-/// Takes so many bytes off the beginning. A buffer that is left empty gives its room back, if it has much.
+/// Takes so many bytes off the beginning. A buffer that is left empty gives its room back, if that is more than 64 KiB.
 pub fn drop_first(buffer: &mut BytesMut, count: usize)
     requires { count ≤ length buffer.old.items }
     ensures { buffer.new.items ≡ drop count buffer.old.items }

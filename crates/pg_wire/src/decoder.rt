@@ -13,8 +13,8 @@ use std::marker::Model;
 
 /// Takes a stream of one direction in any pieces, and gives exactly its messages ("Overview", "Message Formats").
 ///
-/// `push` keeps a piece, and `next` gives the messages one by one. What is kept is bounded: after `next` has returned None
-/// fewer than `limit + 1` bytes are. A fault stands in the place of a message, and is returned by each call from then on.
+/// `push` keeps a piece, and `next` gives the messages one by one. After `next` has returned None at most `limit` bytes are kept. A fault of the
+/// stream takes the place of a message, and each later call returns it.
 #[derive(Drop)]
 pub struct Decoder<M: Message> {
     stream: Stream<M>,
@@ -32,7 +32,7 @@ impl<M: Message> Model for Decoder<M> {
 }
 
 impl<M: Message> Decoder<M> {
-    /// A decoder of what is kept already, which returns this fault for good if there is one.
+    /// A decoder that begins with the bytes that are kept already. If a fault is given, each call returns it.
     pub(crate) fn resume(
         alloc: Global,
         buffer: BytesMut,
@@ -57,15 +57,15 @@ impl<M: Message> Decoder<M> {
         Decoder::resume(alloc, BytesMut::new(alloc), limit, None)
     }
 
-    /// The greatest length field of a message that it takes, as `new` was told.
+    /// The greatest length field of a message that it takes, as given to `new`.
     pub fn limit(&self) -> u32
         ensures { result ≡ self.now.limit }
     {
         self.stream.limit()
     }
 
-    /// The bytes that are kept: what was pushed after the messages that were given. A reader of what follows in the stream goes on with
-    /// them, where the connection changes what it speaks. It takes no memory.
+    /// Gives back the bytes that are kept: what was pushed after the messages that were given. Where the connection changes its protocol, the next
+    /// reader goes on with them. It takes no memory.
     pub fn into_rest(self) -> BytesMut
         ensures { result.items ≡ self.kept }
     {
@@ -79,8 +79,8 @@ impl<M: Message> Decoder<M> {
         self.stream.kept()
     }
 
-    /// Takes the next piece of the stream, all of it. A fault that `next` has found is returned, and after Memory nothing of
-    /// the piece was taken and the decoder is unchanged. A piece without bytes needs no memory.
+    /// Takes the next piece of the stream, all of it. Where `next` has found a fault, that fault is returned. After Memory nothing of the piece was
+    /// taken, and the decoder is unchanged. A piece without bytes needs no memory.
     pub fn push(&mut self, piece: &[u8]) -> Result<(), WireFault>
         ensures call { Pushes self.old piece.now result self.new }
         ensures taken { OnOk result ((pushed : List ℕ) (given : List M)
@@ -90,9 +90,8 @@ impl<M: Message> Decoder<M> {
         self.stream.push(piece)
     }
 
-    /// The next message, or None where more bytes are to come. A fault is found where no more messages stand before it, and
-    /// is then returned for good. Memory is returned only for a message that is whole and holds a text or another list, and leaves
-    /// the decoder unchanged.
+    /// The next message, or None where more bytes are to come. A fault is returned once all messages before it were given, and by each call after
+    /// that. Memory is returned only for a message that is whole and holds a text or another list, and leaves the decoder unchanged.
     pub fn next(&mut self) -> Result<Option<M>, WireFault>
         ensures call { Takes M.direction self.old result self.new }
         ensures taken { (pushed : List ℕ) (given : List M)

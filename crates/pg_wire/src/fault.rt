@@ -7,9 +7,8 @@ ghost use Rattle.pg_wire.specs.declared.fault.WireFault.TheVariants as wire;
 use std::alloc::AllocError;
 use thiserror::Error;
 
-/// Why the bytes of a stream can't be read as a next message: the first of these that holds
-/// ("Overview" and "Message Formats" say what a message is). After any of them but Memory the
-/// decoder returns it for good; after Memory it is unchanged.
+/// Why the bytes of a stream can't be read as a next message: the first of these that holds ("Overview" and "Message Formats" say what a message is).
+/// After Memory the decoder is unchanged. Any other fault is returned by each later call.
 #[derive(Clone, Copy, Debug, PartialEq, Eq, Error)]
 pub enum WireFault {
     /// Five bytes are there, and no message has this tag. First packets have no tag.

@@ -10,7 +10,7 @@ use pg_layout::BodyFault;
 use pg_message::{BackMessage, Lent, Message};
 use std::alloc::Global;
 
-/// What the head of a rest says.
+/// What the head of a rest shows.
 pub enum Judged {
     Open,
     Faulty(WireFault),
@@ -18,7 +18,7 @@ pub enum Judged {
     Whole(u8, usize),
 }
 
-// The tag and the length field, once five bytes are there.
+// The tag and the length field; None until five bytes are there.
 fn head(rest: &[u8]) -> Option<(u8, i32)>
     ensures { MatchOption result (length rest.now < 5) (λ h. Head rest.now h.0 h.1) }
 {
@@ -41,7 +41,7 @@ fn judge<M: Message>(limit: u32, rest: &[u8]) -> Judged
     judge_length::<M>(limit, rest, tag, len)
 }
 
-// What the length field of a head says, whose tag is that of some message.
+// Judges the length field of a head whose tag some message has.
 fn judge_length<M: Message>(limit: u32, rest: &[u8], tag: u8, len: i32) -> Judged
     requires limit { IsLimit limit }
     requires head { Head rest.now tag len }
@@ -84,7 +84,7 @@ pub fn find<M: Message>(
     }
 }
 
-/// What stands at the beginning of a rest, where a whole message is judged in place.
+/// What stands at the beginning of a rest. A whole message is judged in place, and not made.
 pub fn find_whole<M: Message>(limit: u32, rest: &[u8]) -> Judged
     requires { IsLimit limit }
     ensures { FindsWhole M.direction limit rest.now result }
@@ -104,17 +104,17 @@ pub fn find_whole<M: Message>(limit: u32, rest: &[u8]) -> Judged
 
 /// What stands at the beginning of a backend's rest, where some messages are lent.
 pub enum Found {
-    /// Not all of a message.
+    /// No whole message.
     Nothing,
-    /// A message that is lent takes so many bytes.
+    /// A message that can be lent, and how many bytes it takes.
     Lent(usize),
-    /// Five bytes or more, whose first is no tag of a message that is lent: another message, whole or not, or the fault of one.
-    /// `Stream::hold_next` answers it also where a fault is stored, the one that it has just found too.
+    /// Five bytes or more, and the first is no tag of a message that can be lent. It is another message, whole or not, or a fault.
+    /// `Stream::hold_next` returns it also where a fault is stored, even one that it has just found.
     Other,
 }
 
-/// What stands at the beginning of a backend's rest. A message that is lent is judged in place, and a fault is found only where the tag is
-/// that of one that is lent.
+/// What stands at the beginning of a backend's rest. A message that can be lent is judged in place. A fault is found only where the tag is that of
+/// such a message.
 pub fn find_lent(limit: u32, rest: &[u8]) -> Result<Found, WireFault>
     requires { IsLimit limit }
     ensures { FindsLent limit rest.now result }

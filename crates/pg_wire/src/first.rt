@@ -27,7 +27,7 @@ use pg_seq::Seq;
 use std::alloc::Global;
 use std::marker::Model;
 
-/// What the head of a rest says.
+/// What the head of a rest shows.
 pub enum JudgedPacket {
     Open,
     Faulty(WireFault),
@@ -35,7 +35,7 @@ pub enum JudgedPacket {
     Whole(FirstKind, usize),
 }
 
-// The length, once four bytes are there.
+// The length; None until four bytes are there.
 fn head(rest: &[u8]) -> Option<i32>
     ensures { MatchOption result (length rest.now < 4) (PacketHead rest.now) }
 {
@@ -45,7 +45,7 @@ fn head(rest: &[u8]) -> Option<i32>
     }
 }
 
-// The code, once eight bytes are there.
+// The code; None until eight bytes are there.
 fn code(rest: &[u8]) -> Option<i32>
     ensures { MatchOption result (length rest.now < 8) (PacketCode rest.now) }
 {
@@ -81,7 +81,7 @@ fn judge(rest: &[u8]) -> JudgedPacket
     }
 }
 
-// The packet of this kind with this content, all of it. Memory is asked for where it holds a list.
+// The packet of this kind with this content, all of it. Only one that holds a list takes memory.
 fn packet(alloc: Global, kind: FirstKind, content: &[u8]) -> Result<First, BodyFault>
     ensures read { Gives (λ p. p) result (first_of kind content.now) }
     ensures memory { AsksFor packet_holds_list result (first_of kind content.now) }
@@ -101,7 +101,7 @@ fn packet(alloc: Global, kind: FirstKind, content: &[u8]) -> Result<First, BodyF
     }
 }
 
-// Whether this is the content of a packet of this kind. No packet is made, and no memory is asked for.
+// Whether this is the content of a packet of this kind. No packet is made, and no memory is taken.
 fn is_packet(kind: FirstKind, content: &[u8]) -> bool
     ensures { result ≡ is_some (first_of kind content.now) }
 {
@@ -115,7 +115,7 @@ fn is_packet(kind: FirstKind, content: &[u8]) -> bool
     }
 }
 
-// The packet of this kind with this content. Memory is a fault of a packet alone, and one that holds a list.
+// The packet of this kind with this content. Memory is returned only where there is such a packet, and it holds a list.
 fn read_whole(alloc: Global, kind: FirstKind, content: &[u8]) -> Result<First, BodyFault>
     ensures { ReadsWhole packet_holds_list result (first_of kind content.now) }
 {
@@ -154,11 +154,11 @@ fn is_last(packet: &First) -> bool
     matches!(packet, First::Startup(_) | First::Cancel { .. })
 }
 
-/// Takes what a frontend begins a connection with in any pieces, and gives its first packets: any number of Ssl and Gss, and
-/// then a Startup or a Cancel ("Start-up", "Canceling Requests in Progress").
+/// Takes what a frontend begins a connection with in any pieces, and gives its first packets. They are any number of Ssl and Gss, and then a Startup
+/// or a Cancel ("Start-up", "Canceling Requests in Progress").
 ///
-/// What comes after those is kept for [`into_front`](FirstDecoder::into_front). Until the last packet was given, fewer than
-/// 10,000 bytes are kept after each None. A fault stands in the place of a packet, and is returned by each call from then on.
+/// What comes after those is kept for [`into_front`](FirstDecoder::into_front). Until the last packet was given, fewer than 10,000 bytes are kept
+/// after `next` has returned None. A fault takes the place of a packet, and each later call returns it.
 #[derive(Drop)]
 pub struct FirstDecoder {
     alloc: Global,
@@ -199,8 +199,8 @@ impl FirstDecoder {
         self.buffer.len()
     }
 
-    /// Takes the next piece, all of it. A fault that `next` has found is returned, and after Memory nothing of the piece was
-    /// taken and the decoder is unchanged. A piece without bytes needs no memory.
+    /// Takes the next piece, all of it. Where `next` has found a fault, that fault is returned. After Memory nothing of the piece was taken, and the
+    /// decoder is unchanged. A piece without bytes needs no memory.
     pub fn push(&mut self, piece: &[u8]) -> Result<(), WireFault>
         ensures call { FirstPushes self.old piece.now result self.new }
         ensures begun { OnOk result ((pushed : List ℕ) (given : List First)
@@ -212,9 +212,8 @@ impl FirstDecoder {
         Ok(self.buffer.extend_from_slice(piece)?)
     }
 
-    /// The next packet, or None where more bytes are to come or the last packet was given. A fault is found where no more
-    /// packets stand before it, and is then returned for good. Memory is returned only for a Startup that is whole, and leaves
-    /// the decoder unchanged.
+    /// The next packet, or None where more bytes are to come or the last packet was given. A fault is returned once all packets before it were given,
+    /// and by each call after that. Memory is returned only for a Startup that is whole, and leaves the decoder unchanged.
     pub fn next(&mut self) -> Result<Option<First>, WireFault>
         ensures call { FirstTakes self.old result self.new }
         ensures begun { (pushed : List ℕ) (given : List First) → HasBegun self.old pushed given
@@ -241,9 +240,8 @@ impl FirstDecoder {
         }
     }
 
-    /// A decoder of the messages after the first packets, which takes messages with a length field of at most `limit`, from
-    /// 64 to 1,073,741,823. It has the bytes that are kept, and returns the fault that was found, if one was. It takes no
-    /// memory.
+    /// A decoder of the messages after the first packets. It takes messages with a length field of at most `limit`, from 64 to 1,073,741,823. It has
+    /// the bytes that are kept, and returns the fault that was found, if one was. It takes no memory.
     pub fn into_front(self, limit: u32) -> FrontDecoder
         requires { IsLimit limit }
         ensures value { result ≡ record { kept = self.kept; limit = limit; fault = self.fault } }
@@ -258,7 +256,8 @@ impl FirstDecoder {
         FrontDecoder::resume(alloc, buffer, limit, fault)
     }
 
-    /// A reader of the bytes of the messages after the first packets, as [`into_front`](FirstDecoder::into_front) gives a decoder.
+    /// A reader of the messages after the first packets, which lends the bytes of each. It takes messages with a length field of at most `limit`,
+    /// from 64 to 1,073,741,823. It has the bytes that are kept, and returns the fault that was found, if one was.
     pub fn into_spellings(self, limit: u32) -> Spellings<FrontMessage>
         requires { IsLimit limit }
         ensures stream { result.stream

@@ -31,8 +31,8 @@ pub fn one_fault<M: Message>()
     ensures { OneFault M.direction }
 {}
 
-/// A fault that a decoder's `next` returns, by cases: Memory, with nothing changed; one that was found before; or one that the rest
-/// has, which is then returned for good.
+/// What a fault that a decoder's `next` returns is: Memory, with nothing changed; one that was found before; or one that the rest has, which each
+/// later call returns.
 pub fn fault_of_next<M: Message>()
     ensures { FaultOfNext M.direction }
 {}

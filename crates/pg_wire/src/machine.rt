@@ -47,7 +47,7 @@ impl<M: Message> Model for Stream<M> {
 }
 
 impl<M: Message> Stream<M> {
-    /// A stream of which these bytes are there already, and which returns this fault for good if there is one.
+    /// A stream that begins with the bytes that are kept already. If a fault is given, each call returns it.
     pub fn resume(
         alloc: Global,
         buffer: BytesMut,
@@ -148,7 +148,7 @@ impl<M: Message> Stream<M> {
         buffer
     }
 
-    /// Takes a piece, all of it or, where memory runs out, nothing.
+    /// Takes a piece whole. Where memory runs out, it takes nothing of it.
     pub fn push(&mut self, piece: &[u8]) -> Result<(), WireFault>
         ensures call { Pushes self.old.rest piece.now result self.new.rest }
         ensures front { LetsBytes self.old.front result self.new.front }
@@ -193,7 +193,7 @@ impl<M: Message> Stream<M> {
 }
 
 impl<M: Message> Stream<M> {
-    /// The next message, whose bytes stay in the buffer; whether there is one.
+    /// Looks for the next message, whose bytes stay in the buffer, and returns whether there is one.
     pub fn next_spelling(&mut self) -> Result<bool, WireFault>
         ensures { TakesSpelling M.direction self.old.rest result (spellings_state self.new) }
     {
@@ -220,9 +220,9 @@ impl<M: Message> Stream<M> {
 }
 
 impl Stream<BackMessage> {
-    /// Looks at the next message of a backend, and holds one that is lent. The fault of one that only has the tag of such a message is stored,
-    /// for `next` to tell; else nothing changes.
-    // a call of its own: as a part of a caller's loop it takes the registers that the loop works with
+    // Looks at the next message of a backend, and holds one that can be lent. Where the rest has the tag of such a message and a fault, the fault
+    // is stored for `next` to return. Else nothing changes.
+    // A call of its own: as a part of a caller's loop it takes the registers that the loop works with.
     #[inline(never)]
     fn hold_next(&mut self) -> Found
         ensures { HoldsNext self.old result self.new }
@@ -244,8 +244,8 @@ impl Stream<BackMessage> {
         }
     }
 
-    /// The next message of a backend, taken off, as `next` gives it.
-    // a call of its own: the callers of `next_lent` then have no part of `next`, which only other messages and faults need
+    // The next message of a backend, as `next` gives it: it is taken off the buffer.
+    // A call of its own: the callers of `next_lent` then have no part of `next`, which only other messages and faults need.
     #[inline(never)]
     fn next_apart(&mut self) -> Result<Option<BackMessage>, WireFault>
         ensures call { Takes backend self.old.rest result self.new.rest }
@@ -254,7 +254,7 @@ impl Stream<BackMessage> {
         self.next()
     }
 
-    /// The next message of a backend: one that is lent stays in the buffer, and another is taken off.
+    /// The next message of a backend. One that can be lent stays in the buffer, and any other is taken off.
     // a part of its callers: to hold a row they need no room for another message
     #[inline(always)]
     pub fn next_lent(&mut self) -> Result<Cut, WireFault>

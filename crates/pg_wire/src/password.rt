@@ -13,7 +13,7 @@ fn write_digest(first: &[u8], second: &[u8], digits: &mut [u8])
     let mut hasher = Md5::new();
     hasher.update(first);
     hasher.update(second);
-    // The room is twice as long as a digest, so this isn't refused.
+    // The room is twice as long as a digest, so this doesn't fail.
     let _ = hex::encode_to_slice(hasher.finalize(), digits);
 }
 

@@ -4,8 +4,8 @@ use pg_layout::{Column, CopyHead, Status, Target};
 use pg_seq::{ByElement, DebugElement, Seq};
 use pg_values::{Fields, Values};
 
-/// A step of an extended query ("Extended Query"). Its texts hold no zero byte, and its lists have at most 65,535 elements: else a
-/// client refuses the request (C3).
+/// A step of an extended query ("Extended Query"). Its texts hold no zero byte, and its lists have at most 65,535 elements. A client rejects a
+/// request in which this isn't so (C3).
 #[derive(Clone, Debug, PartialEq, Eq, Drop)]
 pub enum Step {
     /// Makes a prepared statement.
@@ -60,8 +60,7 @@ impl DebugElement for Step {
 /// What a client asks for. A ReadyForQuery ends the answer to each.
 #[derive(Clone, Debug, PartialEq, Eq, Drop)]
 pub enum Request {
-    /// A simple query: one message, which may hold several commands ("Simple Query"). The text holds no zero byte: else a client
-    /// refuses the request (C3).
+    /// A simple query: one message, which may hold several commands ("Simple Query"). A client rejects a text that holds a zero byte (C3).
     Query(Seq<u8>),
     /// An extended query: these steps, and a Sync after them ("Extended Query").
     Group(Seq<Step>),
@@ -112,7 +111,7 @@ pub enum Part {
     Rows {
         /// The rows' columns.
         columns: Seq<Column>,
-        /// The rows. A row's width isn't compared with the columns.
+        /// The rows. The number of a row's values isn't compared with that of the columns.
         rows: Seq<Values>,
         /// The tag of the complete command, as `SELECT 1`.
         tag: Seq<u8>,
@@ -166,13 +165,12 @@ impl DebugElement for Part {
 /// How a request ended.
 #[derive(Clone, Debug, PartialEq, Eq, Drop)]
 pub struct Outcome {
-    /// The whole results or answers, in order. What an error cut off is none of them.
+    /// The results or answers that came whole, in order. One that an error cut off isn't among them.
     pub parts: Seq<Part>,
     /// The first error, if there was one.
     pub error: Option<Fields>,
     /// The transaction status after the request.
     pub status: Status,
-    /// The notices, run-time parameters and notifications that came before its ReadyForQuery, in
-    /// order.
+    /// The notices, run-time parameters and notifications that came before its ReadyForQuery, in order.
     pub asides: Seq<Aside>,
 }

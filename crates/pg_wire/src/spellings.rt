@@ -14,8 +14,8 @@ use std::marker::Model;
 
 /// Takes a stream of one direction in any pieces, and lends the bytes of exactly its messages ("Overview", "Message Formats").
 ///
-/// It is a [`Decoder`](crate::Decoder) for whom the bytes are enough: a message is judged where it stands and not made, so no memory is
-/// asked for it, however large it is. What is kept and which fault is found is as of a decoder.
+/// Unlike a [`Decoder`](crate::Decoder) it judges a message where it stands, and makes no value of it. So a message takes no memory, however large it
+/// is. Which bytes it keeps, and which faults of the stream it finds, are as with a decoder.
 #[derive(Drop)]
 pub struct Spellings<M: Message> {
     stream: Stream<M>,
@@ -31,7 +31,7 @@ impl<M: Message> Model for Spellings<M> {
 }
 
 impl<M: Message> Spellings<M> {
-    /// A reader of what is kept already, which returns this fault for good if there is one.
+    /// A reader that begins with the bytes that are kept already. If a fault is given, each call returns it.
     pub(crate) fn resume(
         alloc: Global,
         buffer: BytesMut,
@@ -65,8 +65,8 @@ impl<M: Message> Spellings<M> {
         self.stream.kept()
     }
 
-    /// Takes the next piece of the stream, all of it. A fault that `next` has found is returned, and after Memory nothing of the piece was
-    /// taken and the reader is unchanged. A piece without bytes needs no memory.
+    /// Takes the next piece of the stream, all of it. Where `next` has found a fault, that fault is returned. After Memory nothing of the piece was
+    /// taken, and the reader is unchanged. A piece without bytes needs no memory.
     pub fn push(&mut self, piece: &[u8]) -> Result<(), WireFault>
         ensures call { Pushes self.old.stream piece.now result self.new.stream }
         ensures held { LetsBytes self.old.held result self.new.held }
@@ -74,16 +74,16 @@ impl<M: Message> Spellings<M> {
         self.stream.push(piece)
     }
 
-    /// Whether a next message is whole, which [`spelling`](Self::spelling) then lends, and which counts as given; false where more bytes are to
-    /// come. A fault is found where no more messages stand before it, and is then returned for good; it is never Memory.
+    /// Looks for the next message. True: it is whole, counts as given, and [`spelling`](Self::spelling) lends its bytes. False: more bytes are to
+    /// come. A fault is returned once all messages before it were given, and by each call after that; it is never Memory.
     pub fn next(&mut self) -> Result<bool, WireFault>
         ensures { TakesSpelling M.direction self.old.stream result self.new }
     {
         self.stream.next_spelling()
     }
 
-    /// The bytes of the message that the last call of `next` said is there: its tag, its length field and its body. None after another call,
-    /// but a `push` that returned Memory.
+    /// The bytes of the message for which the last call of `next` returned true: its tag, its length field and its body. There are none after any
+    /// other call of `push` or `next`, except a `push` that returned Memory.
     pub fn spelling(&self) -> &[u8]
         ensures { result.now ≡ self.now.held }
     {

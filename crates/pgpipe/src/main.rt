@@ -28,7 +28,7 @@ fn main(rt: HostRuntime) -> ExitCode {
     let terminal = rt.stdout().is_terminal();
     let Ended { status, reason } = run(&rt, streams, terminal);
     if let Err(failure) = &status {
-        // where this can't be written, the status still tells
+        // where this can't be written, the status still says it
         let _ = eprintln!(rt; "pgpipe: {failure}");
         if let Some(reason) = &reason {
             let _ = eprintln!(rt; "pgpipe: {reason}");
@@ -74,7 +74,7 @@ fn run<R: Env + Files + Net + Clock + Input + Print + Eprint + AllocGlobal>(
         Ok(asked) => asked,
         Err(error) => return plainly(explain(rt, &error)),
     };
-    // what is opened would take the place of a closed output; of the other streams nothing is read or told meanwhile
+    // What is opened would take the place of a closed output. Of the other streams nothing is read or written meanwhile.
     if opens_first(&task) && matches!(streams, Err(ClosedStream::Output)) {
         return failed(telling, Failure::Device, Some(Reason::Closed));
     }
@@ -206,7 +206,7 @@ fn run_task<R: Files + Net + Clock + Input + Print + Eprint + AllocGlobal>(
     }
 }
 
-// Does a task over an input and a carrier, and tells of it what is to be told.
+// Does a task over an input and a carrier, and prints what is asked for about it.
 fn run_over<R: Files + Clock + Print + Eprint + AllocGlobal, I: Read + Drop, C: Carry>(
     rt: &R,
     task: Task,
@@ -229,7 +229,7 @@ fn run_over<R: Files + Clock + Print + Eprint + AllocGlobal, I: Read + Drop, C: 
     }
 }
 
-// Does a task whose streams are followed, so that it can be told how far it is, and where and why it failed.
+// Does a task whose streams are followed, so that it can be printed how far it is, and where and why it failed.
 fn run_told<R: Files + Clock + Print + Eprint + AllocGlobal, I: Read + Drop, C: Carry>(
     rt: &R,
     task: Task,

@@ -1,4 +1,4 @@
--- What is sent as the work of a tool stops, and what the tool answers then.
+-- What is sent as the work of a tool stops, and what the tool returns then.
 use Rattle.std.specs.Prelude.{ℕ, ◌≡◌, List, [], Result, Ok, Err, IsErr}
 use Rattle.pg_wire.specs.link.LinkFault.{LinkFault}
 use Rattle.pgpipe_base.specs.declared.fault.ToolFault.{ToolFault}

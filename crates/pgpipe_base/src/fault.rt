@@ -5,13 +5,13 @@ ghost use Rattle.std.specs.Prelude.{◌≡◌};
 use std::alloc::AllocError;
 use thiserror::Error;
 
-/// Why the work couldn't be finished.
+/// Why a tool couldn't finish its work.
 #[derive(Clone, Copy, Debug, PartialEq, Eq, Error)]
 pub enum ToolFault {
     /// The source or the sink failed, or the source gave no end.
     #[error("device")]
     Device,
-    /// Memory was refused.
+    /// Memory ran out.
     #[error("memory")]
     Memory,
 }

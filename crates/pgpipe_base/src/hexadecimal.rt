@@ -62,7 +62,7 @@ pub fn write_hexadecimal(bytes: &[u8], digits: &mut [u8])
     ensures { digits.new ≡ encode_lower bytes.now }
 {
     if bytes.len() < BLOCK {
-        // there is just room for the digits, so this isn't refused
+        // there is just room for the digits, so this doesn't fail
         let _ = hex::encode_to_slice(bytes, digits);
         return;
     }

@@ -16,14 +16,14 @@ pub const ROOM: usize = 65_536;
 // The most bytes before a line's hexadecimal: a name of 7 letters, a number of 10 digits, and a space after each.
 const LONGEST_HEAD: usize = 7 + 1 + 10 + 1;
 
-/// Sends all the bytes. Where the sink fails a prefix of them was sent.
+/// Sends all the bytes. Where the sink fails, a prefix of them was sent.
 pub fn send_all<K: Sink>(bytes: &[u8], sink: &mut K) -> Result<(), LinkFault>
     ensures { Puts K.takes K.failures bytes.now sink.old [] result [] sink.new }
 {
     pg_wire::send_all(bytes, sink)
 }
 
-/// Sends all that stands in a buffer, and empties it. Where the sink fails a prefix of it was sent.
+/// Sends all that stands in a buffer, and empties it. Where the sink fails, a prefix of it was sent.
 pub fn send<K: Sink>(buf: &mut Vec<u8>, sink: &mut K) -> Result<(), LinkFault>
     ensures puts { Puts K.takes K.failures buf.old.items sink.old [] result buf.new.items sink.new }
     ensures nothing_left { OnOk result (buf.new.items ≡ []) }
@@ -33,7 +33,7 @@ pub fn send<K: Sink>(buf: &mut Vec<u8>, sink: &mut K) -> Result<(), LinkFault>
     Ok(())
 }
 
-/// Collects text, and sends it in large pieces. It takes memory only when it is made.
+/// Collects text, and sends it in large pieces. Only `new` takes memory.
 #[derive(Drop)]
 pub struct Outbox {
     buf: Vec<u8>,
@@ -52,7 +52,7 @@ impl Model for Outbox {
 }
 
 impl Outbox {
-    /// Nothing is collected.
+    /// An outbox in which nothing is collected. It fails where memory runs out.
     pub fn new(alloc: Global) -> Result<Outbox, AllocError>
         ensures { IfOk result (λ o. o ≡ []) }
     {
@@ -69,7 +69,7 @@ impl Outbox {
         &self.buf[..self.filled]
     }
 
-    /// Sends all that was collected. Where the sink fails a prefix of it was sent.
+    /// Sends all that was collected. Where the sink fails, a prefix of it was sent.
     pub fn flush<K: Sink>(&mut self, sink: &mut K) -> Result<(), LinkFault>
         ensures puts { Puts K.takes K.failures self.old sink.old [] result self.new sink.new }
         ensures nothing_left { OnOk result (self.new ≡ []) }
@@ -181,7 +181,7 @@ impl Outbox {
         Ok(())
     }
 
-    /// Puts a text, however long. Where the sink fails a prefix of what was collected and the text was sent.
+    /// Puts a text, however long. Where the sink fails, a prefix of what was collected and of the text was sent.
     pub fn put_text<K: Sink>(&mut self, text: &[u8], sink: &mut K) -> Result<(), LinkFault>
         ensures puts { Puts K.takes K.failures self.old sink.old text.now result self.new sink.new }
         ensures within { OnOk result (length self.new ≤ most_collected) }
@@ -193,7 +193,7 @@ impl Outbox {
         }
     }
 
-    /// Puts the line for a name, a length and bytes. Where the sink fails a prefix of what was collected and the line was sent.
+    /// Puts the line for a name, a length and bytes. Where the sink fails, a prefix of what was collected and of the line was sent.
     pub fn put_line<K: Sink>(
         &mut self,
         name: &[u8],

@@ -1,4 +1,4 @@
-//! Why the work of a tool stops, and what is answered for it.
+//! Why the work of a tool stops, and what is returned for it.
 
 ghost use Rattle.std.specs.Prelude.{◌≡◌};
 ghost use Rattle.pgpipe_base.specs.Stop.{Settles, answer_of};
@@ -10,13 +10,13 @@ use pg_wire::{LinkFault, Sink};
 /// Why the work of a tool stops.
 #[derive(Clone, Copy)]
 pub enum Stop<A> {
-    /// It has this answer.
+    /// It is done, and returns this.
     Answer(A),
-    /// Memory was refused.
+    /// Memory ran out.
     Memory,
     SourceFailed,
     SinkFailed,
-    /// The source gave no end in as many receives as are made.
+    /// The source gave no end in as many receives as a task makes.
     Endless,
 }
 
@@ -33,7 +33,7 @@ impl<A: Copy> Stop<A> {
         }
     }
 
-    /// The answer, where all that was collected is sent.
+    /// What the tool returns, where all that was collected is sent.
     pub fn answer(self) -> Result<A, ToolFault>
         ensures { result ≡ answer_of self }
     {

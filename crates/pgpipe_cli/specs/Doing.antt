@@ -38,7 +38,7 @@ use Rattle.pgpipe_cli.specs.TextOptions.{only_byte, ReadsOptions}
 
 -- ---- a tool's run, by what it received, sent and answered
 
--- `show_as` was run and answered this. It received these pieces from `source` and sent these to
+-- `show_as` was run and returned this. It received these pieces from `source` and sent these to
 -- `sink`, and what it promises holds of them.
 pub record WasShown {S K : Type 0} (gives : S → List ℕ → S → Type 0) (source_failures : S → ℕ)
     (has_ended : S → Type 0) (takes : K → List ℕ → K → Type 0) (failures : K → ℕ) (way : Way)
@@ -55,7 +55,7 @@ pub record WasShown {S K : Type 0} (gives : S → List ℕ → S → Type 0) (so
   pub source_counts : CountsNoFailure (source_failures source) answer (source_failures source')
   pub sink_counts : CountsNoFailure (failures sink) answer (failures sink')
 
--- `convert_with` was run, with these formats, columns and options, and answered this. It received
+-- `convert_with` was run, with these formats, columns and options, and returned this. It received
 -- these pieces from `source` and sent these to `sink`, and what it promises holds of them.
 pub record WasConverted {S K : Type 0} (gives : S → List ℕ → S → Type 0) (source_failures : S → ℕ)
     (has_ended : S → Type 0) (takes : K → List ℕ → K → Type 0) (failures : K → ℕ) (from to : Format)
@@ -75,7 +75,7 @@ pub record WasConverted {S K : Type 0} (gives : S → List ℕ → S → Type 0)
   pub sink_counts : CountsNoFailure (failures sink) answer (failures sink')
 
 -- `run_loop` was run, or, for a trace (true), `trace_loop`, with a new pair of this script and these
--- settings, and answered this. It sent these pieces to `sink`, and what it promises holds of them.
+-- settings, and returned this. It sent these pieces to `sink`, and what it promises holds of them.
 pub record WasRun {C K : Type 0} (carries : Carrying C) (takes : K → List ℕ → K → Type 0)
     (failures : K → ℕ) (trace : Bool) (cut : ℕ) (script : Script) (calls : Calls) (carrier : C)
     (sink : K) (answer : Result Ran ToolFault) (sink' : K) : Type 0 where
@@ -132,7 +132,7 @@ module _ {C K : Type 0} (carries : Carrying C) (takes : K → List ℕ → K →
 
 module _ {K : Type 0} (takes : K → List ℕ → K → Type 0) (failures : K → ℕ) (task : LoopTask)
     (sink : K) (result : Result Unit Failure) (sink' : K) where
-  -- `break_everywhere` was run with these files, and answered this. It sent these pieces to `sink`,
+  -- `break_everywhere` was run with these files, and returned this. It sent these pieces to `sink`,
   -- and what it promises holds of them.
   pub record WasBroken (files : LoopFiles) (answer : Result (Option Place) ToolFault) : Type 0 where
     pub sent : List (List ℕ)
@@ -199,7 +199,7 @@ module _ {C K : Type 0} (carries : Carrying C) (takes : K → List ℕ → K →
 
 -- ---- both sides of a connection
 
--- `show_both` was run, and the result is what its answer means for the program.
+-- `show_both` was run, and its result says how the program ends.
 abbrev pub DoesBoth : {F B K : Type 0} → (F → List ℕ → F → Type 0) → (F → ℕ) → (F → Type 0)
     → (B → List ℕ → B → Type 0) → (B → ℕ) → (B → Type 0) → (K → List ℕ → K → Type 0) → (K → ℕ)
     → F → B → K → Result Unit Failure → F → B → K → Type 0
@@ -212,7 +212,7 @@ DoesBoth front_gives front_failures front_ended back_gives back_failures back_en
 
 -- ---- a task
 
--- `summarize` was run, and the task's result is what its answer means for the program.
+-- `summarize` was run, and its result says how the task ends.
 abbrev pub DoesSummary : {S K : Type 0} → (S → List ℕ → S → Type 0) → (K → List ℕ → K → Type 0)
     → Bool → S → K → Result Unit Failure → S → K → Type 0
 DoesSummary gives takes front source sink result source' sink' = (answer : Result Shown ToolFault)
@@ -220,7 +220,7 @@ DoesSummary gives takes front source sink result source' sink' = (answer : Resul
 
 module _ {S K : Type 0} (gives : S → List ℕ → S → Type 0) (source_failures : S → ℕ) (has_ended : S
     → Type 0) (takes : K → List ℕ → K → Type 0) (failures : K → ℕ) where
-  -- `show_as` was run, and the task's result is what its answer means for the program.
+  -- `show_as` was run, and its result says how the task ends.
   abbrev pub DoesShow : Way → S → K → Result Unit Failure → S → K → Type 0
   DoesShow way source sink result source' sink' = (answer : Result Shown ToolFault)
       × WasShown gives source_failures has_ended takes failures way source sink answer source'

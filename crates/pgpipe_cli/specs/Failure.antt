@@ -23,9 +23,9 @@ use Rattle.pgpipe_show.specs.declared.show.Shown.TheVariants as shown
 use Rattle.pgpipe_base.specs.declared.fault.ToolFault.{ToolFault}
 use Rattle.pgpipe_base.specs.declared.fault.ToolFault.TheVariants as fault
 
--- the exit status: 1 for a wrong word, 2 for wrong options, for a fault of what was read, and where a
--- broken loop wasn't seen to settle what was answered, 3 for a failed file, stream or carrier, 4 for
--- want of memory
+-- the exit status: 1 for a wrong word; 2 for wrong options, for a fault of what was read, and where
+-- a broken loop wasn't seen to settle what was answered; 3 for a failed file, stream or carrier; 4
+-- where memory ran out
 abbrev pub failure_status : Failure → ℕ
 failure_status failure.NotUtf8 = 1
 failure_status failure.Delimiter = 1
@@ -50,7 +50,7 @@ failure_status (failure.Unseen place) = 2
 failure_status failure.Device = 3
 failure_status failure.Memory = 4
 
--- What the answer of `show` means for the program: success where the stream is whole, and else a
+-- What the result of `show` means for the program: success where the stream is whole, and else a
 -- failure.
 abbrev pub ShowResults : Result Shown ToolFault → Result Unit Failure → Type 0
 ShowResults (Ok shown.Whole) r = r ≡ Ok tt
@@ -76,14 +76,14 @@ ends_result (ending.Fault f) back = Err (failure.FrontFault f)
 ends_result ending.Canceled back = back_result back
 ends_result ending.Encrypted back = Err failure.Encrypted
 
--- What the answer of `show_both` means for the program: success where both streams are whole, and else
+-- What the result of `show_both` means for the program: success where both streams are whole, and else
 -- a failure.
 abbrev pub BothResults : Result BothEnds ToolFault → Result Unit Failure → Type 0
 BothResults (Ok ends) r = r ≡ ends_result ends.front ends.back
 BothResults (Err fault.Device) r = r ≡ Err failure.Device
 BothResults (Err fault.Memory) r = r ≡ Err failure.Memory
 
--- What the answer of `convert_with` means for the program: success where the file is whole, and else a
+-- What the result of `convert_with` means for the program: success where the file is whole, and else a
 -- failure.
 abbrev pub ConversionResults : Result Converted ToolFault → Result Unit Failure → Type 0
 ConversionResults (Ok converted.Whole) r = r ≡ Ok tt
@@ -108,15 +108,15 @@ abbrev pub check_failure : ScriptFault → Failure
 check_failure check.Memory = failure.Memory
 check_failure f = failure.Check f
 
--- What the answer of `run_loop` means for the program: success where no event was answered Carrier,
--- and else a failure.
+-- What the result of `run_loop` means for the program: success where no event came to Carrier, and
+-- else a failure.
 abbrev pub LoopResults : Result Ran ToolFault → Result Unit Failure → Type 0
 LoopResults (Ok ran.Whole) r = r ≡ Ok tt
 LoopResults (Ok ran.CarrierFailed) r = r ≡ Err failure.Device
 LoopResults (Err fault.Device) r = r ≡ Err failure.Device
 LoopResults (Err fault.Memory) r = r ≡ Err failure.Memory
 
--- What the answer of `break_everywhere` means for the program: success where it names no place at
+-- What the result of `break_everywhere` means for the program: success where it names no place at
 -- which the headline wasn't seen, and else a failure that names it.
 abbrev pub BreakResults : Result (Option Place) ToolFault → Result Unit Failure → Type 0
 BreakResults (Ok None) r = r ≡ Ok tt
@@ -129,7 +129,7 @@ abbrev pub IsHelp : ErrorKind → Type 0
 IsHelp k = (k ≡ kind.DisplayHelp) ⊎ (k ≡ kind.DisplayVersion)
 
 -- How the program ends where clap has an error for the words: help with status 0, a mistake with 1.
--- Where the text can't be printed that is the failure Device, and want of memory is Memory.
+-- Where the text can't be printed, that is the failure Device. Where memory ran out, it is Memory.
 abbrev pub Explains : ErrorKind → Result ExitCode Failure → Type 0
 Explains k (Ok code) = (k ≢ kind.OutOfMemory) × (IsHelp k → exit_status code ≡ 0)
     × ((IsHelp k → ⊥) → exit_status code ≡ 1)

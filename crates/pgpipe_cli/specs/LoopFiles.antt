@@ -18,8 +18,8 @@ use Rattle.pgpipe_cli.specs.Failure.{script_failure, calls_failure}
 abbrev pub calls_limit : ℕ
 calls_limit = 1073741823
 
--- If the fault names a row, it is the one that has no meaning in its place; want of memory names
--- none.
+-- If the fault names a row, it is the one that has no meaning in its place. Where memory ran out,
+-- it names none.
 abbrev pub IsAt : {A : Type 0} → LineFault → Result A ℕ → Type 0
 IsAt fault reading = (n : ℕ) → fault ≡ Line n → reading ≡ Err n
 
@@ -47,13 +47,13 @@ module _ (holds : List ℕ → List ℕ → Type 0) (fails : List ℕ → Failur
   HasText comments path text = (bytes : List ℕ) × holds path bytes × (text ≡ text_of comments bytes)
 
   -- The text of the file at this path can't be had: it can't be read, or, where it may have
-  -- comments (true), memory for it was refused.
+  -- comments (true), memory for it ran out.
   abbrev pub FailsText : Bool → List ℕ → Failure → Type 0
   FailsText false path f = fails path f
   FailsText true path f = fails path f ⊎ (f ≡ failure.Memory)
 
   -- What came of SCRIPT at this path: the script that its text says; or the text can't be had, or
-  -- has a fault, or memory was refused.
+  -- has a fault, or memory ran out.
   abbrev pub ReadsScript : Bool → List ℕ → Result Script Failure → Type 0
   ReadsScript comments path (Ok script) = (text : List ℕ) × HasText comments path text
       × (script_of text ≡ Ok script)
@@ -71,7 +71,7 @@ module _ (holds : List ℕ → List ℕ → Type 0) (fails : List ℕ → Failur
   abbrev pub FillsAll : Calls → Calls → Type 0
   FillsAll read calls = Fills read calls × (next_file calls.lines ≡ None)
 
-  -- The next file that CALLS names can't be read, or memory for its chunks was refused.
+  -- The next file that CALLS names can't be read, or memory for its chunks ran out.
   pub record StopsFilling (read : Calls) (f : Failure) : Type 0 where
     pub calls : Calls
     pub path : List ℕ
@@ -86,7 +86,7 @@ module _ (holds : List ℕ → List ℕ → Type 0) (fails : List ℕ → Failur
 
   -- What came of CALLS at this path: what its text says, with the files that it names, which have
   -- no comments; or the text can't be had or has a fault, or one of those files failed, or memory
-  -- was refused.
+  -- ran out.
   abbrev pub ReadsCalls : Bool → List ℕ → Result Calls Failure → Type 0
   ReadsCalls comments path (Ok calls) = (text : List ℕ) × HasText comments path text
       × (read : Calls) × (calls_of text ≡ Ok (what_is_said read))

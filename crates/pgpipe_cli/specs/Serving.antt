@@ -50,7 +50,7 @@ module _ {L C K : Type 0} (gives takes : L → List ℕ → L → Type 0) (has_e
 
   module _ (holds : List ℕ → List ℕ → Type 0) (misses : List ℕ → Failure → Type 0) where
     -- Clients were served from the file at this path, by what came of it: it can't be read; or it
-    -- has these bytes, which have a fault, or memory was refused for them; or they say a script.
+    -- has these bytes, which have a fault, or memory ran out for them; or they say a script.
     abbrev pub ServesFile : List ℕ → Type 0
     ServesFile path = ((f : Failure) × misses path f × FailsBy f)
         ⊎ ((bytes : List ℕ) × holds path bytes

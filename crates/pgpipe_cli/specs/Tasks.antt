@@ -176,18 +176,19 @@ IsAskedFor None t = t
     })
 IsAskedFor (Some subcommand) t = IsNamed subcommand.0 subcommand.1 t
 
--- What is told of a task, by what was found for the flags of its subcommand.
+-- What is printed about a task, by what was found for the flags of its subcommand.
 pub record IsTellingBy (found : List Row) (t : Telling) : Type 0 where
   pub explain : IsFlag (one_of (codes "explain") found) t.explain
   pub progress : IsFlag (one_of (codes "progress") found) t.progress
 
--- What is told: what the flags of the subcommand say, and nothing without a subcommand.
+-- What is printed: what the flags of the subcommand say, and nothing without a subcommand.
 abbrev pub IsTellingOf : Option (Text × List Row) → Telling → Type 0
 IsTellingOf None t = (t.explain ≡ false) × (t.progress ≡ false)
 IsTellingOf (Some subcommand) t = IsTellingBy subcommand.1 t
 
--- What the words come to: the task that they ask for and what is told of it, or an error of the kind that
--- clap has for them. Where the words are right, want of memory is the only error.
+-- What the words are read as: the task that they ask for and what is printed about it, or an error
+-- of the kind that clap has for them. Where the words are right, the only error is that memory ran
+-- out.
 pub record IsReadOf (words : List Text) (result : Result Asked Error) : Type 0 where
   pub formats : ValueParser
   pub are_formats : IsFormats formats

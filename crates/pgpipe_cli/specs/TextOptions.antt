@@ -11,7 +11,7 @@ only_byte (b ∷ []) = Some b
 only_byte _ = None
 
 -- What came of a delimiter and a null mark: the options that they are; or the delimiter isn't one
--- byte, or there are no such options, or memory was refused.
+-- byte, or there are no such options, or memory ran out.
 abbrev pub ReadsOptions : Option ℕ → List ℕ → Result Options Failure → Type 0
 ReadsOptions None mark r = r ≡ Err failure.Delimiter
 ReadsOptions (Some b) mark (Ok o) = (options_fault b mark ≡ None)

@@ -1,4 +1,4 @@
-//! What a command line asks for: a task, and what is told of it.
+//! What a command line asks for: a task, and what is printed about it.
 
 ghost use Rattle.std.specs.Prelude.{◌≡◌, map, string_bytes};
 ghost use Rattle.clap.specs.Words.{found_of, rows_of, subcommand_rows_of};
@@ -10,7 +10,7 @@ use clap::builder::ValueParser;
 use clap::{ArgMatches, Error};
 use std::alloc::Global;
 
-/// What is told on standard error beside a fault's own line.
+/// What is printed on standard error beside a fault's own line.
 #[derive(Clone, Copy)]
 pub struct Telling {
     /// Whether a second line says where a fault stands, and what was expected.
@@ -19,12 +19,12 @@ pub struct Telling {
     pub progress: bool,
 }
 
-/// What the program is asked for.
+/// What the program is to do.
 #[derive(Drop)]
 pub struct Asked {
     /// The task.
     pub task: Task,
-    /// What is told of it.
+    /// What is printed about it.
     pub telling: Telling,
 }
 
@@ -38,7 +38,7 @@ fn telling_by(matches: &ArgMatches<'_>) -> Telling
     }
 }
 
-// What the matches say is to be told.
+// What the matches say is to be printed.
 fn telling_of(matches: &ArgMatches<'_>) -> Telling
     ensures { IsTellingOf (subcommand_rows_of matches.now) result }
 {

@@ -51,7 +51,7 @@ fn after(place: BytePlace, byte: u8) -> BytePlace
     }
 }
 
-// Whether a byte that stands there is left: of a comment only what ends its line is.
+// Whether a byte that stands there is left. In a comment only the byte that ends its line is.
 fn is_left(place: BytePlace, byte: u8) -> bool
     ensures yes { result ≡ true → left_of place byte ≡ byte ∷ [] }
     ensures no { result ≡ false → left_of place byte ≡ [] }
@@ -73,7 +73,7 @@ fn put_left(place: BytePlace, byte: u8, text: &mut Vec<u8>) -> Result<(), AllocE
     Ok(())
 }
 
-/// The bytes of a file, with each line that begins with `#` made an empty line. In such a line a backslash escapes nothing.
+/// The bytes of a file in which each line that begins with `#` is made an empty line. In such a line a backslash escapes nothing.
 pub fn without_comments(alloc: Global, bytes: &[u8]) -> Result<Vec<u8>, AllocError>
     ensures { IfOk result (λ text. text.items ≡ uncommented bytes.now) }
 {

@@ -128,9 +128,9 @@ fn do_loop<F: FileStore, C: Carry, K: Sink>(
     break_files(alloc, task, files, sink)
 }
 
-/// Does a task: shows or converts what the source gives, or runs a loop of two files, over a carrier, or breaks it everywhere; what
-/// comes of it is sent. Clients aren't served here, where none come, but by [`serve_file`](crate::serve_file): that task fails as a
-/// device does, and does nothing.
+/// Does a task, and sends what comes of it. It shows or converts what the source gives, or runs a loop of two files over a carrier, or breaks it
+/// everywhere. It doesn't serve clients, as none come here: that task returns Device, and does nothing. [`serve_file`](crate::serve_file) serves
+/// them.
 pub fn do_task<F: FileStore, C: Carry, S: Source, K: Sink>(
     alloc: Global,
     task: Task,
@@ -158,7 +158,7 @@ pub fn do_task<F: FileStore, C: Carry, S: Source, K: Sink>(
     }
 }
 
-/// Prints help, or why the words are no task, and answers the status for it.
+/// Prints help, or why the words are no task, and returns the exit status for it.
 pub fn explain<R: Print + Eprint>(rt: &R, error: &clap::Error) -> Result<ExitCode, Failure>
     ensures { Explains (kind_of error.now) result }
 {

@@ -128,7 +128,7 @@ pub fn stream_reason(source: Option<&io::Error>, sink: Option<&io::Error>) -> Op
     }
 }
 
-// Why a line of a file that is read as this text is refused, if the failure names one.
+// Why a line of a file that is read as this text is rejected, if the failure names one.
 fn line_reason(alloc: Global, failure: &Failure, text: &[u8]) -> Option<Reason> {
     let reason = match failure {
         Failure::Script(row) => script_reason(alloc, text, *row),
@@ -141,7 +141,7 @@ fn line_reason(alloc: Global, failure: &Failure, text: &[u8]) -> Option<Reason> 
     }
 }
 
-// The same of a file that has these bytes, and is read without its comments where it may have any.
+// Why a line of a file with these bytes is rejected, if the failure names one. Where the file may have comments, it is read without them.
 fn bytes_reason(
     alloc: Global,
     subject: Subject,
@@ -325,9 +325,9 @@ fn subject_reason(
     }
 }
 
-/// Why a task failed that is about this, where its output ends in this place of its input, and the input begins with these bytes. Of a
-/// stream, a file, options and a script it is what was expected; of a loop, that its carrier failed; of a server, that no client could be
-/// awaited. None says that it isn't told here.
+/// Why a task that is about this failed. Its output ends in this place of its input, and the input begins with these bytes. For a stream, a file,
+/// options and a script it is what was expected; for a loop, that its carrier failed; for a server, that no client could be awaited. None: the reason
+/// isn't given here.
 pub fn task_reason(
     subject: Subject,
     failure: &Failure,

@@ -30,16 +30,16 @@ pub enum Failure {
     /// The delimiter isn't one byte.
     #[error("delimiter")]
     Delimiter,
-    /// A loop that is broken everywhere isn't carried over TCP.
+    /// A loop that is broken everywhere can't be carried over TCP.
     #[error("--break-everywhere can't go with --tcp")]
     BreaksOverTcp,
-    /// Of a loop that is broken everywhere there is no trace.
+    /// A loop that is broken everywhere can't be traced.
     #[error("--break-everywhere can't go with --trace")]
     BreaksTraced,
-    /// Of the files of both sides one is missing, or another word can't go with them.
+    /// One of the files of both sides is missing, or another word can't go with them.
     #[error("--front-file and --back-file go together, and with --decode alone")]
     Sides,
-    /// There are no such options of COPY text, for this reason.
+    /// COPY text can't have these options, for this reason.
     #[error("{0}")]
     Options(OptionFault),
     /// The stream ends with so many bytes that are no whole message, or come after a Cancel.
@@ -72,12 +72,10 @@ pub enum Failure {
     /// A row can't be written in the other format, for this reason.
     #[error("{0}")]
     Row(RowFault),
-    /// The line of SCRIPT in this row, counted from 1, has no meaning there or has a fault of the
-    /// text format.
+    /// The line of SCRIPT in this row, counted from 1, has no meaning there or has a fault of the text format.
     #[error("SCRIPT line {0}")]
     Script(usize),
-    /// The line of CALLS in this row, counted from 1, has no meaning there or has a fault of the
-    /// text format.
+    /// The line of CALLS in this row, counted from 1, has no meaning there or has a fault of the text format.
     #[error("CALLS line {0}")]
     Calls(usize),
     /// The script can't be played, for this reason.
@@ -89,14 +87,13 @@ pub enum Failure {
     /// A file, a stream or a carrier failed.
     #[error("device")]
     Device,
-    /// Memory was refused.
+    /// Memory ran out.
     #[error("memory")]
     Memory,
 }
 
 impl Failure {
-    /// The program's exit status: 1 for a wrong word, 2 for wrong options, for a rest or a fault of what
-    /// was read, and for Unseen, 3 for Device, 4 for Memory.
+    /// The program's exit status. 1: a wrong word. 2: wrong options, a rest or a fault of what was read, or Unseen. 3: Device. 4: Memory.
     pub fn status(&self) -> u8
         ensures { result ≡ failure_status self.now }
     {
@@ -127,7 +124,7 @@ impl Failure {
     }
 }
 
-/// What it means that the words of the command line can't be had.
+/// The failure of a program that can't have the words of its command line.
 pub fn words_failure(error: &io::Error) -> Failure
     ensures memory { error_kind error.now ≡ ErrorKind.OutOfMemory → result ≡ Failure.Memory }
     ensures text { error_kind error.now ≢ ErrorKind.OutOfMemory → result ≡ Failure.NotUtf8 }
@@ -138,7 +135,7 @@ pub fn words_failure(error: &io::Error) -> Failure
     }
 }
 
-/// What an answer of `show` means for the program: only a whole stream is a success.
+/// How the program ends for a result of `show`: only a whole stream is a success.
 pub fn show_result_of(answer: Result<Shown, ToolFault>) -> Result<(), Failure>
     ensures { ShowResults answer result }
 {
@@ -177,7 +174,7 @@ fn ends_result(front: Ended, back: Ended) -> Result<(), Failure>
     }
 }
 
-/// What an answer of `show_both` means for the program: only two whole streams are a success.
+/// How the program ends for a result of `show_both`: only two whole streams are a success.
 pub fn both_result_of(answer: Result<BothEnds, ToolFault>) -> Result<(), Failure>
     ensures { BothResults answer result }
 {
@@ -188,7 +185,7 @@ pub fn both_result_of(answer: Result<BothEnds, ToolFault>) -> Result<(), Failure
     }
 }
 
-/// What an answer of `convert_with` means for the program: only a whole file is a success.
+/// How the program ends for a result of `convert_with`: only a whole file is a success.
 pub fn conversion_result_of(answer: Result<Converted, ToolFault>) -> Result<(), Failure>
     ensures { ConversionResults answer result }
 {
@@ -202,7 +199,7 @@ pub fn conversion_result_of(answer: Result<Converted, ToolFault>) -> Result<(), 
     }
 }
 
-/// What it means that a file can't be read.
+/// The failure of a program that can't read a file.
 pub fn file_failure(error: &io::Error) -> Failure
     ensures memory { error_kind error.now ≡ ErrorKind.OutOfMemory → result ≡ Failure.Memory }
     ensures device { error_kind error.now ≢ ErrorKind.OutOfMemory → result ≡ Failure.Device }
@@ -213,7 +210,7 @@ pub fn file_failure(error: &io::Error) -> Failure
     Failure::Device
 }
 
-/// What a fault of SCRIPT means for the program.
+/// The failure for a fault of SCRIPT.
 pub fn script_failure(fault: LineFault) -> Failure
     ensures { result ≡ script_failure fault }
 {
@@ -223,7 +220,7 @@ pub fn script_failure(fault: LineFault) -> Failure
     }
 }
 
-/// What a fault of CALLS means for the program.
+/// The failure for a fault of CALLS.
 pub fn calls_failure(fault: LineFault) -> Failure
     ensures { result ≡ calls_failure fault }
 {
@@ -233,7 +230,7 @@ pub fn calls_failure(fault: LineFault) -> Failure
     }
 }
 
-/// What it means for the program that a script can't be played.
+/// The failure for a script that can't be played.
 pub fn check_failure(fault: ScriptFault) -> Failure
     ensures { result ≡ check_failure fault }
 {
@@ -243,7 +240,7 @@ pub fn check_failure(fault: ScriptFault) -> Failure
     }
 }
 
-/// What an answer of `run_loop` means for the program: a carrier that failed is no success.
+/// How the program ends for a result of `run_loop`: a carrier that failed is no success.
 pub fn loop_result_of(answer: Result<Ran, ToolFault>) -> Result<(), Failure>
     ensures { LoopResults answer result }
 {
@@ -255,7 +252,7 @@ pub fn loop_result_of(answer: Result<Ran, ToolFault>) -> Result<(), Failure>
     }
 }
 
-/// What an answer of `break_everywhere` means for the program: only where no place is named is it a success.
+/// How the program ends for a result of `break_everywhere`: only a result that names no place is a success.
 pub fn break_result_of(answer: Result<Option<Place>, ToolFault>) -> Result<(), Failure>
     ensures { BreakResults answer result }
 {

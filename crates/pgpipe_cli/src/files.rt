@@ -22,7 +22,7 @@ pub trait FileStore {
         ensures failed { IfErr result (λ failure. fails self.now path.now failure) };
 }
 
-/// The files of the system that the program runs on. Of their bytes nothing is assumed.
+/// The files of the system that the program runs on. Nothing is assumed about their bytes.
 #[derive(Drop)]
 pub struct Disk<'a, R> {
     rt: &'a R,

@@ -63,7 +63,7 @@ pub const BREAK: &str =
     "Run the loop again for each byte of each way, with the way broken after it, and \
 print what is settled, in doubt and logged there";
 
-/// What is told of each event.
+/// What is printed about each event.
 pub const TRACE: &str =
     "Print each event with what it moved, as show prints messages, and both phases after it";
 
@@ -105,11 +105,11 @@ pub const SCRIPT: &str = "The file of what the backend answers";
 /// The path of the calls.
 pub const CALLS: &str = "The file of what happens to the client";
 
-/// What is said of a fault.
+/// What is printed about a fault.
 pub const EXPLAIN: &str =
     "Say in a second line where a fault stands, what was expected, and a guess";
 
-/// What is said while the work goes on.
+/// What is printed while the work goes on.
 pub const PROGRESS: &str = "Say on standard error how far it is, up to four times a second";
 
 /// After the help of the program.

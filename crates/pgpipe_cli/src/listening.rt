@@ -9,7 +9,7 @@ use std::io;
 use std::io::ErrorKind;
 use std::net::{Net, OpenListener, OpenStream, TcpListener};
 
-/// The clients that connect to a port of 127.0.0.1. Of when they come, and what they send, nothing is assumed.
+/// The clients that connect to a port of 127.0.0.1. Nothing is assumed about when they come and what they send.
 #[derive(Drop)]
 pub struct Listening<R: Net> {
     listener: R::Listener,

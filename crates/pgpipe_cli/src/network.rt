@@ -32,7 +32,7 @@ fn both_ends<R: Net>(rt: &R) -> io::Result<(R::Stream, R::Stream)> {
     Ok((client, backend))
 }
 
-/// A carrier over one TCP connection of this process to itself, on 127.0.0.1. Of what such a connection carries nothing is assumed.
+/// A carrier over one TCP connection of this process to itself, on 127.0.0.1. Nothing is assumed about what such a connection carries.
 pub fn connect_to_itself<R: Net>(rt: &R) -> Result<Across<TcpEnd<R>, TcpEnd<R>>, Failure>
     ensures { IfErr result (λ failure. failure ≡ Device) }
 {

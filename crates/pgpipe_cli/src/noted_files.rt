@@ -13,7 +13,7 @@ use std::{fs, io};
 /// What came of the last file that was read.
 #[derive(Drop)]
 pub enum LastRead {
-    /// No file was read, or memory for the note was refused.
+    /// No file was read, or memory for the note ran out.
     Nothing,
     /// It has these bytes.
     Bytes(Vec<u8>),
@@ -42,8 +42,8 @@ fn refusal_of(alloc: Global, path: &str, error: io::Error) -> LastRead {
     }
 }
 
-/// The files of the system that the program runs on, as [`Disk`](crate::Disk) has them, and a note of what came of the last one that was
-/// read. Of their bytes, and of the note, nothing is assumed.
+/// The files of the system that the program runs on, as [`Disk`](crate::Disk) has them, and a note of what came of the last one that was read.
+/// Nothing is assumed about their bytes and the note.
 #[derive(Drop)]
 pub struct NotedDisk<'a, R> {
     rt: &'a R,

@@ -34,7 +34,7 @@ pub enum Reason {
     /// At the port no client can be awaited any more.
     #[error("no more clients can be awaited at the port")]
     Clients,
-    /// The line of SCRIPT or CALLS that the first line names is refused.
+    /// The line of SCRIPT or CALLS that the first line names is rejected.
     #[error("{0}")]
     Line(LineReason),
     /// This was expected.

@@ -7,7 +7,7 @@ use pgpipe_explain::{Tracked, TrackedKind, Tracker};
 use std::alloc::Global;
 use std::time::{Clock, Duration, Instant};
 
-// How many milliseconds nothing more is told after a line.
+// How many milliseconds no further line is printed after one.
 const PAUSE: u64 = 250;
 
 // How many of the first bytes are kept.
@@ -25,8 +25,8 @@ impl<S> Followed for Tracked<S> {
     }
 }
 
-/// A tracked source whose first 8 bytes are kept, and that tells how far it is, if it is asked to: after a piece was received, and at most
-/// four times a second. It passes on all that the source gives.
+/// A tracked source whose first 8 bytes are kept. If it is asked to, it prints how far it is: after a piece was received, and at most four times a
+/// second. It passes on all that the source gives.
 #[derive(Drop)]
 pub struct Watched<'a, R, T> {
     rt: &'a R,
@@ -65,7 +65,7 @@ impl<'a, R, T> Watched<'a, R, T> {
         &self.inner
     }
 
-    /// The first bytes of all that was received, unless memory for them was refused: at most 8.
+    /// The first bytes of all that was received, unless memory for them ran out: at most 8.
     pub fn first(&self) -> &[u8] {
         self.first.as_slice()
     }
@@ -75,13 +75,13 @@ impl<'a, R, T> Watched<'a, R, T> {
         ensures { self.new.inner ≡ self.old.inner }
     {
         let wanted = FIRST.saturating_sub(self.first.len()).min(piece.len());
-        // where memory for them is refused, the stream looks like nothing
+        // where memory for them runs out, the stream looks like nothing
         let _ = self.first.extend_from_slice(piece.split_at(wanted).0);
     }
 }
 
 impl<R: Clock + Eprint, T: Followed> Watched<'_, R, T> {
-    // Whether a line may be told now. If so, the pause begins.
+    // Whether a line may be printed now. If so, the pause begins.
     fn may_tell(&mut self) -> bool
         ensures { self.new.inner ≡ self.old.inner }
     {

@@ -54,7 +54,7 @@ abbrev pub file_with : Options → Format → ℕ → FileReading
 file_with o format.Text columns = text_file o (Some columns)
 file_with o format.Binary columns = binary_file columns value_limit
 
--- the same with the default options
+-- how a file of this format and so many columns is read, COPY text with the default options
 abbrev pub file_of : Format → ℕ → FileReading
 file_of from columns = file_with default_options from columns
 
@@ -182,7 +182,7 @@ IsConvertedAtOnce file to bytes text = (before : List ℕ) × AreConvertedBefore
 
 -- ---- the answer
 
--- What a conversion answers, by the bytes received and the text sent. Memory: no row before the
+-- What a conversion returns, by the bytes received and the text sent. Memory: no row before the
 -- last piece is missing, or nothing was received or sent. Device: the sink broke (a prefix was
 -- sent), or the source stopped (the head and all rows were sent).
 abbrev pub ConversionAnswers : Type 0 → Type 0 → Type 0 → FileReading → FileWriting → List ℕ
@@ -196,7 +196,8 @@ ConversionAnswers stopped broke ended file to bytes text (Err fault.Device) = (b
     × ArePartlyConverted file to ended bytes text × IsConvertedAtOnce file to bytes text)
     ⊎ (stopped × AreAllConverted file to bytes text)
 
--- What `convert` answers: the same, where a text file is written with the default options.
+-- What `convert` returns, by the bytes received and the text sent: it is a conversion in which a
+-- text file is written with the default options.
 abbrev pub ConvertAnswers : Type 0 → Type 0 → Type 0 → FileReading → Format → List ℕ → List ℕ
     → Result Converted ToolFault → Type 0
 ConvertAnswers stopped broke ended file to bytes text result =

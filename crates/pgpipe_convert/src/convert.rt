@@ -155,19 +155,18 @@ fn begin<'a>(
     }
 }
 
-/// Writes the rows of a COPY file of the one format, of so many columns, 1 to 32,767, as a file of the other, or the same,
-/// format: each in its canonical form, in binary between the head and the trailer. Values of a binary file may have up to
-/// 1,073,741,823 bytes. The source is read to its end, also after the end mark of a text file.
+/// Writes the rows of a COPY file of one format, of so many columns, 1 to 32,767, as a file of the other, or of the same format. Each row is written
+/// in its canonical form, in binary between the head and the trailer. Values of a binary file may have up to 1,073,741,823 bytes. The source is read
+/// to its end, even after the end mark of a text file.
 ///
-/// Before each `receive` but the first, the head and the rows of all that came are sent. The head and the rows before a fault, or
-/// before a row that the format can't have, are sent, and no trailer. `Device` is answered where
-/// - the sink failed in this call: a prefix of the file was sent, and what is written for all that was received but the
-///   last piece is at most 65,536 bytes more; or
-/// - the source failed in this call or gave no end in 1,099,511,627,776 receives: the head and the rows in all that was
-///   received were sent.
+/// Before each `receive` but the first, the head and the rows of all that came are sent. The head and the rows before a fault, or before a row that
+/// the format can't have, are sent, and no trailer. `Device` is returned where
+/// - the sink failed in this call: a prefix of the file was sent, and what is written for all that was received but the last piece is at most 65,536
+///   bytes more; or
+/// - the source failed in this call or gave no end in 1,099,511,627,776 receives: the head and the rows in all that was received were sent.
 ///
-/// `Memory` is answered where memory was refused: nothing was received and sent, or whole rows were sent after the head, and
-/// none is missing of what came before the last piece, of at most 65,536 bytes.
+/// `Memory` is returned where memory ran out: nothing was received and sent, or whole rows were sent after the head, and none is missing of what came
+/// before the last piece, of at most 65,536 bytes.
 pub fn convert<S: Source, K: Sink>(
     alloc: Global,
     from: Format,
@@ -198,8 +197,8 @@ pub fn convert<S: Source, K: Sink>(
     convert_with(alloc, from, to, columns, &options, source, sink)
 }
 
-/// The same with options: each text side, the file that is read, the file that is written, or both, uses these. A row whose text would
-/// be written as the null mark is can't be written (`LikeNull`).
+/// Converts a COPY file as [`convert`] does, with options for text: the file that is read, the file that is written, or both, where they are text,
+/// have these. A row with a text that would be written as the null mark is can't be written (`LikeNull`).
 pub fn convert_with<S: Source, K: Sink>(
     alloc: Global,
     from: Format,

@@ -32,7 +32,7 @@ pub enum RowReader {
     Binary(BinaryReader),
 }
 
-// Why the work stops where a reader of text answers a fault.
+// Why the work stops where a reader of text returns a fault.
 fn text_stop(fault: TextFault) -> Stop<Converted>
     ensures { result ≡ text_stop fault }
 {
@@ -42,7 +42,7 @@ fn text_stop(fault: TextFault) -> Stop<Converted>
     }
 }
 
-// Why the work stops where a reader of a binary file answers a fault.
+// Why the work stops where a reader of a binary file returns a fault.
 fn binary_stop(fault: BinaryFault) -> Stop<Converted>
     ensures { result ≡ binary_stop fault }
 {
@@ -63,7 +63,7 @@ fn row_stop(fault: RowFault) -> Stop<Converted>
 }
 
 impl RowReader {
-    /// Nothing was read yet.
+    /// A reader that has read nothing.
     pub fn new(
         alloc: Global,
         from: Format,
@@ -110,7 +110,7 @@ fn put_row(row: &Row, to: &RowWriter<'_>, out: &mut Vec<u8>) -> Result<bool, Sto
     }
 }
 
-// Puts a row that is lent, of which both give the values.
+// Puts a row that is lent. Both iterators give its values.
 fn put_lent<'v, I: Iterator<Item = Option<&'v [u8]>> + Drop>(
     values: I,
     again: I,
@@ -149,7 +149,7 @@ fn put_held_text(
     }
 }
 
-// The same of a binary file.
+// Puts the row that a reader of a binary file lends.
 fn put_held_binary(
     reader: &BinaryReader,
     to: &mut RowWriter<'_>,
@@ -166,7 +166,7 @@ fn put_held_binary(
     }
 }
 
-// Puts the next row of a text file that waits, and says whether one did.
+// Puts the next row of a text file that waits, and returns whether one did.
 fn put_waiting_text(
     reader: &mut TextReader,
     to: &mut RowWriter<'_>,
@@ -186,7 +186,7 @@ fn put_waiting_text(
     }
 }
 
-// The same of a binary file.
+// Puts the next row of a binary file that waits, and returns whether one did.
 fn put_waiting_binary(
     reader: &mut BinaryReader,
     to: &mut RowWriter<'_>,
@@ -206,7 +206,7 @@ fn put_waiting_binary(
     }
 }
 
-// Puts the next row that is left of a text file at its end, and says whether one was.
+// Puts the next row that is left of a text file at its end, and returns whether one was.
 fn put_left_text(
     reader: &mut TextReader,
     to: &RowWriter<'_>,
@@ -223,7 +223,7 @@ fn put_left_text(
     }
 }
 
-// The same of a binary file.
+// Puts the next row that is left of a binary file at its end, and returns whether one was.
 fn put_left_binary(
     reader: &mut BinaryReader,
     to: &RowWriter<'_>,
@@ -240,7 +240,7 @@ fn put_left_binary(
     }
 }
 
-// Puts the next row that waits, or, at the end of the input, the next that is left, and says whether there was one.
+// Puts the next row that waits, or at the end of the input the next that is left, and returns whether there was one.
 fn put_next(
     reader: &mut RowReader,
     at_end: bool,
@@ -270,7 +270,7 @@ fn put_next(
     }
 }
 
-// Sends what was put where it is much.
+// Sends what was put, where it is much.
 fn send_much<K: Sink>(out: &mut Vec<u8>, sink: &mut K) -> Result<(), Stop<Converted>>
     ensures { SendsMuch K.takes K.failures out.old.items sink.old result out.new.items sink.new }
 {

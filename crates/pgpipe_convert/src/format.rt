@@ -26,7 +26,7 @@ pub enum Format {
     Binary,
 }
 
-/// The same options again.
+/// A copy of the options.
 pub fn copy_of(alloc: Global, options: &TextOptions) -> Result<TextOptions, ToolFault>
     ensures copied { IfOk result (λ copy. copy ≡ options.now) }
     ensures refused { (fault : ToolFault) → result ≡ Err fault → fault ≡ ToolFault.Memory }
@@ -88,7 +88,7 @@ impl<'a> RowWriter<'a> {
         }
     }
 
-    /// Appends what stands before the rows. A refusal leaves `buf` as it was.
+    /// Appends what stands before the rows. After a fault `buf` is as it was.
     pub fn write_head(&self, buf: &mut Vec<u8>) -> Result<(), RowFault>
         ensures { Writes None (writing_by self.now).head buf.old.items result buf.new.items }
     {
@@ -98,7 +98,7 @@ impl<'a> RowWriter<'a> {
         }
     }
 
-    /// Appends a row. A refusal leaves `buf` as it was.
+    /// Appends a row. After a fault `buf` is as it was.
     pub fn write_row(&self, row: &Row, buf: &mut Vec<u8>) -> Result<(), RowFault>
         ensures { Writes ((writing_by self.now).row_fault row.now)
             ((writing_by self.now).row row.now) buf.old.items result buf.new.items }
@@ -132,7 +132,7 @@ impl<'a> RowWriter<'a> {
         }
     }
 
-    // The same, but nothing of it stays.
+    // Puts a row of these values. Where it has more than `most` bytes, it may be put off. Where it isn't written, nothing of it stays.
     fn try_values<'v, I: Iterator<Item = Option<&'v [u8]>> + Drop>(
         &mut self,
         values: I,
@@ -160,7 +160,7 @@ impl<'a> RowWriter<'a> {
         }
     }
 
-    // Appends a row of these values, however large it is. A refusal leaves `buf` as it was.
+    // Appends a row of these values, however large it is. After a fault `buf` is as it was.
     fn write_large<'v, I: Iterator<Item = Option<&'v [u8]>> + Drop>(
         &mut self,
         values: I,
@@ -183,9 +183,8 @@ impl<'a> RowWriter<'a> {
         }
     }
 
-    /// Appends a row of these values, which are lent, one by one; `again` gives the same. It answers as `write_row` does for a row of
-    /// them. A large row is judged before it is written, so a row that can't be written takes little memory. A refusal leaves `buf` as
-    /// it was.
+    /// Appends a row of these values, which are lent one by one; `again` gives the same values. It returns what `write_row` returns for a row of
+    /// them. A large row is judged before it is written, so a row that can't be written takes little memory. After a fault `buf` is as it was.
     pub fn write_values<'v, I: Iterator<Item = Option<&'v [u8]>> + Drop>(
         &mut self,
         values: I,
@@ -210,7 +209,7 @@ impl<'a> RowWriter<'a> {
         }
     }
 
-    /// Appends what stands after the rows. A refusal leaves `buf` as it was.
+    /// Appends what stands after the rows. After a fault `buf` is as it was.
     pub fn write_trailer(&self, buf: &mut Vec<u8>) -> Result<(), RowFault>
         ensures { Writes None (writing_by self.now).trailer buf.old.items result buf.new.items }
     {

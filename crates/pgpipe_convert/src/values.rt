@@ -23,11 +23,11 @@ pub enum Progress {
     Written,
     /// They were judged alone from one on, since the row is large.
     PutOff,
-    /// They were judged alone from one on, since memory was refused.
+    /// They were judged alone from one on, since memory ran out.
     Refused,
 }
 
-// What a writer's answer comes to.
+// How a writer's result carries the row on.
 fn progress_of(written: Result<(), RowFault>) -> Result<Progress, RowFault>
     ensures { result ≡ progress_of written }
 {
@@ -51,7 +51,7 @@ fn put_off(so_far: Progress, value: Option<&[u8]>, len: usize, end: usize) -> Pr
     }
 }
 
-// What is said of a value of a line, after so many others, that was given to a writer to be judged alone.
+// What is known after a value of a line, with so many before it, was given to a writer only to be judged.
 fn judged_at(
     before: usize,
     so_far: Progress,
@@ -65,8 +65,8 @@ fn judged_at(
     }
 }
 
-// Judges a value of a line, after so many others, one of which wasn't written: LikeNull is answered as if they were. Only a text that
-// is no longer than the null mark is given to the writer for it. What then stands in `out` is of no use.
+// Judges a value of a line, with so many before it, one of which wasn't written. LikeNull is returned as if all were written. Only a text that is no
+// longer than the null mark is given to the writer for it. What then stands in `out` is of no use.
 fn judge_field(
     value: Option<&[u8]>,
     before: usize,
@@ -91,7 +91,7 @@ fn judge_field(
     }
 }
 
-// Puts the next value of a line, after so many others: it is written where all those are, and else judged alone.
+// Puts the next value of a line, with so many before it. It is written where all those are, and else only judged.
 fn put_field(
     value: Option<&[u8]>,
     before: usize,
@@ -214,7 +214,7 @@ fn judge_value(value: Option<&[u8]>, so_far: Progress) -> Result<Progress, RowFa
     Ok(so_far)
 }
 
-// Puts the next value of a binary row: it is written where all before it are, and else judged alone.
+// Puts the next value of a binary row. It is written where all before it are, and else only judged.
 fn put_value(
     value: Option<&[u8]>,
     so_far: Progress,

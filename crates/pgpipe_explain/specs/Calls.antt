@@ -1,4 +1,4 @@
--- Why a line of CALLS is refused.
+-- Why a line of CALLS is rejected.
 use Rattle.std.specs.Prelude.{ℕ, ◌==◌, ◌&&◌, Bool, true, false, if◌then◌else◌, List, [], ◌∷◌, Option, Some, None, codes}
 use Rattle.std.specs.Str.{bytes_eq}
 use Rattle.pg_copy.specs.Row.{Row}
@@ -18,7 +18,7 @@ use Rattle.pgpipe_explain.specs.Verbs.{is_of_calls, is_of_script, is_sync, no_ve
 
 -- ---- the fields of a line
 
--- of a step
+-- why these can't be the fields of a step
 abbrev pub step_fields : StepVerb → Row → Option LineReason
 step_fields step.Parse fields =
     judge_fields (kind.Text ∷ kind.Text ∷ []) (tail.All kind.Number) fields
@@ -27,7 +27,7 @@ step_fields step.Describe fields = judge_fields (kind.Target ∷ kind.Text ∷ [
 step_fields step.Execute fields = judge_fields (kind.Text ∷ kind.Signed ∷ []) tail.Nothing fields
 step_fields step.Close fields = judge_fields (kind.Target ∷ kind.Text ∷ []) tail.Nothing fields
 
--- of a line that stands in no group
+-- why these can't be the fields of a line that stands in no group
 abbrev pub call_fields : CallVerb → Row → Option LineReason
 call_fields call.User fields = judge_fields (kind.Text ∷ []) tail.Nothing fields
 call_fields call.Database fields = judge_fields (kind.Text ∷ []) tail.Nothing fields
@@ -55,7 +55,7 @@ is_setting _ = false
 abbrev pub no_call : List ℕ → LineReason
 no_call word = if is_of_script word then reason.OfScript else no_verb word
 
--- why a line in a group is refused, by the step that its verb is
+-- why a line in a group is rejected, by the step that its verb is
 abbrev pub grouped_by : Option StepVerb → List ℕ → Row → Option LineReason
 grouped_by (Some verb) word fields = step_fields verb fields
 grouped_by None word fields =
@@ -63,7 +63,7 @@ grouped_by None word fields =
     else if is_of_calls word then Some reason.InGroup
     else Some (no_call word)
 
--- why a line in a group is refused
+-- why a line in a group is rejected
 abbrev pub judge_grouped : List ℕ → Row → Option LineReason
 judge_grouped word fields = grouped_by (step_verb word) word fields
 
@@ -72,23 +72,23 @@ abbrev pub open_group : CallVerb → Option LineReason
 open_group call.Group = Some reason.OpenGroup
 open_group _ = None
 
--- why a line with this verb is refused that stands in no group
+-- why a line with this verb is rejected that stands in no group
 abbrev pub judge_call : Bool → CallVerb → Row → Option LineReason
 judge_call started verb fields =
     if started && is_setting verb then Some reason.AfterStart
     else or_else (call_fields verb fields) (open_group verb)
 
--- why a line in no group is refused, by its verb
+-- why a line in no group is rejected, by its verb
 abbrev pub alone_by : Option CallVerb → Bool → List ℕ → Row → Option LineReason
 alone_by (Some verb) started word fields = judge_call started verb fields
 alone_by None started word fields =
     if is_of_calls word then Some reason.NoGroup else Some (no_call word)
 
--- why a line in no group is refused
+-- why a line in no group is rejected
 abbrev pub judge_alone : Bool → List ℕ → Row → Option LineReason
 judge_alone started word fields = alone_by (call_verb word) started word fields
 
--- why a line with this verb is refused
+-- why a line with this verb is rejected
 abbrev pub judge_calls : CallsSeen → List ℕ → Row → Option LineReason
 judge_calls s word fields =
     if s.grouped then judge_grouped word fields else judge_alone s.started word fields

@@ -23,7 +23,7 @@ back_tag_rule tag =
     else if tag == 118 then rule.NegotiateProtocolVersion
     else rule.BackTag
 
--- of a message of a server
+-- what was expected of a message of a server
 abbrev pub back_rule : WireFault → Rule
 back_rule (wire.UnknownTag tag) = back_tag_rule tag
 back_rule (wire.ShortLength n) = rule.LeastLength
@@ -37,7 +37,7 @@ abbrev pub first_code_rule : ℤ → Rule
 first_code_rule (pos code) = if code == 196610 then rule.Protocol else rule.FirstPacket
 first_code_rule (negsuc n) = rule.FirstPacket
 
--- of a message of a client, or of a first packet
+-- what was expected of a message of a client, or of a first packet
 abbrev pub front_rule : WireFault → Rule
 front_rule (wire.UnknownTag tag) = if tag == 70 then rule.FunctionCall else rule.FrontTag
 front_rule (wire.ShortLength n) = rule.LeastFrontLength
@@ -46,7 +46,7 @@ front_rule (wire.BadBody tag) = if tag == 112 then rule.Password else rule.Body
 front_rule (wire.BadFirst code) = first_code_rule code
 front_rule wire.Memory = rule.Memory
 
--- of a line of a text file; one field may be a line with another delimiter
+-- what was expected of a line of a text file; one field may be a line with another delimiter
 abbrev pub text_rule : TextFault → Rule
 text_rule text.RawReturn = rule.Return
 text_rule text.RawNewline = rule.Newline
@@ -54,7 +54,7 @@ text_rule text.LoneBackslash = rule.Escape
 text_rule (text.Columns n) = if n == 1 then rule.Delimited else rule.Columns
 text_rule text.Memory = rule.Memory
 
--- of a part of a binary file
+-- what was expected of a part of a binary file
 abbrev pub binary_rule : BinaryFault → Rule
 binary_rule binary.Signature = rule.Signature
 binary_rule (binary.Flags n) = rule.Flags
@@ -65,20 +65,20 @@ binary_rule binary.Truncated = rule.Trailer
 binary_rule binary.AfterTrailer = rule.End
 binary_rule binary.Memory = rule.Memory
 
--- of a row that is written
+-- what was expected of a row that is written
 abbrev pub row_rule : RowFault → Rule
 row_rule (row.Width n) = rule.Width
 row_rule row.FieldLong = rule.WrittenLength
 row_rule (row.LikeNull n) = rule.LikeNull
 row_rule row.Memory = rule.Memory
 
--- of the options of a text file
+-- what was expected of the options of a text file
 abbrev pub option_rule : OptionFault → Rule
 option_rule (option.Delimiter b) = rule.Delimiter
 option_rule option.NullMark = rule.NullMark
 option_rule option.Memory = rule.Memory
 
--- of a script
+-- what was expected of a script
 abbrev pub script_rule : ScriptFault → Rule
 script_rule script.Copies = rule.Copies
 script_rule script.Encode = rule.Spelling

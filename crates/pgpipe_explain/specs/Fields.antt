@@ -64,7 +64,7 @@ abbrev pub judge_field : FieldKind → ℕ → Option (List ℕ) → Option Line
 judge_field k n None = Some (reason.Null n)
 judge_field k n (Some text) = if is_of k text then None else Some (reason.Not n k)
 
--- why the field of this number isn't of a kind, and where there is none, this
+-- why the field of this number isn't of a kind; where there is no field, this
 abbrev pub judge_at : Option LineReason → FieldKind → ℕ → Option (Option (List ℕ))
     → Option LineReason
 judge_at missing k n None = missing
@@ -112,11 +112,11 @@ abbrev pub word_of : Option (Option (List ℕ)) → List ℕ
 word_of (Some (Some text)) = text
 word_of _ = []
 
--- ---- a search for the line that is refused
+-- ---- a search for the line that is rejected
 
--- By what a search over all rows came to: the reason that it has then, or none, where memory was
--- refused. Where a row is no line of fields, that is the reason if it is the one that is looked for, and
--- else nothing is said.
+-- The reason by what a search over all rows came to: the reason that it has then, or none, where
+-- memory ran out. Where a row is no line of fields, that is the reason if it is the one that is
+-- looked for, and else nothing is claimed.
 abbrev pub IsReasonOf : {S : Type 0} → (S → Option LineReason) → ℕ → Result S ℕ
     → Option LineReason → Type 0
 IsReasonOf reason_of row (Ok s) r = (r ≡ reason_of s) ⊎ (r ≡ None)

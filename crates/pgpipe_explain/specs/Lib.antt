@@ -3,7 +3,7 @@
 pub mod Place
 pub mod Tracker
 pub mod Tracked
--- And of why: why lines of SCRIPT and CALLS are refused, what was expected where each other fault
+-- And of why: why lines of SCRIPT and CALLS are rejected, what was expected where each other fault
 -- stands, and what a stream looks like.
 pub mod Fields
 pub mod Verbs

@@ -1,4 +1,4 @@
--- Why a line of SCRIPT is refused.
+-- Why a line of SCRIPT is rejected.
 use Rattle.std.specs.Prelude.{ℕ, ◌==◌, ◌&&◌, Bool, true, false, not, if◌then◌else◌, List, [], ◌∷◌, Option, Some, None}
 use Rattle.std.specs.List.{slice_get}
 use Rattle.pg_copy.specs.Row.{Row}
@@ -24,7 +24,7 @@ use Rattle.pgpipe_explain.specs.Verbs.{is_of_calls, no_verb}
 
 -- ---- the fields of a line
 
--- of an `auth`, by its first field
+-- why these can't be the fields of an `auth`, by its first field
 abbrev pub auth_fields : Option AuthWay → Row → Option LineReason
 auth_fields (Some way.Cleartext) fields =
     judge_fields (kind.Way ∷ kind.Text ∷ []) tail.Nothing fields
@@ -32,34 +32,34 @@ auth_fields (Some way.Md5) fields =
     judge_fields (kind.Way ∷ kind.Text ∷ kind.Salt ∷ []) tail.Nothing fields
 auth_fields _ fields = judge_fields (kind.Way ∷ []) tail.Nothing fields
 
--- of a line that stands in no answer, or begins one
+-- why these can't be the fields of a line that stands in no answer, or begins one
 abbrev pub own_fields : ScriptVerb → Row → Option LineReason
 own_fields script.Auth fields = auth_fields (auth_way (word_of (slice_get fields 0))) fields
 own_fields script.Pair fields = judge_fields (kind.Text ∷ kind.Text ∷ []) tail.Nothing fields
 own_fields script.Key fields = judge_fields (kind.Signed ∷ kind.Signed ∷ []) tail.Nothing fields
 own_fields script.Answer fields = judge_fields (kind.Status ∷ []) tail.Nothing fields
 
--- of a `copyin`, by its third field
+-- why these can't be the fields of a `copyin`, by its third field
 abbrev pub load_fields : Option LoadWay → Row → Option LineReason
 load_fields (Some load.Refuse) fields =
     judge_fields (kind.Format ∷ kind.Columns ∷ kind.Load ∷ kind.Number ∷ []) tail.Codes fields
 load_fields _ fields =
     judge_fields (kind.Format ∷ kind.Columns ∷ kind.Load ∷ kind.Text ∷ []) tail.Nothing fields
 
--- of a `copyin`
+-- why these can't be the fields of a `copyin`
 abbrev pub copy_in_fields : Row → Option LineReason
 copy_in_fields fields = load_fields (load_way (word_of (slice_get fields 2))) fields
 
--- of an `executed`, by its first field
+-- why these can't be the fields of an `executed`, by its first field
 abbrev pub end_fields : Option EndWay → Row → Option LineReason
 end_fields (Some end.Complete) fields = judge_fields (kind.End ∷ kind.Text ∷ []) tail.Nothing fields
 end_fields _ fields = judge_fields (kind.End ∷ []) tail.Nothing fields
 
--- of an `executed`
+-- why these can't be the fields of an `executed`
 abbrev pub executed_fields : Row → Option LineReason
 executed_fields fields = end_fields (end_way (word_of (slice_get fields 0))) fields
 
--- of a line that stands in an answer
+-- why these can't be the fields of a line that stands in an answer
 abbrev pub answer_fields : AnswerVerb → Row → Option LineReason
 answer_fields answer.Notice fields = judge_fields [] tail.Codes fields
 answer_fields answer.Set fields = judge_fields (kind.Text ∷ kind.Text ∷ []) tail.Nothing fields
@@ -91,7 +91,7 @@ own_place s script.Key = if s.key then Some reason.Second else None
 own_place s script.Answer = if s.types then Some reason.NoDescribed else None
 
 -- why a line that stands in an answer may not stand after what was seen; a `paramtypes` that may is
--- refused where no `described` comes after it
+-- rejected where no `described` comes after it
 abbrev pub answer_place : ScriptSeen → AnswerVerb → Option LineReason
 answer_place s answer.Row = if s.rows then None else Some reason.NoRows
 answer_place s answer.Chunk = if s.copy then None else Some reason.NoCopyOut
@@ -111,13 +111,13 @@ abbrev pub is_described : AnswerVerb → Bool
 is_described answer.Described = true
 is_described _ = false
 
--- why a line that stands in no answer, or begins one, is refused
+-- why a line that stands in no answer, or begins one, is rejected
 abbrev pub judge_own : ScriptSeen → ScriptVerb → Row → Option LineReason
 judge_own s verb fields =
     if s.answered && not (is_answer verb) then Some reason.AfterAnswer
     else or_else (own_fields verb fields) (own_place s verb)
 
--- why a line that stands in an answer is refused
+-- why a line that stands in an answer is rejected
 abbrev pub judge_answer : ScriptSeen → AnswerVerb → Row → Option LineReason
 judge_answer s verb fields =
     if not s.answered then Some reason.BeforeAnswer
@@ -128,14 +128,14 @@ judge_answer s verb fields =
 abbrev pub no_line : List ℕ → LineReason
 no_line word = if is_of_calls word then reason.OfCalls else no_verb word
 
--- why a line is refused, by what its verb is
+-- why a line is rejected, by what its verb is
 abbrev pub judge_by : Option ScriptVerb → Option AnswerVerb → ScriptSeen → List ℕ → Row
     → Option LineReason
 judge_by (Some verb) other s word fields = judge_own s verb fields
 judge_by None (Some verb) s word fields = judge_answer s verb fields
 judge_by None None s word fields = Some (no_line word)
 
--- why a line with this verb is refused
+-- why a line with this verb is rejected
 abbrev pub judge_script : ScriptSeen → List ℕ → Row → Option LineReason
 judge_script s word fields = judge_by (script_verb word) (answer_verb word) s word fields
 

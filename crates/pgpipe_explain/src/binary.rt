@@ -30,7 +30,7 @@ fn within(binary: Binary) -> ByteEffect
     ByteEffect::Within(Phase::Binary(binary))
 }
 
-// What a row does of which so many values are left.
+// What a byte does in a row of which so many values are left.
 fn fields(left: u32) -> ByteEffect
     ensures { result ≡ fields_left left }
 {
@@ -40,7 +40,7 @@ fn fields(left: u32) -> ByteEffect
     within(Binary::Length(0, 0, left - 1))
 }
 
-// What a row does whose number of fields came. It is the trailer where that is -1.
+// What the last byte of a row's number of fields does. The row is the trailer where that is -1.
 fn count(count: u32) -> ByteEffect
     ensures { result ≡ count_taken count }
 {
@@ -50,7 +50,7 @@ fn count(count: u32) -> ByteEffect
     fields(count)
 }
 
-// What a row does of which a value's length came, that of null too, and which has so many values left after it.
+// What the last byte of a value's length does, that of null too. The row has so many values left after it.
 fn length(length: u32, left: u32) -> ByteEffect
     ensures { result ≡ length_taken length left }
 {

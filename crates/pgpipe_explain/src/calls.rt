@@ -1,4 +1,4 @@
-//! Why a line of CALLS is refused.
+//! Why a line of CALLS is rejected.
 
 ghost use Rattle.std.specs.Prelude.{◌≡◌};
 ghost use Rattle.pgpipe_files.specs.Lines.{with_file};
@@ -24,7 +24,7 @@ pub struct CallsSeen {
     pub grouped: bool,
 }
 
-// Why the fields of a step aren't its.
+// Why these can't be the fields of a step.
 fn step_fields(verb: StepVerb, fields: &Values) -> Option<LineReason>
     ensures { result ≡ step_fields verb fields.now }
 {
@@ -53,7 +53,7 @@ fn step_fields(verb: StepVerb, fields: &Values) -> Option<LineReason>
     }
 }
 
-// Why the fields of a line that stands in no group aren't its.
+// Why these can't be the fields of a line that stands in no group.
 fn call_fields(verb: CallVerb, fields: &Values) -> Option<LineReason>
     ensures { result ≡ call_fields verb fields.now }
 {
@@ -104,7 +104,7 @@ fn no_call(word: &[u8]) -> LineReason
     no_verb(word)
 }
 
-// Why a line is refused that stands in a group.
+// Why a line that stands in a group is rejected.
 fn judge_grouped(word: &[u8], fields: &Values) -> Option<LineReason>
     ensures { result ≡ judge_grouped word.now fields.now }
 {
@@ -116,7 +116,7 @@ fn judge_grouped(word: &[u8], fields: &Values) -> Option<LineReason>
     }
 }
 
-// Why a line with a verb is refused that stands in no group. One that has no other fault is a `group` that isn't ended.
+// Why a line with a verb that stands in no group is rejected. One that has no other fault is a `group` that isn't ended.
 fn judge_call(started: bool, verb: CallVerb, fields: &Values) -> Option<LineReason>
     ensures { result ≡ judge_call started verb fields.now }
 {
@@ -133,7 +133,7 @@ fn judge_call(started: bool, verb: CallVerb, fields: &Values) -> Option<LineReas
     }
 }
 
-// Why a line is refused that stands in no group.
+// Why a line that stands in no group is rejected.
 fn judge_alone(started: bool, word: &[u8], fields: &Values) -> Option<LineReason>
     ensures { result ≡ judge_alone started word.now fields.now }
 {
@@ -145,7 +145,7 @@ fn judge_alone(started: bool, word: &[u8], fields: &Values) -> Option<LineReason
 }
 
 impl CallsSeen {
-    // Why a line is refused.
+    // Why a line is rejected.
     fn judge(self, word: &[u8], fields: &Values) -> Option<LineReason>
         ensures { result ≡ judge_calls self word.now fields.now }
     {
@@ -177,14 +177,14 @@ impl CallsSeen {
     }
 }
 
-/// What is known where a line of CALLS is looked for that is refused.
+/// What is known while the line of CALLS that is rejected is looked for.
 #[derive(Clone, Copy)]
 pub struct CallsSearch {
     /// What stands before the next line.
     pub seen: CallsSeen,
     /// The row of the line.
     pub row: usize,
-    /// Why it is refused, once it came.
+    /// Why it is rejected, once it came.
     pub reason: Option<LineReason>,
 }
 
@@ -202,8 +202,8 @@ impl TakesLines for CallsSearch {
     }
 }
 
-/// Why the line of CALLS in this row, which `read_calls` refuses, is refused. None where that isn't seen, as where memory was refused. The
-/// rows after it are read too; where one of them is no line of fields, nothing is said of the answer.
+/// Why `read_calls` rejects the line of CALLS in this row. None where no reason is found, or memory ran out. The rows after it are read too. Where
+/// one of them is no line of fields, nothing is claimed about what is returned.
 pub fn calls_reason(alloc: Global, bytes: &[u8], row: usize) -> Option<LineReason>
     ensures { IsReasonOf (λ s. s.reason) row
         (with_file calls_searched (calls_search row) bytes.now) result }

@@ -9,7 +9,7 @@ use crate::kind::FieldKind;
 use crate::reason::LineReason;
 use pg_wire::Values;
 
-/// What comes after the fields whose kinds are told one by one.
+/// What comes after the fields that are listed one by one.
 #[derive(Clone, Copy)]
 pub enum Tail {
     /// Nothing.
@@ -37,7 +37,7 @@ fn judge_field(kind: FieldKind, number: usize, field: Option<&[u8]>) -> Option<L
     }
 }
 
-// Why the field in a place isn't of a kind; where there is none, the reason that is given for that, if it is one.
+// Why the field in a place isn't of a kind. Where there is no field, it is the reason that is given for that, if one is.
 fn judge_at(
     kind: FieldKind,
     fields: &Values,
@@ -112,7 +112,7 @@ fn judge_tail(tail: Tail, fields: &Values, from: usize) -> Option<LineReason>
     }
 }
 
-// Why fields aren't of these kinds and this tail: the first that isn't. So many are wanted in all.
+// Why these fields aren't of these kinds and this tail: the first that isn't. The line must have so many fields in all.
 fn judge_kinds(
     fields: &Values,
     kinds: &[FieldKind],
@@ -131,7 +131,7 @@ fn judge_kinds(
     judge_tail(tail, fields, place)
 }
 
-/// Why fields aren't of these kinds and this tail: the first that isn't.
+/// Why these fields aren't of these kinds and this tail: the first that isn't.
 pub fn judge_fields(fields: &Values, kinds: &[FieldKind], tail: Tail) -> Option<LineReason>
     ensures { result ≡ judge_fields kinds.now tail fields.now }
 {

@@ -17,7 +17,7 @@ pub enum Guess {
     /// A file of captured packets.
     #[error("this looks like a capture file: take its streams out of it, as tcpflow does")]
     Capture,
-    /// A refusal of encryption, and then messages.
+    /// The byte that rejects encryption, and then messages.
     #[error("the first byte answers a request for encryption, and is no message: leave it out, as tail -c +2 does")]
     Refusal,
     /// A grant of encryption, and then TLS.
@@ -46,7 +46,7 @@ fn is_capture(first: &[u8]) -> bool
         || begins_with(first, &[0x0a, 0x0d, 0x0d, 0x0a])
 }
 
-// Whether a server's stream begins with a refusal of encryption: with another one after it, or the tag of an Authentication or an error.
+// Whether a server's stream begins with a byte that rejects encryption: after it comes another one, or the tag of an Authentication or an error.
 fn is_refusal(first: &[u8]) -> bool
     ensures { result ≡ Rattle.pgpipe_explain.specs.Guess.is_refusal first.now }
 {
@@ -83,7 +83,7 @@ fn front_guess(first: &[u8]) -> Option<Guess>
     None
 }
 
-/// What a stream that begins with these bytes looks like, if it can't be what is read: a client's with `front`, and else a server's.
+/// What a stream that begins with these bytes looks like, if it can't be what is being read: a client's with `front`, and else a server's.
 pub fn guess_of(front: bool, first: &[u8]) -> Option<Guess>
     ensures { result ≡ guess_of front first.now }
 {

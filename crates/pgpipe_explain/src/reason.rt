@@ -1,9 +1,9 @@
-//! Why a line is refused.
+//! Why a line is rejected.
 
 use crate::kind::FieldKind;
 use thiserror::Error;
 
-/// Why the line in a row of SCRIPT or CALLS is refused. Fields are counted from 1, the verb left out.
+/// Why the line in a row of SCRIPT or CALLS is rejected. Fields are counted from 1, without the verb.
 #[derive(Clone, Copy, Debug, Error)]
 pub enum LineReason {
     /// It isn't a line of the text format, or its verb is null.

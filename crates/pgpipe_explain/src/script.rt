@@ -1,4 +1,4 @@
-//! Why a line of SCRIPT is refused.
+//! Why a line of SCRIPT is rejected.
 
 ghost use Rattle.std.specs.Prelude.{◌≡◌};
 ghost use Rattle.pgpipe_files.specs.Lines.{with_file};
@@ -54,7 +54,7 @@ fn before_script() -> ScriptSeen
     }
 }
 
-// Why the fields of a line that stands in no answer, or begins one, aren't its.
+// Why these can't be the fields of a line that stands in no answer, or begins one.
 fn own_fields(verb: ScriptVerb, fields: &Values) -> Option<LineReason>
     ensures { result ≡ own_fields verb fields.now }
 {
@@ -86,7 +86,7 @@ fn own_fields(verb: ScriptVerb, fields: &Values) -> Option<LineReason>
     }
 }
 
-// Why the fields of a `copyin` aren't its.
+// Why these can't be the fields of a `copyin`.
 fn copy_in_fields(fields: &Values) -> Option<LineReason>
     ensures { result ≡ copy_in_fields fields.now }
 {
@@ -114,7 +114,7 @@ fn copy_in_fields(fields: &Values) -> Option<LineReason>
     }
 }
 
-// Why the fields of an `executed` aren't its.
+// Why these can't be the fields of an `executed`.
 fn executed_fields(fields: &Values) -> Option<LineReason>
     ensures { result ≡ Rattle.pgpipe_explain.specs.Script.executed_fields fields.now }
 {
@@ -128,7 +128,7 @@ fn executed_fields(fields: &Values) -> Option<LineReason>
     }
 }
 
-// Why the fields of a line that stands in an answer aren't its.
+// Why these can't be the fields of a line that stands in an answer.
 fn answer_fields(verb: AnswerVerb, fields: &Values) -> Option<LineReason>
     ensures { result ≡ answer_fields verb fields.now }
 {
@@ -166,7 +166,7 @@ fn answer_fields(verb: AnswerVerb, fields: &Values) -> Option<LineReason>
 }
 
 impl ScriptSeen {
-    // Why a line that stands in no answer, or begins one, may not stand here, its fields left out.
+    // Why a line that stands in no answer, or begins one, may not stand here, whatever its fields are.
     fn own_place(self, verb: ScriptVerb) -> Option<LineReason>
         ensures { result ≡ own_place self verb }
     {
@@ -178,7 +178,7 @@ impl ScriptSeen {
         }
     }
 
-    // Why a line that stands in an answer may not stand here, its fields left out.
+    // Why a line that stands in an answer may not stand here, whatever its fields are.
     fn answer_place(self, verb: AnswerVerb) -> Option<LineReason>
         ensures { result ≡ answer_place self verb }
     {
@@ -191,7 +191,7 @@ impl ScriptSeen {
         }
     }
 
-    // Why a line that stands in no answer, or begins one, is refused.
+    // Why a line that stands in no answer, or begins one, is rejected.
     fn judge_own(self, verb: ScriptVerb, fields: &Values) -> Option<LineReason>
         ensures { result ≡ judge_own self verb fields.now }
     {
@@ -205,7 +205,7 @@ impl ScriptSeen {
         self.own_place(verb)
     }
 
-    // Why a line that stands in an answer is refused.
+    // Why a line that stands in an answer is rejected.
     fn judge_answer(self, verb: AnswerVerb, fields: &Values) -> Option<LineReason>
         ensures { result ≡ judge_answer self verb fields.now }
     {
@@ -222,7 +222,7 @@ impl ScriptSeen {
         self.answer_place(verb)
     }
 
-    // Why a line is refused.
+    // Why a line is rejected.
     fn judge(self, word: &[u8], fields: &Values) -> Option<LineReason>
         ensures { result ≡ judge_script self word.now fields.now }
     {
@@ -253,7 +253,7 @@ impl ScriptSeen {
         }
     }
 
-    // The same, where the last part is rows, a copy to the client, or another.
+    // What stands before the line after a part, which is rows, a copy to the client, or another.
     fn after_part(self, rows: bool, copy: bool) -> ScriptSeen
         ensures { result ≡ Rattle.pgpipe_explain.specs.Script.after_part self rows copy }
     {
@@ -311,14 +311,14 @@ impl ScriptSeen {
     }
 }
 
-/// What is known where a line of SCRIPT is looked for that is refused.
+/// What is known while the line of SCRIPT that is rejected is looked for.
 #[derive(Clone, Copy)]
 pub struct ScriptSearch {
     /// What stands before the next line.
     pub seen: ScriptSeen,
     /// The row of the line.
     pub row: usize,
-    /// Why it is refused, once it came.
+    /// Why it is rejected, once it came.
     pub reason: Option<LineReason>,
 }
 
@@ -336,8 +336,8 @@ impl TakesLines for ScriptSearch {
     }
 }
 
-/// Why the line of a SCRIPT in this row, which `read_script` refuses, is refused. None where that isn't seen, as where memory was refused.
-/// The rows after it are read too; where one of them is no line of fields, nothing is said of the answer.
+/// Why `read_script` rejects the line of SCRIPT in this row. None where no reason is found, or memory ran out. The rows after it are read too. Where
+/// one of them is no line of fields, nothing is claimed about what is returned.
 pub fn script_reason(alloc: Global, bytes: &[u8], row: usize) -> Option<LineReason>
     ensures { IsReasonOf (λ s. s.reason) row
         (with_file script_searched (script_search row) bytes.now) result }

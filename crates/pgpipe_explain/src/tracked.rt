@@ -10,14 +10,14 @@ use pg_link::{LinkFault, Sink, Source};
 use std::alloc::Global;
 use std::marker::Model;
 
-/// A source or a sink, and where the parts of its bytes begin: of all that was received or sent, and of the last piece that was received
-/// each of them.
+/// A source or a sink, and where the parts of its bytes begin. It follows all that was received or sent, and has the place of each part of which the
+/// last received piece has bytes.
 #[derive(Drop)]
 pub struct Tracked<T> {
     inner: T,
     // before the last piece
     tracker: Tracker,
-    // the last piece that was received, unless memory for it was refused
+    // The last piece that was received, unless memory for it ran out.
     piece: Vec<u8>,
 }
 
@@ -30,7 +30,7 @@ impl<T> Model for Tracked<T> {
 }
 
 impl<T> Tracked<T> {
-    /// Nothing came yet.
+    /// A source or a sink before any byte came.
     pub fn new(alloc: Global, inner: T, kind: TrackedKind) -> Tracked<T>
         ensures { result ≡ record { inner = inner; tracker = begun kind; piece = [] } }
     {
@@ -55,7 +55,7 @@ impl<T> Tracked<T> {
         self.tracker.after(self.piece.as_slice())
     }
 
-    /// Where the part of this number begins: None, unless it is one of those that the last piece has bytes of.
+    /// Where the part of this number begins. None, unless the last piece has bytes of it.
     pub fn place(&self, number: u64) -> Option<Place>
         ensures { result ≡ place_in self.now.tracker self.now.piece number }
     {

@@ -45,7 +45,7 @@ pub enum ByteEffect {
     First(Phase),
 }
 
-/// Follows the parts of a stream or a file, byte by byte. It judges nothing but lengths and line ends.
+/// Follows the parts of a stream or a file, byte by byte. It judges only lengths and line ends.
 #[derive(Clone, Copy)]
 pub struct Tracker {
     /// Where the part that the next byte is of begins.
@@ -59,7 +59,7 @@ pub struct Tracker {
 }
 
 impl Tracker {
-    /// Before the first byte.
+    /// A tracker before the first byte.
     pub fn new(kind: TrackedKind) -> Tracker
         ensures { result ≡ begun kind }
     {
@@ -91,7 +91,7 @@ impl Tracker {
         }
     }
 
-    /// After one more byte.
+    /// The tracker after one more byte.
     pub fn after_byte(self, byte: u8) -> Tracker
         ensures { result ≡ after_byte self byte }
     {
@@ -129,7 +129,7 @@ impl Tracker {
         }
     }
 
-    /// After these bytes too.
+    /// The tracker after these bytes too.
     pub fn after(self, bytes: &[u8]) -> Tracker
         ensures { result ≡ after self bytes.now }
     {

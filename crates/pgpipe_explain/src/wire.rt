@@ -68,7 +68,7 @@ fn begin(next: NextPart) -> Wire
     }
 }
 
-// What a part does that has so many bytes left, once a byte came of it.
+// What a byte does in a part that has so many bytes left after it.
 fn body(left: u32, next: NextPart) -> ByteEffect
     ensures { result ≡ body_of left next }
 {

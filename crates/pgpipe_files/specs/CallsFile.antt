@@ -52,7 +52,7 @@ if_before_start s = if s.started then None else Some tt
 abbrev pub set : {A : Type 0} → CallsSoFar → Option A → (A → Settings) → Option CallsSoFar
 set s read make = if_before_start s >>= λ _. read >>= λ x. Some (record s { settings = make x })
 
--- the same with one thing more that is to happen
+-- what was read so far, with one thing more that is to happen
 abbrev pub with_line : CallsSoFar → Said → CallsSoFar
 with_line s next = record s { lines = s.lines ++ next ∷ [] }
 
@@ -170,7 +170,7 @@ abbrev pub closed_calls : CallsSoFar → Option Group → Result CallsSaid ℕ
 closed_calls s None = Ok (record { settings = s.settings; lines = s.lines })
 closed_calls s (Some group) = Err group.row
 
--- what CALLS asks for in all; a `group` without its `sync` is refused, by the number of its row
+-- what CALLS asks for in all; a `group` without its `sync` is rejected, by the number of its row
 abbrev pub calls_said : CallsSoFar → Result CallsSaid ℕ
 calls_said s = closed_calls s s.group
 

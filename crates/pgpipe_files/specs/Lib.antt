@@ -9,7 +9,7 @@ pub mod CallsFile
 pub mod AnswerFile
 pub mod ScriptFile
 pub mod Filling
--- What functions answer that read a line, or a file.
+-- What functions that read a line, or a file, return.
 pub mod Reads
 -- Words of private functions, which no public contract cites.
 pub mod Private

@@ -42,7 +42,7 @@ with_file line so_far bytes =
     (text_file_reading default_options None bytes).ending
 
 -- what the whole file is read as, by what `end` makes of all its lines, or the number of a row that
--- is refused
+-- is rejected
 abbrev pub in_the_end : {S A : Type 0} → Result S ℕ → (S → Result A ℕ) → Result A ℕ
 in_the_end (Ok so_far) end = end so_far
 in_the_end (Err n) end = Err n

@@ -1,4 +1,4 @@
--- What a function answers that reads a line: what its definition gives, or that there is nothing,
+-- What a function that reads a line returns: what its definition gives, or that there is nothing,
 -- unless memory ran out.
 use Rattle.std.specs.Prelude.{◌≡◌, ℕ, Option, Some, None, Result, Ok, Err}
 use Rattle.pg_copy.specs.Row.{Row}
@@ -7,12 +7,12 @@ use Rattle.pgpipe_files.specs.declared.fault.LineFault.TheVariants as fault
 use Rattle.pgpipe_files.specs.declared.fault.Refusal.{Refusal}
 use Rattle.pgpipe_files.specs.declared.fault.Refusal.TheVariants.{Wrong, Memory}
 
--- a refusal that comes of this reading: a line that is refused as wrong is read as nothing
+-- a fault that comes of this reading: a line that is rejected as wrong is read as nothing
 abbrev pub Fails : {A : Type 0} → Refusal → Option A → Type 0
 Fails Memory read = Unit {0}
 Fails Wrong read = read ≡ None
 
--- a function that answers what the fields of a line are read as
+-- a function returns what the fields of a line are read as
 abbrev pub ReadsAs : {A : Type 0} → Result A Refusal → Option A → Type 0
 ReadsAs (Ok x) read = read ≡ Some x
 ReadsAs (Err e) read = Fails e read
@@ -27,7 +27,7 @@ abbrev pub Leaves : {S : Type 0} → Result Unit Refusal → S → Option S → 
 Leaves (Ok x) new read = read ≡ Some new
 Leaves (Err e) new read = Fails e read
 
--- the fault of a file whose row of this number is refused
+-- the fault of a file whose row of this number is rejected
 abbrev pub fault_at : Refusal → ℕ → LineFault
 fault_at Wrong n = fault.Line n
 fault_at Memory n = fault.Memory

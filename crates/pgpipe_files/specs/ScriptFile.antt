@@ -117,7 +117,7 @@ abbrev pub script_with : ScriptSoFar → List Answer → Script
 script_with s answers =
     record { auth = unwrap_or s.auth auth.Trust; pairs = s.pairs; key = s.key; answers = answers }
 
--- the script with its open answer as the last; a `paramtypes` without its `described` is refused,
+-- the script with its open answer as the last; a `paramtypes` without its `described` is rejected,
 -- by the number of its row
 abbrev pub answer_said : ScriptSoFar → OpenAnswer → Option Types → Result Script ℕ
 answer_said s o None = Ok (script_with s (s.answers ++ with_part o.last o.answer ∷ []))
@@ -128,7 +128,7 @@ abbrev pub said_by : Option OpenAnswer → ScriptSoFar → Result Script ℕ
 said_by None s = Ok (script_with s s.answers)
 said_by (Some o) s = answer_said s o o.types
 
--- the script once all lines are read; a `paramtypes` without its `described` is refused, by the
+-- the script once all lines are read; a `paramtypes` without its `described` is rejected, by the
 -- number of its row
 abbrev pub script_said : ScriptSoFar → Result Script ℕ
 script_said s = said_by s.begun s

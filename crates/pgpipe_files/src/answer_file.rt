@@ -14,7 +14,7 @@ use pg_backend::{Answer, Load, ScriptPart};
 use pg_wire::{Aside, Column, ExecEnd, Seq, Status};
 use std::alloc::Global;
 
-/// An answer of which lines are read.
+/// An answer whose lines are being read.
 #[derive(Drop)]
 pub struct OpenAnswer {
     // without its last part
@@ -80,7 +80,7 @@ impl OpenAnswer {
         Ok(())
     }
 
-    /// The row of the parameters whose `described` has yet to come.
+    /// The row of parameters whose `described` has yet to come.
     pub fn row_left_open(&self) -> Option<usize>
         ensures { result ≡ option_map (λ t. t.row) self.now.types }
     {

@@ -17,8 +17,8 @@ use std::alloc::{AllocError, Global};
 use std::marker::Model;
 use std::{str, vec};
 
-/// The fields of a line that aren't taken yet. They are taken from the front, and moved. A field that isn't of the kind that is asked
-/// for, or isn't there, refuses the line.
+/// The fields of a line that aren't taken yet. They are taken from the front, and moved. A line is rejected where a field isn't there, or isn't of
+/// the kind that is asked for.
 #[derive(Drop)]
 pub struct Arguments {
     alloc: Global,
@@ -122,7 +122,7 @@ impl Arguments {
         Ok(numbers)
     }
 
-    /// The fields that are left: values, of which any may be null.
+    /// The fields that are left, as values. Any of them may be null.
     pub fn values(mut self) -> Result<Values, Refusal>
         ensures { ReadsAs result (Some self) }
     {
@@ -140,7 +140,7 @@ impl Arguments {
         Ok(values)
     }
 
-    /// The fields that are left: those of an error or a notice, each a code of one byte and a value.
+    /// The fields that are left, as those of an error or a notice: each is a code of one byte and a value.
     pub(crate) fn error_fields(mut self) -> Result<Fields, Refusal>
         ensures { ReadsAs result (error_fields_of self) }
     {
@@ -187,7 +187,7 @@ impl Arguments {
         Ok(number)
     }
 
-    /// Nothing is left.
+    /// Checks that no field is left.
     pub(crate) fn end(mut self) -> Result<(), Refusal>
         ensures all { ReadsAs result (nothing_of self) }
         ensures at_once { result ≡ Err Memory → ⊥ }

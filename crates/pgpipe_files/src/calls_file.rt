@@ -35,8 +35,8 @@ const CHUNK: usize = 4_096;
 pub enum CallLine {
     /// One event.
     Event(Event),
-    /// Twice: all that waits for the backend is carried to it, it steps until nothing is whole, and all that waits for the client is
-    /// carried to it.
+    /// Twice: all that waits for the backend is delivered to it, it steps until nothing whole waits, and all that waits for the client is delivered
+    /// to it.
     Flow,
     /// The bytes of the file of this path are to be handed over, in chunks.
     File(String),
@@ -67,8 +67,8 @@ impl Calls {
         }
     }
 
-    /// Puts the bytes of the first file that is left in its line's place: a chunk of 4,096 bytes each, the last with what is left, and none
-    /// where there are no bytes. Where memory is refused nothing is changed.
+    /// Puts the bytes of the first file that is left in the place of its line. There is one line for each chunk of 4,096 bytes, the last with what is
+    /// left, and none where there are no bytes. Where memory runs out, nothing is changed.
     #[tactic(auto, using(crate::proofs::Files::has_place))]
     pub fn fill(&mut self, alloc: Global, bytes: &[u8]) -> Result<(), AllocError>
         requires { IsSome (next_file self.old.lines) }
@@ -142,7 +142,7 @@ fn chunk_lines(alloc: Global, bytes: &[u8]) -> Result<Vec<CallLine>, AllocError>
 /// | `flow` | [`CallLine::Flow`] |
 ///
 /// `Line` is the first row that is none of these, stands where it may not, or has a fault of the text format; or that of a `group` that
-/// is open at the end of the file. A file without bytes wants no memory.
+/// is open at the end of the file. A file without bytes needs no memory.
 #[tactic(auto, unfolding(crate::specs::CallsFile::calls_of))]
 pub fn read_calls(alloc: Global, bytes: &[u8]) -> Result<Calls, LineFault>
     ensures read { IfOk result (λ calls. calls_of bytes.now ≡ Ok (what_is_said calls)) }
@@ -155,7 +155,7 @@ pub fn read_calls(alloc: Global, bytes: &[u8]) -> Result<Calls, LineFault>
     draft.calls()
 }
 
-/// A group of which lines are read.
+/// A group whose lines are being read.
 #[derive(Drop)]
 pub struct Group {
     /// The row of its first line.
@@ -164,7 +164,7 @@ pub struct Group {
     pub steps: Seq<Step>,
 }
 
-// Calls of which lines are read.
+// Calls whose lines are being read.
 #[derive(Drop)]
 struct CallsDraft {
     alloc: Global,

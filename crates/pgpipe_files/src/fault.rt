@@ -11,11 +11,10 @@ use thiserror::Error;
 /// Why SCRIPT or CALLS isn't read.
 #[derive(Clone, Copy, Debug, PartialEq, Eq, Error)]
 pub enum LineFault {
-    /// The line in the row of this number, counted from 1, has no meaning in its place, or has a
-    /// fault of the text format.
+    /// The line in the row of this number, counted from 1, has no meaning in its place, or has a fault of the text format.
     #[error("line {0}")]
     Line(usize),
-    /// Memory was refused.
+    /// Memory ran out.
     #[error("memory")]
     Memory,
 }
@@ -28,17 +27,17 @@ impl From<AllocError> for LineFault {
     }
 }
 
-/// Why a line isn't taken.
+/// Why a line is rejected.
 #[derive(Clone, Copy, Debug, PartialEq, Eq)]
 pub enum Refusal {
     /// It is none of its file's lines, or stands where it may not.
     Wrong,
-    /// Memory was refused.
+    /// Memory ran out.
     Memory,
 }
 
 impl Refusal {
-    /// The fault of the file whose row of this number is refused.
+    /// The fault of the file whose row of this number is rejected.
     pub fn at(self, number: usize) -> LineFault
         ensures { result ≡ fault_at self number }
     {

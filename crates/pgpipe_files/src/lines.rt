@@ -13,7 +13,7 @@ use std::alloc::Global;
 
 /// What is made of the lines of a file.
 pub trait TakesLines {
-    // What was taken so far with the line in the row of this number, of this verb and with these fields; nothing where it is refused.
+    // What was taken so far together with the line in the row of this number, of this verb and with these fields; nothing where it is rejected.
     ghost line: { Self → ℕ → List ℕ → Row → Option Self };
 
     /// Takes the line in the row of this number, counted from 1, with this verb and these fields after it.
@@ -48,7 +48,7 @@ fn take_row<T: TakesLines>(
     taker.take(number, verb.as_slice(), arguments)
 }
 
-// The fault of the file whose row of this number isn't given.
+// The fault of the file whose row of this number can't be read.
 fn text_fault_at(fault: TextFault, number: usize) -> LineFault
     ensures { result ≡ text_fault_at fault number }
 {
@@ -58,7 +58,7 @@ fn text_fault_at(fault: TextFault, number: usize) -> LineFault
     }
 }
 
-/// Has each line of a file taken, in order, up to the first that is refused.
+/// Has each line of a file taken, in order, up to the first that is rejected.
 pub fn take_lines<T: TakesLines>(
     alloc: Global,
     bytes: &[u8],

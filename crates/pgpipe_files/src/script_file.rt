@@ -47,7 +47,7 @@ use std::str;
 /// either case. FORMAT is `text` or `binary`, and COUNT a number of at most 65,535: so many columns have that format.
 ///
 /// `Line` is the first row that is none of these, stands where it may not, or has a fault of the text format; or that of a `paramtypes`
-/// that is the last line. A file without bytes wants no memory.
+/// that is the last line. A file without bytes needs no memory.
 #[tactic(auto, using(crate::proofs::ScriptLines::begun_bytes), unfolding(crate::specs::ScriptFile::script_of))]
 pub fn read_script(alloc: Global, bytes: &[u8]) -> Result<Script, LineFault>
     ensures read { IfOk result (λ script. script_of bytes.now ≡ Ok script) }
@@ -59,7 +59,7 @@ pub fn read_script(alloc: Global, bytes: &[u8]) -> Result<Script, LineFault>
     draft.script()
 }
 
-// A script of which lines are read.
+// A script whose lines are being read.
 #[derive(Drop)]
 struct ScriptDraft {
     alloc: Global,

@@ -52,7 +52,7 @@ impl AuthWay {
     }
 }
 
-/// What a line of SCRIPT says of the answer that it stands in.
+/// What a line of SCRIPT says about the answer that it stands in.
 #[derive(Clone, Copy)]
 pub enum AnswerVerb {
     Notice,

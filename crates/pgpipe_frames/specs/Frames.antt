@@ -14,13 +14,13 @@ use Rattle.pgpipe_frames.specs.declared.judge.FrameJudgement.TheVariants.{Open, 
 
 -- ---- one frame
 
--- the four bytes of a length field before which so many bytes stand, where they are there
+-- the four bytes of a length field, if they are there; so many bytes stand before it
 abbrev pub field_at : ℕ → List ℕ → Option (List ℕ)
 field_at tag rest = if nat_lt (length rest) (tag + 4) then None else Some (take 4 (drop tag rest))
 
--- What a length field says of a rest of `size` bytes, where the field may be from `least` to `most`
--- and counts all but the tag: it can't be, or not all that it counts is there, or a frame of so many
--- bytes is. It is an Int32: from 2^31 on it is negative.
+-- What a length field means for a rest of `size` bytes. The field may be from `least` to `most`,
+-- and counts all but the tag. It is faulty, or not all that it counts is there, or a frame of so
+-- many bytes is. It is an Int32: from 2^31 on it is negative.
 abbrev pub judged_by : ℕ → ℕ → ℕ → ℕ → List ℕ → FrameJudgement
 judged_by tag least most size field =
     if nat_lt (from_be_bytes w32 field) least || nat_lt 2147483647 (from_be_bytes w32 field)
@@ -30,7 +30,7 @@ judged_by tag least most size field =
     else if nat_lt size (tag + from_be_bytes w32 field) then Open
     else Whole (tag + from_be_bytes w32 field)
 
--- the same where the length field may not be there
+-- what a length field that may not be there yet means for a rest
 abbrev pub judged_field : ℕ → ℕ → ℕ → ℕ → Option (List ℕ) → FrameJudgement
 judged_field tag least most size None = Open
 judged_field tag least most size (Some field) = judged_by tag least most size field

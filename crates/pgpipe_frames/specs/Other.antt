@@ -120,7 +120,7 @@ version_text c = if c / 65536 == 1234 then codes "Request " ++ decimal (c % 6553
 abbrev pub packet_name : ℕ → List ℕ
 packet_name c = unwrap_or (request_of_code c) (version_text c)
 
--- A first packet: of a request to cancel no byte is shown, as a key stands in it.
+-- A first packet. No byte of a request to cancel is shown, as a key stands in it.
 unfoldable pub other_packet : List ℕ → List ℕ
 other_packet bytes = other_text (packet_name (code bytes)) (codes "packet") (length bytes)
     (code bytes == 80877102) (drop 8 bytes)

@@ -13,13 +13,13 @@ pub record FramesState : Type 0 where
   pub kept : List ℕ
   pub held : List ℕ
 
--- what `next` answers, by what stands at the beginning of the bytes kept: whether a frame does
+-- what `next` returns, by what stands at the beginning of the bytes kept: whether a frame does
 abbrev pub answer_of : FrameJudgement → Result Bool WireFault
 answer_of Open = Ok false
 answer_of (Whole size) = Ok true
 answer_of (Faulty fault) = Err fault
 
--- what `next` leaves: a frame that it answers is taken off, and lent
+-- what `next` leaves: a frame that it has found is taken off, and lent
 abbrev pub left_by : FramesState → FrameJudgement → FramesState
 left_by s Open = record s { held = [] }
 left_by s (Whole size) = record {

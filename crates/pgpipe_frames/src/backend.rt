@@ -37,7 +37,7 @@ fn put_further_values(values: LentValues<'_>, line: &mut Vec<u8>) -> Result<(), 
     Ok(())
 }
 
-// Appends values, parted by commas.
+// Appends values, separated by commas.
 fn put_values(values: LentValues<'_>, line: &mut Vec<u8>) -> Result<(), AllocError>
     ensures { OnOk result (line.new.items ≡ line.old.items ++ parted value_text values.entry) }
 {
@@ -124,7 +124,7 @@ fn put_digits(salt: [u8; 4], line: &mut Vec<u8>) -> Result<(), AllocError>
     ensures { OnOk result (line.new.items ≡ line.old.items ++ encode_lower salt) }
 {
     let mut digits = [0; 8];
-    // there is room for all digits, so this isn't refused
+    // there is room for all digits, so this doesn't fail
     let _ = hex::encode_to_slice(salt, &mut digits);
     line.extend_from_slice(&digits)
 }

@@ -59,7 +59,7 @@ fn lent_row(frame: &[u8]) -> Option<RowView<'_>>
     }
 }
 
-// Appends the text of a message of the backend. Of a row nothing is copied before.
+// Appends the text of a message of the backend. A row isn't copied for it.
 fn put_back(alloc: Global, frame: &[u8], line: &mut Vec<u8>) -> Result<(), AllocError>
     requires { 5 ≤ length frame.now }
     ensures { OnOk result ((text : List ℕ) × IsBackText frame.now text
@@ -137,9 +137,8 @@ fn put_message(
     }
 }
 
-/// Appends the text of a frame of a client (`front`) or of a server, without the end of a line: its name and its fields, or where it isn't of
-/// the tables of this library, its name, its tag, its length field and its bytes. The error is that memory was refused; a part of the text may
-/// stand then.
+/// Appends the text of a frame of a client (`front`) or of a server, without the end of a line: its name and its fields. A frame that isn't of the
+/// tables of this library has its name, its tag, its length field and its bytes. The error is that memory ran out; a part of the text may stand then.
 pub fn put_frame(
     alloc: Global,
     front: bool,

@@ -13,8 +13,8 @@ use std::marker::Model;
 
 /// Takes a stream in any pieces, and lends its frames, by their length fields alone ("Overview", "Message Formats").
 ///
-/// A byte is moved once on average, however small the pieces, and what is kept after each `next` that answered false is less than a frame.
-/// It has no state for faults: what stands at the beginning of the bytes kept is faulty, and stays so.
+/// A byte is moved once on average, however small the pieces. After each `next` that returned false less than a frame is kept. It stores no fault:
+/// where what stands at the beginning of the kept bytes is faulty, it stays so.
 #[derive(Drop)]
 pub struct Frames {
     bytes: Buffer,
@@ -39,7 +39,7 @@ impl Model for Frames {
 }
 
 impl Frames {
-    /// A reader that was given nothing yet, and whose first frame is one of these: a first packet of a client, or a message. It takes no memory.
+    /// A reader that was given nothing yet, whose first frame is a first packet of a client or a message. It takes no memory.
     pub fn new(alloc: Global, first: NextFrame) -> Frames
         ensures { result ≡ record { next = first; kept = []; held = [] } }
     {
@@ -64,7 +64,7 @@ impl Frames {
         self.bytes.len() - self.held
     }
 
-    /// Takes the next piece of the stream, all of it or, where memory is refused, nothing. A piece without bytes wants no memory.
+    /// Takes the next piece of the stream, all of it. Where memory runs out, nothing of it is taken. A piece without bytes needs no memory.
     pub fn push(&mut self, piece: &[u8]) -> Result<(), AllocError>
         ensures ok { OnOk result (self.new
             ≡ record self.old { kept = self.old.kept ++ piece.now; held = [] }) }
@@ -108,8 +108,8 @@ impl Frames {
         self.next = after;
     }
 
-    /// Whether a next frame is whole, which [`frame`](Self::frame) then lends, and which counts as given; false where more bytes are to come.
-    /// A length field that can't be is answered as ShortLength or LongLength, then and for good. After a request to cancel it is always false.
+    /// Looks for the next frame. True: it is whole, counts as given, and [`frame`](Self::frame) lends it. False: more bytes are to come. A bad length
+    /// field is returned as ShortLength or LongLength, by this call and each later one. After a request to cancel it is always false.
     pub fn next(&mut self) -> Result<bool, WireFault>
         ensures answer { result ≡ answer_of (judged self.old.next self.old.kept) }
         ensures left { self.new ≡ left_by self.old (judged self.old.next self.old.kept) }
@@ -131,8 +131,8 @@ impl Frames {
         }
     }
 
-    /// The frame that the last call of `next` said is there: a message's tag, its length field and its body, or a first packet. None after
-    /// another call, but a `push` that was refused.
+    /// The frame for which the last call of `next` returned true: a message's tag, its length field and its body, or a first packet. It is empty
+    /// after any other call of `push` or `next`, except a `push` for which memory ran out.
     pub fn frame(&self) -> &[u8]
         ensures { result.now ≡ self.now.held }
     {

@@ -13,7 +13,7 @@ pub enum FrameJudgement {
     Open,
     /// A frame of so many bytes.
     Whole(usize),
-    /// A length field that can't be.
+    /// A bad length field.
     Faulty(WireFault),
 }
 

@@ -45,7 +45,7 @@ pub fn code_of(packet: &[u8]) -> u32
     }
 }
 
-/// What stands after a frame: after a request for encryption another first packet, after a request to cancel nothing that is read, and after
+/// What stands after a frame. After a request for encryption it is another first packet, after a request to cancel nothing that is read, and after
 /// any other frame a message.
 pub fn next_after(next: NextFrame, frame: &[u8]) -> NextFrame
     requires { next ≡ Packet → 8 ≤ length frame.now }

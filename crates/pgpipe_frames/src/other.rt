@@ -113,7 +113,7 @@ fn answer_name(body: &[u8]) -> &'static str
     }
 }
 
-/// The name that the documentation has for a tag of the frontend, or `Unknown`; with the tag p it is told by the body.
+/// The name that the documentation has for a tag of the frontend, or `Unknown`. With the tag p the body decides it.
 pub fn front_name(tag: u8, body: &[u8]) -> &'static str
     ensures { result.now ≡ front_name tag body.now }
 {

@@ -8,7 +8,7 @@ ghost use Rattle.pgpipe_frames.specs.Reading.{IsReadAs, IsPacketReadAs, tag_of, 
 use pg_wire::{BodyFault, First, FirstDecoder, Message, WireFault};
 use std::alloc::{AllocError, Global};
 
-/// Whether a frame is a message of this direction. No memory is asked for.
+/// Whether a frame is a message of this direction. It takes no memory.
 pub fn is_message<M: Message>(frame: &[u8]) -> bool
     requires { 5 ≤ length frame.now }
     ensures { JudgesBody M.direction (tag_of frame.now) (body_of frame.now) result }
@@ -16,7 +16,7 @@ pub fn is_message<M: Message>(frame: &[u8]) -> bool
     M::is_message(frame[0], &frame[5..])
 }
 
-/// The message of this direction that a frame is; None where its tag or its body isn't of the tables. The error is that memory was refused.
+/// The message of this direction that a frame is; None where its tag or its body isn't of the tables. The error is that memory ran out.
 pub fn read_message<M: Message>(alloc: Global, frame: &[u8]) -> Result<Option<M>, AllocError>
     requires { 5 ≤ length frame.now }
     ensures { IfOk result (IsReadAs M.direction frame.now) }
@@ -47,7 +47,7 @@ fn if_whole(packet: First, left: usize) -> Option<First>
     if left == 0 { Some(packet) } else { None }
 }
 
-// What a fault that a decoder found means: there is no packet, or memory was refused.
+// What a decoder's fault means: there is no packet, or memory ran out.
 fn if_fault(fault: WireFault) -> Result<Option<First>, AllocError>
     ensures { IfOk result (λ packet. (packet ≡ None) × IsLasting (Some fault)) }
 {
@@ -74,7 +74,7 @@ fn only_packet(decoder: FirstDecoder) -> Result<Option<First>, AllocError>
     }
 }
 
-/// The first packet that a frame is; None where its code or what follows isn't of the tables. The error is that memory was refused.
+/// The first packet that a frame is; None where its code or what follows isn't of the tables. The error is that memory ran out.
 pub fn read_packet(alloc: Global, frame: &[u8]) -> Result<Option<First>, AllocError>
     ensures { IfOk result (IsPacketReadAs frame.now) }
 {

@@ -17,7 +17,7 @@ use std::str::from_utf8;
 // The most bytes that are shown of a text in quotes.
 const WIDTH: usize = 100;
 
-/// What is shown as a text that a person reads.
+/// Something that is shown as a text that a person reads.
 pub trait Readable {
     ghost use Rattle.std.specs.Prelude.{ℕ, List};
 
@@ -40,7 +40,7 @@ pub fn put_digits(byte: u8, line: &mut Vec<u8>) -> Result<(), AllocError>
     ensures { OnOk result (line.new.items ≡ line.old.items ++ digits_escape byte) }
 {
     let mut digits = [0; 2];
-    // there is room for both digits, so this isn't refused
+    // there is room for both digits, so this doesn't fail
     let _ = hex::encode_to_slice([byte], &mut digits);
     line.extend_from_slice(b"\\x")?;
     line.extend_from_slice(&digits)
@@ -126,7 +126,7 @@ fn put_control(a: u8, b: u8, line: &mut Vec<u8>) -> Result<(), AllocError>
     put_digits(b, line)
 }
 
-// Appends a byte as it is shown where these follow it, or the control character that it begins, and tells how many bytes that was.
+// Appends a byte as it is shown where these follow it, or the control character that it begins, and returns how many bytes that was.
 fn put_unit(
     byte: u8,
     later: &[u8],
@@ -148,7 +148,7 @@ fn put_unit(
     }
 }
 
-// Appends the first bytes as they are shown, all at once that are shown as they are, and tells how many bytes that was.
+// Appends the first bytes as they are shown: at once all that are shown as they are, or else one unit. It returns how many bytes that was.
 fn put_some(bytes: &[u8], utf8: bool, mark: u8, line: &mut Vec<u8>) -> Result<usize, AllocError>
     requires { 0 < length bytes.now }
     ensures { IfOk result (PutsSome utf8 mark bytes.now line.old.items line.new.items) }
@@ -177,7 +177,7 @@ fn put_parts(bytes: &[u8], mark: u8, line: &mut Vec<u8>) -> Result<(), AllocErro
     Ok(())
 }
 
-// Whether all bytes are shown as they are, also where the text isn't UTF-8.
+// Whether all bytes are shown as they are, even where the text isn't UTF-8.
 fn are_unescaped(bytes: &[u8], mark: u8) -> bool
     ensures { result ≡ list_all (is_unescaped false mark) bytes.now }
 {

@@ -166,7 +166,7 @@ fn named_request(code: i32) -> Option<&'static str>
     }
 }
 
-// The name of such a request.
+// The name of an authentication request that has no message of its own.
 fn request_called(code: i32) -> &'static str
     ensures { result.now ≡ request_called code }
 {
@@ -176,7 +176,7 @@ fn request_called(code: i32) -> &'static str
     }
 }
 
-// Puts what comes with such a request.
+// Puts what comes with an authentication request that has no message of its own.
 fn put_request_more(
     code: i32,
     rest: &[u8],
@@ -195,7 +195,7 @@ fn put_request_more(
     put_hidden("data", alloc, object)
 }
 
-// Puts such a request.
+// Puts an authentication request that has no message of its own.
 fn put_request(
     code: i32,
     rest: &Seq<u8>,

@@ -132,8 +132,8 @@ fn put_value(alloc: Global, value: &Value, line: &mut Vec<u8>) -> Result<(), All
     line.extend_from_slice(text.as_slice())
 }
 
-/// Appends the text of a frame of a client (`front`) or of a server, without the end of a line: a JSON object without spaces, which a reader of
-/// JSON reads back. The error is that memory was refused; a part of the text may stand then.
+/// Appends the text of a frame of a client (`front`) or of a server, without the end of a line: a JSON object without spaces. A reader of JSON reads
+/// it back. The error is that memory ran out; a part of the text may stand then.
 pub fn put_frame(
     alloc: Global,
     front: bool,

@@ -12,7 +12,7 @@ use serde_json::{Value, json};
 use std::alloc::{AllocError, Global};
 use std::str::from_utf8;
 
-/// What is shown as a JSON value.
+/// Something that is shown as a JSON value.
 pub trait Shown {
     ghost use Rattle.serde_json.specs.Data.{Data};
 

@@ -19,7 +19,7 @@ abbrev pub count_after : Result (List ℕ) CarryFault → ℕ → ℕ
 count_after (Ok bytes) n = n
 count_after (Err fault) n = min (n + 1) last_count
 
--- Of two facts the first holds of the way to the backend, the second of the way to the client.
+-- The first of two facts for the way to the backend, and the second for the way to the client.
 abbrev pub Along : Way → Type 0 → Type 0 → Type 0
 Along ToBackend first second = first
 Along ToClient first second = second

@@ -35,7 +35,7 @@ module _ {L C : Type 0} (gives takes : L → List ℕ → L → Type 0) (has_end
       × (script_of bytes ≡ Ok script) × holds script link rows
 
   -- These are the lines of some turns of the next client, as rows, or none if it hasn't come or
-  -- memory was refused for its script.
+  -- memory ran out for its script.
   abbrev pub IsNextInPart : C → List Row → Type 0
   IsNextInPart clients rows = (rows ≡ [])
       ⊎ NextHas (IsServedInPart gives takes has_ended receive_failures send_failures) clients rows
@@ -49,7 +49,7 @@ module _ {L C : Type 0} (gives takes : L → List ℕ → L → Type 0) (has_end
     -- After the lines of the rows `first` were sent from this sink on: `count` clients are to be
     -- served, from `start` on.
     module _ (first : List Row) (count : ℕ) (start : C) (sink : K) where
-      -- Fewer clients than that were served to the end, and memory was refused: whole lines were
+      -- Fewer clients than that were served to the end, and memory ran out: whole lines were
       -- sent.
       pub record IsRefused (sink' : K) : Type 0 where
         pub done : ℕ
@@ -73,7 +73,7 @@ module _ {L C : Type 0} (gives takes : L → List ℕ → L → Type 0) (has_end
             ⊎ ((rows : List Row) × IsNextSoFar clients rows
             × AreCutOff sends failures sink (first ++ (before ++ rows)) sink')
 
-      -- By the result: so many clients were served, and all lines sent; or memory was refused; or
+      -- By the result: so many clients were served, and all lines sent; or memory ran out; or
       -- a client couldn't be had, or the sink failed.
       abbrev pub ServesAfter : Result Unit ToolFault → C → K → Type 0
       ServesAfter (Ok x) clients' sink' = (rows : List Row) × AreServed start count clients' rows
@@ -82,7 +82,7 @@ module _ {L C : Type 0} (gives takes : L → List ℕ → L → Type 0) (has_end
       ServesAfter (Err tool.Device) clients' sink' = IsBroken clients' sink'
 
     -- What `serve_all` comes to, by its result: the line of the port was sent, and then so many
-    -- clients were served; or memory was refused for that line, or the sink failed in it.
+    -- clients were served; or memory ran out for that line, or the sink failed in it.
     abbrev pub ServesAll : (port count : ℕ) (start : C) → K → Result Unit ToolFault → C → K
         → Type 0
     ServesAll port count start sink (Ok x) clients' sink' =

@@ -183,7 +183,7 @@ places_row n = Some (codes "places") ∷ Some (decimal n) ∷ []
 abbrev pub broken_text : List Broken → List ℕ
 broken_text all = text_lines (map broken_row all ++ places_row (length all) ∷ [])
 
--- What `break_everywhere` answers, by the text sent. Ok: all lines, and the first place where what
+-- What `break_everywhere` returns, by the text sent. Ok: all lines, and the first place where what
 -- is settled wasn't seen to begin the log; there is none by IsLeftAt. Memory: nothing was sent.
 -- Device: the sink broke, and a prefix was sent.
 abbrev pub BreaksAnswer : Type 0 → ℕ → LoopFiles → List ℕ → Result (Option Place) ToolFault → Type 0

@@ -167,7 +167,7 @@ settled_rows s =
 abbrev pub logged_rows : Logged → List Row
 logged_rows entry = settled_rows (record { request = entry.request; outcome = entry.outcome })
 
--- ---- refused calls and faults
+-- ---- rejected calls and faults
 
 -- the fields after the code of a client's fault: of F1 the code of the stream's fault, of F5 and F6
 -- the fields of the server's error

@@ -63,7 +63,7 @@ abbrev pub is_nothing : Applied → Bool
 is_nothing applied.Nothing = true
 is_nothing _ = false
 
--- whether the answer is Carrier: the carrier failed or gave other bytes, and the end answered no
+-- whether the answer is Carrier: the carrier failed or gave other bytes, and the end returned no
 -- fault
 abbrev pub is_carrier : Applied → Bool
 is_carrier applied.Carrier = true
@@ -86,12 +86,12 @@ abbrev pub new_loss : Option Loss → Option Loss → Option Loss
 new_loss None after = after
 new_loss (Some loss) after = None
 
--- the lines of an event with this answer, from pair p to q, as rows
+-- the lines of an event that came to this, from pair p to q, as rows
 abbrev pub rows_between : {C : Type 0} → PairView C → Applied → PairView C → List Row
 rows_between p answer q =
     event_rows (drop (length p.settled) q.settled) answer (new_loss p.loss q.loss)
 
--- the rows of an event in a trace, with this answer, from pair p to q: none where it did nothing
+-- the rows of an event that came to this in a trace, from pair p to q: none where it did nothing
 -- (true), and else its name, what it moved, its own lines, and the phases of both ends after it
 abbrev pub traced_unless : {C : Type 0} → Bool → Event → PairView C → Applied → PairView C
     → List Row
@@ -156,8 +156,8 @@ abbrev pub says_carrier_failed : Ran → Bool
 says_carrier_failed ran.Whole = false
 says_carrier_failed ran.CarrierFailed = true
 
--- What `run_loop` answers, and `trace_loop` (true), by the text sent. Ok: all lines. Memory: whole lines, up to the event
--- where memory was refused. Device: the sink broke, and a prefix was sent.
+-- What `run_loop` returns, and `trace_loop` (true), by the text sent. Ok: all lines. Memory: whole lines, up to the event
+-- where memory ran out. Device: the sink broke, and a prefix was sent.
 abbrev pub LoopAnswers : {C : Type 0} → Type 0 → Carrying C → Bool → PairView C → List PlannedEvent
     → List ℕ → Result Ran ToolFault → Type 0
 LoopAnswers broke carries trace begun all text (Ok r) =

@@ -122,7 +122,7 @@ module _ {L : Type 0} (gives takes : L → List ℕ → L → Type 0) (has_ended
 
   module _ {K : Type 0} (sends : K → List ℕ → K → Type 0) (failures : K → ℕ) where
     -- What `serve` comes to, by its result. Ok: the client was served, and all lines were sent.
-    -- Memory: lines were sent up to the turn where memory was refused for them. Device: the sink
+    -- Memory: lines were sent up to the turn where memory ran out for them. Device: the sink
     -- failed.
     abbrev pub Serves : Script → L → K → Result Unit ToolFault → L → K → Type 0
     Serves script link sink (Ok x) link' sink' =

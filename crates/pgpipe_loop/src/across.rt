@@ -9,8 +9,8 @@ use pg_wire::{Sink, Source};
 use pgpipe_base::outbox::send_all;
 use std::marker::Model;
 
-/// Carries over two ends, the client's and the backend's. A piece is sent whole at the end that it comes from, and received whole at
-/// the other. Where an end fails, or the input ends before the piece is whole, the call fails.
+/// Carries over two ends, the client's and the backend's. A piece is sent whole at the end where it comes from, and received whole at the other.
+/// Where an end fails, or the input ends before the piece is whole, the call fails.
 #[derive(Drop)]
 pub struct Across<A, B> {
     client: A,
@@ -105,7 +105,7 @@ fn cross<K: Sink, S: Source>(
     }
 }
 
-// Receives as many bytes as there is room for, and answers how many. It fails where the source does or ends before.
+// Receives as many bytes as there is room for, and returns how many. It fails where the source does, or ends before.
 fn receive_all<S: Source>(source: &mut S, into: &mut [u8]) -> Result<usize, CarryFault>
     ensures receives { Receives S.gives S.failures S.has_ended (length into.old) source.old
         (arrival result into.new) source.new }

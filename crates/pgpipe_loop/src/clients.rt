@@ -11,9 +11,9 @@ use pgpipe_base::ToolFault;
 use pgpipe_files::read_script;
 use std::alloc::Global;
 
-/// Where clients come from. Of what comes over their links nothing is assumed.
+/// Where clients come from. Nothing is assumed about what comes over their links.
 pub trait Clients<L> {
-    /// This link may be the next client's, and these the clients that are still to come then.
+    /// A call may give this link as the next client's, and leave these clients to come.
     ghost gives: { Self → L → Self → Type 0 };
 
     /// A call may fail, and leave these clients to come.
@@ -25,11 +25,11 @@ pub trait Clients<L> {
         ensures failed { IfErr result (λ _. fails self.old self.new) };
 }
 
-/// Sends the line of the port, and then serves so many clients, one after another, each from the beginning of the script that these
-/// bytes say. It has to be one that can be played. A link is dropped before the next client is awaited.
+/// Sends the line of the port, and then serves so many clients, one after another, each from the beginning of the script in these bytes. They must be
+/// a script that can be played. A link is dropped before the next client is awaited.
 ///
-/// `Device` is answered where the next client couldn't be had, and where the sink failed; a prefix of the lines was then sent. `Memory` is
-/// answered where memory was refused for a script or for lines; whole lines were then sent.
+/// `Device`: the next client couldn't be had, or the sink failed; a prefix of the lines was then sent. `Memory`: memory for a script or for lines ran
+/// out; whole lines were then sent.
 pub fn serve_all<L: Source + Sink + Drop, C: Clients<L>, K: Sink>(
     alloc: Global,
     port: u16,
@@ -82,7 +82,7 @@ fn serve_next<L: Source + Sink + Drop, C: Clients<L>, K: Sink>(
     let Ok(mut link) = clients.next() else {
         return Err(ToolFault::Device);
     };
-    // the bytes say a script, so nothing but memory can be refused
+    // The bytes are a script, so only memory can run out.
     let Ok(script) = read_script(alloc, bytes) else {
         return Err(ToolFault::Memory);
     };

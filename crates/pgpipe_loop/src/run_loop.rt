@@ -74,7 +74,7 @@ impl<C: Carry> Running<C> {
         Ok(answer)
     }
 
-    // Delivers at most so many bytes, and answers whether no byte was moved.
+    // Delivers at most so many bytes, and returns whether no byte was moved.
     fn deliver_once<K: Sink>(
         &mut self,
         way: Way,
@@ -91,7 +91,7 @@ impl<C: Carry> Running<C> {
         Ok(self.pair.reached(way) == before)
     }
 
-    // Makes a step, and answers whether nothing whole waited.
+    // Makes a step, and returns whether nothing whole waited.
     fn step_once<K: Sink>(&mut self, trace: bool, sink: &mut K) -> Result<bool, ToolFault>
         ensures { DoesOnce C.carries trace K.takes K.failures event.Step
             (at self.old.pair self.old.carrier_failed sink.old) result
@@ -167,7 +167,7 @@ impl<C: Carry> Running<C> {
                 self.flow_once(cut, trace, sink)?;
                 self.flow_once(cut, trace, sink)
             }
-            // no file is left
+            // No line names a file any more.
             CallLine::File(_) => Ok(()),
         }
     }
@@ -272,12 +272,12 @@ fn run_told<C: Carry, K: Sink>(
     running.run(lines, cut, trace, sink)
 }
 
-/// Runs the lines of `calls` over a client with their settings and a backend with `script`, between which `carrier` carries, and sends
-/// the lines of each event, in order, and then the closing lines. In a flow `cut` bytes are delivered at a time. The script has to be
-/// checked, each file of the calls filled in, and the limit of the settings to be from 64 to 1,073,741,823.
+/// Runs the lines of `calls` over a client with their settings and a backend with `script`. `carrier` carries between them. It sends the lines of
+/// each event, in order, and then the closing lines. In a flow `cut` bytes are delivered at a time. The script must be checked, each file of the
+/// calls filled in, and the limit of the settings from 64 to 1,073,741,823.
 ///
-/// `Device` is answered where the sink failed in this call; a prefix of the lines was then sent. `Memory` is answered where memory
-/// was refused; the lines of the events before were then sent.
+/// `Device`: the sink failed in this call; a prefix of the lines was then sent. `Memory`: memory ran out; the lines of the events before were then
+/// sent.
 pub fn run_loop<C: Carry, K: Sink>(
     alloc: Global,
     script: Script,
@@ -300,9 +300,9 @@ pub fn run_loop<C: Carry, K: Sink>(
     run_told(alloc, script, calls, cut, false, carrier, sink)
 }
 
-/// Runs a loop as [`run_loop`] does, for the same script and calls and with the same answers, and sends a trace of it. Each event that did
-/// something has these lines: `event` and what happened, `reached` and how many bytes were delivered, `sent` for each message that an end
-/// put out, the lines that `run_loop` sends of it, and the phases of both ends. The closing lines are last.
+/// Runs a loop as [`run_loop`] does, for the same script and calls and with the same results, and sends a trace of it. Each event that did something
+/// has these lines: `event` and what happened, `reached` and how many bytes were delivered, `sent` for each message that an end put out, the lines
+/// that `run_loop` sends for it, and the phases of both ends. The closing lines are last.
 pub fn trace_loop<C: Carry, K: Sink>(
     alloc: Global,
     script: Script,

@@ -21,12 +21,11 @@ const LIMIT: u32 = 1_073_741_823;
 // The most turns of a connection.
 const MOST_TURNS: u64 = u64::MAX;
 
-/// Serves a client over a link, from the script's beginning to the end of the connection, and sends the lines of what it asked and was
-/// answered: those of each request in the turn in which it is decided, that of a fault, and the closing lines. The script has to be
-/// checked.
+/// Serves a client over a link, from the script's beginning to the end of the connection, and sends the lines of what it asked and was answered. They
+/// are those of each request in the turn in which it is decided, that of a fault, and the closing lines. The script must be checked.
 ///
-/// A link that fails is no fault of this call: its line is `fault carry`. `Device` is answered where the sink failed in this call; a
-/// prefix of the lines was then sent. `Memory` is answered where memory was refused for lines; those of the turns before were then sent.
+/// A link that fails is no fault of this call: its line is `fault carry`. `Device`: the sink failed in this call; a prefix of the lines was then
+/// sent. `Memory`: memory for lines ran out; the lines of the turns before were then sent.
 pub fn serve<L: Source + Sink, K: Sink>(
     alloc: Global,
     script: Script,
@@ -43,8 +42,8 @@ pub fn serve<L: Source + Sink, K: Sink>(
     send_lines(lines.as_slice(), sink)
 }
 
-// Takes turns until the connection is over, and answers in which phase the backend was left. A connection has at most 2^64 - 1 turns,
-// which none uses up.
+// Takes turns until the connection is over, and returns the phase in which the backend was left. A connection has at most 2^64 - 1 turns, which none
+// uses up.
 fn take_turns<L: Source + Sink, K: Sink>(
     alloc: Global,
     backend: &mut Backend,
@@ -82,7 +81,7 @@ fn turn<L: Source + Sink, K: Sink>(
     Ok(left_in(before, &answered, backend.phase()))
 }
 
-// The lines of a turn, before which so many requests were decided.
+// The lines of a turn. Before it so many requests were decided.
 fn lines_since(
     alloc: Global,
     decided: usize,
@@ -97,7 +96,7 @@ fn lines_since(
     turn_lines(alloc, new, &applied_of(answered))
 }
 
-// What is answered in a turn, as what an event of a loop comes to.
+// The result of a turn, as what an event of a loop comes to.
 fn applied_of(answered: &Result<Answered, AnswerFault>) -> Applied
     ensures { result ≡ applied_of answered.now }
 {
@@ -108,7 +107,7 @@ fn applied_of(answered: &Result<Answered, AnswerFault>) -> Applied
     }
 }
 
-// In which phase the last turn leaves the backend, by its phases before and after it. None: the connection goes on.
+// The phase in which the last turn leaves the backend, by its phases before and after it. None: the connection goes on.
 fn left_in(
     before: BackPhase,
     answered: &Result<Answered, AnswerFault>,

@@ -52,9 +52,9 @@ pub record AreAllShown (front back text : List ℕ) (ends : BothEnds) : Type 0 w
 abbrev pub HasStopped : ℕ → ℕ → List (List ℕ) → Type 0
 HasStopped old new received = HasRisen old new ⊎ (most_receives ≤ length received)
 
--- What is answered, by the bytes of the client and of the server that were received, and the text that
--- was sent. Memory: the lines of what was printed were sent. Device: the sink broke (a prefix was
--- sent), or a source stopped, or more entries came than are printed (all lines were sent).
+-- What is returned, by the bytes of the client and of the server that were received, and the text
+-- that was sent. Memory: the lines of what was printed were sent. Device: the sink broke (a prefix
+-- was sent), or a source stopped, or more entries came than are printed (all lines were sent).
 abbrev pub BothAnswers : Type 0 → Type 0 → List ℕ → List ℕ → List ℕ → Result BothEnds ToolFault
     → Type 0
 BothAnswers stopped broke front back text (Ok ends) = AreAllShown front back text ends
@@ -71,7 +71,7 @@ EndsSource at_end (ending.Fault f) = Unit {0}
 EndsSource at_end ending.Canceled = Unit {0}
 EndsSource at_end ending.Encrypted = Unit {0}
 
--- the same of both streams
+-- Where a stream of the two ended with whole frames or with a rest, its source has ended.
 abbrev pub EndsSources : Type 0 → Type 0 → Result BothEnds ToolFault → Type 0
 EndsSources front_at_end back_at_end (Ok ends) = EndsSource front_at_end ends.front
     × EndsSource back_at_end ends.back

@@ -7,11 +7,11 @@ use Rattle.pgpipe_show.specs.declared.color.part.LinePart.TheVariants.{Start, Er
 abbrev pub cyan : List ℕ
 cyan = 27 ∷ codes "[1;36m"
 
--- the same standard: red
+-- ECMA-48, "Select graphic rendition": red
 abbrev pub red : List ℕ
 red = 27 ∷ codes "[31m"
 
--- the same standard: neither bold nor coloured
+-- ECMA-48, "Select graphic rendition": neither bold nor coloured
 abbrev pub reset : List ℕ
 reset = 27 ∷ codes "[0m"
 

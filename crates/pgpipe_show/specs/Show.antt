@@ -39,8 +39,8 @@ pub record AreMessages {M : Type 0} (d : Direction M) (bytes text rest : List �
 
 -- ---- what a client sends
 
--- Of the bytes after the first packets, the text is the messages' lines, and `rest` what comes
--- after these. Without a Startup all of them are rest, and the text is empty.
+-- After the first packets come these bytes: the text is the lines of their messages, and `rest`
+-- what comes after these. Without a Startup all of them are rest, and the text is empty.
 abbrev pub ComesAfter : NextFrame → List ℕ → List ℕ → List ℕ → Type 0
 ComesAfter next.Message following text rest = AreMessages frontend following text rest
 ComesAfter _ following text rest = (text ≡ []) × (rest ≡ following)
@@ -148,7 +148,7 @@ IsShownAtOnce way bytes text = (before : List ℕ) × AreShownBefore way bytes b
 
 -- ---- the answer
 
--- What `show` answers, by the bytes received and the text sent: Whole without a rest, Rest with its
+-- What `show` returns, by the bytes received and the text sent: Whole without a rest, Rest with its
 -- size, or the rest's fault. Memory: no line is missing for what came before the last piece.
 -- Device: the sink broke (a prefix was sent), or the source stopped (all was sent).
 abbrev pub ShowAnswers : Type 0 → Type 0 → Way → List ℕ → List ℕ → Result Shown ToolFault → Type 0

@@ -28,8 +28,9 @@ abbrev pub IsTableOf : Bool → List ℕ → List ℕ → NextFrame → List ℕ
 IsTableOf front bytes text n rest = (s : SummaryState) × IsSummedUp front bytes s n rest
     × (text ≡ table s)
 
--- What is answered, by the bytes received and the text sent: Whole without a rest, Rest with its size
--- (2^64 - 1 where it has more bytes), or the rest's fault. Of memory that was refused and of a device that failed nothing is said here.
+-- What is returned, by the bytes received and the text sent: Whole without a rest, Rest with its
+-- size (2^64 - 1 where it has more bytes), or the rest's fault. Nothing is claimed here where memory
+-- ran out or a device failed.
 abbrev pub SummaryAnswers : Bool → List ℕ → List ℕ → Result Shown ToolFault → Type 0
 SummaryAnswers front bytes text (Ok shown.Whole) = (n : NextFrame) × IsTableOf front bytes text n []
 SummaryAnswers front bytes text (Ok (shown.Rest size)) = (n : NextFrame) × (rest : List ℕ)

@@ -28,7 +28,7 @@ abbrev pub accepts : Encryption → ℕ → Bool
 accepts Ssl byte = byte == 83
 accepts Gss byte = byte == 71
 
--- whether this byte answers it: `N` refuses it
+-- whether this byte answers it: `N` rejects it
 abbrev pub is_reply : Encryption → ℕ → Bool
 is_reply request byte = byte == 78 || accepts request byte
 
@@ -37,7 +37,7 @@ abbrev pub opened : Option Encryption → Stage
 opened None = Talking (Answering false false false)
 opened (Some request) = Requested request
 
--- after the client's first frame, and each that follows a request which was refused
+-- after the client's first frame, and each that follows a request which was rejected
 abbrev pub opening_sent : NextFrame → List ℕ → Stage
 opening_sent next.Packet bytes = opened (request_of (code bytes))
 opening_sent next.Message bytes = Talking (asked false false (tag_of bytes))
@@ -114,7 +114,7 @@ ended_by turn false how = record {
   back = Some how;
 }
 
--- After the answer to a request for encryption: where it was refused (true) another first packet
+-- After the answer to a request for encryption: where it was rejected (true) another first packet
 -- follows, and else both streams go on encrypted.
 abbrev pub after_reply : Bool → Turn → Turn
 after_reply true turn = record { stage = Opening; front = turn.front; back = turn.back }

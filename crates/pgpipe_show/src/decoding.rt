@@ -27,11 +27,11 @@ pub enum Decoding {
     First(FirstDecoder),
     /// The messages of a client.
     Front(Spellings<FrontMessage>),
-    /// Nothing after a Cancel: so many bytes came.
+    /// Nothing, since a Cancel came. So many bytes came after it.
     Over(usize),
     /// Frames.
     Framed(Framing),
-    /// Nothing after a request to cancel, of a client whose frames are shown so: so many bytes came.
+    /// Nothing, since a client whose frames are shown so sent a request to cancel. So many bytes came after it.
     FramedOver(Line, bool, usize),
 }
 
@@ -77,7 +77,7 @@ impl Decoding {
         }
     }
 
-    /// Nothing was read yet.
+    /// The state before the first byte.
     pub fn begin(alloc: Global, form: Form, front: bool) -> Decoding
         ensures side { way_of result ≡ record { form = form; front = front } }
         ensures begun { AreAt [] [] result }

@@ -49,7 +49,7 @@ fn put_other<K: Sink>(frame: &[u8], outbox: &mut Outbox, sink: &mut K) -> Result
         return put_word(&[b'?', tag], size, body, outbox, sink);
     }
     let mut word = *b"?\\x00";
-    // there is room for both digits, so this isn't refused
+    // there is room for both digits, so this doesn't fail
     let _ = hex::encode_to_slice([tag], &mut word[3..]);
     put_word(&word, size, body, outbox, sink)
 }

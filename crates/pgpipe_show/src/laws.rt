@@ -14,7 +14,7 @@ ghost use Rattle.pgpipe_show.specs.Laws.{OneOrder};
 
 use pg_link::Sink;
 
-/// What the client and the server sent is printed in one order alone.
+/// What the client and the server sent is printed in only one order.
 pub fn one_order()
     ensures { OneOrder }
 {}
@@ -30,14 +30,14 @@ pub fn a_line()
         ≡ named_line word rest ++ 10 ∷ colored Start more }
 {}
 
-/// Nothing but escapes is added to a text that has none: without them it is as it was.
+/// Only escapes are added to a text that has none. Without them it is as it was.
 pub fn nothing_else()
     ensures { (part : LinePart) (text : List ℕ) → AllByRecursion (λ b. b ≢ 27) text
         → without_escapes false (colored part text) ≡ text }
 {}
 
-/// However a text came in calls, the sink behind took its coloured form, where no call failed. At its last value the count of failures can't
-/// tell that.
+/// However a text came in calls, the sink behind took its coloured form, where no call failed. Once the count of failures has its last value, it
+/// can't show a further one.
 pub fn whole_text<K: Sink>()
     ensures { (old new : Coloring K) (text : List ℕ) → old.on ≡ true
         → K.failures old.inner < last_count

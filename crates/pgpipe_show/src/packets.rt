@@ -82,7 +82,7 @@ pub fn put_packet<K: Sink>(
     }
 }
 
-/// Puts the lines of the packets that are whole, and tells what comes next.
+/// Puts the lines of the packets that are whole, and returns what comes next.
 pub fn put_packets<K: Sink>(
     first: &mut FirstDecoder,
     spelled: &mut Vec<u8>,

@@ -109,12 +109,12 @@ fn begin(alloc: Global) -> Result<Showing, AllocError>
     })
 }
 
-/// Shows a stream as [`show`] does, in one of several forms: its messages and packets of the tables, as `show` itself; or its frames, whatever
-/// they are ("Message Formats", "Start-up"), with a line of hexadecimal, of words or of JSON for each. A frame is told by its length field alone: of a
-/// message 4 to 1,073,741,823, of a first packet 8 to 10,000. A client's first packets go on up to one that is no request, of any version, or
-/// to a request to cancel; messages follow, or nothing that is read.
+/// Shows a stream in one of several forms. One has its messages and packets of the tables, as [`show`] does. The others have its frames, whatever
+/// they are ("Message Formats", "Start-up"), with a line of hexadecimal, of words or of JSON for each. Only its length field says where a frame ends:
+/// 4 to 1,073,741,823 in a message, 8 to 10,000 in a first packet. A client's first packets go on up to one that isn't a request, of any version, and
+/// messages follow. After a request to cancel nothing is read.
 ///
-/// Its answers come as of `show`. A fault is a length field that can't be, where frames are shown.
+/// What is returned is as with `show`. Where frames are shown, a fault is a bad length field.
 pub fn show_as<S: Source, K: Sink>(
     alloc: Global,
     form: Form,
@@ -148,22 +148,20 @@ pub fn show_as<S: Source, K: Sink>(
     }
 }
 
-/// Writes a line for each message of a backend's stream: its tag as a letter, a space, its length field in decimal, a
-/// space, and its body in lower-case hexadecimal, or `-` for an empty body. Length fields of up to 1,073,741,823 are
-/// taken.
+/// Writes a line for each message of a backend's stream: its tag as a letter, a space, its length field in decimal, a space, and its body in
+/// lower-case hexadecimal, or `-` for an empty body. Length fields of up to 1,073,741,823 are taken.
 ///
-/// With `front` it is a client's side: first packets up to a Startup or a Cancel, and the client's messages after a
-/// Startup. A packet's line is `startup`, `cancel`, `ssl` or `gss`, a space, its length in decimal, a space, and the bytes
-/// after the length in hexadecimal. What comes after a Cancel is the rest.
+/// With `front` it is a client's side: first packets up to a Startup or a Cancel, and the client's messages after a Startup. A packet's line is
+/// `startup`, `cancel`, `ssl` or `gss`, a space, its length in decimal, a space, and the bytes after the length in hexadecimal. What comes after a
+/// Cancel is the rest.
 ///
-/// Before each `receive` the lines for all that came are sent. The lines before a fault or a rest are sent. `Device` is answered where
-/// - the sink failed in this call: a prefix of the lines was sent, and the lines for all that was received but the last
-///   piece are at most 65,536 bytes more; or
-/// - the source failed in this call or gave no end in 1,099,511,627,776 receives: the lines for all that was received were
-///   sent.
+/// Before each `receive` the lines for all that came are sent. The lines before a fault or a rest are sent. `Device` is returned where
+/// - the sink failed in this call: a prefix of the lines was sent, and the lines for all that was received but the last piece are at most 65,536
+///   bytes more; or
+/// - the source failed in this call or gave no end in 1,099,511,627,776 receives: the lines for all that was received were sent.
 ///
-/// `Memory` is answered where memory was refused: whole lines were sent, and none is missing for what came before the last
-/// piece, of at most 65,536 bytes.
+/// `Memory` is returned where memory ran out: whole lines were sent, and none is missing for what came before the last piece, of at most 65,536
+/// bytes.
 pub fn show<S: Source, K: Sink>(
     alloc: Global,
     front: bool,

@@ -7,7 +7,7 @@ use crate::show::Shown;
 use pg_wire::WireFault;
 use pgpipe_base::Stop;
 
-/// Why the work stops where a decoder answers a fault.
+/// Why the work stops where a decoder returns a fault.
 pub fn fault_stop(fault: WireFault) -> Stop<Shown>
     ensures { result ≡ fault_stop fault }
 {

@@ -11,7 +11,7 @@ pub enum ClosedStream {
     /// What is printed would go elsewhere.
     #[error("standard output is closed")]
     Output,
-    /// What is told would go elsewhere.
+    /// Messages and errors would go elsewhere.
     #[error("standard error is closed")]
     Errors,
     /// What is read would come from elsewhere.
@@ -19,7 +19,7 @@ pub enum ClosedStream {
     Input,
 }
 
-/// Looks whether all three are open. Of those that are closed the first of output, errors and input is the error.
+/// Checks that all three are open. The error is the first closed one of output, errors and input.
 pub fn all_open<I: Stream, O: Stream, E: Stream>(
     input: &I,
     output: &O,

@@ -15,7 +15,7 @@ pub trait Stream {
         ensures { says self.now result };
 }
 
-// Of the streams of the system that the program runs on nothing is assumed.
+// Nothing is assumed about the streams of the system that the program runs on.
 impl Stream for Stdin {
     ghost says = { λ _ _. Unit {0} };
 

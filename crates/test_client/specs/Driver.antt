@@ -40,7 +40,7 @@ abbrev pub OnCopyIn : Result Settled AskFault → Type 0 → Type 0
 OnCopyIn (Err fault.CopyIn) p = p
 OnCopyIn _ p = Unit {0}
 
--- The client refused the request, and nothing has changed.
+-- The client rejected the request, and nothing has changed.
 pub record RefusesRequest {L : Type 0} (request : Request) (old : Connection L)
     (result : Result Settled AskFault) (new : Connection L) : Type 0 where
   pub reason : CallFault

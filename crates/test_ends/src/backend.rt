@@ -26,7 +26,7 @@ fn answer(alloc: Global, part: ScriptPart) -> Result<Answer, AllocError> {
     })
 }
 
-/// A copy from the client of two rows with a column, which is taken.
+// A copy from the client of two rows with a column, which is taken.
 fn copy_in(alloc: Global) -> Result<ScriptPart, AllocError> {
     let head = CopyHead {
         binary: false,
@@ -36,7 +36,7 @@ fn copy_in(alloc: Global) -> Result<ScriptPart, AllocError> {
     Ok(ScriptPart::CopyIn { head, load })
 }
 
-/// A script without parameters, key and answers.
+// A script without parameters, key and answers.
 fn silent(alloc: Global) -> Script {
     Script {
         auth: Auth::Trust,
@@ -67,7 +67,7 @@ struct Serving {
     out: Vec<u8>,
 }
 
-/// A backend that plays this script, if memory was left for it, and has put nothing out.
+// A backend that plays this script, if memory was left for it, and has put nothing out.
 fn backend_of(alloc: Global, script: Result<Script, AllocError>) -> Result<Serving, ScriptFault> {
     match script {
         Ok(script) => Ok(Serving {
@@ -79,17 +79,17 @@ fn backend_of(alloc: Global, script: Result<Script, AllocError>) -> Result<Servi
 }
 
 impl Serving {
-    /// Takes these bytes.
+    // Takes these bytes.
     fn takes(&mut self, bytes: &[u8]) -> bool {
         self.backend.push(bytes).is_ok()
     }
 
-    /// Answers a step so.
+    // Answers a step so.
     fn steps(&mut self, answer: Result<bool, BackendFault>) -> bool {
         self.backend.step(&mut self.out) == answer
     }
 
-    /// Steps until nothing whole waits.
+    // Steps until nothing whole waits.
     fn runs(&mut self) -> bool {
         for _ in 0..100 {
             match self.backend.step(&mut self.out) {
@@ -101,33 +101,33 @@ impl Serving {
         true
     }
 
-    /// What was put out is taken off.
+    // What was put out is taken off.
     fn sends(&mut self) -> bool {
         self.out.clear();
         true
     }
 
-    /// Takes these bytes and steps until nothing whole waits, and what was put out is taken off.
+    // Takes these bytes and steps until nothing whole waits, and what was put out is taken off.
     fn opens(&mut self, opening: &[u8]) -> bool {
         self.takes(opening) && self.runs() && self.sends()
     }
 
-    /// Has put just these bytes out.
+    // Has put just these bytes out.
     fn has_put(&self, bytes: &[u8]) -> bool {
         self.out.as_slice() == bytes
     }
 
-    /// What it has put out begins and ends so.
+    // What it has put out begins and ends so.
     fn has_put_from_to(&self, begins: &[u8], ends: &[u8]) -> bool {
         self.out.as_slice().starts_with(begins) && self.out.as_slice().ends_with(ends)
     }
 
-    /// Is in this phase, and has logged so many requests.
+    // Is in this phase, and has logged so many requests.
     fn stands(&self, phase: BackPhase, logged: usize) -> bool {
         self.backend.phase() == phase && self.backend.log().len() == logged
     }
 
-    /// One step does what the case says.
+    // One step does what the case says.
     fn fits(&mut self, case: &Case<'_>) -> bool {
         let answered = self.opens(case.opening)
             && self.takes(case.input)
@@ -236,7 +236,7 @@ fn single_inputs_are_answered(rt: HostRuntime) {
     }
 }
 
-/// A script whose one answer has a tag with a zero byte.
+// A script whose one answer has a tag with a zero byte.
 fn unspelled(alloc: Global) -> Result<Script, AllocError> {
     script_with(alloc, ScriptPart::Command(text(alloc, b"\0")?))
 }

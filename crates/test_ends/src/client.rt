@@ -38,7 +38,7 @@ enum TableGroup {
     Failed,
 }
 
-/// Why bytes are refused. The errors have no field.
+/// Why bytes are rejected. The errors have no field.
 #[derive(Clone, Copy)]
 enum TableFault {
     Wire(WireFault),
@@ -60,7 +60,7 @@ enum TableStep {
     Send,
     /// It is started and let in, and what was put out is taken off.
     Begin,
-    /// The same, with these messages after the AuthenticationOk.
+    /// It is started and let in, with these messages after the AuthenticationOk, and what was put out is taken off.
     Introduce(&'static [u8]),
     /// A request is made.
     Make(TableRequest),
@@ -90,17 +90,17 @@ enum TableStep {
     Knows,
     /// It has no key to cancel with.
     HasNoKey,
-    /// It refuses these bytes so, and is closed then for good.
+    /// It rejects these bytes so, and is closed then for good.
     Refuses(&'static [u8], TableFault, Cause),
     /// It hands a request back with this fault, and puts nothing out.
     HandsBack(TableRequest, CallFault),
-    /// It refuses a chunk as it isn't copying, but in this phase, and puts nothing out.
+    /// It rejects a chunk as it isn't copying, but in this phase, and puts nothing out.
     RefusesChunk(Phase),
     /// It can't be started, for this fault, and is as it was.
     CannotStart(CallFault),
 }
 
-/// Whether a new client of the user `u` does what these steps say.
+// Whether a new client of the user `u` does what these steps say.
 fn does(alloc: Global, steps: &[TableStep]) -> bool {
     holds(fresh(alloc).ok(), |session| are_so(alloc, session, steps))
 }

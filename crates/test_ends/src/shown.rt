@@ -6,7 +6,7 @@ use pg_wire::Seq;
 use std::alloc::{AllocError, Global};
 use std::test::Fail;
 
-/// A name and a value.
+// A name and a value.
 fn pairs(alloc: Global) -> Result<Seq<(Seq<u8>, Seq<u8>)>, AllocError> {
     let mut pairs = Seq::new(Vec::new(alloc));
     pairs.push((Seq::from_slice(alloc, b"a")?, Seq::from_slice(alloc, b"b")?))?;

@@ -35,7 +35,7 @@ pub fn answers_settled<C: Carry>(pair: &Pair<C>) -> usize
 }
 
 /// What a pair has settled, where its client stands ready for a request, and None where it doesn't. Unless the way to the backend is
-/// broken, or a step of it was refused memory, the backend then stands ready too, with only copy messages left to drop.
+/// broken, or a step of it ran out of memory, the backend then stands ready too, with only copy messages left to drop.
 pub fn settled_when_ready<C: Carry>(pair: &Pair<C>) -> Option<&[Settled]>
     ensures groups { IfSome result (λ groups. groups.now ≡ pair.now.settled) }
     ensures none { IfNone result (phase_of pair.now.client ≡ Ready → ⊥) }

@@ -14,7 +14,7 @@ use std::alloc::Global;
 use std::fs;
 use std::io::{BufRead, Read};
 
-/// Whether a file that is cut so has these rows.
+// Whether a file that is cut so has these rows.
 fn has_rows<F: CopyFormat>(
     alloc: Global,
     bytes: &[u8],
@@ -26,7 +26,7 @@ fn has_rows<F: CopyFormat>(
     Ok(found.as_slice() == rows)
 }
 
-/// A file has to have these rows however it is cut.
+// A file has to have these rows however it is cut.
 fn check_cuts<F: CopyFormat>(alloc: Global, bytes: &[u8], rows: &[Row]) -> Result<()> {
     if !has_rows::<F>(alloc, bytes, ByteCut::Everywhere, rows)? {
         bail!("a byte at a time gives other rows");
@@ -39,13 +39,13 @@ fn check_cuts<F: CopyFormat>(alloc: Global, bytes: &[u8], rows: &[Row]) -> Resul
     Ok(())
 }
 
-/// Appends the rows of a file, which are the same however it is cut.
+// Appends the rows of a file, which are the same however it is cut.
 fn put_rows<F: CopyFormat>(alloc: Global, bytes: &[u8], rows: &mut Vec<Row>) -> Result<()> {
     file::read::<F>(alloc, bytes, ByteCut::Nowhere, rows)?;
     check_cuts::<F>(alloc, bytes, rows.as_slice())
 }
 
-/// Whether these rows are written as this file.
+// Whether these rows are written as this file.
 fn is_written<F: CopyFormat>(alloc: Global, rows: &[Row], wanted: &[u8]) -> Result<bool> {
     Ok(file::write::<F>(alloc, rows)?.as_slice() == wanted)
 }
@@ -57,7 +57,7 @@ struct Files<'a> {
     binary: &'a [u8],
 }
 
-/// The rows that were read of both files have to be the same, and are written as both.
+// The rows that were read of both files have to be the same, and are written as both.
 fn check_rows(alloc: Global, files: Files<'_>, of_text: &[Row], of_binary: &[Row]) -> Result<()> {
     ensure!(of_text == of_binary, "the files have other rows");
     ensure!(
@@ -72,7 +72,7 @@ fn check_rows(alloc: Global, files: Files<'_>, of_text: &[Row], of_binary: &[Row
     text_loops::check(alloc, files.text, of_text)
 }
 
-/// Reads both files, and says how many rows and bytes there are.
+// Reads both files, and says how many rows and bytes there are.
 fn check(
     rt: &HostRuntime,
     files: Files<'_>,
@@ -91,8 +91,8 @@ fn check(
     Ok(())
 }
 
-/// Reads both files. What they hold is owned here, in a function with one way out, since a function is proved to let go what it owns on
-/// each way out.
+// Reads both files. What they hold is owned here, in a function with one way out, since a function is proved to let go what it owns on
+// each way out.
 fn check_files(rt: &HostRuntime, files: Files<'_>) -> Result<()> {
     let mut of_text = Vec::new(rt.alloc());
     let mut of_binary = Vec::new(rt.alloc());

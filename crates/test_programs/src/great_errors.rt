@@ -18,7 +18,7 @@ const MOST: usize = 536_870_909;
 /// How many fields more are tried.
 const TRIED: usize = 10;
 
-/// Puts an ErrorResponse with this length field and so many fields of two bytes each: a code, and an empty text.
+// Puts an ErrorResponse with this length field and so many fields of two bytes each: a code, and an empty text.
 fn put_error(length: u32, count: usize, error: &mut Vec<u8>) -> Result<(), AllocError> {
     error.push(b'E')?;
     error.extend_from_slice(&length.to_be_bytes())?;
@@ -29,7 +29,7 @@ fn put_error(length: u32, count: usize, error: &mut Vec<u8>) -> Result<(), Alloc
     Ok(())
 }
 
-/// An ErrorResponse of so many fields.
+// An ErrorResponse of so many fields.
 fn error_of(alloc: Global, count: usize) -> Result<Vec<u8>> {
     if count > MOST {
         bail!("no message has so many fields");
@@ -42,7 +42,7 @@ fn error_of(alloc: Global, count: usize) -> Result<Vec<u8>> {
     Ok(error)
 }
 
-/// Gives an error to a decoder, and takes the fields that it gives.
+// Gives an error to a decoder, and takes the fields that it gives.
 fn next_given(decoder: &mut BackDecoder, error: &[u8]) -> Result<Fields> {
     decoder.push(error)?;
     match decoder.next()? {
@@ -51,20 +51,20 @@ fn next_given(decoder: &mut BackDecoder, error: &[u8]) -> Result<Fields> {
     }
 }
 
-/// The fields that a decoder gives.
+// The fields that a decoder gives.
 fn given(alloc: Global, error: &[u8]) -> Result<Fields> {
     let mut decoder = BackDecoder::new(alloc, LONGEST);
     next_given(&mut decoder, error)
 }
 
-/// Whether an encoder writes these fields as this error.
+// Whether an encoder writes these fields as this error.
 fn is_written(alloc: Global, fields: &Fields, error: &[u8]) -> Result<bool, EncodeFault> {
     let mut written = Vec::new(alloc);
     backend::error_response(fields, &mut written)?;
     Ok(written.as_slice() == error)
 }
 
-/// How many fields more go in before they are too long.
+// How many fields more go in before they are too long.
 fn more(fields: &mut Fields) -> usize {
     for count in 0..TRIED {
         if fields.push(b'M', &[]) == Err(EncodeFault::TooLong) {
@@ -74,7 +74,7 @@ fn more(fields: &mut Fields) -> usize {
     TRIED
 }
 
-/// How many fields are copied of an error that a decoder is given and lends.
+// How many fields are copied of an error that a decoder is given and lends.
 fn next_lent(alloc: Global, decoder: &mut BackDecoder, error: &[u8]) -> Result<usize> {
     decoder.push(error)?;
     let Cut::Held = decoder.next_lent()? else {
@@ -86,13 +86,13 @@ fn next_lent(alloc: Global, decoder: &mut BackDecoder, error: &[u8]) -> Result<u
     }
 }
 
-/// How many fields are copied of an error that a decoder lends.
+// How many fields are copied of an error that a decoder lends.
 fn lent(alloc: Global, error: &[u8]) -> Result<usize> {
     let mut decoder = BackDecoder::new(alloc, LONGEST);
     next_lent(alloc, &mut decoder, error)
 }
 
-/// How many fields a client is told that is started and fed an error.
+// How many fields a client is told that is started and fed an error.
 fn feed(alloc: Global, client: &mut Client, error: &[u8]) -> Result<usize> {
     let mut out = Vec::new(alloc);
     client.start(&mut out)?;
@@ -103,14 +103,14 @@ fn feed(alloc: Global, client: &mut Client, error: &[u8]) -> Result<usize> {
     }
 }
 
-/// How many fields a client is told.
+// How many fields a client is told.
 fn told(alloc: Global, error: &[u8]) -> Result<usize> {
     let user = Seq::from_slice(alloc, b"u")?;
     let mut client = Client::new(alloc, Settings::new(alloc, user));
     feed(alloc, &mut client, error)
 }
 
-/// Prints what comes of the fields that were given of an error.
+// Prints what comes of the fields that were given of an error.
 fn print_given(rt: &HostRuntime, fields: &mut Fields, error: &[u8]) -> Result<()> {
     println!(rt; "given {}", fields.len())?;
     ensure!(
@@ -121,7 +121,7 @@ fn print_given(rt: &HostRuntime, fields: &mut Fields, error: &[u8]) -> Result<()
     Ok(())
 }
 
-/// Prints what comes of an error.
+// Prints what comes of an error.
 fn print(rt: &HostRuntime, error: &[u8]) -> Result<()> {
     println!(rt; "lent {}", lent(rt.alloc(), error)?)?;
     println!(rt; "told {}", told(rt.alloc(), error)?)?;
@@ -129,7 +129,7 @@ fn print(rt: &HostRuntime, error: &[u8]) -> Result<()> {
     print_given(rt, &mut fields, error)
 }
 
-/// Makes the error that a line wants, and prints what comes of it.
+// Makes the error that a line wants, and prints what comes of it.
 fn take_line(rt: &HostRuntime, line: &str) -> Result<()> {
     let error = error_of(rt.alloc(), line.parse().context("no number")?)?;
     print(rt, error.as_slice())

@@ -37,7 +37,7 @@ const PROGRAMS: [(&str, &str); 7] = [
     ("great-errors", "great-errors"),
 ];
 
-/// Runs the program of this name.
+// Runs the program of this name.
 fn run(rt: &HostRuntime, name: &str, input: impl BufRead + Drop) -> Result<()> {
     match name {
         "vectors" => vectors::run(rt, input),
@@ -51,7 +51,7 @@ fn run(rt: &HostRuntime, name: &str, input: impl BufRead + Drop) -> Result<()> {
     }
 }
 
-/// Runs all programs, each on its file.
+// Runs all programs, each on its file.
 fn run_all(rt: &HostRuntime) -> Result<()> {
     for (name, path) in PROGRAMS {
         println!(rt; "== {name}")?;

@@ -12,7 +12,7 @@ use std::io::{self, BufRead, Read, Write};
 /// How many bytes are pushed at once: some rows, and mostly a part of one.
 const PIECE: usize = 100;
 
-/// Puts the binary file that a reader makes of the text.
+// Puts the binary file that a reader makes of the text.
 fn put_binary(
     reader: &mut TextAgain,
     text: &[u8],
@@ -38,13 +38,13 @@ fn put_binary(
     write_again(&FilePart::Trailer, out, refused)
 }
 
-/// Puts the file in binary.
+// Puts the file in binary.
 fn to_binary(alloc: Global, text: &[u8], out: &mut Vec<u8>, refused: &mut Refused) -> Result<()> {
     let mut reader = TextAgain::new(alloc);
     put_binary(&mut reader, text, out, refused)
 }
 
-/// Puts the text that a reader makes of the binary file.
+// Puts the text that a reader makes of the binary file.
 fn put_text(
     reader: &mut BinaryAgain,
     binary: &[u8],
@@ -69,13 +69,13 @@ fn put_text(
     Ok(())
 }
 
-/// Puts the binary file in text.
+// Puts the binary file in text.
 fn to_text(alloc: Global, binary: &[u8], out: &mut Vec<u8>, refused: &mut Refused) -> Result<()> {
     let mut reader = BinaryAgain::new(alloc);
     put_text(&mut reader, binary, out, refused)
 }
 
-/// Reads the text, and puts it as it comes back from binary. Says what was refused.
+// Reads the text, and puts it as it comes back from binary. Says what was rejected.
 fn convert(rt: &HostRuntime, mut input: impl BufRead + Drop, again: &mut Vec<u8>) -> Result<()> {
     let mut text = Vec::new(rt.alloc());
     input.read_to_end(&mut text)?;

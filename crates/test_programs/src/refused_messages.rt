@@ -17,7 +17,7 @@ use std::alloc::Global;
 use std::io::{self, BufRead, BufWriter, Write};
 use wrong::{back_fault, first_fault, front_fault, lent_fault};
 
-/// Writes the faults of a line.
+// Writes the faults of a line.
 fn write_faults(
     alloc: Global,
     line: &str,

@@ -21,7 +21,7 @@ use words::{write_ending, write_words};
 /// What was recorded of one connection.
 #[derive(Drop)]
 struct RecordedSession {
-    /// The program that the client was.
+    // The program that the client was.
     name: String,
     entries: Vec<Entry>,
 }

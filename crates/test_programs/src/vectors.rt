@@ -16,7 +16,7 @@ use vector::{Side, Vector};
 /// The greatest length field that the decoders of messages take.
 pub const LIMIT: u32 = 65_536;
 
-/// The bytes have this reading too where all messages that can be are lent, or every other one.
+// The bytes have this reading too where all messages that can be are lent, or every other one.
 fn check_lent<const ALL: bool>(
     alloc: Global,
     bytes: &[u8],
@@ -28,7 +28,7 @@ fn check_lent<const ALL: bool>(
     Ok(())
 }
 
-/// The reading of the bytes by a backend's decoder, which is the same where some of the messages are lent, or all that can be.
+// The reading of the bytes by a backend's decoder, which is the same where some of the messages are lent, or all that can be.
 fn judge_back(alloc: Global, bytes: &[u8]) -> Result<Decoded<BackMessage>, Flaw> {
     let reading = judge::<BackDecoder>(alloc, bytes)?;
     check_lent::<true>(alloc, bytes, &reading)?;
@@ -36,7 +36,7 @@ fn judge_back(alloc: Global, bytes: &[u8]) -> Result<Decoded<BackMessage>, Flaw>
     Ok(reading)
 }
 
-/// Writes what came of the bytes. Memory that was refused says nothing of them, and ends the run.
+// Writes what came of the bytes. Where memory ran out, nothing is known of them, and the run ends.
 fn write_verdict<M: ShownMessage + Drop>(
     out: &mut impl Write,
     reading: Result<Decoded<M>, Flaw>,

@@ -51,7 +51,7 @@ enum DecoderStep {
     PushEach(&'static [u8]),
     /// The bytes are taken one by one, and before each `next_lent` gives nothing.
     PushEachLent(&'static [u8]),
-    /// A piece is refused.
+    /// A piece is rejected.
     Refuse(&'static [u8], WireFault),
     Next(Came),
     NextLent(Came),
@@ -308,7 +308,7 @@ fn reserved_code(alloc: Global) -> BackMessage {
     BackMessage::AuthOther { code: 3, rest }
 }
 
-// Whether the message is refused so, and leaves what stands in the buffer.
+// Whether the message is rejected so, and leaves what stands in the buffer.
 fn is_refused(message: &BackMessage, fault: EncodeFault, buf: &mut Vec<u8>) -> bool {
     backend::encode(message, buf) == Err(fault) && buf.as_slice() == [7].as_slice()
 }

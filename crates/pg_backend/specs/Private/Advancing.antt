@@ -136,7 +136,7 @@ Advances old before (Err faults.Memory) new after = WantsMemory old.stage
     × IsPrefix before after
 Advances old before (Err faults.Closed) new after = ⊥
 
--- A faulty rest is refused with a last word, and Memory as it is.
+-- A faulty rest is rejected with a last word, and Memory as it is.
 abbrev pub BreaksOff : WireFault → List ℕ → Result Bool BackendFault → List ℕ → Type 0
 BreaksOff f before (Err (faults.Wire g)) after = (f ≡ g) × (g ≢ wire.Memory)
     × Sends (last_word true) before after
@@ -152,7 +152,8 @@ TakesEffect e old before (Err f) new after = (f ≡ faults.Memory)
     ≡ record old { stage = stage.Closed closed_by.Memory })
     × IsPrefix before after
 
--- The same, where the backend may have been closed before.
+-- What a step does that handles the next packet or message, where the backend may have been closed
+-- before: then it returns Closed, and nothing changes.
 abbrev pub AdvancesUnlessClosed : BackendState → List ℕ
     → Result Bool BackendFault → BackendState → List ℕ → Type 0
 AdvancesUnlessClosed old before (Err faults.Closed) new after =

@@ -135,7 +135,7 @@ abbrev pub load_result : Load → Result (List ℕ) (List ErrorField)
 load_result (Accept tag) = Ok tag
 load_result (Refuse after fields) = Err fields
 
--- the chunk of this number is refused
+-- the chunk of this number is rejected
 abbrev pub refuses_at : Load → ℕ → Bool
 refuses_at (Accept tag) n = false
 refuses_at (Refuse after fields) n = after == n

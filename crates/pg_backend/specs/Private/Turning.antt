@@ -6,7 +6,7 @@ use Rattle.pg_backend.specs.declared.answered.Answered.{Answered}
 use Rattle.pg_backend.specs.OverLink.{Connection, IsLost, LastTurn, Passed, TurnsOn}
 use Rattle.pg_wire.specs.Sending.{FailsToSend, Sends}
 
--- A turn, by its result: it goes on (None), or this is answered.
+-- A turn, by its result: it goes on (None), or this is returned.
 abbrev pub TakesTurn : {L : Type 0} (gives takes : L → List ℕ → L → Type 0)
     (has_ended : L → Type 0) (receive_failures send_failures : L → ℕ)
     → Connection L → Result (Option Answered) AnswerFault → Connection L → Type 0

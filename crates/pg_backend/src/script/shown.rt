@@ -18,7 +18,7 @@ impl fmt::Debug for Auth {
     }
 }
 
-/// `{:?}` writes the fields as a derived form does; the way in has no password there. `{:#?}` writes the same line.
+/// `{:?}` writes the fields as a derived form does, but no password. `{:#?}` writes the same line.
 impl fmt::Debug for Script {
     ghost debug_output = { shown_script };
 

@@ -102,7 +102,7 @@ abbrev pub TellsEnd : {K : Type 0} → Collects K → Stand → BackMessage → 
 TellsEnd way stand m (Ok x) old new = TellsMessage way stand m old new
 TellsEnd way stand m (Err f) old new = TellsSame way old new
 
--- The same as HearsIn of a ReadyForQuery, which may settle a group.
+-- A ReadyForQuery is heard as HearsIn says, and may settle a group.
 abbrev pub EndsIn : {K : Type 0} → Collects K → K → Status → Result Unit FeedFault → K → Type 0
 EndsIn way old status result new = (stand : Stand) (settled : List Settled)
     → way.fits old stand settled → (now : Stand) × (ended : Option Settled)

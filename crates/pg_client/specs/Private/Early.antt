@@ -116,7 +116,7 @@ TakesIn old was m (Err feeding.Memory) new now = (new ≡ old) × (now ≡ was)
 TakesIn old was m (Err f) new now = (early_leads old m ≡ None) × (f ≡ early_fault old m)
     × (new ≡ old) × (now ≡ was)
 
--- The same of what the server says of the authentication, which is no item.
+-- What a message of the authentication does, which is no item.
 abbrev pub TakesAuth : EarlyStand → BackMessage → Result ToSend FeedFault → EarlyStand → Type 0
 TakesAuth old m (Ok sends.Nothing) new = (early_leads old m ≡ Some new) × (items_at old m ≡ [])
 TakesAuth old m (Ok (sends.Password salt)) new = (old ≡ early.Starting Fresh)

@@ -66,7 +66,7 @@ pub record HearsOne (m : BackMessage) (old new : ClientView) : Type 0 where
   pub moves : MovesBy (hear_with old.settings.password old.stand m) old new
   pub knows : Knows m old new
 
--- The client refuses the message with this fault: it may not come there, or memory ran out.
+-- The client rejects the message with this fault: it may not come there, or memory ran out.
 -- Nothing more is handled.
 abbrev pub Refuses : BackMessage → ClientView → FeedFault → ClientView → Type 0
 Refuses m old feeding.Memory new = HearsNothing old new × (new.closed ≡ old.closed)
@@ -74,20 +74,20 @@ Refuses m old f new = (hear_with old.settings.password old.stand m ≡ Rejected)
     × (f ≡ fault_at old.stand m) × HearsNothing old new × (new.closed ≡ old.closed)
 
 -- What the client does with a message, and what it answers that is to be sent. A question for a
--- password is handled by noting that it was asked. The fault is why it refuses the message.
+-- password is handled by noting that it was asked. The fault is why it rejects the message.
 abbrev pub IsHeard : BackMessage → ClientView → Result ToSend FeedFault → ClientView → Type 0
 IsHeard m old (Ok sends.Nothing) new = (is_question m ≡ false) × HearsOne m old new
 IsHeard m old (Ok (sends.Password salt)) new = (m ≡ question salt) × (old.stand ≡ Starting Fresh)
     × (new ≡ record old { stand = Starting Asked })
 IsHeard m old (Err f) new = Refuses m old f new
 
--- What the client does with a message: it handles the message, or refuses it with this fault.
+-- What the client does with a message: it handles the message, or rejects it with this fault.
 abbrev pub HearsMessage : BackMessage → ClientView → Result Unit FeedFault → ClientView → Type 0
 HearsMessage m old (Ok x) new = HearsOne m old new
 HearsMessage m old (Err f) new = Refuses m old f new
 
 -- What is appended to the output for a message: the password if the message asks for it, and
--- nothing where the message is refused.
+-- nothing where the message is rejected.
 abbrev pub PutsAnswer : Settings → BackMessage → List ℕ → Result Unit FeedFault → List ℕ → Type 0
 PutsAnswer settings m before (Ok x) after =
     AllByRecursion (HasSpelling frontend) (answer_to settings m)

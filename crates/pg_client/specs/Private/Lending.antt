@@ -58,7 +58,7 @@ emptied =
 abbrev pub giving : Item → Queue → Telling
 giving t q = λ given hs. emptied.tells q (given ++ t ∷ []) hs
 
--- The same, and the item is no row.
+-- It has told of the events once this item is given, which is no row, and then no item waits.
 abbrev pub giving_other : Item → Queue → Telling
 giving_other t q = λ given hs. IsNoRow t × giving t q given hs
 
@@ -116,7 +116,7 @@ LentBy lent old (Ok given) new out = WholeBy (message_of lent) old given new out
 LentBy lent old (Err f) new out =
     HandlesWhole queued (message_of lent) old (Err f) new out out
 
--- The same, whichever it is.
+-- What is done with the message that is lent, whichever it is.
 abbrev pub HearsLent : MachineView Queue → Result (Option Next) FeedFault → MachineView Queue
     → Type 0
 HearsLent old result new = (lent : Lent) (out : List ℕ) → old.held ≡ Some lent

@@ -92,7 +92,7 @@ pub record IsOfSame {K : Type 0} (old new : MachineView K) : Type 0 where
   pub held : new.held ≡ old.held
   pub closed : new.closed ≡ old.closed
 
--- Wherever a client may stand that has the old collector, the client there handles or refuses the
+-- Wherever a client may stand that has the old collector, the client there handles or rejects the
 -- message so, and the new collector tells of it.
 abbrev pub Handles : {K : Type 0} → Collects K → BackMessage → MachineView K
     → Result ToSend FeedFault → MachineView K → Type 0
@@ -102,7 +102,7 @@ Handles way m old result new = (stand : Stand) (settled : List Settled)
     × IsHeard m (client_at old stand settled) result (client_at new now left)
     × TellsBy way stand m result old.collector new.collector
 
--- The same of the message that is lent.
+-- The message that is lent is handled as Handles says.
 abbrev pub HandlesHeld : {K : Type 0} → Collects K → MachineView K → Result ToSend FeedFault
     → MachineView K → Type 0
 HandlesHeld way old result new = (lent : Lent) → old.held ≡ Some lent
@@ -114,7 +114,7 @@ abbrev pub TellsWhole : {K : Type 0} → Collects K → Stand → BackMessage �
 TellsWhole way stand m (Ok x) old new = TellsMessage way stand m old new
 TellsWhole way stand m (Err f) old new = TellsSame way old new
 
--- The same with what is sent for the message. The lists are the output before and after.
+-- The message is handled, with what is sent for it. The lists are the output before and after.
 abbrev pub HandlesWhole : {K : Type 0} → Collects K → BackMessage → MachineView K
     → Result Unit FeedFault → MachineView K → List ℕ → List ℕ → Type 0
 HandlesWhole way m old result new before after = (stand : Stand) (settled : List Settled)
@@ -133,7 +133,7 @@ NextTold way stand was is old (Ok true) new before after =
 NextTold way stand was is old result new before after = HearsNext old result new before after
     × TellsSame way was is
 
--- The same wherever a client may stand that has the old collector.
+-- What NextTold says holds wherever a client may stand that has the old collector.
 abbrev pub HandlesNext : {K : Type 0} → Collects K → MachineView K → Result Bool FeedFault
     → MachineView K → List ℕ → List ℕ → Type 0
 HandlesNext way old result new before after = (stand : Stand) (settled : List Settled)
@@ -144,7 +144,7 @@ HandlesNext way old result new before after = (stand : Stand) (settled : List Se
 
 -- ---- a piece
 
--- The same of all whole messages.
+-- All whole messages are handled, wherever a client may stand that has the old collector.
 abbrev pub HandlesAll : {K : Type 0} → Collects K → MachineView K → Result Unit FeedFault
     → MachineView K → List ℕ → List ℕ → Type 0
 HandlesAll way old result new before after = (stand : Stand) (settled : List Settled)
@@ -162,12 +162,12 @@ pub record FeedsTold (old : ClientView) (was : Telling) (piece : List ℕ)
   pub put : after ≡ before ++ added
   pub hears : (h : History) → IsHistoryOf h old → HearsTold (with_fed piece h) piece added result
       was new is
-  -- the same where the last bytes that it keeps are still to be heard
+  -- so it is too where the last bytes that it keeps are still to be heard
   pub unread : (h : History) (first left : List ℕ) → 0 < length piece → old.kept ≡ first ++ left
       → IsHistoryOf h (record old { kept = first })
       → HearsTold (with_fed (left ++ piece) h) (left ++ piece) added result was new is
 
--- What feed does to a machine that is closed for this reason, or open (None). A closed one answers
+-- What feed does to a machine that is closed for this reason, or open (None). A closed one returns
 -- Closed, and nothing changes.
 abbrev pub FeedsMachine : {K : Type 0} → Collects K → Option Cause → MachineView K → List ℕ
     → Result Unit FeedFault → MachineView K → List ℕ → List ℕ → Type 0

@@ -22,7 +22,8 @@ abbrev pub row_of : Option Lent → Option Row
 row_of (Some (lents.Row values)) = Some values
 row_of _ = None
 
--- The same of a client that is closed for this reason, or open (None): a closed one lends none.
+-- The row that a client lends that is closed for this reason, or open (None): a closed one lends
+-- none.
 abbrev pub row_at : Option Cause → Option Lent → Option Row
 row_at None held = row_of held
 row_at (Some c) held = None

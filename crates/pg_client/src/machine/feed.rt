@@ -78,7 +78,7 @@ impl<K: Collector> Machine<K> {
         }
     }
 
-    // Is closed by a fault.
+    // Closes the client for this fault, and returns it.
     pub(crate) fn close(&mut self, fault: FeedFault) -> FeedFault
         requires { self.old.closed ≡ None }
         ensures fault { result ≡ fault }
@@ -124,7 +124,7 @@ impl<K: Collector> Machine<K> {
         }
     }
 
-    // Puts an answer out. `start` has judged the password, so memory alone may be wanting.
+    // Puts out what a message makes the client send. `start` has judged the password, so only memory may run out.
     fn send(&self, to_send: ToSend, out: &mut Vec<u8>) -> Result<(), FeedFault>
         ensures { SendsFor self.now.settings to_send out.old.items result out.new.items }
     {
@@ -140,7 +140,7 @@ impl<K: Collector> Machine<K> {
         Ok(())
     }
 
-    // Takes a message in, by its kind. The answer is what it makes the client send.
+    // Takes a message in, by its kind, and returns what it makes the client send.
     fn hear(&mut self, message: BackMessage) -> Result<ToSend, FeedFault>
         ensures same { IsOfSame self.old self.new }
         ensures heard { Handles K.way message self.old result self.new }

@@ -31,7 +31,7 @@ impl Machine<Queue> {
         Ok(())
     }
 
-    /// Takes the oldest item; where none waits, that of the next message that has one. A row goes on being lent.
+    /// Takes the oldest item. Where none waits, it hears messages up to one that has an item, and takes that. A row goes on being lent.
     pub fn next_lent(&mut self, out: &mut Vec<u8>) -> Result<Next, FeedFault>
         ensures { TakesNext (waiting self.old) self.old result self.new out.old.items
             out.new.items }

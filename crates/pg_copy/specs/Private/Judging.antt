@@ -19,12 +19,13 @@ is_marked (stages.Failed f) = false
 abbrev pub is_long : LimitedState → Bool
 is_long s = not (is_marked s.reader.stage) && nat_lt s.limit (s.pushed - s.reader.offset)
 
--- what is answered where the reader without the limit answered this, and no line is too long
+-- what is returned where the reader without the limit returned this, and no line is too long
 abbrev pub limited : Result (Option Row) TextFault → Result (Option Row) LimitedTextFault
 limited (Ok row) = Ok row
 limited (Err f) = Err (Text f)
 
--- the same, by whether the line is too long that comes next
+-- what is returned where the reader without the limit returned this, by whether the next line is
+-- too long
 abbrev pub judged : Bool → Result (Option Row) TextFault → Result (Option Row) LimitedTextFault
 judged long (Ok (Some row)) = Ok (Some row)
 judged false (Ok None) = Ok None

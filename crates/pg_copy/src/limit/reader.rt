@@ -20,12 +20,12 @@ use pg_copy_text::{TextOptions, TextReader};
 use std::alloc::Global;
 use std::marker::Model;
 
-/// Takes a text file in any pieces, and gives its rows as a [`TextReader`] does, but refuses a line that is too long to be kept.
+/// Takes a text file in any pieces, and gives its rows as a [`TextReader`] does, but rejects a line that is too long to be kept.
 ///
-/// Where no whole line waits, and more bytes of the next are there than the limit, `next` returns `LongLine` in the place of its
-/// row. So no more is kept than the limit and the piece that was pushed last, where `next` is called until it returns None before
-/// another piece is pushed. A line that came whole is given, however long it is. Bytes are counted up to `u64::MAX`; once so many
-/// were pushed no line is refused any more (PostgreSQL documentation, page COPY, "Text Format").
+/// Where no whole line waits, and more bytes of the next are there than the limit, `next` returns `LongLine` in the place of its row. So no more is
+/// kept than the limit and the piece that was pushed last, where `next` is called until it returns None before another piece is pushed. A line that
+/// came whole is given, however long it is. Bytes are counted up to `u64::MAX`. Once so many were pushed, no line is rejected any more (PostgreSQL
+/// documentation, page COPY, "Text Format").
 #[derive(Drop)]
 pub struct LimitedTextReader {
     reader: TextReader,
@@ -50,8 +50,8 @@ impl Model for LimitedTextReader {
 }
 
 impl LimitedTextReader {
-    /// A reader of rows of so many columns, 1 to 32,767; or of any number up to 32,767, where None is given. The options' delimiter
-    /// parts the fields, and nulls are their null mark. A line that isn't whole may have so many bytes.
+    /// A reader of rows of so many columns, 1 to 32,767; where None is given, a row may have any number up to 32,767. The options' delimiter
+    /// separates the fields, and their null mark is a null. A line that isn't whole may have at most `limit` bytes.
     pub fn new(alloc: Global, columns: Option<u16>, options: TextOptions, limit: usize) -> Self
         requires { IfSome columns (λ n. (0 < n) × (n ≤ 32767)) }
         ensures state { result ≡ begun options columns limit }
@@ -65,16 +65,16 @@ impl LimitedTextReader {
         }
     }
 
-    /// The reader without the limit. It tells how many rows were given and where the next line begins, whether the end mark was read,
-    /// and whether `finish` was called.
+    /// The reader without the limit. It has the number of rows that were given, where the next line begins, whether the end mark was read, and
+    /// whether `finish` was called.
     pub fn reader(&self) -> &TextReader
         ensures { result.now ≡ self.now.reader }
     {
         &self.reader
     }
 
-    /// Takes the next piece of the file, all of it, and drops it after the end mark. A fault that was found is returned again.
-    /// After Memory nothing of the piece was taken and the reader is unchanged.
+    /// Takes the next piece of the file, all of it, and drops it after the end mark. A fault that was found is returned again. After Memory nothing
+    /// of the piece was taken, and the reader is unchanged.
     pub fn push(&mut self, piece: &[u8]) -> Result<(), LimitedTextFault>
         requires { self.old.reader.ended ≡ false }
         ensures call { PushesLimited self.old piece.now result self.new }
@@ -95,9 +95,9 @@ impl LimitedTextReader {
         }
     }
 
-    /// The next row, or None where no whole line waits or the end mark was read. A fault is returned once all rows before it were
-    /// given, and then for good: LongLine where no whole line waits, and more bytes are kept than the limit. Memory is returned only
-    /// where a row waits, and leaves the reader unchanged (PostgreSQL documentation, page COPY, "Text Format").
+    /// The next row, or None where no whole line waits or the end mark was read. A fault is returned once all rows before it were given, and by each
+    /// call after that. LongLine is returned where no whole line waits, and more bytes are kept than the limit. Memory is returned only where a row
+    /// waits, and leaves the reader unchanged (PostgreSQL documentation, page COPY, "Text Format").
     pub fn next(&mut self) -> Result<Option<Row>, LimitedTextFault>
         requires { self.old.reader.ended ≡ false }
         ensures read { (pushed : List ℕ) (given : List Row) → HasReadLimited self.old pushed given
@@ -127,9 +127,9 @@ impl LimitedTextReader {
         self.judge(found)
     }
 
-    /// Says that the input has ended, and gives the next row that is left, or None where none is: the last line is then whole, and
-    /// no longer refused for its length. It is to be called until it returns None. A fault that was found is returned again. Memory
-    /// is answered only where a row is left, and leaves the reader unchanged (PostgreSQL documentation, page COPY, "Text Format").
+    /// Says that the input has ended, and gives the next row that is left, or None where none is. Call it until it returns None. The last line is
+    /// then whole, and isn't rejected for its length. A fault that was found is returned again. Memory is returned only where a row is left, and
+    /// leaves the reader unchanged (PostgreSQL documentation, page COPY, "Text Format").
     pub fn finish(&mut self) -> Result<Option<Row>, LimitedTextFault>
         ensures read { (pushed : List ℕ) (given : List Row) → HasReadLimited self.old pushed given
             → HasReadLimited self.new pushed (given ++ given_by (as_text result)) }
@@ -158,14 +158,14 @@ impl LimitedTextReader {
         limited(found)
     }
 
-    // Whether more bytes were pushed than the limit that stand after the rows that were given, and after no end mark.
+    // Whether more bytes were pushed than the limit after those of the rows that were given, and no end mark was read.
     fn is_long(&self) -> bool
         ensures { result ≡ is_long self.now }
     {
         !self.reader.done() && self.pushed.saturating_sub(self.reader.offset()) > self.limit as u64
     }
 
-    // What is answered where the reader without the limit answered this. Where it found no row, the next line is judged.
+    // What `next` returns where the reader without the limit returned this. Where that found no row, the next line is judged.
     fn judge(
         &mut self,
         found: Result<Option<Row>, TextFault>,
@@ -187,7 +187,7 @@ impl LimitedTextReader {
     }
 }
 
-// What is answered where the reader without the limit answered this, and no line is too long.
+// What is returned where the reader without the limit returned this, and no line is too long.
 fn limited(found: Result<Option<Row>, TextFault>) -> Result<Option<Row>, LimitedTextFault>
     ensures { result ≡ limited found }
 {

@@ -159,8 +159,8 @@ row_offset Rows kept offset = offset
 row_offset Closed kept offset = offset
 row_offset (Failed fault) kept offset = offset
 
--- the same, of a row that begins so many bytes after the first of those that are kept: only a head
--- stands before it
+-- where the row begins that stands so many bytes after the first of those that are kept: only a
+-- head stands before it
 abbrev pub start_offset : ℕ → ℕ → ℕ
 start_offset offset zero = offset
 start_offset offset (suc n) = suc n

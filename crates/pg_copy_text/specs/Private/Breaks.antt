@@ -84,7 +84,8 @@ pub record IsFirstLine (before : Option LineEnd) (bytes : List ℕ) (e : LineEnd
   pub cut : (more : List ℕ) → lines e (bytes ++ more)
       ≡ take len bytes ∷ lines e (drop taken bytes ++ more)
 
--- The same, where nothing comes after these bytes.
+-- The first line of the bytes is so long, ends so, and takes so many bytes with its end, where
+-- nothing comes after these bytes.
 pub record IsLastLine (before : Option LineEnd) (bytes : List ℕ) (e : LineEnd)
     (len taken : ℕ) : Type 0 where
   pub decided : decided_at_end before bytes ≡ e

@@ -62,7 +62,7 @@ lending len taken end s =
     record (passed taken end s) { held = Some (line_values s.options (take len s.kept)) }
 
 -- A line of so many bytes is taken off, with what ends it, and lines end so from then on; or the
--- reader stops at the end mark or at the line's fault; or memory for its row is refused, and
+-- reader stops at the end mark or at the line's fault; or memory for its row runs out, and
 -- nothing changes.
 abbrev pub TakesLine : ℕ → ℕ → Option LineEnd → TextState → Result (Option Row) TextFault
     → TextState → Type 0
@@ -77,7 +77,8 @@ TakesLine len taken end old (Err fault) new =
     ⊎ (LineFails old.options old.columns (take len old.kept) fault
     × (new ≡ record old { kept = []; stage = stages.Failed fault; held = None }))
 
--- The same, where the row is lent in place of being given.
+-- A line of so many bytes is taken off as TakesLine says, but its row is lent in place of being
+-- given.
 abbrev pub LendsLine : ℕ → ℕ → Option LineEnd → TextState → Result Bool TextFault → TextState
     → Type 0
 LendsLine len taken end old answer new =
@@ -106,7 +107,7 @@ pub record PassesLine (old new : TextState) : Type 0 where
       ≡ taken + lines_end new.line_end new.kept n
 
 -- What a call answers at the end of the input, and how it leaves the reader: it gives the first row
--- that is left, of which no bytes are kept, or what stands in its place, and memory is refused only
+-- that is left, of which no bytes are kept, or what stands in its place, and memory runs out only
 -- where a row is left.
 abbrev pub TakesLast : TextState → Result (Option Row) TextFault → TextState → Type 0
 TakesLast old (Ok (Some row)) new = (text_last old ≡ after_rows (row ∷ []) (text_last new))

@@ -27,7 +27,8 @@ pub record IsCounted (delimiter : ℕ) (bytes : List ℕ) (s : Scan) : Type 0 wh
   pub returned : nat_lt 0 (units carriage_return (take s.at bytes)) ≡ s.returned
   pub newlined : nat_lt 0 (units newline (take s.at bytes)) ≡ s.newlined
 
--- the same, where none of them begins a line end
+-- the bytes before the walk's place: so many of their units are delimiters, and none of them begins
+-- a line end
 pub record IsScanned (delimiter : ℕ) (before : Option LineEnd) (bytes : List ℕ)
     (s : Scan) : Type 0 where
   pub counted : IsCounted delimiter bytes s

@@ -19,7 +19,7 @@ Receives kind gives takes has_ended receive_failures send_failures old (Ok (Some
 Receives kind gives takes has_ended receive_failures send_failures old (Err f) new =
     Fails kind gives takes has_ended receive_failures send_failures old f new
 
--- A turn, by its result: it goes on (None), or this is answered.
+-- A turn, by its result: it goes on (None), or this is returned.
 abbrev pub TakesTurn : {L : Type 0} (gives takes : L → List ℕ → L → Type 0)
     (has_ended : L → Type 0) (receive_failures send_failures : L → ℕ)
     → Phase → Connection L → Result (Option Driven) DriveFault → Connection L → Type 0

@@ -16,7 +16,7 @@ abbrev pub ◌>>=◌ : {A B : Type 0} → Option A → (A → Option B) → Opti
 (Some x) >>= f = f x
 None >>= f = None
 
--- Reading gives nothing, where that is the fault; of refused memory nothing is said.
+-- Reading gives nothing, where that is the fault; nothing is claimed where memory ran out.
 abbrev pub Fails : {Y : Type 0} → BodyFault → Option Y → Type 0
 Fails faults.Memory read = Unit {0}
 Fails faults.Bad read = read ≡ None

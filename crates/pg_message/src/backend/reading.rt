@@ -43,7 +43,7 @@ fn row(alloc: Global, bytes: &[u8]) -> Result<BackMessage, BodyFault>
     }
 }
 
-/// The message of this kind and this body. Memory is asked for where it holds a list.
+/// The message of this kind and this body. Only a message that holds a list takes memory.
 pub fn back_message(alloc: Global, kind: BackKind, body: &[u8]) -> Result<BackMessage, BodyFault>
     ensures read { Gives (λ m. m) result ((back_reading kind).message body.now) }
     ensures memory { AsksFor backend.holds_list result ((back_reading kind).message body.now) }
@@ -55,7 +55,7 @@ pub fn back_message(alloc: Global, kind: BackKind, body: &[u8]) -> Result<BackMe
     }
 }
 
-// The same, of the other kinds.
+// The message of this kind, which isn't a row, and this body.
 fn other_message(alloc: Global, kind: BackKind, body: &[u8]) -> Result<BackMessage, BodyFault>
     ensures read { Gives (λ m. m) result ((back_reading kind).message body.now) }
     ensures memory { AsksFor backend.holds_list result ((back_reading kind).message body.now) }

@@ -25,7 +25,7 @@ pub fn target_at(bytes: &[u8]) -> Result<(Target, &[u8]), BodyFault>
     }
 }
 
-/// The message of this kind and this body. Memory is asked for where it holds a list.
+/// The message of this kind and this body. Only a message that holds a list takes memory.
 pub fn front_message(alloc: Global, kind: FrontKind, body: &[u8]) -> Result<FrontMessage, BodyFault>
     ensures read { Gives (λ m. m) result ((front_reading kind).message body.now) }
     ensures memory { AsksFor frontend.holds_list result ((front_reading kind).message body.now) }

@@ -27,8 +27,7 @@ fn write_target<W: fmt::Write>(
         .finish()
 }
 
-/// `{:?}` writes the variant and its fields, as a derived form does. Of a password, or the text of an MD5 answer, it writes
-/// `Password(..)`.
+/// `{:?}` writes the variant and its fields, as a derived form does. For a password, or the text of an MD5 answer, it writes `Password(..)`.
 impl fmt::Debug for FrontMessage {
     ghost debug_output = { shown_front };
 

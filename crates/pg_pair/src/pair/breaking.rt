@@ -49,7 +49,7 @@ impl<C: Carry> Pair<C> {
         self.broken(way) || self.is_closed(way)
     }
 
-    // The way to the backend breaks, and the backend is told.
+    // Breaks the way to the backend, and calls `lost` on the backend.
     fn break_off_backend(&mut self)
         ensures { Breaks ToBackend self.old self.new }
     {
@@ -57,7 +57,7 @@ impl<C: Carry> Pair<C> {
         self.backend.lost();
     }
 
-    // The way to the client breaks, and the client is told, unless it is closed.
+    // Breaks the way to the client, and calls `lost` on the client, unless that is closed.
     fn break_off_client(&mut self)
         ensures { Breaks ToClient self.old self.new }
     {
@@ -69,7 +69,7 @@ impl<C: Carry> Pair<C> {
         self.loss = Some(self.client.lost());
     }
 
-    // A way breaks, and the receiving end is told, unless it is closed.
+    // Breaks a way, and calls `lost` on the receiving end, unless that is closed.
     fn break_off(&mut self, way: Way)
         ensures { Breaks way self.old self.new }
     {
@@ -79,7 +79,7 @@ impl<C: Carry> Pair<C> {
         }
     }
 
-    // A way breaks where the carrier failed or gave other bytes.
+    // Breaks a way where the carrier failed or gave other bytes.
     pub(crate) fn break_off_if(&mut self, bad: bool, way: Way)
         ensures { BreaksIf bad way self.old self.new }
     {
@@ -88,7 +88,7 @@ impl<C: Carry> Pair<C> {
         }
     }
 
-    // A way breaks, unless it is shut.
+    // Breaks a way, unless it is shut.
     pub(crate) fn break_way(&mut self, way: Way) -> Applied
         ensures { BreaksUnless (is_shut way self.old) way self.old result self.new }
     {
@@ -99,7 +99,7 @@ impl<C: Carry> Pair<C> {
         Applied::Done
     }
 
-    // Both ways break because memory ran out.
+    // Breaks both ways, because memory ran out.
     pub(crate) fn give_up(&mut self) -> PairFault
         ensures broken { BreaksBoth self.old self.new }
         ensures fault { result ≡ PairFault.Memory }

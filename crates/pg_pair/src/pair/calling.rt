@@ -29,7 +29,7 @@ enum Kept {
     Chunk(Seq<u8>),
 }
 
-// What is kept of a call that makes no request, by what the client answered to it.
+// What is kept of a call that makes no request, by what the client returned.
 fn answer_with(
     answer: Result<(), CallFault>,
     kept: Kept,
@@ -42,7 +42,7 @@ fn answer_with(
     }
 }
 
-// Calls the client. A request that it refuses is given back.
+// Calls the client. A request that it rejects is handed back.
 fn call_client(
     client: &mut Client,
     call: Call,
@@ -83,8 +83,7 @@ fn take_chunks(call: &Call, handed: &mut Vec<Seq<Seq<u8>>>) -> Option<Vec<Seq<u8
     }
 }
 
-// Makes room for what is kept of a call: for a chunk among those that were taken out, for a request a list of chunks and its settled
-// group.
+// Makes room for what is kept of a call. A chunk needs it among those that were taken out, and a request for a list of chunks and its settled group.
 fn make_room(
     call: &Call,
     chunks: &mut Option<Vec<Seq<u8>>>,
@@ -110,7 +109,7 @@ fn make_room(
     Ok(())
 }
 
-// Puts them back, with what is kept of the call.
+// Puts back the chunks that were taken out, with what is kept of the call.
 fn put_chunks(
     alloc: Global,
     handed: &mut Vec<Seq<Seq<u8>>>,
@@ -136,8 +135,7 @@ fn put_chunks(
 }
 
 impl<C: Carry> Pair<C> {
-    // The client is called. Room for what is kept of the call is made before, so that nothing is sent of which the pair couldn't keep
-    // what it needs.
+    // Calls the client. Room for what is kept of the call is made before, so that nothing is sent of which the pair couldn't keep what it needs.
     pub(crate) fn call(&mut self, call: Call) -> Result<Applied, PairFault>
         ensures { Applies C.carries (event.Call call) self.old result self.new }
     {

@@ -16,7 +16,7 @@ pub(crate) struct Carried {
     pub(crate) bad: bool,
 }
 
-// How many bytes at the front of both are the same.
+// How long the longest common prefix of both is.
 fn count_same(piece: &[u8], came: &[u8]) -> usize
     ensures { result ≡ length (same_front piece.now came.now) }
 {

@@ -20,7 +20,7 @@ pub(crate) fn take_last(lists: &mut Vec<Seq<Seq<u8>>>) -> Option<Vec<Seq<u8>>>
     }
 }
 
-// Puts it back.
+// Puts back the list that was taken out, as the last one.
 pub(crate) fn put_last(lists: &mut Vec<Seq<Seq<u8>>>, last: Option<Vec<Seq<u8>>>)
     requires { vec_len lists.old + length (list_of last) ≤ vec_capacity lists.old }
     ensures items { lists.new.items ≡ lists.old.items ++ list_of last }
@@ -31,7 +31,7 @@ pub(crate) fn put_last(lists: &mut Vec<Seq<Seq<u8>>>, last: Option<Vec<Seq<u8>>>
     }
 }
 
-// Makes room for a chunk.
+// Makes room for one more chunk in the list that was taken out.
 pub(crate) fn make_chunk_room(last: &mut Option<Vec<Seq<u8>>>) -> Result<(), AllocError>
     ensures same { list_of last.new ≡ list_of last.old }
     ensures ok { OnOk result (HasRoom last.new) }
@@ -42,7 +42,7 @@ pub(crate) fn make_chunk_room(last: &mut Option<Vec<Seq<u8>>>) -> Result<(), All
     }
 }
 
-// Adds a chunk.
+// Adds a chunk to the list that was taken out.
 pub(crate) fn add_chunk(last: &mut Option<Vec<Seq<u8>>>, chunk: Seq<u8>)
     requires { HasRoom last.old }
     ensures { list_of last.new ≡ add_to_last chunk (list_of last.old) }

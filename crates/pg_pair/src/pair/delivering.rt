@@ -17,8 +17,7 @@ use crate::pair::Pair;
 use crate::pair::carrying::{Carried, PIECE, carry_piece};
 use pg_client::{Client, FeedFault, Settled};
 
-// What became of a piece: how many of its bytes reached the end, what the end answered to them, and whether the carrier failed or
-// gave other bytes.
+// What became of a piece: how many of its bytes reached the end, what the end returned for them, and whether the carrier failed or gave other bytes.
 #[derive(Drop)]
 struct Moved {
     given: usize,
@@ -72,7 +71,7 @@ impl<C: Carry> Pair<C> {
         }
     }
 
-    // The first bytes under way reach the client. What it puts out then, for a question for its password, waits on the other way.
+    // Feeds the first bytes under way to the client. What it puts out, where it is asked for its password, waits on the other way.
     fn feed(&mut self, count: usize) -> Option<Applied>
         requires some { 0 < count }
         requires within { count ≤ length (waiting_at ToClient self.old) }
@@ -89,7 +88,7 @@ impl<C: Carry> Pair<C> {
         client_answer(result)
     }
 
-    // The first bytes under way come to the backend.
+    // Pushes the first bytes under way to the backend.
     fn push(&mut self, count: usize) -> Option<Applied>
         requires some { 0 < count }
         requires within { count ≤ length (waiting_at ToBackend self.old) }
@@ -106,7 +105,7 @@ impl<C: Carry> Pair<C> {
         None
     }
 
-    // The first bytes under way come to the receiving end, which isn't asked where there are none.
+    // Hands the first bytes under way to the receiving end. Where there are none, it isn't called.
     fn hand_over(&mut self, way: Way, count: usize) -> Option<Applied>
         requires within { count ≤ length (waiting_at way self.old) }
         requires going { is_closed way self.old ≡ false }

@@ -84,7 +84,7 @@ impl Open {
         };
     }
 
-    /// Whether columns begin a result here, and don't describe.
+    /// Whether columns begin a result here, and don't belong to a description.
     pub fn begins_result(&self, request: &Request) -> bool
         ensures { result ≡ is_next_result (asked request.now) self.now }
     {
@@ -111,7 +111,7 @@ impl Open {
         }
     }
 
-    // With the tag of the complete command.
+    // The whole part, where the command is complete with this tag.
     fn completed(self, alloc: Global, request: &Request, tag: Seq<u8>) -> Part
         ensures { result ≡ completed_part (asked request.now) self tag }
     {
@@ -124,7 +124,7 @@ impl Open {
         }
     }
 
-    // Of an empty query.
+    // The whole part, where the query was empty.
     fn emptied(self, alloc: Global, request: &Request) -> Part
         ensures { result ≡ empty_part (asked request.now) self }
     {
@@ -134,7 +134,7 @@ impl Open {
         self.executed(alloc, ExecEnd::Empty)
     }
 
-    // The run of a portal.
+    // The whole part, where the run of a portal has ended so.
     fn executed(self, alloc: Global, end: ExecEnd) -> Part
         ensures { result ≡ executed_part self end }
     {
@@ -147,7 +147,7 @@ impl Open {
         }
     }
 
-    // What a Describe asked for.
+    // The whole part: what a Describe asked for.
     fn described(self, columns: Option<Seq<Column>>) -> Part
         ensures { result ≡ described_part self columns }
     {

@@ -57,7 +57,7 @@ impl Place {
         self.failed
     }
 
-    /// The place after this was called for the open copy in.
+    /// The place after this call answered the open copy in.
     pub fn answer_copy(&self, said: CopyAnswer) -> Place
         ensures { result ≡ told self.now said }
     {

@@ -86,7 +86,7 @@ abbrev pub EndsAs : Bool → RowsEnding Converted → Type 0
 EndsAs false ending = IsGood ending
 EndsAs true ending = IsEnd ending
 
--- A piece is taken, or stands after a fault, or memory was refused.
+-- A piece is taken, or stands after a fault, or memory ran out.
 abbrev pub TakesPiece : RowReader → List ℕ → Result Unit (Stop Converted) → RowReader → Type 0
 TakesPiece r piece (Ok x) r' = (file_by r' ≡ file_by r) × (ended_of r' ≡ ended_of r)
     × ((bytes : List ℕ) (given : List Row) → HasReadBy r bytes given
@@ -99,7 +99,7 @@ TakesPiece r piece (Err (stop.Answer c)) r' = (bytes : List ℕ) (given : List R
 TakesPiece r piece (Err stop.Memory) r' = r' ≡ r
 TakesPiece r piece (Err _) r' = ⊥
 
--- The next row is given, or what stands in its place, or memory for it was refused.
+-- The next row is given, or what stands in its place, or memory for it ran out.
 abbrev pub GivesRow : Bool → RowReader → Result (Option Row) (Stop Converted) → RowReader → Type 0
 GivesRow at_end r (Ok (Some row)) r' = ReadsOn at_end r (row ∷ []) r'
 GivesRow at_end r (Ok None) r' = ReadsOn at_end r [] r' × (ending : RowsEnding Converted)
@@ -112,7 +112,7 @@ GivesRow at_end r (Err _) r' = ⊥
 
 -- ---- rows that are put
 
--- A row is put (true); or it can't be written; or it can be, but memory for it was refused. In the
+-- A row is put (true); or it can't be written; or it can be, but memory for it ran out. In the
 -- last two cases nothing is put.
 abbrev pub WritesRow : FileWriting → Row → List ℕ → Result Bool (Stop Converted) → List ℕ → Type 0
 WritesRow to row out (Ok true) out' = IsWritable to row × (out' ≡ out ++ to.row row)
@@ -263,7 +263,8 @@ StepsSource ended old new (Err stop.SourceFailed) = HasRisen old new
 StepsSource ended old new (Err stop.Endless) = ⊥
 StepsSource ended old new _ = new ≡ old
 
--- The same of all the pieces: or it gave no end in so many.
+-- What a stop after all the pieces says about the source: it has ended where the file is whole, it
+-- failed, it gave no end in as many pieces as are received, or it didn't fail.
 abbrev pub StopsSource : Type 0 → ℕ → ℕ → List (List ℕ) → Stop Converted → Type 0
 StopsSource ended old new pieces (stop.Answer converted.Whole) = ended × (new ≡ old)
 StopsSource ended old new pieces stop.SourceFailed = HasRisen old new

@@ -32,9 +32,9 @@ abbrev pub AreGiven : {S : Type 0} → (S → Option (Option (Bor (List ℕ))) �
     → Type 0
 AreGiven gives s row = AlwaysYields gives option_copied s row
 
--- What is answered for a row with this fault, or none, and these bytes: the answers of `Writes`.
--- But a row without a fault may be put off or refused, and where the bytes aren't written, a part of
--- them may stand in the buffer.
+-- What is returned for a row with this fault, or none, and these bytes: the answers of `Writes`.
+-- But a row without a fault may be put off or rejected, and where the bytes aren't written, a part
+-- of them may stand in the buffer.
 abbrev pub WritesInPart : Option RowFault → List ℕ → List ℕ → Result Progress RowFault → List ℕ
     → Type 0
 WritesInPart fault spelled old (Ok progress.Written) new = (fault ≡ None) × (new ≡ old ++ spelled)
@@ -42,7 +42,8 @@ WritesInPart fault spelled old (Ok progress.PutOff) new = (fault ≡ None) × Is
 WritesInPart fault spelled old (Ok progress.Refused) new = (fault ≡ None) × IsPrefix old new
 WritesInPart fault spelled old (Err f) new = (fault ≡ Some f) × IsPrefix old new
 
--- the same answers, where a buffer is left as it was unless the bytes are written
+-- What is returned for a row with this fault, or none, and these bytes, where a buffer is left as
+-- it was unless the bytes are written.
 abbrev pub WritesOrNot : Option RowFault → List ℕ → List ℕ → Result Progress RowFault → List ℕ
     → Type 0
 WritesOrNot fault spelled old (Ok progress.Written) new = (fault ≡ None) × (new ≡ old ++ spelled)

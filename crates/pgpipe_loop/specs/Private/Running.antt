@@ -50,7 +50,7 @@ SendsLines takes failures sink text (Err fault.Memory) sink' = ⊥
 SendsLines takes failures sink text (Err fault.Device) sink' = (fault : LinkFault)
     × Sends {A = Unit {0}} takes failures sink text (Err fault) sink'
 
--- An event happens, and its lines are sent. Where memory is refused nothing is sent.
+-- An event happens, and its lines are sent. Where memory runs out nothing is sent.
 abbrev pub Prints : {C K : Type 0} → Carrying C → Bool → Taking K → (K → ℕ) → Event → At C K
     → Result Applied ToolFault → At C K → Type 0
 Prints carries trace takes failures e old (Ok answer) new =
@@ -129,7 +129,7 @@ DoesOnce carries trace takes failures e old result new =
 
 -- ---- the end
 
--- The closing lines are sent. Where memory is refused nothing is sent.
+-- The closing lines are sent. Where memory runs out nothing is sent.
 abbrev pub Closes : {C K : Type 0} → Taking K → (K → ℕ) → PairView C → K → Result Unit ToolFault → K
     → Type 0
 Closes takes failures p sink (Ok x) sink' =

@@ -37,7 +37,7 @@ module _ {L K : Type 0} (gives takes : L → List ℕ → L → Type 0) (has_end
     (receive_failures send_failures : L → ℕ) (sends : K → List ℕ → K → Type 0)
     (failures : K → ℕ) where
   -- One turn, by its result: its lines were sent, and the connection goes on or is over; or memory
-  -- was refused for the lines, and nothing was sent; or the sink failed in them.
+  -- ran out for the lines, and nothing was sent; or the sink failed in them.
   abbrev pub TakesTurn : Serving L K → Result (Option BackPhase) ToolFault → Serving L K → Type 0
   TakesTurn old (Ok left) new = (answer : Result Answered AnswerFault)
       × Answers gives takes has_ended receive_failures send_failures 1 old.connection answer
@@ -59,7 +59,7 @@ module _ {L K : Type 0} (gives takes : L → List ℕ → L → Type 0) (has_end
         now rows left
     pub told : holds rows
 
-  -- All turns, by the result: the connection is over; or memory was refused for lines; or the sink
+  -- All turns, by the result: the connection is over; or memory ran out for lines; or the sink
   -- failed.
   abbrev pub TakesAllTurns : Serving L K → Result BackPhase ToolFault → Serving L K → Type 0
   TakesAllTurns old (Ok phase) new = (count : ℕ) × (left : Option BackPhase)
@@ -76,7 +76,7 @@ module _ {L K : Type 0} (gives takes : L → List ℕ → L → Type 0) (has_end
 module _ {L C K : Type 0} (gives takes : L → List ℕ → L → Type 0) (has_ended : L → Type 0)
     (receive_failures send_failures : L → ℕ) (brings : C → L → C → Type 0) (fails : C → C → Type 0)
     (sends : K → List ℕ → K → Type 0) (failures : K → ℕ) (bytes : List ℕ) where
-  -- One client more, by the result: it was served; or memory was refused; or it couldn't be had, or
+  -- One client more, by the result: it was served; or memory ran out; or it couldn't be had, or
   -- the sink failed.
   abbrev pub ServesNext : C → K → Result Unit ToolFault → C → K → Type 0
   ServesNext clients sink (Ok x) clients' sink' = (link : L) × (link' : L) × (script : Script)

@@ -14,8 +14,7 @@ use std::alloc::{AllocError, Global};
 use std::marker::Model;
 use std::string::ToString;
 
-/// Lines of COPY text. What is put stands in the open line, which has at most its first 32,767 fields. Where memory was refused, the
-/// text is of no use.
+/// Lines of COPY text. What is put stands in the open line, which has at most its first 32,767 fields. Where memory ran out, the text is of no use.
 #[derive(Drop)]
 pub struct LineBuffer {
     alloc: Global,
@@ -36,7 +35,7 @@ impl Model for LineBuffer {
 }
 
 impl LineBuffer {
-    /// No line.
+    /// A buffer without lines.
     pub fn new(alloc: Global) -> LineBuffer
         ensures { result ≡ whole_lines [] }
     {
@@ -114,7 +113,7 @@ impl LineBuffer {
     }
 }
 
-/// What is written as a field of a line.
+/// Something that is written as a field of a line.
 pub trait PutsField {
     ghost use Rattle.std.specs.Prelude.{ℕ, List, Option};
 
@@ -126,7 +125,7 @@ pub trait PutsField {
         ensures { OnOk result (lines.new ≡ with_field lines.old (field self.now)) };
 }
 
-/// What is written as a line.
+/// Something that is written as a line.
 pub trait PutsLine {
     ghost use Rattle.std.specs.Prelude.{ℕ, List, Option};
 
@@ -138,7 +137,7 @@ pub trait PutsLine {
         ensures { OnOk result (lines.new ≡ with_row lines.old (line_row self.now)) };
 }
 
-/// What is written as lines.
+/// Something that is written as lines.
 pub trait PutsLines {
     ghost use Rattle.std.specs.Prelude.{ℕ, List, Option};
 

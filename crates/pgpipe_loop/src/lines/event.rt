@@ -21,8 +21,7 @@ use std::alloc::{AllocError, Global};
 // The most chunks of a line.
 const MOST_CHUNKS: usize = 32_765;
 
-/// The lines of an event, as COPY text: the groups that were settled in it, its answer, and the
-/// loss that it brought, if it brought one.
+/// The lines of an event, as COPY text: the groups that were settled in it, what it came to, and the loss that it brought, if it brought one.
 pub fn event_lines(
     alloc: Global,
     settled: &[Settled],
@@ -39,8 +38,7 @@ pub fn event_lines(
     Ok(lines.into_text())
 }
 
-/// The closing lines of a loop, as COPY text: the chunks that the backend took for each request,
-/// and the phases of both ends.
+/// The closing lines of a loop, as COPY text: the chunks that the backend took for each request, and the phases of both ends.
 pub fn closing_lines(
     alloc: Global,
     log: &[Logged],
@@ -93,7 +91,7 @@ fn backend_word(phase: BackPhase) -> &'static [u8]
     }
 }
 
-/// Puts the lines of an answer.
+/// Puts the lines of what an event came to.
 pub fn put_answer(answer: &Applied, lines: &mut LineBuffer) -> Result<(), AllocError>
     ensures { OnOk result (lines.new ≡ with_rows lines.old (answer_rows answer.now)) }
 {

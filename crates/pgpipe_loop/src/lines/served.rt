@@ -10,8 +10,8 @@ use pg_backend::Logged;
 use pg_pair::Applied;
 use std::alloc::{AllocError, Global};
 
-/// The lines of what a backend decided and answered in one turn, as COPY text: these new entries of its log, as the groups that its
-/// client sees settled, and the answer, if it is a fault.
+/// The lines of what a backend decided and returned in one turn, as COPY text. They are these new entries of its log, as the groups that its client
+/// sees settled, and what it returned, if that is a fault.
 pub fn turn_lines(
     alloc: Global,
     decided: &[Logged],

@@ -30,7 +30,7 @@ pub struct LoopFiles {
     pub named: Seq<Seq<u8>>,
 }
 
-// The calls with the bytes of the files that they name. Where they name fewer files memory counts as refused.
+// The calls with the bytes of the files that they name. Where they name fewer files than are given, it fails as where memory runs out.
 fn filled_in(alloc: Global, calls: Calls, named: &[Seq<u8>]) -> Result<Calls, AllocError>
     ensures { IfOk result (FillsIn calls named.now) }
 {
@@ -45,7 +45,7 @@ fn filled_in(alloc: Global, calls: Calls, named: &[Seq<u8>]) -> Result<Calls, Al
 }
 
 impl LoopFiles {
-    // The script and the calls. Each can be read, so memory alone can be refused.
+    // The script and the calls. Each can be read, so only memory can run out.
     fn read(&self, alloc: Global) -> Result<(Script, Calls), AllocError>
         ensures { IfOk result (λ said. Says self.now said.0 said.1) }
     {
@@ -72,7 +72,7 @@ impl LoopFiles {
                 let Running { pair, .. } = running;
                 Ok(pair)
             }
-            // nothing is sent, so memory alone can be refused
+            // Nothing is sent, so only memory can run out.
             Err(_) => Err(AllocError),
         }
     }
@@ -117,7 +117,7 @@ impl LoopFiles {
     }
 }
 
-// The lines of these, and the one that counts them.
+// The lines of these places, and the one that counts them.
 fn lines_of(alloc: Global, all: &[Broken]) -> Result<Vec<u8>, AllocError>
     ensures { IfOk result (λ text. text.items ≡ broken_text all.now) }
 {
@@ -127,14 +127,14 @@ fn lines_of(alloc: Global, all: &[Broken]) -> Result<Vec<u8>, AllocError>
     Ok(lines.into_text())
 }
 
-/// Runs a loop once, and then again for each byte that has reached the backend, and for each that has reached the client: with that way
-/// cut after that byte, so that it breaks where more is to come along it, or at the end. It sends a line for each of these runs, and one
-/// that counts them, and answers the first place where the settled groups weren't seen to be the first of those that the backend has
-/// answered. In a flow `cut` bytes are delivered at a time.
+/// Runs a loop once, and then again for each byte that has reached the backend, and for each that has reached the client. In such a run that way is
+/// cut after that byte: it breaks where more is to come along it, or at the end. In a flow `cut` bytes are delivered at a time.
 ///
-/// The files have to be such as `run_loop` is run for: both can be read, the script's check answers Ok, and each file that the calls
-/// name is there. `Device` is answered where the sink failed in this call; a prefix of the lines was then sent. `Memory` is answered where
-/// memory was refused; no line was then sent.
+/// It sends a line for each of these runs, and one that counts them. It returns the first place where the settled groups weren't seen to be the first
+/// of those that the backend has answered.
+///
+/// The files have to be such as `run_loop` is run for: both can be read, the script's check returns Ok, and each file that the calls name is there.
+/// `Device`: the sink failed in this call; a prefix of the lines was then sent. `Memory`: memory ran out; no line was then sent.
 pub fn break_everywhere<K: Sink>(
     alloc: Global,
     files: &LoopFiles,

@@ -110,7 +110,7 @@ pub fn begins_log(settled: &[Settled], log: &[Logged]) -> bool
     true
 }
 
-/// What the pair has come to that a loop has left which was broken in this place.
+/// How far the pair has come at the end of a loop that was broken in this place.
 pub fn broken_as<C: Carry>(place: Place, pair: &Pair<C>) -> Broken
     ensures { result ≡ broken_as place pair.now }
 {

@@ -1,4 +1,4 @@
-//! What is told of an event: what it came to, and in a trace what it is, what it moved, and where both ends stand after it.
+//! The lines of an event: what it came to, and in a trace what it is, what it moved, and where both ends stand after it.
 
 ghost use Rattle.std.specs.Prelude.{◌≡◌, ◌≤◌, true, length, IfOk};
 ghost use Rattle.pg_pair.specs.View.{way_state};
@@ -52,7 +52,7 @@ pub fn before_of<C: Carry>(pair: &Pair<C>) -> Before
     }
 }
 
-/// The line that names an event in a trace; without one none.
+/// The line that names an event in a trace. Without a trace there is none.
 pub fn named_lines(alloc: Global, trace: bool, event: &Event) -> Result<Vec<u8>, AllocError>
     ensures { IfOk result (λ text. text.items ≡ text_lines (named_rows trace event.now)) }
 {
@@ -62,7 +62,7 @@ pub fn named_lines(alloc: Global, trace: bool, event: &Event) -> Result<Vec<u8>,
     event_line(alloc, event)
 }
 
-// The lines of what an event came to, before which the pair had come so far.
+// The lines of what an event came to. Before it the pair had come so far.
 fn came_lines<C: Carry>(
     alloc: Global,
     pair: &Pair<C>,
@@ -78,7 +78,7 @@ fn came_lines<C: Carry>(
     event_lines(alloc, new, answer, loss)
 }
 
-// The lines of what an event moved, before which the pair had come so far.
+// The lines of what an event moved. Before it the pair had come so far.
 fn moved_lines<C: Carry>(
     alloc: Global,
     pair: &Pair<C>,
@@ -139,7 +139,7 @@ fn traced_lines<C: Carry>(
     Ok(lines)
 }
 
-/// The lines of an event that was named so, before which the pair had come so far.
+/// The lines of an event that was named so. Before it the pair had come so far.
 pub fn lines_since<C: Carry>(
     alloc: Global,
     pair: &Pair<C>,

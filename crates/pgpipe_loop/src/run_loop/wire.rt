@@ -7,7 +7,7 @@ use super::places::Place;
 use pg_pair::{Carry, CarryFault, Way};
 use pg_wire::{LinkFault, Sink};
 
-/// Carries each piece whole, but so many bytes alone along one way. After these its calls along that way fail.
+/// Carries each piece whole, except along one way, where it carries only so many bytes. After these its calls along that way fail.
 #[derive(Drop)]
 pub struct CutWire {
     way: Way,

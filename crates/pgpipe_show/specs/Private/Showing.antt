@@ -46,7 +46,7 @@ abbrev pub end_stop : ℕ → Stop Shown
 end_stop zero = stop.Answer shown.Whole
 end_stop (suc n) = stop.Answer (shown.Rest (suc n))
 
--- A line is put, and no more is collected than there is room for; or memory was refused, and then
+-- A line is put, and no more is collected than there is room for; or memory ran out, and then
 -- nothing was put; or the sink failed.
 abbrev pub PutsLine : {K : Type 0} → (K → List ℕ → K → Type 0) → (K → ℕ) → List ℕ → K → List ℕ
     → Result Unit (Stop Shown) → List ℕ → K → Type 0
@@ -151,8 +151,8 @@ PutsPackets takes failures collected sink bytes (Err _) new collected' sink' = �
 
 -- ---- the frames of a stream
 
--- A line of this kind is put, and no more is collected than there is room for; or memory was
--- refused, and then nothing was put; or the sink failed.
+-- A line of this kind is put, and no more is collected than there is room for; or memory ran
+-- out, and then nothing was put; or the sink failed.
 abbrev pub PutsLineOf : {K : Type 0} → (K → List ℕ → K → Type 0) → (K → ℕ) → List ℕ → K
     → (List ℕ → Type 0) → Result Unit (Stop Shown) → List ℕ → K → Type 0
 PutsLineOf takes failures collected sink IsText (Ok x) collected' sink' = (text : List ℕ)

@@ -39,7 +39,7 @@ PutsText takes failures collected sink text (Err stop.SinkFailed) collected' sin
     × Puts {A = Unit {0}} takes failures collected sink text (Err fault) collected' sink'
 PutsText takes failures collected sink text (Err _) collected' sink' = ⊥
 
--- The line of an entry is put; or memory was refused, and then nothing was put; or the sink failed.
+-- The line of an entry is put; or memory ran out, and then nothing was put; or the sink failed.
 abbrev pub PutsEntry : {K : Type 0} → (K → List ℕ → K → Type 0) → (K → ℕ) → List ℕ → K → Entry
     → Result Unit (Stop BothEnds) → List ℕ → K → Type 0
 PutsEntry takes failures collected sink x (Ok u) collected' sink' = (text : List ℕ)
@@ -81,7 +81,7 @@ look_on next.Message = look.Open
 look_on next.Nothing = look.Over ending.Canceled
 
 -- What one call of `receive` leads to, which gave this piece: it is kept, or the source has ended, or it
--- failed, or memory was refused.
+-- failed, or memory ran out.
 abbrev pub Received : Type 0 → ℕ → ℕ → FramesState → List ℕ → Result Bool (Stop BothEnds)
     → FramesState → Type 0
 Received at_end count count' old piece (Ok true) new = (new.next ≡ old.next)
@@ -100,7 +100,7 @@ ReceivedByte at_end count count' piece (Err stop.SourceFailed) = HasRisen count 
 ReceivedByte at_end count count' piece (Err _) = ⊥
 
 -- Pieces came until a frame was whole, which is lent, or the stream ended so; or the source failed or
--- gave too many pieces, or memory was refused.
+-- gave too many pieces, or memory ran out.
 abbrev pub Fetched : Type 0 → ℕ → ℕ → ℕ → FramesState → List ℕ → Result (Option Ended)
     (Stop BothEnds) → FramesState → Type 0
 Fetched at_end count count' pieces old came (Ok None) new =

@@ -80,7 +80,7 @@ fn put_line<K: Sink>(
 }
 
 impl Page {
-    /// Nothing was put.
+    /// A page on which nothing was put.
     pub fn new(alloc: Global) -> Result<Page, AllocError>
         ensures { IfOk result (λ page. page.outbox ≡ []) }
     {
@@ -91,7 +91,7 @@ impl Page {
         })
     }
 
-    /// Puts the line of a frame of the client (`front`) or of the server, which is written whole first.
+    /// Puts the line of a frame of the client (`front`) or of the server. The line is written whole before it is put.
     pub fn put_frame<K: Sink>(
         &mut self,
         front: bool,

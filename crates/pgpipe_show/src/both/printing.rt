@@ -97,20 +97,22 @@ impl Work {
     }
 }
 
-/// Prints the two streams of one connection, each from a source of its own and without times, in one order: `-> ` and the text of each
-/// frame that the client sent, as `pgpipe_frames` has it, and `<- ` and that of each that the server sent. The client's frames stand up to one
-/// after which it waits, then the server's up to the end of its answer, and so on ("Message Flow"); each ReadyForQuery answers the next
-/// Query, FunctionCall or Sync in order. Where one stream has ended the rest of the other is printed.
+/// Prints the two streams of one connection together, each from a source of its own. The sources have no times. A line is `-> ` and the text of a
+/// frame that the client sent, or `<- ` and that of a frame that the server sent; `pgpipe_frames` has the texts. The client's frames stand up to one
+/// after which it waits, then the server's up to the end of its answer, and so on ("Message Flow"). Each ReadyForQuery answers the next Query,
+/// FunctionCall or Sync in order. Where one stream has ended, the rest of the other is printed.
 ///
-/// The byte by which the server answers an SSLRequest or a GSSENCRequest has a line of its own. After `S` or `G` both streams go on
-/// encrypted, and nothing more of them is read. After a CancelRequest nothing more of the client's is read.
+/// The byte by which the server answers an SSLRequest or a GSSENCRequest has a line of its own. After `S` or `G` both streams go on encrypted, and
+/// nothing more of them is read. After a CancelRequest nothing more of the client's stream is read.
 ///
-/// A stream ends, as the answer says, with a whole frame, with a rest that is none, or with a length field that can't be: of a message 4 to
-/// 1,073,741,823, of a first packet 8 to 10,000. At most one frame of each stream is kept, and lines are sent in pieces of 65,536 bytes.
+/// What is returned says how each stream ended: with a whole frame, with a rest that is none, or with a bad length field. A length field is from 4 to
+/// 1,073,741,823 in a message, and from 8 to 10,000 in a first packet. At most one frame of each stream is kept, and lines are sent in pieces of
+/// 65,536 bytes.
 ///
-/// `Device` is answered where the sink failed in this call, and then a prefix of the lines was sent; or where a source failed or gave no whole
-/// frame and no end in 1,099,511,627,776 receives, or more than 18,446,744,073,709,551,614 entries came, and then all lines were sent.
-/// `Memory` is answered where memory was refused, and then all lines were sent.
+/// `Device`: the sink failed in this call, and a prefix of the lines was sent. Or a source failed, or gave no whole frame and no end in
+/// 1,099,511,627,776 receives, or more than 18,446,744,073,709,551,614 entries came; then all lines were sent.
+///
+/// `Memory`: memory ran out, and all lines were sent.
 pub fn show_both<F: Source, B: Source, K: Sink>(
     alloc: Global,
     front: &mut F,

@@ -48,7 +48,7 @@ pub fn receive_byte<S: Source>(source: &mut S) -> Result<Option<u8>, Stop<BothEn
     }
 }
 
-// What is to be done where no frame is whole: nothing is read after a request to cancel.
+// What is to be done where no frame is whole. Nothing is read after a request to cancel.
 fn look_on(next: NextFrame) -> Look
     ensures { result ≡ look_on next }
 {
@@ -60,7 +60,7 @@ fn look_on(next: NextFrame) -> Look
 }
 
 impl Reader {
-    /// Nothing was received, and the first frame is one of these.
+    /// A reader that has received nothing, and whose first frame is of this kind.
     pub fn new(alloc: Global, first: NextFrame) -> Result<Reader, AllocError>
         ensures { IfOk result (λ reader. reader.frames
             ≡ record { next = first; kept = []; held = [] }) }
@@ -92,7 +92,7 @@ impl Reader {
         }
     }
 
-    // Receives a piece, and keeps it. False is the end of the source.
+    // Receives a piece, and keeps it. It returns false at the end of the source.
     fn receive<S: Source>(&mut self, source: &mut S) -> Result<bool, Stop<BothEnds>>
         ensures { (piece : List ℕ) × S.gives source.old piece source.new
             × Received (S.has_ended source.new) (S.failures source.old) (S.failures source.new)
@@ -109,7 +109,7 @@ impl Reader {
         }
     }
 
-    /// Receives pieces until the next frame is whole, which is lent then; or how the stream ended before.
+    /// Receives pieces until the next frame is whole, which is then lent (None), or until the stream ends before that: then it returns how.
     pub fn fetch<S: Source>(&mut self, source: &mut S) -> Result<Option<Ended>, Stop<BothEnds>>
         ensures { Fetches S.gives S.failures S.has_ended self.old.frames source.old result
             self.new.frames source.new }

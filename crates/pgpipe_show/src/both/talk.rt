@@ -186,7 +186,7 @@ fn after_answer(query: bool, copied: bool, behind: bool, frame: &[u8]) -> Talk
 }
 
 impl Talk {
-    /// After a startup, or after what the client sent first: the server answers.
+    /// The talk after a startup, or after what the client sent first: the server answers.
     pub fn answering() -> Talk
         ensures { result ≡ Answering false false false }
     {
@@ -197,7 +197,7 @@ impl Talk {
         }
     }
 
-    /// After a message with this tag that the client sends first, where it should have sent a packet.
+    /// The talk after the client has sent a message with this tag first, where it should have sent a packet.
     pub fn asked_first(tag: u8) -> Talk
         ensures { result ≡ asked false false tag }
     {
@@ -234,7 +234,7 @@ impl Talk {
         }
     }
 
-    /// After a frame of the client.
+    /// The talk after a frame of the client.
     pub fn after_sent(self, kind: NextFrame, frame: &[u8]) -> Talk
         requires { fewest kind ≤ length frame.now }
         ensures { result ≡ talk_sent self kind frame.now }
@@ -245,7 +245,7 @@ impl Talk {
         }
     }
 
-    /// After a frame of the server.
+    /// The talk after a frame of the server.
     pub fn after_got(self, frame: &[u8]) -> Talk
         requires { 5 ≤ length frame.now }
         ensures { result ≡ talk_got self frame.now }

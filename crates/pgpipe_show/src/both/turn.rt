@@ -17,11 +17,11 @@ pub enum Ended {
     Whole,
     /// With so many bytes that are no whole frame.
     Rest(usize),
-    /// With a length field that can't be.
+    /// With a bad length field.
     Fault(WireFault),
     /// With a request to cancel, after which nothing is read.
     Canceled,
-    /// It goes on encrypted, which can't be read.
+    /// The stream goes on encrypted, which can't be read.
     Encrypted,
 }
 
@@ -48,9 +48,9 @@ pub enum Encryption {
 pub enum Stage {
     /// The client sends a first packet.
     Opening,
-    /// The server answers a request for encryption, with one byte.
+    /// The server has to answer a request for encryption, with one byte.
     Requested(Encryption),
-    /// They talk.
+    /// The client and the server talk.
     Talking(Talk),
 }
 
@@ -83,7 +83,7 @@ fn accepts(request: Encryption, byte: u8) -> bool
     }
 }
 
-/// Whether a byte answers a request for encryption: it refuses or accepts it.
+/// Whether a byte answers a request for encryption: it rejects or accepts it.
 pub fn is_reply(request: Encryption, byte: u8) -> bool
     ensures { result ≡ is_reply request byte }
 {
@@ -113,7 +113,7 @@ fn opened(request: Option<Encryption>) -> Stage
     }
 }
 
-// After the first frame of a client, and each that follows a request for encryption which was refused.
+// After the first frame of a client, and after each that follows a rejected request for encryption.
 fn opening_sent(kind: NextFrame, frame: &[u8]) -> Stage
     requires { fewest kind ≤ length frame.now }
     ensures { result ≡ opening_sent kind frame.now }
@@ -196,7 +196,7 @@ impl Stage {
 }
 
 impl Turn {
-    /// The client begins.
+    /// The turn at the beginning: the client sends its first packet.
     pub fn first() -> Turn
         ensures { result ≡ first_turn }
     {
@@ -214,7 +214,7 @@ impl Turn {
         due_of(self.stage, self.front, self.back)
     }
 
-    /// After a frame of the client (`front`) or of the server.
+    /// The turn after a frame of the client (`front`) or of the server.
     pub fn after_frame(self, front: bool, kind: NextFrame, frame: &[u8]) -> Turn
         requires { (5 ≤ length frame.now) × (fewest kind ≤ length frame.now) }
         ensures { result ≡ moved self front (record { kind = kind; bytes = frame.now }) }
@@ -234,7 +234,7 @@ impl Turn {
         }
     }
 
-    /// After the end of the client's stream (`front`) or of the server's.
+    /// The turn after the end of the client's stream (`front`) or of the server's.
     pub fn after_end(self, front: bool, how: Ended) -> Turn
         ensures { result ≡ ended_by self front how }
     {
@@ -253,7 +253,7 @@ impl Turn {
         }
     }
 
-    /// After the answer to a request for encryption: what follows is another first packet, or both streams go on encrypted.
+    /// The turn after the answer to a request for encryption: another first packet follows, or both streams go on encrypted.
     pub fn after_reply(self, refused: bool) -> Turn
         ensures { result ≡ after_reply refused self }
     {

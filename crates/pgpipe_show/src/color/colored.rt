@@ -12,8 +12,8 @@ use std::marker::Model;
 // How many bytes are coloured at once.
 const AT_ONCE: usize = 256;
 
-/// A sink over a sink, which gets the coloured form of the lines that come, or the very bytes where it is off. Where a call of that sink
-/// fails in mid-piece, a front of the piece's coloured form was written, and nothing of the piece counts as taken.
+/// A sink over another sink, which gets the coloured form of the lines that come, or where it is off the very bytes. Where a call of that sink fails
+/// within a piece, a beginning of the piece's coloured form was written, and nothing of the piece counts as taken.
 #[derive(Debug, Drop)]
 pub struct Colored<K> {
     inner: K,
@@ -31,7 +31,7 @@ impl<K> Model for Colored<K> {
 }
 
 impl<K> Colored<K> {
-    /// At the beginning of a line.
+    /// A sink at the beginning of a line.
     pub fn new(inner: K, on: bool) -> Colored<K>
         ensures { result ≡ record { inner = inner; on = on; part = Start } }
     {
@@ -42,7 +42,7 @@ impl<K> Colored<K> {
         }
     }
 
-    /// The sink.
+    /// The sink behind it.
     pub fn get_ref(&self) -> &K
         ensures { result.now ≡ self.now.inner }
     {

@@ -10,21 +10,21 @@ use std::alloc::{AllocError, Global};
 use std::collections::BTreeMap;
 use std::marker::Model;
 
-/// How many frames there are, and how many bytes they have together. Neither goes beyond 18,446,744,073,709,551,615.
+/// How many frames there are, and how many bytes they have together. Neither number goes beyond 18,446,744,073,709,551,615.
 #[derive(Clone, Copy)]
 pub struct FrameCount {
     pub count: u64,
     pub bytes: u64,
 }
 
-// No frame.
+// The counts of no frame.
 fn none_counted() -> FrameCount
     ensures { result ≡ none_counted }
 {
     FrameCount { count: 0, bytes: 0 }
 }
 
-// One frame more, of so many bytes.
+// The counts with one more frame, of so many bytes.
 fn with_frame(size: usize, counted: FrameCount) -> FrameCount
     ensures { result ≡ with_frame size counted }
 {
@@ -44,7 +44,7 @@ fn counted_at(rows: &BTreeMap<Vec<u8>, FrameCount>, label: &[u8]) -> FrameCount
     }
 }
 
-// Puts what was counted under a label in the place of what stands there.
+// Replaces what was counted under a label.
 fn put_row(
     alloc: Global,
     label: &[u8],
@@ -77,7 +77,7 @@ impl Model for Summary {
 }
 
 impl Summary {
-    /// Nothing was counted. It takes no memory.
+    /// A summary in which nothing was counted. It takes no memory.
     pub fn new(alloc: Global) -> Summary
         ensures { result ≡ empty }
     {
@@ -87,7 +87,7 @@ impl Summary {
         }
     }
 
-    /// Counts one frame more under a label. Where memory is refused nothing is counted.
+    /// Counts one more frame under a label. Where memory runs out, nothing is counted.
     pub fn add(&mut self, alloc: Global, label: &[u8], size: usize) -> Result<(), AllocError>
         ensures ok { OnOk result (self.new ≡ counted label.now size self.old) }
         ensures err { OnErr result (self.new ≡ self.old) }

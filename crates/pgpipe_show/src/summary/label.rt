@@ -194,7 +194,7 @@ fn put_label(
     }
 }
 
-/// Writes what a frame of a client (`front`) or of a server is counted under.
+/// Writes the label under which a frame of a client (`front`) or of a server is counted.
 pub fn write_label(
     alloc: Global,
     front: bool,

@@ -34,7 +34,7 @@ fn end_stop(left: usize) -> Stop<Shown>
     }
 }
 
-// Why the work stops where a length field can't be.
+// Why the work stops at a bad length field.
 fn fault_stop(fault: WireFault) -> Stop<Shown>
     ensures { result ≡ fault_stop fault }
 {
@@ -223,13 +223,13 @@ impl Counting {
     }
 }
 
-/// Sums up the frames of a stream ("Message Formats", "Start-up"), as `show_as` reads them: of a client's side with `front`, and else of a
-/// backend's. A table is sent once, at the end: of each name of a message how many there are, and how many bytes they have; each status of a
-/// ReadyForQuery and each code of an ErrorResponse has a line of its own.
+/// Sums up the frames of a stream ("Message Formats", "Start-up"), as `show_as` reads them: of a client's side with `front`, and else of a backend's.
+/// A table is sent once, at the end. It has how many messages of each name there are, and how many bytes they have. Each status of a ReadyForQuery
+/// and each code of an ErrorResponse has a line of its own.
 ///
-/// The answers come as of `show_as`, where the stream ends in a rest or has a fault after the table of the frames before that. A fault is a
-/// length field that can't be. Where the source fails or memory is refused the table of what was counted is sent too, if there is memory for
-/// it. Memory is bounded by the largest message, and by the codes of errors that differ.
+/// What is returned is as with `show_as`. A fault is a bad length field. Where the stream ends in a rest or has a fault, the table of the frames
+/// before that is sent. Where the source fails or memory runs out, the table of what was counted is sent too, if there is memory for it. Memory is
+/// bounded by the largest message, and by the codes of errors that differ.
 pub fn summarize<S: Source, K: Sink>(
     alloc: Global,
     front: bool,

@@ -300,7 +300,7 @@ fn files_are_written(rt: HostRuntime) {
     assert!(rt; is_written(rt.alloc(), &[Some(b"1"), None], rest) == Ok(true));
 }
 
-// Whether a row of no values is refused, and nothing is written.
+// Whether a row of no values is rejected, and nothing is written.
 fn refuses_none(alloc: Global) -> Result<bool, AllocError> {
     let mut file = Vec::new(alloc);
     let none = row(alloc, &[])?;

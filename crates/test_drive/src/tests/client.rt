@@ -34,7 +34,7 @@ pub(crate) enum Told {
     Failed(Lost),
     /// The client was closed before.
     Closed,
-    /// A message with this tag was refused.
+    /// A message with this tag was rejected.
     Unexpected(u8),
 }
 

@@ -79,13 +79,13 @@ impl ClientDrive {
 /// What is left where a link has failed.
 #[derive(Clone, Copy)]
 struct Left {
-    /// What is lost with it.
+    // What is lost with it.
     lost: Lost,
-    /// How many bytes were sent.
+    // How many bytes were sent.
     sent: usize,
-    /// How many bytes wait to be sent.
+    // How many bytes wait to be sent.
     waiting: usize,
-    /// How many bytes are left to be received.
+    // How many bytes are left to be received.
     given: usize,
 }
 

@@ -136,7 +136,7 @@ fn starts_as(started: Result<(), SessionFault>) -> u8 {
     }
 }
 
-// Whether a request is handed back by the end of a session, or None where it is refused.
+// Whether a request is handed back by the end of a session, or None where it is rejected.
 fn hands_back(ended: Result<Loss, CallFault>) -> Option<bool> {
     match ended {
         Ok(loss) => Some(loss.unsettled.is_some()),

@@ -8,7 +8,7 @@ use std::alloc::Global;
 const ANSWER: &[u8] =
     b"T\0\0\0\x1a\0\x01n\0\0\0\0\0\0\0\0\0\0\x17\0\x04\xff\xff\xff\xff\0\0D\0\0\0\x0e\0\x02\xff\xff\xff\xff\0\0\0\0N\0\0\0\x05\0C\0\0\0\x0dSELECT 1\0";
 
-/// The same, and ReadyForQuery.
+/// RowDescription of one column, DataRow of a null and an empty text, a notice, CommandComplete and ReadyForQuery.
 const WHOLE: &[u8] =
     b"T\0\0\0\x1a\0\x01n\0\0\0\0\0\0\0\0\0\0\x17\0\x04\xff\xff\xff\xff\0\0D\0\0\0\x0e\0\x02\xff\xff\xff\xff\0\0\0\0N\0\0\0\x05\0C\0\0\0\x0dSELECT 1\0Z\0\0\0\x05I";
 

@@ -23,7 +23,7 @@ struct Case<'a> {
     phase: BackPhase,
 }
 
-/// Clients are let in so.
+// Clients are let in so.
 fn admitting(alloc: Global, auth: Auth) -> Script {
     Script {
         auth,
@@ -31,12 +31,12 @@ fn admitting(alloc: Global, auth: Auth) -> Script {
     }
 }
 
-/// Clients are let in by the password `ab`.
+// Clients are let in by the password `ab`.
 fn cleartext(alloc: Global) -> Result<Script, AllocError> {
     Ok(admitting(alloc, Auth::Cleartext(text(alloc, b"ab")?)))
 }
 
-/// Clients are let in by an MD5 text of the password `ab`.
+// Clients are let in by an MD5 text of the password `ab`.
 fn md5(alloc: Global) -> Result<Script, AllocError> {
     let auth = Auth::Md5 {
         password: text(alloc, b"ab")?,
@@ -46,18 +46,18 @@ fn md5(alloc: Global) -> Result<Script, AllocError> {
 }
 
 impl Serving {
-    /// Is in this phase, and has logged nothing.
+    // Is in this phase, and has logged nothing.
     fn waits(&self, phase: BackPhase) -> bool {
         self.stands(phase, 0)
     }
 
-    /// Asks a client this question, which is taken off.
+    // Asks a client this question, which is taken off.
     fn asks(&mut self, question: &[u8]) -> bool {
         let asked = self.takes(STARTUP) && self.steps(Ok(true)) && self.has_put(question);
         asked && self.waits(BackPhase::Password) && self.sends()
     }
 
-    /// One step does what the case says.
+    // One step does what the case says.
     fn lets_in(&mut self, case: &Case<'_>) -> bool {
         let answered = self.takes(case.input) && self.steps(case.answer);
         answered && self.has_put(case.said) && self.waits(case.phase)

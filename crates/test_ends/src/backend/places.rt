@@ -9,13 +9,13 @@ use testing::holds;
 /// A Query of `SELECT 1`.
 const QUERY: &[u8] = b"Q\0\0\0\x0DSELECT 1\0";
 
-/// The answer to one request is a copy from the client.
+// The answer to one request is a copy from the client.
 fn copying(alloc: Global) -> Result<Script, AllocError> {
     script_with(alloc, copy_in(alloc)?)
 }
 
 impl Serving {
-    /// One step with this input says just this, answers so, and leaves this phase. What it says is taken off.
+    // One step with this input says just this, answers so, and leaves this phase. What it says is taken off.
     fn says(
         &mut self,
         input: &[u8],
@@ -27,7 +27,7 @@ impl Serving {
         stepped && self.has_put(said) && self.backend.phase() == phase && self.sends()
     }
 
-    /// A further step answers that it is closed, and leaves what stands in the output as long as it is.
+    // A further step answers that it is closed, and leaves what stands in the output as long as it is.
     fn stays_closed(&mut self) -> bool {
         let before = self.out.len();
         self.steps(Err(BackendFault::Closed)) && self.out.len() == before

@@ -41,7 +41,7 @@ fn script(alloc: Global) -> Result<Script, AllocError> {
 }
 
 impl Serving {
-    /// Serves a session in pieces of this many bytes.
+    // Serves a session in pieces of this many bytes.
     fn serves(&mut self, session: &[u8], size: usize) -> bool
         requires { 0 < size }
     {
@@ -52,7 +52,7 @@ impl Serving {
         served
     }
 
-    /// Has loaded just this chunk by its second request.
+    // Has loaded just this chunk by its second request.
     fn has_loaded(&self, chunk: &[u8]) -> bool {
         match self.backend.log().get(1) {
             Some(logged) => {
@@ -62,7 +62,7 @@ impl Serving {
         }
     }
 
-    /// Has put out and logged the same.
+    // Has put out and logged the same.
     fn is_as(&self, other: &Serving) -> bool {
         self.out == other.out && self.backend.log() == other.backend.log()
     }

@@ -25,14 +25,14 @@ impl TriedClient {
         }
     }
 
-    /// Refuses these bytes with this fault, and is closed then for good.
+    // Refuses these bytes with this fault, and is closed then for good.
     fn refuses(&mut self, bytes: &[u8], fault: FeedFault, cause: Cause) -> bool {
         let first = self.is_refused(bytes, &fault);
         let again = self.is_refused(bytes, &FeedFault::Closed);
         first && again && self.client.phase() == Phase::Closed(cause)
     }
 
-    /// Hands a request back with this fault, and puts nothing out.
+    // Hands a request back with this fault, and puts nothing out.
     fn refuses_request(&mut self, made: Request, same: Request, fault: CallFault) -> bool {
         self.out.clear();
         self.client.request(made, &mut self.out) == Err((same, fault)) && self.out.is_empty()
@@ -48,32 +48,32 @@ impl TriedClient {
         Ok(self.refuses_request(request(alloc, made)?, same, fault))
     }
 
-    /// Refuses a chunk as it isn't copying, but in this phase, and puts nothing out.
+    // Refuses a chunk as it isn't copying, but in this phase, and puts nothing out.
     fn takes_no_chunk(&mut self, phase: Phase) -> bool {
         self.out.clear();
         let refused = self.client.copy_chunk(b"1", &mut self.out);
         refused == Err(CallFault::NotCopying(phase)) && self.has_put(b"", phase)
     }
 
-    /// Has no key to cancel with.
+    // Has no key to cancel with.
     fn has_no_key(&mut self) -> bool {
         self.out.clear();
         self.client.cancel_packet(&mut self.out) == Err(CallFault::NoKey) && self.out.is_empty()
     }
 
-    /// Can't be started, and is as it was.
+    // Can't be started, and is as it was.
     fn cannot_start(&mut self, fault: CallFault) -> bool {
         self.client.start(&mut self.out) == Err(fault) && self.has_put(b"", Phase::New)
     }
 
-    /// Knows that the parameter `a` has the value `b`, and that `b` has none.
+    // Knows that the parameter `a` has the value `b`, and that `b` has none.
     fn knows(&self) -> bool {
         self.client.parameter(b"a") == Some(b"b".as_slice())
             && self.client.parameter(b"b").is_none()
     }
 }
 
-/// Whether what a step says is refused.
+// Whether what a step says is rejected.
 fn is_refused(alloc: Global, session: &mut TriedClient, step: TableStep) -> bool {
     match step {
         TableStep::HasNoKey => session.has_no_key(),
@@ -85,7 +85,7 @@ fn is_refused(alloc: Global, session: &mut TriedClient, step: TableStep) -> bool
     }
 }
 
-/// Whether what a step says has come of the client.
+// Whether what a step says has come of the client.
 fn has_come(alloc: Global, session: &mut TriedClient, step: TableStep) -> bool {
     match step {
         TableStep::HasPut(bytes, phase) => session.has_put(bytes, phase),
@@ -99,7 +99,7 @@ fn has_come(alloc: Global, session: &mut TriedClient, step: TableStep) -> bool {
     }
 }
 
-/// Does what a step says, and whether it was so.
+// Does what a step says, and whether it was so.
 fn is_so(alloc: Global, session: &mut TriedClient, step: TableStep) -> bool {
     match step {
         TableStep::Start => session.starts(),

@@ -9,7 +9,7 @@ use std::alloc::{AllocError, Global};
 use testing::holds;
 use testing::values::WELCOME;
 
-/// A client of the user `c` and the database `d` with this password, in phase New, which has put nothing out.
+// A client of the user `c` and the database `d` with this password, in phase New, which has put nothing out.
 fn given(alloc: Global, password: &[u8]) -> Result<TriedClient, AllocError> {
     let settings = Settings {
         user: Seq::from_slice(alloc, b"c")?,
@@ -21,7 +21,7 @@ fn given(alloc: Global, password: &[u8]) -> Result<TriedClient, AllocError> {
     Ok(session_of(alloc, Client::new(alloc, settings)))
 }
 
-/// Whether a client with this password does what these steps say.
+// Whether a client with this password does what these steps say.
 fn does(alloc: Global, password: &[u8], steps: &[TableStep]) -> bool {
     holds(
         given(alloc, password).ok(),

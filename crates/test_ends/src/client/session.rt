@@ -13,7 +13,7 @@ fn execute(alloc: Global) -> Step {
     }
 }
 
-/// A step that has no spelling.
+// A step that has no spelling.
 fn unspelled(alloc: Global) -> Result<Step, AllocError> {
     Ok(Step::Close {
         target: Target::Portal,

@@ -10,7 +10,7 @@ fn query(alloc: Global) -> Result<Request, AllocError> {
     request(alloc, TableRequest::Query)
 }
 
-/// One command, with these asides.
+// One command, with these asides.
 fn completed(alloc: Global, asides: Vec<Aside>) -> Result<Outcome, AllocError> {
     let tag = Seq::from_slice(alloc, b"OK")?;
     Ok(Outcome {
@@ -26,7 +26,7 @@ fn noted(alloc: Global) -> Result<Outcome, AllocError> {
     completed(alloc, vec![in alloc; notice]?)
 }
 
-/// An error without a field.
+// An error without a field.
 fn failed(alloc: Global) -> Outcome {
     Outcome {
         parts: Seq::new(Vec::new(alloc)),
@@ -50,7 +50,7 @@ fn settled(alloc: Global, group: TableGroup) -> Result<Settled, AllocError> {
     Ok(Settled { request, outcome })
 }
 
-/// The query is lost, after an error or not.
+// The query is lost, after an error or not.
 fn query_lost(alloc: Global, seen_error: bool) -> Result<Loss, AllocError> {
     Ok(Loss {
         unsettled: Some(query(alloc)?),
@@ -80,7 +80,7 @@ impl TriedClient {
         self.client.take_settled().is_some() && self.client.phase() == Phase::Ready
     }
 
-    /// Gives this group.
+    // Gives this group.
     fn settles_as(&mut self, settled: &Settled) -> bool {
         match self.client.take_settled() {
             Some(group) => group == *settled,
@@ -102,7 +102,7 @@ impl TriedClient {
             && self.shows(Some(status), Phase::Ready)
     }
 
-    /// Hands this loss back.
+    // Hands this loss back.
     fn loses(&mut self, loss: &Loss) -> bool {
         self.client.lost() == *loss
     }

@@ -33,7 +33,7 @@ fn before_its_end_nothing_is_settled(rt: HostRuntime) {
     assert!(rt; does(rt.alloc(), &BEFORE_ITS_END));
 }
 
-/// Whether the answer comes of so many bytes at a time.
+// Whether the answer comes of so many bytes at a time.
 fn comes_by(alloc: Global, most: usize) -> bool {
     holds(asked(alloc), |session| {
         session.feeds_by(ANSWER, most) && session.feeds_by(READY, most) && session.gives(b"TDNC=")

@@ -19,7 +19,7 @@ pub(crate) const COPY_IN: &[u8] = b"G\0\0\0\x07\0\0\0";
 /// The query that is made.
 const QUERY: &[u8] = b"SELECT 1";
 
-/// An early client of the user `u`, in phase New.
+// An early client of the user `u`, in phase New.
 fn fresh(alloc: Global) -> Result<EarlyClient, AllocError> {
     let settings = Settings::new(alloc, Seq::from_slice(alloc, b"u")?);
     Ok(EarlyClient::new(alloc, settings))
@@ -65,7 +65,7 @@ pub(crate) struct TriedEarlyClient {
     out: Vec<u8>,
 }
 
-/// An early client in phase New, and no output.
+// An early client in phase New, and no output.
 fn new_session(alloc: Global) -> Result<TriedEarlyClient, AllocError> {
     Ok(TriedEarlyClient {
         client: fresh(alloc)?,
@@ -74,17 +74,17 @@ fn new_session(alloc: Global) -> Result<TriedEarlyClient, AllocError> {
 }
 
 impl TriedEarlyClient {
-    /// Starts, and is let in.
+    // Starts, and is let in.
     fn starts(&mut self) -> bool {
         self.client.start(&mut self.out).is_ok() && self.feeds(&WELCOME)
     }
 
-    /// Makes the request.
+    // Makes the request.
     fn makes(&mut self, request: Request) -> bool {
         self.client.request(request, &mut self.out).is_ok()
     }
 
-    /// Starts, is let in and makes a query.
+    // Starts, is let in and makes a query.
     fn asks(&mut self, alloc: Global) -> bool {
         match query(alloc, QUERY) {
             Ok(request) => self.starts() && self.makes(request),
@@ -92,17 +92,17 @@ impl TriedEarlyClient {
         }
     }
 
-    /// Takes these bytes.
+    // Takes these bytes.
     fn feeds(&mut self, bytes: &[u8]) -> bool {
         self.client.feed(bytes, &mut self.out).is_ok()
     }
 
-    /// Keeps these bytes.
+    // Keeps these bytes.
     fn pushes(&mut self, bytes: &[u8]) -> bool {
         self.client.push(bytes).is_ok()
     }
 
-    /// The tag of the item that comes next, `*` of a row that is lent, `.` where no message is whole, and `!` of a fault.
+    // The tag of the item that comes next, `*` of a row that is lent, `.` where no message is whole, and `!` of a fault.
     fn comes_next(&mut self) -> u8 {
         match self.client.next_lent(&mut self.out) {
             Ok(Next::Nothing) => b'.',
@@ -112,7 +112,7 @@ impl TriedEarlyClient {
         }
     }
 
-    /// What comes next has just these tags.
+    // What comes next has just these tags.
     fn comes(&mut self, tags: &[u8]) -> bool {
         let mut same = true;
         for tag in tags {
@@ -121,7 +121,7 @@ impl TriedEarlyClient {
         same
     }
 
-    /// How many values the row that is lent has; None where none is lent.
+    // How many values the row that is lent has; None where none is lent.
     fn width_lent(&self) -> Option<usize> {
         match self.client.held() {
             Some(row) => Some(row.values().count()),
@@ -129,7 +129,7 @@ impl TriedEarlyClient {
         }
     }
 
-    /// The row that is lent begins with this text.
+    // The row that is lent begins with this text.
     fn lends(&self, text: &[u8]) -> bool {
         let Some(row) = self.client.held() else {
             return false;
@@ -146,18 +146,18 @@ impl TriedEarlyClient {
         fed
     }
 
-    /// Puts out a chunk of a copy, and its end.
+    // Puts out a chunk of a copy, and its end.
     fn copies(&mut self, chunk: &[u8]) -> bool {
         self.client.copy_chunk(chunk, &mut self.out).is_ok()
             && self.client.copy_done(&mut self.out).is_ok()
     }
 
-    /// Whether an item waits.
+    // Whether an item waits.
     fn has_item(&self) -> bool {
         self.client.has_item()
     }
 
-    /// The tag of the next item, which is taken.
+    // The tag of the next item, which is taken.
     fn next_tag(&mut self) -> u8 {
         tag_of(self.client.take_item())
     }
@@ -171,7 +171,7 @@ impl TriedEarlyClient {
         same && !self.has_item()
     }
 
-    /// The next items have just these tags.
+    // The next items have just these tags.
     fn gives_first(&mut self, tags: &[u8]) -> bool {
         let mut same = true;
         for tag in tags {
@@ -180,7 +180,7 @@ impl TriedEarlyClient {
         same
     }
 
-    /// Gives the query, as settled.
+    // Gives the query, as settled.
     fn gives_settled_query(&mut self, alloc: Global) -> bool {
         match query(alloc, QUERY) {
             Ok(request) => self.gives_item(Item::Settled {
@@ -191,17 +191,17 @@ impl TriedEarlyClient {
         }
     }
 
-    /// Gives this item.
+    // Gives this item.
     fn gives_item(&mut self, item: Item) -> bool {
         self.client.take_item() == Some(item)
     }
 
-    /// Gives no item.
+    // Gives no item.
     fn gives_none(&mut self) -> bool {
         self.client.take_item().is_none()
     }
 
-    /// Loses its connection, and with it the query, after an error or not.
+    // Loses its connection, and with it the query, after an error or not.
     fn loses_query(&mut self, alloc: Global, seen_error: bool) -> bool {
         match query(alloc, QUERY) {
             Ok(request) => self.loses(Loss {
@@ -217,7 +217,7 @@ impl TriedEarlyClient {
     }
 }
 
-/// The tag of an early item, `=` of a settled one and `.` of none.
+// The tag of an early item, `=` of a settled one and `.` of none.
 fn tag_of(item: Option<Item>) -> u8 {
     match item {
         Some(Item::Early(message)) => message.tag(),
@@ -238,7 +238,7 @@ pub(crate) fn asked(alloc: Global) -> Option<TriedEarlyClient> {
 
 // ---- steps
 
-/// Whether what a step says has come of the session.
+// Whether what a step says has come of the session.
 fn has_come(alloc: Global, session: &mut TriedEarlyClient, step: EarlyTableStep) -> bool {
     match step {
         EarlyTableStep::Gives(tags) => session.gives(tags),
@@ -254,7 +254,7 @@ fn has_come(alloc: Global, session: &mut TriedEarlyClient, step: EarlyTableStep)
     }
 }
 
-/// Does what a step says, and whether it was so.
+// Does what a step says, and whether it was so.
 fn is_so(alloc: Global, session: &mut TriedEarlyClient, step: EarlyTableStep) -> bool {
     match step {
         EarlyTableStep::Start => session.starts(),

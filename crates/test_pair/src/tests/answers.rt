@@ -40,7 +40,7 @@ pub enum Reply {
     Long,
     /// A copy from the client that is taken.
     Accepting,
-    /// A copy from the client that is refused with the chunk of this number.
+    /// A copy from the client that is rejected with the chunk of this number.
     Refusing(u32),
     /// An answer to each step of a group.
     Steps,
@@ -101,7 +101,7 @@ fn long(alloc: Global) -> Result<ScriptPart, AllocError> {
     Ok(ScriptPart::Command(Seq::new(vec![in alloc; b'A'; 70_000]?)))
 }
 
-/// Fields of one message.
+// Fields of one message.
 fn message_fields(alloc: Global, message: &[u8]) -> Result<Fields, AllocError> {
     fields(alloc, &[(b'M', message)])
 }

@@ -7,8 +7,8 @@ use super::{happened, judge, started};
 use pg_pair::Direct;
 use std::alloc::Global;
 
-/// An event, then all that waits goes to the backend, which steps, and the way to the client breaks after so many bytes; and then another
-/// event.
+// An event, then all that waits goes to the backend, which steps, and the way to the client breaks after so many bytes; and then another
+// event.
 fn with_break(first: TableEvent, most: u32, last: TableEvent) -> [TableEvent; 6] {
     [
         first,
@@ -25,7 +25,7 @@ const CALLS: [TableEvent; 2] = [TableEvent::Start, ASKS];
 /// A client outside the pair settles the same.
 const ALIKE: [Claim<'static, 'static>; 1] = [Claim::Alike(&CALLS)];
 
-/// Whether it does where the way breaks in the startup, and the client asks then.
+// Whether it does where the way breaks in the startup, and the client asks then.
 fn at_start(alloc: Global, most: u32) -> bool {
     let list = with_break(TableEvent::Start, most, ASKS);
     judge(
@@ -37,7 +37,7 @@ fn at_start(alloc: Global, most: u32) -> bool {
     )
 }
 
-/// Whether it does where the way breaks after the client's query, and is broken again.
+// Whether it does where the way breaks after the client's query, and is broken again.
 fn at_query(alloc: Global, most: u32) -> bool {
     let list = with_break(ASKS, most, TableEvent::BreakToClient);
     judge(

@@ -15,14 +15,14 @@ const ASKS_B: TableEvent = TableEvent::Request(TableRequest::Query(b"B"));
 
 const CHUNK: TableEvent = TableEvent::Chunk(b"1\n");
 
-/// Whether the call is refused so after what the plan says, and a second time.
+// Whether the call is rejected so after what the plan says, and a second time.
 fn refuses(alloc: Global, plan: Plan<'_>, call: TableEvent, fault: CallFault) -> bool {
     let twice = [call, call];
     let claims = [Claim::Answer(&twice, TableAnswer::Refused(fault))];
     judge(alloc, answering(&[Reply::Row]), Direct, plan, &claims)
 }
 
-/// Whether each of these calls is refused with its fault after what the plan says, each by a pair of its own.
+// Whether each of these calls is rejected with its fault after what the plan says, each by a pair of its own.
 fn all_refused(alloc: Global, plan: Plan<'_>, calls: &[(TableEvent, CallFault)]) -> bool {
     for (call, fault) in calls {
         if !refuses(alloc, plan, *call, *fault) {
@@ -74,7 +74,7 @@ fn what_has_no_spelling_is_refused(rt: HostRuntime) {
     assert!(rt; refuses(rt.alloc(), started(&[]), asks, fault));
 }
 
-/// Whether this holds after these events, where the client was let in.
+// Whether this holds after these events, where the client was let in.
 fn comes_to(alloc: Global, reply: Reply, list: &[TableEvent], claims: &[Claim<'_, '_>]) -> bool {
     judge(alloc, answering(&[reply]), Direct, started(list), claims)
 }

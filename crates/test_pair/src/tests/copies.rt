@@ -11,8 +11,8 @@ const FIRST: TableEvent = TableEvent::Chunk(b"1\n");
 
 const SECOND: TableEvent = TableEvent::Chunk(b"2\n");
 
-/// Whether a client outside the pair settles the same where the client asks for a copy, hands two chunks over, and ends it so; and then all of
-/// that arrives.
+// Whether a client outside the pair settles the same where the client asks for a copy, hands two chunks over, and ends it so; and then all of
+// that arrives.
 fn is_alike(alloc: Global, reply: Reply, end: TableEvent) -> bool {
     let calls = [TableEvent::Start, ASKS, FIRST, SECOND, end];
     let list = [

@@ -13,8 +13,8 @@ const CALLS: [TableEvent; 2] = [
     TableEvent::Request(TableRequest::Group(&GROUP)),
 ];
 
-/// Whether a client outside the pair settles the same where the client asks for the group and is answered so, in deliveries of at most so
-/// many bytes.
+// Whether a client outside the pair settles the same where the client asks for the group and is answered so, in deliveries of at most so
+// many bytes.
 fn is_alike(alloc: Global, reply: Reply, cut: u32) -> bool {
     judge(
         alloc,

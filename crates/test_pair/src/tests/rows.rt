@@ -11,7 +11,7 @@ use pg_pair::Direct;
 use pg_wire::Status;
 use std::alloc::Global;
 
-/// Whether a client outside the pair settles the same where the calls are made and answered so, in deliveries of at most so many bytes.
+// Whether a client outside the pair settles the same where the calls are made and answered so, in deliveries of at most so many bytes.
 fn is_alike(alloc: Global, calls: &[TableEvent], replies: &[Reply], cut: u32) -> bool {
     judge(
         alloc,

@@ -27,7 +27,7 @@ pub struct TableGroup {
 pub enum TableAnswer {
     Done,
     Carrier,
-    /// The call is refused so, and its request is handed back, if it is one.
+    /// The call is rejected so, and its request is handed back, if it is one.
     Refused(CallFault),
     /// The stream has this fault.
     Wire(WireFault),

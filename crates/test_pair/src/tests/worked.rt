@@ -13,14 +13,14 @@ const ASKS_COPY: TableEvent = TableEvent::Request(TableRequest::Query(b"COPY"));
 
 const ASKS_NEXT: TableEvent = TableEvent::Request(TableRequest::Query(b"NEXT"));
 
-/// Whether a client outside the pair, with these calls, settles the same after what the plan says.
+// Whether a client outside the pair, with these calls, settles the same after what the plan says.
 fn is_alike(alloc: Global, ends: Ends<'_>, plan: Plan<'_>, calls: &[TableEvent]) -> bool {
     judge(alloc, ends, Direct, plan, &[Claim::Alike(calls)])
 }
 
-// ---- a refused copy, whose other chunks are dropped before the next request
+// ---- a rejected copy, whose other chunks are dropped before the next request
 
-/// The client asks for a copy. Two chunks reach the backend, which refuses the second, and three more and the end don't. Then the client
+/// The client asks for a copy. Two chunks reach the backend, which rejects the second, and three more and the end don't. Then the client
 /// asks for something else.
 pub const REFUSED_COPY: Plan<'static> = Plan {
     lets_in: true,

@@ -114,7 +114,7 @@ fn before_carrier(text: &[u8]) -> Option<&[u8]> {
     None
 }
 
-// Whether these lines go on with a group, a fault, a refused call or the closing lines, so that no group is told in part before.
+// Whether these lines go on with a group, a fault, a rejected call or the closing lines, so that no group is told in part before.
 fn begins_anew(lines: &[u8]) -> bool {
     for word in [
         b"settled\t".as_slice(),

@@ -9,7 +9,7 @@ use pgpipe_loop::{closing_lines, event_lines};
 use std::alloc::Global;
 use testing::holds;
 
-/// Whether these are the lines of an event that was answered so.
+// Whether these are the lines of an event that was answered so.
 fn are_lines(alloc: Global, answer: &Applied, lines: &[u8]) -> bool {
     match event_lines(alloc, &[], answer, None) {
         Ok(text) => text.as_slice() == lines,
@@ -24,7 +24,7 @@ fn says(alloc: Global, answer: TableAnswer, lines: &[u8]) -> bool {
     )
 }
 
-/// Whether each answer has these lines.
+// Whether each answer has these lines.
 fn say(alloc: Global, rows: &[(TableAnswer, &[u8])]) -> bool {
     for (answer, lines) in rows {
         if !says(alloc, *answer, *lines) {
@@ -113,7 +113,7 @@ fn lines_of_faults_of_the_backend(rt: HostRuntime) {
     assert!(rt; say(rt.alloc(), &BACKEND_FAULTS));
 }
 
-/// Whether the line of this answer has this length, and ends in a code without its value.
+// Whether the line of this answer has this length, and ends in a code without its value.
 fn is_cut(alloc: Global, answer: &Applied, length: usize) -> bool {
     match event_lines(alloc, &[], answer, None) {
         Ok(text) => text.len() == length && text.as_slice().ends_with(b"\tM\tv\tM\n"),
@@ -135,7 +135,7 @@ fn lines_have_at_most_so_many_fields(rt: HostRuntime) {
 
 // ---- closing lines
 
-/// Whether one line has the first 32,765 chunks of a request, and a second one the last.
+// Whether one line has the first 32,765 chunks of a request, and a second one the last.
 fn needs_two_lines(alloc: Global, log: &[Logged]) -> bool {
     let ends = b"\tc\nloaded\t1\tc\nclient\tready\nbackend\tready\n";
     match closing_lines(alloc, log, Phase::Ready, BackPhase::Ready) {

@@ -16,7 +16,7 @@ use std::alloc::{AllocError, Global};
 /// The lines of SCRIPT and of CALLS.
 pub(crate) type Files = (&'static [u8], &'static [u8]);
 
-/// A script that can be played.
+// A script that can be played.
 fn checked(alloc: Global, file: &[u8]) -> Result<Script, AllocError>
     ensures { IfOk result IsChecked }
 {
@@ -29,7 +29,7 @@ fn checked(alloc: Global, file: &[u8]) -> Result<Script, AllocError>
     }
 }
 
-/// Calls that name no file.
+// Calls that name no file.
 fn filled(alloc: Global, file: &[u8]) -> Result<Calls, AllocError>
     ensures filled { IfOk result (λ calls. next_file calls.lines ≡ None) }
     ensures limit { IfOk result (λ calls. calls.settings.limit ≡ 1073741823) }
@@ -67,7 +67,7 @@ const COPY_IN: &[u8] = b"auth\ttrust\nanswer\tI\ncopyin\ttext\t1\taccept\tCOPY 2
 const REFUSED_COPY: &[u8] =
     b"auth\ttrust\nanswer\tI\ncopyin\ttext\t1\trefuse\t2\tC\tXX000\tM\tbad\nanswer\tI\ncommand\tOK\n";
 
-/// A copy that is refused, and a query after it.
+/// A copy that is rejected, and a query after it.
 pub(crate) const REFUSED_LOAD: Files = (
     REFUSED_COPY,
     b"user\tu\nstart\nflow\nquery\tCOPY\nflow\nchunk\ta\nchunk\tb\ntoback\t100\nstep\nstep\n\
@@ -97,7 +97,7 @@ const MD5: &[u8] = b"auth\tmd5\tab\t01020304\n";
 /// A client whose password is wrong.
 pub(crate) const WRONG_PASSWORD: Files = (MD5, b"user\tc\npassword\twrong\nstart\nflow\n");
 
-/// Whether a loop stops at its sink, which fails at this call, with a beginning of what the whole one printed.
+// Whether a loop stops at its sink, which fails at this call, with a beginning of what the whole one printed.
 fn stops(alloc: Global, call: u64, whole: &[u8]) -> bool {
     let mut sink = sheet(alloc, call);
     let ran = run(alloc, ROW, 4_096, Direct, &mut sink);
@@ -105,7 +105,7 @@ fn stops(alloc: Global, call: u64, whole: &[u8]) -> bool {
     ran == Err(ToolFault::Device) && sink.calls == call && begins
 }
 
-/// The same of each call of a sink that was made in a whole loop, of which there are some.
+// Whether a loop stops so at each call of a sink that was made in a whole loop, of which there are some.
 fn stops_at_each(alloc: Global, whole: &Paper) -> bool {
     for before in 0..whole.calls {
         if !stops(alloc, before.saturating_add(1), whole.text.as_slice()) {
@@ -140,7 +140,7 @@ impl Carry for Torn {
     }
 }
 
-/// Whether the carrier is told to have failed at once, and each call after it is refused.
+// Whether the carrier is told to have failed at once, and each call after it is rejected.
 fn tears(alloc: Global) -> bool {
     let mut sink = sheet(alloc, 0);
     let ran = run(alloc, ROW, 4_096, Torn { failures: 0 }, &mut sink);

@@ -95,7 +95,7 @@ fn a_source_that_fails(rt: HostRuntime) {
     }
 }
 
-// The same of a client.
+// The receives of a client's stream.
 const CLIENT_RECEIVES: [(u64, usize); 9] = [
     (1, 0),
     (2, 0),

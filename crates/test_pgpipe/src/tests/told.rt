@@ -13,7 +13,7 @@ pub(crate) enum TableAnswer {
     Done,
     Nothing,
     Carrier,
-    /// A call other than a request is refused so.
+    /// A call other than a request is rejected so.
     Refused(CallFault),
     /// The client's stream has this fault.
     Wire(WireFault),
@@ -21,11 +21,11 @@ pub(crate) enum TableAnswer {
     UnsupportedAuth(i32),
     PasswordWanted,
     Memory,
-    /// The startup is refused with the error that the tests of all crates are written with.
+    /// The startup is rejected with the error that the tests of all crates are written with.
     StartupError,
     /// The session is ended with it.
     ServerEnd,
-    /// The startup is refused with so many fields.
+    /// The startup is rejected with so many fields.
     ManyFields(usize),
     Backend(BackendFault),
 }

@@ -58,7 +58,7 @@ pub(crate) enum ToolAnswer {
     Converted(Converted),
     Shown(Shown),
     Failed(ToolFault),
-    /// The options are refused.
+    /// The options are rejected.
     NoOptions,
 }
 

@@ -44,7 +44,7 @@ pub trait CopyFormat: Drop {
         ensures { OnOk result (buf.new.items ≡ buf.old.items ++ file_of rows.now) };
 }
 
-/// Appends the canonical lines of rows.
+// Appends the canonical lines of rows.
 fn write_lines(rows: &[Row], buf: &mut Vec<u8>) -> Result<()>
     ensures { OnOk result (buf.new.items
         ≡ buf.old.items ++ flat_map (written_row default_options) rows.now) }
@@ -55,7 +55,7 @@ fn write_lines(rows: &[Row], buf: &mut Vec<u8>) -> Result<()>
     Ok(())
 }
 
-/// Appends the rows of a binary file, which stand between its head and its trailer.
+// Appends the rows of a binary file, which stand between its head and its trailer.
 fn write_binary_rows(rows: &[Row], buf: &mut Vec<u8>) -> Result<()>
     ensures { OnOk result (buf.new.items ≡ buf.old.items ++ flat_map binary_row rows.now) }
 {

@@ -10,7 +10,7 @@ use pg_copy::{
 };
 use std::alloc::Global;
 
-/// Takes the rows that wait.
+// Takes the rows that wait.
 fn take_waiting(reader: &mut BinaryReader, rows: &mut Vec<Row>) -> Result<()>
     requires { reader.old.ended ≡ false }
 {
@@ -20,7 +20,7 @@ fn take_waiting(reader: &mut BinaryReader, rows: &mut Vec<Row>) -> Result<()>
     Ok(())
 }
 
-/// Says that the input has ended, and takes the rows that are left.
+// Says that the input has ended, and takes the rows that are left.
 fn take_left(reader: &mut BinaryReader, rows: &mut Vec<Row>) -> Result<()> {
     while let Some(row) = reader.finish()? {
         rows.push(row)?;
@@ -28,7 +28,7 @@ fn take_left(reader: &mut BinaryReader, rows: &mut Vec<Row>) -> Result<()> {
     Ok(())
 }
 
-/// Takes the rows of a file that comes whole.
+// Takes the rows of a file that comes whole.
 fn take_all(reader: &mut BinaryReader, bytes: &[u8], rows: &mut Vec<Row>) -> Result<()>
     requires { reader.old.ended ≡ false }
 {
@@ -37,20 +37,20 @@ fn take_all(reader: &mut BinaryReader, bytes: &[u8], rows: &mut Vec<Row>) -> Res
     take_left(reader, rows)
 }
 
-/// Appends the rows of a binary file that comes whole.
+// Appends the rows of a binary file that comes whole.
 fn put_rows(alloc: Global, bytes: &[u8], rows: &mut Vec<Row>) -> Result<()> {
     let mut reader = BinaryReader::new(alloc, COLUMNS, LIMIT);
     take_all(&mut reader, bytes, rows)
 }
 
-/// Whether a binary file that comes whole has these rows.
+// Whether a binary file that comes whole has these rows.
 fn has_rows(alloc: Global, bytes: &[u8], rows: &[Row]) -> Result<bool> {
     let mut found = Vec::new(alloc);
     put_rows(alloc, bytes, &mut found)?;
     Ok(found.as_slice() == rows)
 }
 
-/// Writes the row that the reader lends, value by value.
+// Writes the row that the reader lends, value by value.
 fn write_held(reader: &BinaryReader, out: &mut Vec<u8>) -> Result<()> {
     let Some(row) = reader.held() else {
         bail!("no row is held");
@@ -62,7 +62,7 @@ fn write_held(reader: &BinaryReader, out: &mut Vec<u8>) -> Result<()> {
     Ok(())
 }
 
-/// Writes the rows that wait, each as it is lent.
+// Writes the rows that wait, each as it is lent.
 fn write_waiting(reader: &mut BinaryReader, out: &mut Vec<u8>) -> Result<()>
     requires { reader.old.ended ≡ false }
     ensures { OnOk result (reader.new.ended ≡ false) }
@@ -73,7 +73,7 @@ fn write_waiting(reader: &mut BinaryReader, out: &mut Vec<u8>) -> Result<()>
     Ok(())
 }
 
-/// Writes the rows of a binary file, which comes a byte at a time, each as it is lent.
+// Writes the rows of a binary file, which comes a byte at a time, each as it is lent.
 fn write_rows(reader: &mut BinaryReader, bytes: &[u8], out: &mut Vec<u8>) -> Result<()>
     requires { reader.old.ended ≡ false }
 {
@@ -84,7 +84,7 @@ fn write_rows(reader: &mut BinaryReader, bytes: &[u8], out: &mut Vec<u8>) -> Res
     Ok(())
 }
 
-/// The reader has to have given so many rows, which end with the trailer of a file of so many bytes.
+// The reader has to have given so many rows, which end with the trailer of a file of so many bytes.
 fn check_end(reader: &mut BinaryReader, rows: usize, bytes: usize) -> Result<()> {
     ensure!(reader.finish()?.is_none(), "a row is left");
     ensure!(reader.rows_given() == rows as u64, "another number of rows");
@@ -95,7 +95,7 @@ fn check_end(reader: &mut BinaryReader, rows: usize, bytes: usize) -> Result<()>
     Ok(())
 }
 
-/// Writes a binary file again from so many rows that the reader lends.
+// Writes a binary file again from so many rows that the reader lends.
 fn write_file(reader: &mut BinaryReader, bytes: &[u8], rows: usize, out: &mut Vec<u8>) -> Result<()>
     requires { reader.old.ended ≡ false }
 {
@@ -110,14 +110,14 @@ fn put_again(alloc: Global, bytes: &[u8], rows: usize, out: &mut Vec<u8>) -> Res
     write_file(&mut reader, bytes, rows, out)
 }
 
-/// Whether a binary file of so many rows is written again as it was.
+// Whether a binary file of so many rows is written again as it was.
 fn is_written_again(alloc: Global, bytes: &[u8], rows: usize) -> Result<bool> {
     let mut out = Vec::new(alloc);
     put_again(alloc, bytes, rows, &mut out)?;
     Ok(out.as_slice() == bytes)
 }
 
-/// Passes the rows by that wait, and says why none stands after them.
+// Passes the rows by that wait, and says why none stands after them.
 fn fault_after(reader: &mut BinaryReader) -> Option<BinaryFault>
     requires { reader.old.ended ≡ false }
 {
@@ -130,7 +130,7 @@ fn fault_after(reader: &mut BinaryReader) -> Option<BinaryFault>
     }
 }
 
-/// Pushes the rows of a file, and a trailer that has another number of fields: where the row begins in place of which the fault stands.
+// Pushes the rows of a file, and a trailer that has another number of fields: where the row begins in place of which the fault stands.
 fn push_fault(reader: &mut BinaryReader, rows: &[u8]) -> Result<u64>
     requires { reader.old.ended ≡ false }
 {
@@ -143,7 +143,7 @@ fn push_fault(reader: &mut BinaryReader, rows: &[u8]) -> Result<u64>
     Ok(reader.offset())
 }
 
-/// Where the row begins in place of which a fault stands, of a file whose trailer has another number of fields.
+// Where the row begins in place of which a fault stands, of a file whose trailer has another number of fields.
 fn place_of_fault(alloc: Global, bytes: &[u8]) -> Result<u64> {
     ensure!(bytes.len() >= 2, "there is no trailer");
     let mut reader = BinaryReader::new(alloc, COLUMNS, LIMIT);

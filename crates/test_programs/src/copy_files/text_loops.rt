@@ -7,7 +7,7 @@ use anyhow::{Result, bail, ensure};
 use pg_copy::{Row, TextFault, TextReader, TextRowWriter};
 use std::alloc::Global;
 
-/// Takes the rows that wait.
+// Takes the rows that wait.
 fn take_waiting(reader: &mut TextReader, rows: &mut Vec<Row>) -> Result<()>
     requires { reader.old.ended ≡ false }
 {
@@ -17,7 +17,7 @@ fn take_waiting(reader: &mut TextReader, rows: &mut Vec<Row>) -> Result<()>
     Ok(())
 }
 
-/// Says that the input has ended, and takes the rows that are left.
+// Says that the input has ended, and takes the rows that are left.
 fn take_left(reader: &mut TextReader, rows: &mut Vec<Row>) -> Result<()> {
     while let Some(row) = reader.finish()? {
         rows.push(row)?;
@@ -25,7 +25,7 @@ fn take_left(reader: &mut TextReader, rows: &mut Vec<Row>) -> Result<()> {
     Ok(())
 }
 
-/// Takes the rows of a file that comes whole.
+// Takes the rows of a file that comes whole.
 fn take_all(reader: &mut TextReader, bytes: &[u8], rows: &mut Vec<Row>) -> Result<()>
     requires { reader.old.ended ≡ false }
 {
@@ -34,20 +34,20 @@ fn take_all(reader: &mut TextReader, bytes: &[u8], rows: &mut Vec<Row>) -> Resul
     take_left(reader, rows)
 }
 
-/// Appends the rows of a text file that comes whole.
+// Appends the rows of a text file that comes whole.
 fn put_rows(alloc: Global, bytes: &[u8], rows: &mut Vec<Row>) -> Result<()> {
     let mut reader = TextReader::new(alloc, Some(COLUMNS));
     take_all(&mut reader, bytes, rows)
 }
 
-/// Whether a text file that comes whole has these rows.
+// Whether a text file that comes whole has these rows.
 fn has_rows(alloc: Global, bytes: &[u8], rows: &[Row]) -> Result<bool> {
     let mut found = Vec::new(alloc);
     put_rows(alloc, bytes, &mut found)?;
     Ok(found.as_slice() == rows)
 }
 
-/// Writes the row that the reader lends, value by value.
+// Writes the row that the reader lends, value by value.
 fn write_held(reader: &TextReader, writer: &mut TextRowWriter, out: &mut Vec<u8>) -> Result<()> {
     let Some(row) = reader.held() else {
         bail!("no row is held");
@@ -59,7 +59,7 @@ fn write_held(reader: &TextReader, writer: &mut TextRowWriter, out: &mut Vec<u8>
     Ok(())
 }
 
-/// Writes the rows that wait, each as it is lent.
+// Writes the rows that wait, each as it is lent.
 fn write_waiting(
     reader: &mut TextReader,
     writer: &mut TextRowWriter,
@@ -74,7 +74,7 @@ fn write_waiting(
     Ok(())
 }
 
-/// Writes the rows of a text file, which comes a byte at a time, each as it is lent.
+// Writes the rows of a text file, which comes a byte at a time, each as it is lent.
 fn write_rows(
     reader: &mut TextReader,
     writer: &mut TextRowWriter,
@@ -90,7 +90,7 @@ fn write_rows(
     Ok(())
 }
 
-/// The reader has to have given so many rows, which end with a file of so many bytes.
+// The reader has to have given so many rows, which end with a file of so many bytes.
 fn check_end(reader: &mut TextReader, rows: usize, bytes: usize) -> Result<()> {
     ensure!(reader.finish()?.is_none(), "a row is left");
     ensure!(reader.rows_given() == rows as u64, "another number of rows");
@@ -98,7 +98,7 @@ fn check_end(reader: &mut TextReader, rows: usize, bytes: usize) -> Result<()> {
     Ok(())
 }
 
-/// Writes a text file again from so many rows that the reader lends.
+// Writes a text file again from so many rows that the reader lends.
 fn write_file(reader: &mut TextReader, bytes: &[u8], rows: usize, out: &mut Vec<u8>) -> Result<()>
     requires { reader.old.ended ≡ false }
 {
@@ -112,14 +112,14 @@ fn put_again(alloc: Global, bytes: &[u8], rows: usize, out: &mut Vec<u8>) -> Res
     write_file(&mut reader, bytes, rows, out)
 }
 
-/// Whether a text file of so many rows is written again as it was.
+// Whether a text file of so many rows is written again as it was.
 fn is_written_again(alloc: Global, bytes: &[u8], rows: usize) -> Result<bool> {
     let mut out = Vec::new(alloc);
     put_again(alloc, bytes, rows, &mut out)?;
     Ok(out.as_slice() == bytes)
 }
 
-/// Passes the rows by that wait, and says why none stands after them.
+// Passes the rows by that wait, and says why none stands after them.
 fn fault_after(reader: &mut TextReader) -> Option<TextFault>
     requires { reader.old.ended ≡ false }
 {
@@ -132,7 +132,7 @@ fn fault_after(reader: &mut TextReader) -> Option<TextFault>
     }
 }
 
-/// Pushes a file, and a line that has another number of fields: where the line begins that the fault stands in.
+// Pushes a file, and a line that has another number of fields: where the line begins that the fault stands in.
 fn push_fault(reader: &mut TextReader, bytes: &[u8]) -> Result<u64>
     requires { reader.old.ended ≡ false }
 {
@@ -145,7 +145,7 @@ fn push_fault(reader: &mut TextReader, bytes: &[u8]) -> Result<u64>
     Ok(reader.offset())
 }
 
-/// Where the line begins that a fault stands in, of a file after which a line comes with another number of fields.
+// Where the line begins that a fault stands in, of a file after which a line comes with another number of fields.
 fn place_of_fault(alloc: Global, bytes: &[u8]) -> Result<u64> {
     let mut reader = TextReader::new(alloc, Some(COLUMNS));
     push_fault(&mut reader, bytes)

@@ -10,7 +10,7 @@ use pg_copy::{
 };
 use std::alloc::Global;
 
-/// To whom memory was refused.
+/// Whose memory ran out.
 #[derive(Clone, Copy, Debug, Default, Drop)]
 pub struct Refused {
     text: bool,

@@ -23,7 +23,7 @@ struct Driving {
     link: FixedLink,
 }
 
-/// A new client of the user `u`, and the link.
+// A new client of the user `u`, and the link.
 fn fresh(alloc: Global) -> Result<Driving, AllocError> {
     let settings = Settings {
         user: Seq::from_slice(alloc, b"u")?,
@@ -44,18 +44,18 @@ fn fresh(alloc: Global) -> Result<Driving, AllocError> {
 enum Reached {
     Ready,
     Settled,
-    /// The client was refused memory.
+    /// The client ran out of memory.
     Memory,
     Else,
 }
 
-/// Whether a call was refused memory.
+// Whether a call ran out of memory.
 fn is_memory(fault: &CallFault) -> bool {
     matches!(fault, CallFault::Encode(EncodeFault::Memory))
 }
 
 impl Driving {
-    /// Demands that a refused call has left the client in this phase, and put out nothing.
+    // Demands that a rejected call has left the client in this phase, and put out nothing.
     fn check_unchanged(&self, phase: Phase) -> Result<()> {
         ensure!(
             self.client.phase() == phase,
@@ -65,7 +65,7 @@ impl Driving {
         Ok(())
     }
 
-    /// Starts.
+    // Starts.
     fn start(&mut self, refused: &mut Refused) -> Result<()> {
         match self.client.start(&mut self.out) {
             Ok(()) => return Ok(()),
@@ -76,7 +76,7 @@ impl Driving {
         Ok(self.client.start(&mut self.out)?)
     }
 
-    /// Makes the query. A refusal hands it back.
+    // Makes the query. A refusal hands it back.
     fn ask(&mut self, alloc: Global, refused: &mut Refused) -> Result<()> {
         let query = Request::Query(Seq::from_slice(alloc, b"SELECT 1")?);
         let back = match self.client.request(query, &mut self.out) {
@@ -92,7 +92,7 @@ impl Driving {
         }
     }
 
-    /// Demands that a client that was refused memory is closed for it, and hands back its request, if one was outstanding.
+    // Demands that a client that ran out of memory is closed for it, and hands back its request, if one was outstanding.
     fn check_closed(&mut self, asked: bool) -> Result<()> {
         let closed = self.client.phase() == Phase::Closed(Cause::Memory);
         ensure!(
@@ -104,7 +104,7 @@ impl Driving {
         Ok(())
     }
 
-    /// Drives the client.
+    // Drives the client.
     fn drive(&mut self) -> Reached {
         match drive(&mut self.client, &mut self.out, &mut self.link, 100) {
             Ok(Driven::Ready) => Reached::Ready,
@@ -114,7 +114,7 @@ impl Driving {
         }
     }
 
-    /// Starts, and is driven until it is ready. False where it was refused memory meanwhile.
+    // Starts, and is driven until it is ready. False where it ran out of memory meanwhile.
     fn becomes_ready(&mut self, refused: &mut Refused) -> Result<bool> {
         self.start(refused)?;
         match self.drive() {
@@ -126,7 +126,7 @@ impl Driving {
         Ok(false)
     }
 
-    /// Asks, and is driven until the query is settled. False where it was refused memory meanwhile.
+    // Asks, and is driven until the query is settled. False where it ran out of memory meanwhile.
     fn settles(&mut self, alloc: Global, refused: &mut Refused) -> Result<bool> {
         self.ask(alloc, refused)?;
         match self.drive() {
@@ -139,7 +139,7 @@ impl Driving {
     }
 }
 
-/// Drives a new client through the session. False where it was refused memory in a drive.
+/// Drives a new client through the session. False where it ran out of memory in a drive.
 pub fn comes_to_its_end(alloc: Global, refused: &mut Refused) -> Result<bool> {
     let mut it = fresh(alloc)?;
     if !it.becomes_ready(refused)? || !it.settles(alloc, refused)? {

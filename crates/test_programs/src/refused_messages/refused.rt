@@ -5,7 +5,7 @@ use pg_client::{CallFault, FeedFault};
 use pg_drive::DriveFault;
 use pg_wire::{EncodeFault, WireFault};
 
-/// To whom memory was refused.
+/// Whose memory ran out.
 #[derive(Clone, Copy, Debug, Default, Drop)]
 pub struct Refused {
     /// A decoder's `push`.

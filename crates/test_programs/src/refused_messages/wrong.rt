@@ -19,7 +19,7 @@ impl fmt::Display for Fault {
     }
 }
 
-/// Notes whether a push was refused memory.
+// Notes whether a push ran out of memory.
 fn is_refused(answer: Result<(), WireFault>, refused: &mut Refused) -> bool {
     let memory = matches!(answer, Err(WireFault::Memory));
     refused.push |= memory;
@@ -35,7 +35,7 @@ pub fn back_fault(alloc: Global, bytes: &[u8], refused: &mut Refused) -> Fault {
     Fault(decoder.next().err())
 }
 
-/// The same where messages are lent.
+/// The fault of a backend's message, where messages are lent.
 pub fn lent_fault(alloc: Global, bytes: &[u8], refused: &mut Refused) -> Fault {
     let mut decoder = BackDecoder::new(alloc, LIMIT);
     if is_refused(decoder.push(bytes), refused) {

@@ -16,9 +16,9 @@ pub struct Early<'a> {
     client: EarlyClient,
     out: Vec<u8>,
     line: MemoryLink<'a>,
-    /// The group that was settled since the client was last compared.
+    // The group that was settled since the client was last compared.
     settled: Option<(Request, Status)>,
-    /// The messages that it gave since they were last compared.
+    // The messages that it gave since they were last compared.
     told: Vec<u8>,
 }
 

@@ -44,11 +44,11 @@ pub struct SessionEnd {
 struct Running<'a> {
     client: Client,
     early: Early<'a>,
-    /// What the client sends over.
+    // What the client sends over.
     line: MemoryLink<'a>,
-    /// The steps of the group that isn't asked for yet.
+    // The steps of the group that isn't asked for yet.
     steps: Vec<Step>,
-    /// What the client put out and didn't send.
+    // What the client put out and didn't send.
     out: Vec<u8>,
     settled: Vec<Settled>,
     refusal: Option<FeedFault>,
@@ -139,7 +139,7 @@ impl<'a> Running<'a> {
         matches!(self.client.phase(), Phase::Closed(_))
     }
 
-    // Keeps the fault that closes the client. Bytes that come after that, or after a Terminate, are refused.
+    // Keeps the fault that closes the client. Bytes that come after that, or after a Terminate, are rejected.
     fn note(&mut self, was_closed: bool, fed: Result<(), FeedFault>) -> Result<()> {
         if was_closed {
             ensure!(fed == Err(FeedFault::Closed), "a closed client takes bytes");

@@ -129,7 +129,7 @@ impl Subject for BackDecoder {
     }
 }
 
-/// The values of a row that is lent.
+// The values of a row that is lent.
 fn values_of(alloc: Global, row: &RowView<'_>) -> Result<BackMessage, AllocError> {
     match Values::of_row(alloc, row) {
         Ok(values) => Ok(BackMessage::DataRow(values)),
@@ -137,12 +137,12 @@ fn values_of(alloc: Global, row: &RowView<'_>) -> Result<BackMessage, AllocError
     }
 }
 
-/// The fields of an error or a notice that is lent.
+// The fields of an error or a notice that is lent.
 fn fields_of(alloc: Global, lent: &FieldsView<'_>) -> Result<Fields, AllocError> {
     Fields::of_view(alloc, lent).map_err(|_| AllocError)
 }
 
-/// What is lent, copied.
+// What is lent, copied.
 fn copied(alloc: Global, lent: &Lent<'_>) -> Result<BackMessage, AllocError> {
     match lent {
         Lent::Row(row) => values_of(alloc, row),
@@ -151,7 +151,7 @@ fn copied(alloc: Global, lent: &Lent<'_>) -> Result<BackMessage, AllocError> {
     }
 }
 
-/// The next message, copied where it is lent. None is lent where the decoder says that it holds one and doesn't.
+// The next message, copied where it is lent. None is lent where the decoder says that it holds one and doesn't.
 fn next_copied(alloc: Global, decoder: &mut BackDecoder) -> Result<Option<BackMessage>, WireFault> {
     match decoder.next_lent()? {
         Cut::Nothing => Ok(None),

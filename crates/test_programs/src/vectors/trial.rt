@@ -50,7 +50,7 @@ pub enum Flaw {
     Memory,
 }
 
-/// The reading of what a decoder answers next.
+// The reading of what a decoder answers next.
 fn decoded_of<M>(answer: Result<Option<M>, WireFault>) -> Result<Decoded<M>, Flaw> {
     match answer {
         Ok(None) => Ok(Decoded::Open),
@@ -60,7 +60,7 @@ fn decoded_of<M>(answer: Result<Option<M>, WireFault>) -> Result<Decoded<M>, Fla
     }
 }
 
-/// What the decoder answers once it has this piece too.
+// What the decoder answers once it has this piece too.
 fn feed<D: Subject>(decoder: &mut D, piece: &[u8]) -> Result<Decoded<D::Item>, Flaw> {
     match decoder.push(piece) {
         Ok(()) => decoded_of(decoder.next()),
@@ -68,7 +68,7 @@ fn feed<D: Subject>(decoder: &mut D, piece: &[u8]) -> Result<Decoded<D::Item>, F
     }
 }
 
-/// Gives the decoder a piece after which more is to come, so that it has no answer yet and keeps all that it was given.
+// Gives the decoder a piece after which more is to come, so that it has no answer yet and keeps all that it was given.
 fn feed_part<D: Subject>(decoder: &mut D, piece: &[u8], cut: ByteCut) -> Result<(), Flaw> {
     let before = decoder.kept();
     match feed(decoder, piece)? {
@@ -78,7 +78,7 @@ fn feed_part<D: Subject>(decoder: &mut D, piece: &[u8], cut: ByteCut) -> Result<
     }
 }
 
-/// What a new decoder answers with the last of the bytes, and not before.
+// What a new decoder answers with the last of the bytes, and not before.
 fn read<D: Subject>(decoder: &mut D, bytes: &[u8], cut: ByteCut) -> Result<Decoded<D::Item>, Flaw> {
     match cut {
         ByteCut::Nowhere => feed(decoder, bytes),
@@ -99,7 +99,7 @@ fn read<D: Subject>(decoder: &mut D, bytes: &[u8], cut: ByteCut) -> Result<Decod
     }
 }
 
-/// Demands that the decoder keeps nothing after a message, and answers a fault for good.
+// Demands that the decoder keeps nothing after a message, and answers a fault for good.
 fn check_end<D: Subject>(
     decoder: &mut D,
     found: &Decoded<D::Item>,
@@ -120,7 +120,7 @@ fn check_end<D: Subject>(
     Ok(())
 }
 
-/// Reads the bytes by a new decoder.
+// Reads the bytes by a new decoder.
 fn read_cut<D: Subject>(
     alloc: Global,
     bytes: &[u8],
@@ -132,7 +132,7 @@ fn read_cut<D: Subject>(
     Ok(found)
 }
 
-/// Demands that the encoder writes the message as these bytes.
+// Demands that the encoder writes the message as these bytes.
 fn check_spelling<D: Subject>(alloc: Global, message: &D::Item, bytes: &[u8]) -> Result<(), Flaw> {
     let mut written = Vec::new(alloc);
     match D::encode(message, &mut written) {

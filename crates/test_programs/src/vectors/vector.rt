@@ -35,7 +35,7 @@ pub enum VectorFault {
     NoBytes(FromHexError),
 }
 
-/// The bytes that are written in hexadecimal, with any spaces.
+// The bytes that are written in hexadecimal, with any spaces.
 fn bytes_of(alloc: Global, text: &str) -> Result<Vec<u8>, FromHexError>
     ensures { IfOk result (λ bytes. decode_of (filter is_no_space text.now) ≡ Ok bytes.items) }
 {
@@ -48,7 +48,7 @@ fn bytes_of(alloc: Global, text: &str) -> Result<Vec<u8>, FromHexError>
     hex::decode(alloc, digits)
 }
 
-/// The text before the comment, if there is one.
+// The text before the comment, if there is one.
 fn without_comment(line: &str) -> &str {
     match line.split_once('#') {
         Some((text, _)) => text.trim(),

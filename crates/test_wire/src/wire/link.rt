@@ -93,7 +93,7 @@ fn said<T>(link: &Over<T>) -> Option<ErrorKind> {
 trait Device: Read + Write + Sized + Drop {
     fn calls(&self) -> u32;
 
-    /// The same, of a device that is taken apart.
+    /// Takes the device apart, and returns how many calls it has counted.
     fn into_calls(self) -> u32;
 }
 

@@ -42,7 +42,7 @@ fn settings(rt: HostRuntime) {
     }
 }
 
-// The same of a user and of a password.
+// Calls with a user and a password: the bytes of the file, the user's name and the password.
 const TWO_PASSWORDS: [(&[u8], &[u8], &[u8]); 2] = [
     (b"password\ta\nuser\tu\npassword\tb\n", b"u", b"b"),
     (b"password\t\n", b"", b""),

@@ -20,7 +20,7 @@ pub(crate) enum TableHead {
 pub(crate) enum TableLoad {
     /// It is complete with this tag.
     Accept(&'static [u8]),
-    /// It is refused after so many chunks, with these fields.
+    /// It is rejected after so many chunks, with these fields.
     Refuse(u32, TableFields),
 }
 
