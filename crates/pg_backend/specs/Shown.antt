@@ -1,5 +1,6 @@
 -- What `{:?}` writes of a script and of the way in which it lets a client in: of each password the
 -- same.
+-- `++?` is std's operator: it joins two optional texts where both are there.
 use Rattle.std.specs.Prelude.{ℕ, List, Option, Some, None, codes}
 use Rattle.std.specs.Fmt.{◌++?◌, debug_list, debug_option, decimal}
 use Rattle.pg_wire.specs.Shown.{shown_pair}

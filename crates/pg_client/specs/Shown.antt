@@ -1,4 +1,5 @@
 -- What `{:?}` writes of a client's settings. Of a password it is the same, whichever it is.
+-- `++?` is std's operator: it joins two optional texts where both are there.
 use Rattle.std.specs.Prelude.{ℕ, List, Option, Some, None, codes}
 use Rattle.std.specs.Fmt.{◌++?◌, debug_list, debug_option, decimal}
 use Rattle.pg_seq.specs.Text.{byte_text}

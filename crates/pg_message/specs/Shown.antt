@@ -1,4 +1,5 @@
 -- What `{:?}` writes of a message, as far as a clause says it, and of a name with its value.
+-- `++?` is std's operator: it joins two optional texts where both are there.
 use Rattle.std.specs.Prelude.{ℕ, List, Option, Some, None, codes}
 use Rattle.std.specs.Fmt.{◌++?◌}
 use Rattle.pg_seq.specs.Text.{byte_text}
