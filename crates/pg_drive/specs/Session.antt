@@ -1,7 +1,7 @@
 -- How a session begins and ends, of either kind of client. A session is a client, what it has put
 -- out, and its link.
 use Rattle.std.specs.Prelude.{◌≡◌, ℕ, List, codes, Result, Ok, Err}
-use Rattle.pg_wire.specs.link.LinkFault.{LinkFault}
+use Rattle.pg_wire.specs.declared.link.LinkFault.{LinkFault}
 use Rattle.pg_wire.specs.Sending.{SendsOut}
 use Rattle.pg_client.specs.declared.fault.CallFault.{CallFault}
 use Rattle.pg_client.specs.declared.settled.Loss.{Loss}

@@ -11,6 +11,9 @@ pub mod Password
 pub mod Fault
 pub mod Segment
 pub mod Turns
+-- What each call of a link does, and what sending all of some bytes comes to.
+pub mod Link
+pub mod Sending
 -- Words of private functions, which no public contract cites.
 pub mod Private
 -- What the crates below define and the contracts here speak of. Who uses pg_wire names it through
@@ -25,11 +28,8 @@ pub use Rattle.pg_message.specs.Message
 pub use Rattle.pg_message.specs.Lent
 pub use Rattle.pg_message.specs.Encoder
 pub use Rattle.pg_message.specs.Shown
-pub use Rattle.pg_link.specs.Link
-pub use Rattle.pg_link.specs.Sending
 -- Their types.
 pub use Rattle.pg_layout.specs.declared.fault
 pub use Rattle.pg_layout.specs.declared.value
 pub use Rattle.pg_message.specs.declared.message
 pub use Rattle.pg_message.specs.declared.lent
-pub use Rattle.pg_link.specs.declared as link

@@ -2,3 +2,4 @@
 pub mod FirstReader
 pub mod Found
 pub mod Held
+pub mod Patience

@@ -10,7 +10,7 @@
 //! - **Encoders.** [`backend`] and [`frontend`] have a function for each message. It appends the message to a buffer, or returns why
 //!   the message can't be written ([`EncodeFault`]) and leaves the buffer as it was.
 //! - **Links.** [`Source`] and [`Sink`] give and take bytes. [`Over`] makes one of anything that reads and writes, as a TCP
-//!   connection, and [`Patient`] repeats calls that were interrupted.
+//!   connection, and [`Patient`] repeats calls that were interrupted. [`send_all`] and [`send_out`] send all of some bytes.
 //! - **Passwords.** [`md5_answer`] is what a server wants to hear that asks for an MD5 password.
 //! - **Sessions as data.** [`Request`] and [`Step`] are what a client asks for, [`Outcome`], [`Part`] and [`Aside`] what a server's
 //!   whole answer says.
@@ -41,10 +41,11 @@
 //! | `session.rt` | `Segment`, `Turns` | requests and outcomes; what a server may send for a request; what a client sends, request by request |
 //! | `laws.rt` | `Laws` | laws of spellings and streams |
 //! | `password.rt` | `Password` | the answer to AuthenticationMD5Password |
+//! | `link.rt`, `patient.rt` | `Link` | sources and sinks; reads and writes that are made again after an interruption |
+//! | `sending.rt` | `Sending` | bytes that are sent whole, by as many calls of a sink as it takes |
 //!
-//! Four crates below it hold the rest, and `pg_wire` passes on what users need of them: `pg_link` (sources and sinks), `pg_layout` (how
-//! each data type of the protocol is coded), `pg_values` (rows, errors and notices in one block of memory, or read in place) and
-//! `pg_message` (messages one by one).
+//! Three crates below it hold the rest, and `pg_wire` passes on what users need of them: `pg_layout` (how each data type of the protocol
+//! is coded), `pg_values` (rows, errors and notices in one block of memory, or read in place) and `pg_message` (messages one by one).
 //!
 //! # How it works
 //!
@@ -66,8 +67,11 @@ mod fault;
 mod find;
 mod first;
 pub mod laws;
+mod link;
 mod machine;
 mod password;
+mod patient;
+mod sending;
 mod session;
 mod spellings;
 
@@ -75,16 +79,18 @@ pub use back::{BackDecoder, Cut};
 pub use decoder::{Decoder, FrontDecoder};
 pub use fault::WireFault;
 pub use first::FirstDecoder;
+pub use link::{LinkFault, Over, Sink, Source};
 pub use password::md5_answer;
+pub use patient::{PATIENCE, Patient};
 pub use pg_layout::{
     BodyFault, Column, CopyHead, EncodeFault, ErrorField, LONGEST, LONGEST_PACKET, Status, Target,
 };
-pub use pg_link::{LinkFault, Over, PATIENCE, Patient, Sink, Source, send_all, send_out};
 pub use pg_message::{BackMessage, First, FrontMessage, Lent, Message, backend, frontend};
 pub use pg_seq::Seq;
 pub use pg_values::{
     Fields, FieldsView, KeptFields, LentFields, LentValues, ParameterList, RowView, Text,
     ValueList, Values,
 };
+pub use sending::{send_all, send_out};
 pub use session::{Aside, ExecEnd, Outcome, Part, Request, Step};
 pub use spellings::Spellings;

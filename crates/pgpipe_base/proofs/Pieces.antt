@@ -4,7 +4,7 @@ use Rattle.std.specs.List.{FoldsTo, concat}
 use Rattle.std.proofs.lemmas.List.Folds.{concat-append}
 use Rattle.std.proofs.lemmas.Bool.{cases_lt}
 use Rattle.std.proofs.lemmas.List.{length-take, take_all, take-append-le}
-use Rattle.pg_wire.specs.link.LinkFault.{LinkFault}
+use Rattle.pg_wire.specs.declared.link.LinkFault.{LinkFault}
 use Rattle.pg_wire.specs.Link.{HasRisen}
 use Rattle.pg_wire.specs.Sending.{SendsAll}
 use Rattle.hex.specs.Hex.{encode_lower, encode_with, lower_digits}

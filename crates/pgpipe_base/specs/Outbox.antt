@@ -2,7 +2,7 @@
 use Rattle.std.specs.Prelude.{ℕ, ◌≡◌, ◌≤◌, List, [], ◌∷◌, ◌++◌, length, Result, Ok, Err}
 use Rattle.std.specs.Fmt.{decimal}
 use Rattle.std.specs.List.{FoldsTo, concat}
-use Rattle.pg_wire.specs.link.LinkFault.{LinkFault}
+use Rattle.pg_wire.specs.declared.link.LinkFault.{LinkFault}
 use Rattle.pg_wire.specs.Link.{Counts}
 use Rattle.hex.specs.Hex.{encode_lower}
 use mathlib.Core.List.{IsPrefix}

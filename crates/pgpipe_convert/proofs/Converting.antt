@@ -9,7 +9,7 @@ use Rattle.pg_copy.specs.Text as text
 use Rattle.pg_copy.specs.BinaryPart as binary
 use Rattle.pg_copy.specs.BinaryReader.{binary_left}
 use Rattle.pg_copy.specs.TextReader.{text_left}
-use Rattle.pg_wire.specs.link.LinkFault.{LinkFault}
+use Rattle.pg_wire.specs.declared.link.LinkFault.{LinkFault}
 use Rattle.pg_wire.specs.Link.{HasRisen}
 use Rattle.pgpipe_convert.specs.declared.convert.Converted.{Converted}
 use Rattle.pgpipe_convert.specs.declared.convert.Converted.TheVariants as converted

@@ -6,7 +6,7 @@ ghost use Rattle.pgpipe_explain.specs.Tracked.{followed, FollowsOn};
 
 use crate::place::Place;
 use crate::tracker::{TrackedKind, Tracker, place_in};
-use pg_link::{LinkFault, Sink, Source};
+use pg_wire::{LinkFault, Sink, Source};
 use std::alloc::Global;
 use std::marker::Model;
 

@@ -6,7 +6,7 @@ use borrow.Rule.Slice.PartMut.{put_mid}
 use Rattle.std.specs.List.{FoldsTo, concat}
 use Rattle.pg_wire.specs.Link.{HasRisen}
 use Rattle.pg_pair.specs.declared.carry.CarryFault.{CarryFault}
-use Rattle.pg_wire.specs.link.LinkFault.{LinkFault}
+use Rattle.pg_wire.specs.declared.link.LinkFault.{LinkFault}
 use Rattle.pgpipe_base.specs.Outbox.{IsSentBut, Puts}
 use Rattle.pgpipe_loop.specs.Across.{Crosses, Receives}
 use Rattle.pgpipe_base.proofs.Pieces.{joined, one_more}

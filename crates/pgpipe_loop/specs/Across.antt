@@ -1,7 +1,7 @@
 -- What a carrier over two ends does: a piece is sent at one end and received at the other.
 use Rattle.std.specs.Prelude.{ℕ, ◌≡◌, ◌+◌, ◌<◌, ◌⊎◌, List, [], length, min, Result, Ok, Err, IsErr}
 use Rattle.std.specs.List.{FoldsTo, concat}
-use Rattle.pg_wire.specs.link.LinkFault.{LinkFault}
+use Rattle.pg_wire.specs.declared.link.LinkFault.{LinkFault}
 use Rattle.pg_wire.specs.Link.{HasRisen, last_count}
 use Rattle.pg_pair.specs.declared.carry.CarryFault.{CarryFault}
 use Rattle.pg_pair.specs.declared.carry.Way.{Way}

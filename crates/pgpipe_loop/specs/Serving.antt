@@ -2,7 +2,7 @@
 -- lines of each turn are sent.
 use Rattle.std.specs.Prelude.{◌≡◌, ℕ, ◌+◌, ◌-◌, ◌^◌, ◌⊎◌, List, [], ◌++◌, length, drop, Option, Some, None, Result, Ok, Err}
 use Rattle.pg_copy.specs.Row.{Row}
-use Rattle.pg_wire.specs.link.LinkFault.{LinkFault}
+use Rattle.pg_wire.specs.declared.link.LinkFault.{LinkFault}
 use Rattle.pg_backend.specs.History.{IsHistoryOf, blank}
 use Rattle.pg_backend.specs.Stage.{BackendState, phase_of}
 use Rattle.pg_backend.specs.declared.phase.BackPhase.{BackPhase}

@@ -2,8 +2,8 @@
 use Rattle.std.proofs.Common.{◌≡◌, ◌<◌, ◌≤◌, ℕ, Bool, true, false, ◌⊎◌, inl, inr, List, [], ◌∷◌, ◌++◌, refl, ap, sym, subst, ◌∙◌, arith, append_assoc}
 use Rattle.std.specs.List.{FoldsTo, concat}
 use Rattle.std.proofs.lemmas.List.Folds.{concat-append}
-use Rattle.pg_link.specs.Link.{HasRisen, last_count}
-use Rattle.pg_link.specs.Sending.{Sends}
+use Rattle.pg_wire.specs.Link.{HasRisen, last_count}
+use Rattle.pg_wire.specs.Sending.{Sends}
 use Rattle.pgpipe_show.specs.declared.color.part.LinePart.{LinePart}
 use Rattle.pgpipe_show.specs.Colored.{Coloring, FailsToPaint, Paints, Takes, TakesAs}
 use Rattle.pgpipe_show.specs.ColoredPart.{colored, escape, next, part_after}

@@ -23,7 +23,7 @@ use Rattle.pgpipe_show.specs.declared.decoding.Decoding.{Decoding}
 use Rattle.pgpipe_show.specs.declared.decoding.Decoding.TheVariants as decoding
 use Rattle.pgpipe_show.specs.Messages.{line, lines}
 use Rattle.pgpipe_base.specs.Outbox.{Puts}
-use Rattle.pg_wire.specs.link.LinkFault.{LinkFault}
+use Rattle.pg_wire.specs.declared.link.LinkFault.{LinkFault}
 use Rattle.pgpipe_show.specs.declared.form.Form.{Form}
 use Rattle.pgpipe_show.specs.declared.form.Form.TheVariants as forms
 use Rattle.pgpipe_show.specs.declared.form.Line.{Line}

@@ -5,7 +5,7 @@ use Rattle.std.proofs.lemmas.Grind.{flat_map-append}
 use Rattle.std.proofs.lemmas.Option.{none-some}
 use Rattle.pg_wire.specs.declared.fault.WireFault.{WireFault}
 use Rattle.pg_wire.specs.declared.fault.WireFault.TheVariants as wire
-use Rattle.pg_wire.specs.link.LinkFault.{LinkFault}
+use Rattle.pg_wire.specs.declared.link.LinkFault.{LinkFault}
 use Rattle.pg_wire.specs.Decoder.{DecoderState}
 use Rattle.pg_wire.specs.Spellings.{SpellingsState, TakesSpelling}
 use Rattle.pg_wire.specs.Direction.{Direction, spelling}

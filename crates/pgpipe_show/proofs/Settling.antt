@@ -1,7 +1,7 @@
 -- What stands once all is sent.
 use Rattle.std.proofs.Common.{◌≡◌, ℕ, ◌+◌, ◌≤◌, Bool, true, false, List, [], ◌∷◌, ◌++◌, Result, Ok, Err, refl, sym, ap, subst, ◌∙◌, inl, inr, append-nil, length, arith}
 use Rattle.std.specs.List.{FoldsTo, concat}
-use Rattle.pg_wire.specs.link.LinkFault.{LinkFault}
+use Rattle.pg_wire.specs.declared.link.LinkFault.{LinkFault}
 use Rattle.pg_wire.specs.Link.{HasRisen}
 use Rattle.pgpipe_base.specs.declared.stop.Stop.{Stop}
 use Rattle.pgpipe_base.specs.declared.stop.Stop.TheVariants as stop

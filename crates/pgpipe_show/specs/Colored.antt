@@ -1,6 +1,6 @@
 -- What the sink does: the sink behind it takes the coloured form of what it takes.
 use Rattle.std.specs.Prelude.{ℕ, ◌≡◌, ◌⊎◌, Bool, true, false, List, []}
-use Rattle.pg_link.specs.Sending.{FailsToSend, Sends}
+use Rattle.pg_wire.specs.Sending.{FailsToSend, Sends}
 use Rattle.pgpipe_show.specs.declared.color.part.LinePart.{LinePart}
 use Rattle.pgpipe_show.specs.ColoredPart.{colored, part_after}
 

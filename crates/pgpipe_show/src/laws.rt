@@ -2,8 +2,8 @@
 
 ghost use Rattle.std.specs.Prelude.{ℕ, ◌≡◌, ◌≢◌, ◌<◌, List, [], ◌∷◌, ◌++◌, codes, true, false};
 ghost use Rattle.std.specs.List.{AllByRecursion};
-ghost use Rattle.pg_link.specs.Link.{last_count};
-ghost use Rattle.pg_link.specs.Sending.{Sends};
+ghost use Rattle.pg_wire.specs.Link.{last_count};
+ghost use Rattle.pg_wire.specs.Sending.{Sends};
 ghost use Rattle.pgpipe_show.specs.declared.color.part.LinePart.{LinePart};
 ghost use Rattle.pgpipe_show.specs.declared.color.part.LinePart.TheVariants.{Start};
 ghost use Rattle.pgpipe_show.specs.Colored.{Coloring, Takes};
@@ -12,7 +12,7 @@ ghost use Rattle.pgpipe_show.specs.ColoredText.{FollowsWord, IsWord};
 ghost use Rattle.pgpipe_show.specs.ColoredText.{error_line, named_line, without_escapes};
 ghost use Rattle.pgpipe_show.specs.Laws.{OneOrder};
 
-use pg_link::Sink;
+use pg_wire::Sink;
 
 /// What the client and the server sent is printed in only one order.
 pub fn one_order()

@@ -11,7 +11,7 @@ use Rattle.pg_copy.specs.BinaryReader.{HasReadBinary, binary_last, binary_left}
 use Rattle.pg_copy.specs.Reading.{RowsRead, RowsEnding, Bad, IsGood, after_rows}
 use Rattle.pg_copy.specs.Row.{Row}
 use Rattle.pg_copy.specs.TextReader.{HasReadText, text_last, text_left}
-use Rattle.pg_wire.specs.link.LinkFault.{LinkFault}
+use Rattle.pg_wire.specs.declared.link.LinkFault.{LinkFault}
 use Rattle.pg_wire.specs.Link.{HasRisen}
 use Rattle.pgpipe_convert.specs.declared.convert.Converted.{Converted}
 use Rattle.pgpipe_convert.specs.declared.convert.Converted.TheVariants as converted

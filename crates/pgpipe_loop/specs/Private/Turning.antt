@@ -1,7 +1,7 @@
 -- Turns, clients and lines, by their results.
 use Rattle.std.specs.Prelude.{◌≡◌, ℕ, ◌⊎◌, List, [], Option, Result, Ok, Err}
 use Rattle.pg_copy.specs.Row.{Row}
-use Rattle.pg_wire.specs.link.LinkFault.{LinkFault}
+use Rattle.pg_wire.specs.declared.link.LinkFault.{LinkFault}
 use Rattle.pg_backend.specs.Stage.{BackendState, phase_of}
 use Rattle.pg_backend.specs.declared.phase.BackPhase.{BackPhase}
 use Rattle.pg_backend.specs.declared.script.Script.{Script}

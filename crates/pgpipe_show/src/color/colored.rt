@@ -6,7 +6,7 @@ ghost use Rattle.pgpipe_show.specs.Colored.{Takes};
 
 use super::painting::{WIDEST, paint};
 use super::part::LinePart;
-use pg_link::{LinkFault, Sink, send_all};
+use pg_wire::{LinkFault, Sink, send_all};
 use std::marker::Model;
 
 // How many bytes are coloured at once.

@@ -1,8 +1,8 @@
 //! Reads and writes that are interrupted are made again.
 ghost use Rattle.std.specs.Prelude.{◌≡◌, ℕ, Result};
 ghost use Rattle.std.specs.declared.io.Error.{Error};
-ghost use Rattle.pg_link.specs.Private.Patience.{Patiently, ReadGives, WriteGives};
-ghost use Rattle.pg_link.specs.declared.patient.TheConstants.{PATIENCE};
+ghost use Rattle.pg_wire.specs.Private.Patience.{Patiently, ReadGives, WriteGives};
+ghost use Rattle.pg_wire.specs.declared.patient.TheConstants.{PATIENCE};
 
 use std::io::{self, ErrorKind, Read, Write};
 use std::marker::Model;

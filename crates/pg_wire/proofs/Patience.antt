@@ -4,9 +4,9 @@ use Rattle.std.proofs.KnownBytes.{Keeps-refl, Keeps-trans}
 use Rattle.std.specs.Io.{WritesAtMost}
 use Rattle.std.specs.Io.KnownBytes.{Keeps, Consumes, Appends, ReadConsumes, WriteAppends}
 use Rattle.std.specs.declared.io.Error.{Error}
-use Rattle.pg_link.specs.declared.patient.ReadAttempt.{ReadAttempt}
-use Rattle.pg_link.specs.declared.patient.WriteAttempt.{WriteAttempt}
-use Rattle.pg_link.specs.Private.Patience.{Interruptions, Patiently, ReadGives, WriteGives}
+use Rattle.pg_wire.specs.declared.patient.ReadAttempt.{ReadAttempt}
+use Rattle.pg_wire.specs.declared.patient.WriteAttempt.{WriteAttempt}
+use Rattle.pg_wire.specs.Private.Patience.{Interruptions, Patiently, ReadGives, WriteGives}
 
 -- ---- known bytes that were kept before
 

@@ -1,22 +1,14 @@
 //! Where bytes come from and go to: a [`Source`] gives them, a [`Sink`] takes them.
 //!
-//! [`Over`] makes a source of a reader and a sink of a writer. A [`Patient`] reader or writer repeats calls that were interrupted.
-//! [`send_all`] and [`send_out`] send all of some bytes (`specs/Sending.antt`). Each counts the calls that failed, so that a contract can say
-//! whether a fault is true (`specs/Link.antt`).
-//!
-//! It is the lowest layer of `pg_wire`. Users name `pg_wire`, which passes it on.
-#![tactic(auto)]
+//! [`Over`] makes a source of a reader and a sink of a writer. A [`Patient`](crate::Patient) reader or writer repeats calls that were interrupted.
+//! [`send_all`](crate::send_all) and [`send_out`](crate::send_out) send all of some bytes (`specs/Sending.antt`). A source or a sink counts the
+//! calls that failed, so that a contract can say whether a fault is true (`specs/Link.antt`).
 
 ghost use Rattle.std.specs.Prelude.{◌≡◌, ◌<◌, ◌≤◌, ◌↔◌, ℕ, List, [], length, Some, Ok, IfOk};
 ghost use Rattle.std.specs.Prelude.{IsNone};
 ghost use Rattle.std.specs.Io.KnownBytes.{Appends, Consumes, IsAtEnd};
-ghost use Rattle.pg_link.specs.Link.{Counts, HasRisen, passed_on};
+ghost use Rattle.pg_wire.specs.Link.{Counts, HasRisen, passed_on};
 
-mod patient;
-mod sending;
-
-pub use patient::{PATIENCE, Patient};
-pub use sending::{send_all, send_out};
 use std::io::{self, ErrorKind, Read, Write};
 use std::marker::Model;
 use thiserror::Error;
@@ -64,7 +56,7 @@ pub trait Sink {
 }
 
 /// Makes a source of a reader and a sink of a writer: one read for each `receive`, one write for each `send`. Each error is a fault, even an
-/// interruption ([`Patient`] tries again). So is a write that takes nothing of a piece that isn't empty.
+/// interruption ([`Patient`](crate::Patient) tries again). So is a write that takes nothing of a piece that isn't empty.
 #[derive(Debug, Drop)]
 pub struct Over<T> {
     inner: T,
@@ -73,7 +65,7 @@ pub struct Over<T> {
 
 impl<T> Model for Over<T> {
     ghost use Rattle.std.specs.Prelude.{◌≡◌, ◌↔◌, IsNone};
-    ghost use Rattle.pg_link.specs.Link.{Counted};
+    ghost use Rattle.pg_wire.specs.Link.{Counted};
 
     ghost Value = { Counted T };
 

@@ -1,10 +1,10 @@
 //! Bytes that are sent whole, by as many calls of a sink as it takes.
 
 ghost use Rattle.std.specs.Prelude.{◌≡◌, ◌≤◌, length, drop};
-ghost use Rattle.pg_link.specs.Link.{Counts};
-ghost use Rattle.pg_link.specs.Sending.{SendsAll, SendsOut};
+ghost use Rattle.pg_wire.specs.Link.{Counts};
+ghost use Rattle.pg_wire.specs.Sending.{SendsAll, SendsOut};
 
-use crate::{LinkFault, Sink};
+use crate::link::{LinkFault, Sink};
 
 /// Sends all of these bytes. Where a call of the sink fails, nothing more is sent.
 pub fn send_all<K: Sink>(bytes: &[u8], sink: &mut K) -> Result<(), LinkFault>

@@ -1,6 +1,6 @@
 use Rattle.std.proofs.Common.{length, take, ◌-◌, ◌≤◌}
-use Rattle.pg_link.specs.Sending.{Sends}
-use Rattle.pg_link.proofs.sending.send_front.Given as goal
+use Rattle.pg_wire.specs.Sending.{Sends}
+use Rattle.pg_wire.proofs.sending.send_front.Given as goal
 
 abbrev pub invariant-loop-sent : goal.invariant-loop-sent
 invariant-loop-sent g l = (l.sent ≤ length l.bytes)

@@ -1,6 +1,6 @@
 use Rattle.std.proofs.Common.{sym}
-use Rattle.pg_link.proofs.Patience.{writes_as_one}
-use Rattle.pg_link.proofs.patient.PatientWrite.write.Goals as goal
+use Rattle.pg_wire.proofs.Patience.{writes_as_one}
+use Rattle.pg_wire.proofs.patient.PatientWrite.write.Goals as goal
 
 pub shape_of-self-inside : goal.shape_of-self-inside
 shape_of-self-inside g c = sym (writes_as_one _ _ _ _ _ c.patiently.ensures).writer

@@ -1,8 +1,8 @@
 -- What sending all of some bytes does: calls of `send` take them from their front.
 use Rattle.std.specs.Prelude.{◌≡◌, ◌≢◌, ℕ, List, [], ◌++◌, Result, Ok, Err}
 use Rattle.std.specs.List.{FoldsTo, concat}
-use Rattle.pg_link.specs.Link.{HasRisen}
-use Rattle.pg_link.specs.declared.LinkFault.{LinkFault}
+use Rattle.pg_wire.specs.Link.{HasRisen}
+use Rattle.pg_wire.specs.declared.link.LinkFault.{LinkFault}
 
 -- `takes` and `failures` are those of the link, as a sink.
 module _ {L : Type 0} (takes : L → List ℕ → L → Type 0) (failures : L → ℕ) where

@@ -5,9 +5,9 @@ use Rattle.std.proofs.Math.Seq.{take-add}
 use Rattle.std.proofs.lemmas.Fn.{FoldsTo-push}
 use Rattle.std.proofs.lemmas.List.{take_all, drop_all}
 use Rattle.std.proofs.lemmas.List.Folds.{concat-append}
-use Rattle.pg_link.specs.declared.LinkFault.{LinkFault}
-use Rattle.pg_link.specs.Link.{Counts, HasRisen}
-use Rattle.pg_link.specs.Sending.{FailsToSend, Sends, SendsOut}
+use Rattle.pg_wire.specs.declared.link.LinkFault.{LinkFault}
+use Rattle.pg_wire.specs.Link.{Counts, HasRisen}
+use Rattle.pg_wire.specs.Sending.{FailsToSend, Sends, SendsOut}
 
 -- the bytes from a place on, as a slice
 pub from_place : (k : ℕ) (bytes : List ℕ) → take (length bytes - k) (drop k bytes) ≡ drop k bytes

@@ -1,6 +1,6 @@
 use Rattle.std.proofs.Common.{rules, sym}
-use Rattle.pg_link.proofs.Patience.{reads_as_one}
-use Rattle.pg_link.proofs.patient.PatientRead.read.Goals as goal
+use Rattle.pg_wire.proofs.Patience.{reads_as_one}
+use Rattle.pg_wire.proofs.patient.PatientRead.read.Goals as goal
 
 pub shape_of-self-inside : goal.shape_of-self-inside
 shape_of-self-inside g c = sym (reads_as_one _ _ _ _ _ c.patiently.ensures).reader

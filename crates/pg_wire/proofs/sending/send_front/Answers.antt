@@ -1,6 +1,6 @@
 use Rattle.std.proofs.Common.{ℕ, List, length, ap, length-drop, arith}
-use Rattle.pg_link.proofs.Sent.{from_place, sends_more}
-use Rattle.pg_link.proofs.sending.send_front.Goals as goal
+use Rattle.pg_wire.proofs.Sent.{from_place, sends_more}
+use Rattle.pg_wire.proofs.sending.send_front.Goals as goal
 
 pub loop-sent-preserved : goal.loop-sent-preserved
 loop-sent-preserved g c = (

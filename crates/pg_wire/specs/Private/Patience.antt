@@ -5,8 +5,8 @@ use Rattle.std.specs.Io.KnownBytes.{ReadConsumes, WriteAppends}
 use Rattle.std.specs.IoError.{error_kind}
 use Rattle.std.specs.declared.io.ErrorKind.TheVariants.{Interrupted}
 use Rattle.std.specs.declared.io.Error.{Error}
-use Rattle.pg_link.specs.declared.patient.ReadAttempt.{ReadAttempt}
-use Rattle.pg_link.specs.declared.patient.WriteAttempt.{WriteAttempt}
+use Rattle.pg_wire.specs.declared.patient.ReadAttempt.{ReadAttempt}
+use Rattle.pg_wire.specs.declared.patient.WriteAttempt.{WriteAttempt}
 
 -- the attempt was interrupted
 abbrev pub IsInterrupted : Result ℕ Error → Type 0

@@ -1,6 +1,6 @@
 -- What the calls of a link do.
 use Rattle.std.specs.Prelude.{ℕ, ◌≡◌, ◌<◌, ◌-◌, ◌^◌, ◌⊎◌, List, [], take, Result, Ok, Err}
-use Rattle.pg_link.specs.declared.LinkFault.{LinkFault}
+use Rattle.pg_wire.specs.declared.link.LinkFault.{LinkFault}
 
 -- the greatest count of failures
 abbrev pub last_count : ℕ

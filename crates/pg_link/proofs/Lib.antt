@@ -1,3 +1,0 @@
--- Lemmas, by the subject.
-pub mod Patience
-pub mod Sent

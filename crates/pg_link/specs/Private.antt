@@ -1,2 +1,0 @@
--- Words of private functions. No public contract cites them.
-pub mod Patience
