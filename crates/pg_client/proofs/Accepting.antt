@@ -10,10 +10,10 @@ use Rattle.pg_client.specs.declared.phase.Cause.{Cause}
 use Rattle.pg_client.specs.declared.phase.Cause.TheVariants as cause
 use Rattle.pg_client.specs.declared.phase.Phase.{Phase}
 use Rattle.pg_client.specs.declared.phase.Phase.TheVariants as phase
-use Rattle.pg_segment.specs.declared.segment.CopyAnswer.{CopyAnswer}
-use Rattle.pg_segment.specs.declared.segment.CopyAnswer.TheVariants.{Awaited, Done, Refused}
-use Rattle.pg_segment.specs.declared.segment.begun.Open.TheVariants as begun
-use Rattle.pg_segment.specs.Segment.{Stage, Within}
+use Rattle.pg_response.specs.declared.segment.CopyAnswer.{CopyAnswer}
+use Rattle.pg_response.specs.declared.segment.CopyAnswer.TheVariants.{Awaited, Done, Refused}
+use Rattle.pg_response.specs.declared.segment.begun.Open.TheVariants as begun
+use Rattle.pg_response.specs.Segment.{Stage, Within}
 use Rattle.pg_client.specs.declared.stand.Stand.{Stand}
 use Rattle.pg_client.specs.declared.stand.Stand.TheVariants.{New, Starting, Idle, Busy}
 use Rattle.pg_client.specs.declared.startup.Welcome.TheVariants.{Fresh}
@@ -32,7 +32,7 @@ use Rattle.pg_client.specs.Private.Calling.{with_answer, with_request}
 use Rattle.pg_client.proofs.Agreeing.{answer_is_said}
 use Rattle.pg_client.proofs.FactsHold.{stand_facts}
 use Rattle.pg_client.proofs.Happening.{expected_did, did_start, did_ask, did_copy_end, did_copy_fail, did_chunk, did_terminate}
-use Rattle.pg_segment.proofs.Outcomes.{front_splits}
+use Rattle.pg_response.proofs.Outcomes.{front_splits}
 use Rattle.pg_client.proofs.Said.{AnswerIsSaid, copying_in}
 use Rattle.pg_client.proofs.Merging.{merged-did, ends_within, places_more, ordered_more}
 

@@ -9,8 +9,8 @@ use Rattle.pg_wire.specs.value.CopyHead.{CopyHead}
 use Rattle.pg_wire.specs.value.Status.{Status}
 use Rattle.pg_wire.specs.declared.session.Aside.{Aside}
 use Rattle.pg_wire.specs.Segment.{aside_of, without_asides, Segments, status_of}
-use Rattle.pg_segment.specs.declared.segment.CopyAnswer.{CopyAnswer}
-use Rattle.pg_segment.specs.declared.segment.CopyAnswer.TheVariants.{Awaited, Done, Refused}
+use Rattle.pg_response.specs.declared.segment.CopyAnswer.{CopyAnswer}
+use Rattle.pg_response.specs.declared.segment.CopyAnswer.TheVariants.{Awaited, Done, Refused}
 use Rattle.pg_client.specs.declared.call.Call.{Call}
 use Rattle.pg_client.specs.declared.call.Call.TheVariants as call
 use Rattle.pg_client.specs.Session.{Happening, Did, Came, whole_in, rest_in, EndInCopyIn, IsAside, IsNoCopyIn, IsCalledForLastCopy, IsReady, IsCopyingIn, AreAllowed}
@@ -18,7 +18,7 @@ use Rattle.pg_client.specs.Stand.{copy_answer_after, copy_answer}
 use Rattle.pg_client.proofs.Beginnings.{segments_did, segments_came, AreAsked, AllAfter, after_begins, kept_aside, along, are_asked}
 use Rattle.pg_client.proofs.Happening.{copy_answer_from-more}
 use Rattle.pg_client.proofs.OneMessage.{put_after}
-use Rattle.pg_segment.proofs.Outcomes.{kept_with, front_splits, snoc_front, without_asides-append}
+use Rattle.pg_response.proofs.Outcomes.{kept_with, front_splits, snoc_front, without_asides-append}
 use Rattle.pg_client.proofs.Said.{Says, AnswerIsSaid}
 
 -- ---- an open copy in

@@ -15,7 +15,7 @@ use Rattle.pg_client.specs.declared.call.Call.TheVariants as call
 use Rattle.pg_client.specs.Session.{Happening, Did, Came, messages_in, requests_in, whole_in, rest_in, IsStartup, BeginsStartup, FitAll, IsSession, IsAside, IsAfterItsCall, can_answer, Expected, AreAllowed}
 use Rattle.pg_client.proofs.Happening.{all_front, requests_in-more}
 use Rattle.pg_client.proofs.OneMessage.{put_after, segments-more}
-use Rattle.pg_segment.proofs.Outcomes.{kept_with, without_asides-append}
+use Rattle.pg_response.proofs.Outcomes.{kept_with, without_asides-append}
 use Rattle.pg_client.proofs.Ordering.{messages_in-append}
 
 -- ---- one more happening

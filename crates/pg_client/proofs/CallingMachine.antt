@@ -1,10 +1,10 @@
 -- What each call of a machine does to the clients that may have its collector.
 use Rattle.std.proofs.Common.{◌≡◌, ℕ, List, ◌++◌, Option, Some, None, refl, sym, ap, subst, ◌∙◌}
 use Rattle.pg_wire.specs.declared.session.Request.{Request}
-use Rattle.pg_segment.specs.declared.segment.CopyAnswer.{CopyAnswer}
-use Rattle.pg_segment.specs.declared.segment.CopyAnswer.TheVariants.{Awaited, Done, Refused}
-use Rattle.pg_segment.specs.declared.segment.begun.Open.TheVariants as begun
-use Rattle.pg_segment.specs.Segment.{Stage, Within}
+use Rattle.pg_response.specs.declared.segment.CopyAnswer.{CopyAnswer}
+use Rattle.pg_response.specs.declared.segment.CopyAnswer.TheVariants.{Awaited, Done, Refused}
+use Rattle.pg_response.specs.declared.segment.begun.Open.TheVariants as begun
+use Rattle.pg_response.specs.Segment.{Stage, Within}
 use Rattle.pg_client.specs.declared.call.Call.TheVariants as call
 use Rattle.pg_client.specs.declared.phase.Cause.{Cause}
 use Rattle.pg_client.specs.declared.phase.Cause.TheVariants as cause

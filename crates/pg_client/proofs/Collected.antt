@@ -5,7 +5,7 @@ use Rattle.pg_wire.specs.message.BackMessage.{BackMessage}
 use Rattle.pg_wire.specs.message.BackMessage.TheVariants as back
 use Rattle.pg_wire.specs.declared.session.Aside.TheVariants as aside
 use Rattle.pg_wire.specs.value.Status.{Status}
-use Rattle.pg_segment.specs.Segment.{with_aside}
+use Rattle.pg_response.specs.Segment.{with_aside}
 use Rattle.pg_client.specs.declared.call.Call.{Call}
 use Rattle.pg_client.specs.declared.collecting.Collecting.{Collecting}
 use Rattle.pg_client.specs.declared.fault.FeedFault.{FeedFault}

@@ -7,7 +7,7 @@ use Rattle.pg_wire.specs.message.BackMessage.TheVariants as back
 use Rattle.pg_wire.specs.declared.session.Request.{Request}
 use Rattle.pg_wire.specs.value.Status.{Status}
 use Rattle.pg_wire.specs.Segment.{Segments, segments, put_before, status_of}
-use Rattle.pg_segment.specs.Segment.{SegmentView}
+use Rattle.pg_response.specs.Segment.{SegmentView}
 use Rattle.pg_client.specs.declared.call.Call.{Call}
 use Rattle.pg_client.specs.declared.early.EarlyStand.TheVariants as early
 use Rattle.pg_client.specs.declared.item.Item.{Item}

@@ -12,19 +12,19 @@ use Rattle.pg_wire.specs.value.Target.TheVariants.{Statement, Portal}
 use Rattle.pg_wire.specs.value.Status.{Status}
 use Rattle.pg_wire.specs.Backend.{tag}
 use Rattle.pg_wire.specs.Segment.{aside_of, Asked as What, Results, Steps, asked, error_of, Fields, status_of}
-use Rattle.pg_segment.specs.declared.kind.Auth.{Auth}
-use Rattle.pg_segment.specs.declared.kind.Auth.TheVariants as auth
-use Rattle.pg_segment.specs.Kind.{auth_message, IsResult}
-use Rattle.pg_segment.specs.declared.segment.CopyAnswer.{CopyAnswer}
-use Rattle.pg_segment.specs.declared.segment.CopyAnswer.TheVariants.{Awaited, Done, Refused}
-use Rattle.pg_segment.specs.declared.segment.begun.Open.TheVariants as begun
-use Rattle.pg_segment.specs.declared.segment.place.Place.{Place}
-use Rattle.pg_segment.specs.declared.segment.pending.Pending.{Pending}
-use Rattle.pg_segment.specs.declared.segment.pending.Pending.TheVariants as pending
-use Rattle.pg_segment.specs.Place.{answered, awaits_data_at, completes, ends_bind, ends_close, ends_description, ends_parse, follows, follows_copy_out, follows_rows, goes, goes_by, led_to, opens, opens_answer, opens_parameters, opens_result, runs, place_at, place_in, start, still_asked, told}
-use Rattle.pg_segment.specs.Segment.{SegmentView, Stage, Within, Failed, left, moved_to, outcome_with, stage_ending, stage_failed, with_aside}
-use Rattle.pg_segment.specs.SegmentCalls.{segment_of}
-use Rattle.pg_segment.proofs.Places.{goes_nowhere, goes_there, may_end_in}
+use Rattle.pg_response.specs.declared.kind.Auth.{Auth}
+use Rattle.pg_response.specs.declared.kind.Auth.TheVariants as auth
+use Rattle.pg_response.specs.Kind.{auth_message, IsResult}
+use Rattle.pg_response.specs.declared.segment.CopyAnswer.{CopyAnswer}
+use Rattle.pg_response.specs.declared.segment.CopyAnswer.TheVariants.{Awaited, Done, Refused}
+use Rattle.pg_response.specs.declared.segment.begun.Open.TheVariants as begun
+use Rattle.pg_response.specs.declared.segment.place.Place.{Place}
+use Rattle.pg_response.specs.declared.segment.pending.Pending.{Pending}
+use Rattle.pg_response.specs.declared.segment.pending.Pending.TheVariants as pending
+use Rattle.pg_response.specs.Place.{answered, awaits_data_at, completes, ends_bind, ends_close, ends_description, ends_parse, follows, follows_copy_out, follows_rows, goes, goes_by, led_to, opens, opens_answer, opens_parameters, opens_result, runs, place_at, place_in, start, still_asked, told}
+use Rattle.pg_response.specs.Segment.{SegmentView, Stage, Within, Failed, left, moved_to, outcome_with, stage_ending, stage_failed, with_aside}
+use Rattle.pg_response.specs.SegmentCalls.{segment_of}
+use Rattle.pg_response.proofs.Places.{goes_nowhere, goes_there, may_end_in}
 use Rattle.pg_client.specs.declared.early.EarlyStand.{EarlyStand}
 use Rattle.pg_client.specs.declared.early.EarlyStand.TheVariants as early
 use Rattle.pg_client.specs.declared.early.Queue.{Queue}

@@ -10,9 +10,9 @@ use Rattle.pg_wire.specs.declared.session.Aside.{Aside}
 use Rattle.pg_wire.specs.declared.session.Part.{Part}
 use Rattle.pg_wire.specs.declared.session.Request.{Request}
 use Rattle.pg_wire.specs.Segment.{error_of, Fields, aside_of, without_asides, Asked as What, asked}
-use Rattle.pg_segment.specs.declared.segment.begun.Open.TheVariants as begun
-use Rattle.pg_segment.specs.declared.segment.CopyAnswer.{CopyAnswer}
-use Rattle.pg_segment.specs.declared.segment.CopyAnswer.TheVariants.{Awaited, Done, Refused}
+use Rattle.pg_response.specs.declared.segment.begun.Open.TheVariants as begun
+use Rattle.pg_response.specs.declared.segment.CopyAnswer.{CopyAnswer}
+use Rattle.pg_response.specs.declared.segment.CopyAnswer.TheVariants.{Awaited, Done, Refused}
 use Rattle.pg_client.specs.declared.startup.Welcome.{Welcome}
 use Rattle.pg_client.specs.declared.startup.Welcome.TheVariants.{Fresh, Asked, Admitted}
 use Rattle.pg_client.specs.declared.stand.Stand.{Stand}
@@ -21,14 +21,14 @@ use Rattle.pg_client.specs.declared.settled.Settled.{Settled}
 use Rattle.pg_client.specs.declared.phase.Phase.{Phase}
 use Rattle.pg_client.specs.declared.phase.Phase.TheVariants as phase
 use Rattle.pg_client.specs.Startup.{greet, greet_from, greet_all}
-use Rattle.pg_segment.specs.Segment.{SegmentView, Progress, Grows, Closes, Stuck, Stage, Within, Failed, stage_failed, left, Reading, read, read_by, read_from, after_progress, progress, reading_of}
+use Rattle.pg_response.specs.Segment.{SegmentView, Progress, Grows, Closes, Stuck, Stage, Within, Failed, stage_failed, left, Reading, read, read_by, read_from, after_progress, progress, reading_of}
 use Rattle.pg_client.specs.Stand.{copy_answer, EachSettled, Stands}
 use Rattle.pg_client.specs.Session.{Happening, requests_in, rest_in, IsStarted, IsStarting, IsReady, EndInCopyIn, groups_in}
 use Rattle.pg_client.specs.Client.{stand_phase, busy_phase_of, unsettled_of, has_failed}
 use Rattle.pg_client.specs.Lost.{has_error}
 use Rattle.pg_client.specs.Facts.{FirstSettled}
-use Rattle.pg_segment.proofs.Complete.{at}
-use Rattle.pg_segment.proofs.Outcomes.{kept_with}
+use Rattle.pg_response.proofs.Complete.{at}
+use Rattle.pg_response.proofs.Outcomes.{kept_with}
 use Rattle.pg_client.proofs.Greeting.{greet_from-append}
 use Rattle.pg_client.proofs.OneMessage.{EachSettled-length, ends_open, open_ends}
 use Rattle.pg_client.proofs.Said.{IsCopyAwaited}

@@ -11,7 +11,7 @@ use Rattle.pg_client.specs.declared.startup.Welcome.{Welcome}
 use Rattle.pg_client.specs.declared.startup.Welcome.TheVariants.{Fresh, Asked, Admitted}
 use Rattle.pg_client.specs.Session.{AsksPassword, AtMostOneQuestion, key_data, IsStartup, BeginsStartup}
 use Rattle.pg_client.specs.Startup.{greet_fresh, greet_asked, greet_admitted, greet, greet_from, greet_all}
-use Rattle.pg_segment.proofs.Outcomes.{front_splits, snoc_front, without_asides-append}
+use Rattle.pg_response.proofs.Outcomes.{front_splits, snoc_front, without_asides-append}
 
 -- what the messages are that lead there
 abbrev pub Greeted : List BackMessage → Option Welcome → Type 0

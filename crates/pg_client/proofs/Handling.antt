@@ -18,8 +18,8 @@ use Rattle.pg_wire.specs.Decoder.{DecoderState, Takes}
 use Rattle.pg_wire.specs.Direction.{spelling}
 use Rattle.pg_wire.specs.Segment.{aside_of, Fields}
 use Rattle.pg_wire.specs.Stream.{IsWithin}
-use Rattle.pg_segment.specs.declared.kind.Auth.{Auth}
-use Rattle.pg_segment.specs.Kind.{auth_message, IsResult, is_parameter_status}
+use Rattle.pg_response.specs.declared.kind.Auth.{Auth}
+use Rattle.pg_response.specs.Kind.{auth_message, IsResult, is_parameter_status}
 use Rattle.pg_client.specs.declared.fault.FeedFault.{FeedFault}
 use Rattle.pg_client.specs.declared.fault.FeedFault.TheVariants as feeding
 use Rattle.pg_client.specs.declared.phase.Cause.{Cause}

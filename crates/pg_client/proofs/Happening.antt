@@ -5,20 +5,20 @@ use Rattle.std.proofs.lemmas.List.{append-nil, append_cancel_left}
 use Rattle.pg_wire.specs.message.BackMessage.{BackMessage}
 use Rattle.pg_wire.specs.declared.session.Aside.{Aside}
 use Rattle.pg_wire.specs.declared.session.Request.{Request}
-use Rattle.pg_segment.specs.SegmentCalls.{segment_of, answering}
-use Rattle.pg_segment.specs.declared.segment.CopyAnswer.{CopyAnswer}
-use Rattle.pg_segment.specs.declared.segment.CopyAnswer.TheVariants.{Awaited, Done, Refused}
+use Rattle.pg_response.specs.SegmentCalls.{segment_of, answering}
+use Rattle.pg_response.specs.declared.segment.CopyAnswer.{CopyAnswer}
+use Rattle.pg_response.specs.declared.segment.CopyAnswer.TheVariants.{Awaited, Done, Refused}
 use Rattle.pg_client.specs.declared.startup.Welcome.TheVariants.{Fresh}
 use Rattle.pg_client.specs.declared.stand.Stand.{Stand}
 use Rattle.pg_client.specs.declared.stand.Stand.TheVariants.{New, Starting, Idle, Busy}
 use Rattle.pg_client.specs.declared.settled.Settled.{Settled}
 use Rattle.pg_wire.specs.Segment.{asked, Segments, segments, status_of}
-use Rattle.pg_segment.specs.Segment.{SegmentView, read_all, reading_of}
+use Rattle.pg_response.specs.Segment.{SegmentView, read_all, reading_of}
 use Rattle.pg_client.specs.Stand.{Effect, Leads, Settles, Rejected, copy_answer_after, copy_answer_from, copy_answer, hear, hear_with, StandsBy, Stands}
 use Rattle.pg_client.specs.declared.call.Call.{Call}
 use Rattle.pg_client.specs.declared.call.Call.TheVariants as call
 use Rattle.pg_client.specs.Session.{Happening, Did, Came, requests_in, messages_in, whole_in, rest_in, IsStarted, FitAll, IsSession, IsAfterItsCall, can_answer, Expected}
-use Rattle.pg_segment.proofs.Outcomes.{front_splits, read_begins}
+use Rattle.pg_response.proofs.Outcomes.{front_splits, read_begins}
 use Rattle.pg_client.proofs.Greeting.{greeted_begins}
 use Rattle.pg_client.proofs.Said.{AnswerIsSaid, after_its_call, may_stand}
 use Rattle.pg_client.proofs.OneMessage.{put_after, segments-more, all_fit, fit_and_begin, StandsThen, Verdict, hear_verdict}

@@ -21,13 +21,13 @@ use Rattle.pg_wire.specs.declared.fault.WireFault.TheVariants as wire
 use Rattle.pg_wire.specs.Direction.{spelling}
 use Rattle.pg_wire.specs.Segment.{Asked as What, Results, Steps, asked, status_of}
 use Rattle.pg_wire.specs.Stream.{IsOpen, IsWithin}
-use Rattle.pg_segment.specs.declared.segment.CopyAnswer.{CopyAnswer}
-use Rattle.pg_segment.specs.declared.segment.CopyAnswer.TheVariants.{Awaited, Done, Refused}
-use Rattle.pg_segment.specs.declared.segment.pending.Pending.{Pending}
-use Rattle.pg_segment.specs.declared.segment.pending.Pending.TheVariants as pending
-use Rattle.pg_segment.specs.declared.segment.place.Place.{Place}
-use Rattle.pg_segment.specs.Place.{follows, goes, led_to, opens, opens_answer, still_asked}
-use Rattle.pg_segment.specs.Kind.{IsResult}
+use Rattle.pg_response.specs.declared.segment.CopyAnswer.{CopyAnswer}
+use Rattle.pg_response.specs.declared.segment.CopyAnswer.TheVariants.{Awaited, Done, Refused}
+use Rattle.pg_response.specs.declared.segment.pending.Pending.{Pending}
+use Rattle.pg_response.specs.declared.segment.pending.Pending.TheVariants as pending
+use Rattle.pg_response.specs.declared.segment.place.Place.{Place}
+use Rattle.pg_response.specs.Place.{follows, goes, led_to, opens, opens_answer, still_asked}
+use Rattle.pg_response.specs.Kind.{IsResult}
 use Rattle.pg_client.specs.declared.early.EarlyStand.{EarlyStand}
 use Rattle.pg_client.specs.declared.early.EarlyStand.TheVariants as early
 use Rattle.pg_client.specs.declared.early.Queue.{Queue}

@@ -18,8 +18,8 @@ use Rattle.pg_wire.specs.Segment.{aside_of, Fields, status_of}
 use Rattle.pg_wire.specs.Stream.{IsWithin, IsFaulty}
 use Rattle.pg_client.specs.declared.fault.FeedFault.{FeedFault}
 use Rattle.pg_client.specs.declared.fault.FeedFault.TheVariants as feeding
-use Rattle.pg_segment.specs.declared.kind.Auth.{Auth}
-use Rattle.pg_segment.specs.declared.kind.Auth.TheVariants as auth
+use Rattle.pg_response.specs.declared.kind.Auth.{Auth}
+use Rattle.pg_response.specs.declared.kind.Auth.TheVariants as auth
 use Rattle.pg_client.specs.declared.phase.Cause.{Cause}
 use Rattle.pg_client.specs.declared.settings.Settings.{Settings}
 use Rattle.pg_client.specs.declared.settled.Settled.{Settled}
@@ -33,7 +33,7 @@ use Rattle.pg_client.specs.Client.{ClientView, HasSameUnsettled, option_or, valu
 use Rattle.pg_client.specs.Sent.{answer_to}
 use Rattle.pg_client.specs.Closed.{cause_of}
 use Rattle.pg_client.specs.Stand.{Effect, Leads, Settles, Rejected, hear, hear_with}
-use Rattle.pg_segment.specs.Kind.{auth_message, is_welcome, IsResult, is_parameter_status}
+use Rattle.pg_response.specs.Kind.{auth_message, is_welcome, IsResult, is_parameter_status}
 use Rattle.pg_client.specs.Private.Hearing.{IsSentFor, question, HearsAs, HearsAuth, ReadyDoes, HearsReady, fault_at, fresh_fault, later_fault, idle_fault}
 use Rattle.pg_client.specs.Private.Collector.{with_settled}
 use Rattle.pg_client.specs.Private.Feeding.{HearsNothing, MovesBy, HearsOne, Refuses, IsHeard, HearsMessage, HearsNext, PutsAnswer, SendsFor, leaving, of_wire}

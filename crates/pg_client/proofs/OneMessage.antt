@@ -15,10 +15,10 @@ use Rattle.pg_wire.specs.declared.session.Part.{Part}
 use Rattle.pg_wire.specs.declared.session.Request.{Request}
 use Rattle.pg_wire.specs.declared.session.Step.{Step}
 use Rattle.pg_wire.specs.declared.session.Step.TheVariants as step
-use Rattle.pg_segment.specs.declared.segment.begun.Open.{Open}
-use Rattle.pg_segment.specs.declared.segment.begun.Open.TheVariants as begun
-use Rattle.pg_segment.specs.declared.segment.CopyAnswer.{CopyAnswer}
-use Rattle.pg_segment.specs.declared.segment.CopyAnswer.TheVariants.{Awaited, Done, Refused}
+use Rattle.pg_response.specs.declared.segment.begun.Open.{Open}
+use Rattle.pg_response.specs.declared.segment.begun.Open.TheVariants as begun
+use Rattle.pg_response.specs.declared.segment.CopyAnswer.{CopyAnswer}
+use Rattle.pg_response.specs.declared.segment.CopyAnswer.TheVariants.{Awaited, Done, Refused}
 use Rattle.pg_client.specs.declared.startup.Welcome.{Welcome}
 use Rattle.pg_client.specs.declared.startup.Welcome.TheVariants.{Fresh, Asked, Admitted}
 use Rattle.pg_client.specs.declared.stand.Stand.{Stand}
@@ -26,13 +26,13 @@ use Rattle.pg_client.specs.declared.stand.Stand.TheVariants.{New, Starting, Idle
 use Rattle.pg_client.specs.declared.settled.Settled.{Settled}
 use Rattle.pg_wire.specs.Segment.{aside_of, asides_of, without_asides, Asked as What, Results, Steps, asked, Fits, Begins, messages_of, Segments, segments, status_of, put_before}
 use Rattle.pg_client.specs.Startup.{greet, greet_from, greet_all}
-use Rattle.pg_segment.specs.Segment.{SegmentView, Stage, Within, Failed, left, Reading, read, read_by, read_from, read_all, after_progress, progress, begins, begins_answer, outcome_at, gate, copy_answer_after_message, reading_of, with_aside}
+use Rattle.pg_response.specs.Segment.{SegmentView, Stage, Within, Failed, left, Reading, read, read_by, read_from, read_all, after_progress, progress, begins, begins_answer, outcome_at, gate, copy_answer_after_message, reading_of, with_aside}
 use Rattle.pg_client.specs.Stand.{copy_answer_after, Effect, Leads, Settles, Rejected, starting_at, welcome_ends, hear_starting, hear_idle, ready_effect, busy_at, hear_busy, hear, EachSettled, StandsStarting, StandsIdle, StandsBusy, StandsBy}
 use Rattle.pg_client.specs.Session.{Came, IsStartup, BeginsStartup, FitAll, IsSession, IsAside}
 use Rattle.pg_client.proofs.Said.{MayStand}
-use Rattle.pg_segment.proofs.Sound.{Reached, read_all_sound}
-use Rattle.pg_segment.proofs.Complete.{at, read_from-append}
-use Rattle.pg_segment.proofs.Outcomes.{kept_with, snoc_front, asides_of-append, without_asides-append, read_outcome, fits_read, read_fits, begins_read}
+use Rattle.pg_response.proofs.Sound.{Reached, read_all_sound}
+use Rattle.pg_response.proofs.Complete.{at, read_from-append}
+use Rattle.pg_response.proofs.Outcomes.{kept_with, snoc_front, asides_of-append, without_asides-append, read_outcome, fits_read, read_fits, begins_read}
 use Rattle.pg_client.proofs.Greeting.{greet_from-append, startup_admitted, admitted_startup, begins_greeted}
 use Rattle.std.specs.List.{flat_map}
 

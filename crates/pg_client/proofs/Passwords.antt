@@ -17,13 +17,13 @@ use Rattle.pg_wire.specs.Frontend.{frontend}
 use Rattle.pg_wire.specs.Segment.{aside_of, without_asides, Asked as What, asked, Segments, segments, status_of, error_of, put_before}
 use Rattle.pg_client.specs.declared.phase.Cause.{Cause}
 use Rattle.pg_client.specs.declared.phase.Cause.TheVariants as cause
-use Rattle.pg_segment.specs.declared.segment.begun.Open.{Open}
-use Rattle.pg_segment.specs.declared.segment.begun.Open.TheVariants as begun
+use Rattle.pg_response.specs.declared.segment.begun.Open.{Open}
+use Rattle.pg_response.specs.declared.segment.begun.Open.TheVariants as begun
 use Rattle.pg_client.specs.declared.startup.Welcome.{Welcome}
 use Rattle.pg_client.specs.declared.startup.Welcome.TheVariants.{Fresh, Asked, Admitted}
 use Rattle.pg_client.specs.declared.settings.Settings.{Settings}
 use Rattle.pg_client.specs.Startup.{greet, greet_from, greet_all}
-use Rattle.pg_segment.specs.Segment.{Stuck, Stage, Within, Failed, Reading, left, progress, after_progress, read_by, read_from, read_all}
+use Rattle.pg_response.specs.Segment.{Stuck, Stage, Within, Failed, Reading, left, progress, after_progress, read_by, read_from, read_all}
 use Rattle.pg_client.specs.declared.call.Call.{Call}
 use Rattle.pg_client.specs.declared.call.Call.TheVariants as call
 use Rattle.pg_client.specs.Session.{Happening, Did, Came, messages_in, requests_in, whole_in, rest_in, AsksPassword, BeginsStartup, FitAll, IsSession, IsStarted, IsTerminated, AreAllowed, Expected}
@@ -34,12 +34,12 @@ use Rattle.pg_client.specs.History.{happenings, IsHistoryOf, History}
 use Rattle.pg_wire.specs.Turns.{Turn, turn_messages}
 use Rattle.pg_client.specs.Turns.{turns_of, calls_in, passwords, first_answer, greeting, farewell, InTurns}
 use Rattle.pg_client.proofs.Beginnings.{AllAfter, after_begins, segments_came, requests_came, allowed_begins, along, are_answered, expected_begins}
-use Rattle.pg_segment.proofs.Complete.{at, read_from-append}
+use Rattle.pg_response.proofs.Complete.{at, read_from-append}
 use Rattle.pg_client.proofs.Copying.{heard_after_start}
 use Rattle.pg_client.proofs.OneMessage.{put_after, not_ready}
-use Rattle.pg_segment.proofs.Outcomes.{kept_with, front_splits, without_asides-append, begins_read}
+use Rattle.pg_response.proofs.Outcomes.{kept_with, front_splits, without_asides-append, begins_read}
 use Rattle.pg_client.proofs.Accepting.{sent_more}
-use Rattle.pg_segment.proofs.WelcomeStuck.{welcome_stuck}
+use Rattle.pg_response.proofs.WelcomeStuck.{welcome_stuck}
 use Rattle.pg_client.proofs.Greeting.{Greeted, greet_sound, greet_from-append, begins_greeted}
 use Rattle.pg_client.proofs.Ordering.{messages_in-append, calls_in-append}
 use Rattle.pg_client.proofs.TurnLaws.{IsOrderly, orderly_from, after_first, sent_first, first_greets, turns_after, requests_of}

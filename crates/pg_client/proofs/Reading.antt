@@ -12,9 +12,9 @@ use Rattle.pg_client.specs.declared.stand.Stand.TheVariants.{New, Starting, Idle
 use Rattle.pg_client.specs.declared.startup.Welcome.{Welcome}
 use Rattle.pg_client.specs.declared.startup.Welcome.TheVariants.{Fresh, Asked, Admitted}
 use Rattle.pg_client.specs.Startup.{greet}
-use Rattle.pg_segment.specs.Segment.{SegmentView}
+use Rattle.pg_response.specs.Segment.{SegmentView}
 use Rattle.pg_client.specs.Stand.{starting_at, hear_starting, hear_idle}
-use Rattle.pg_segment.specs.Kind.{is_welcome, IsResult}
+use Rattle.pg_response.specs.Kind.{is_welcome, IsResult}
 use Rattle.pg_client.specs.Private.Hearing.{welcome_fault, idle_fault, HearsAs}
 
 -- a message of a result is of a request's segment alone

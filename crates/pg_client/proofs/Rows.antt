@@ -37,19 +37,19 @@ use Rattle.pg_client.specs.History.{merged, Calls, with_ends}
 use Rattle.pg_client.specs.Calls.{Cancels, RefusesCopy, RefusesUnless}
 use Rattle.pg_client.specs.Lost.{Loses}
 use Rattle.pg_client.specs.Facts.{FirstSettled}
-use Rattle.pg_segment.specs.declared.segment.CopyAnswer.TheVariants.{Awaited, Done}
-use Rattle.pg_segment.specs.declared.segment.begun.Open.TheVariants as begun
-use Rattle.pg_segment.specs.Segment.{Within}
+use Rattle.pg_response.specs.declared.segment.CopyAnswer.TheVariants.{Awaited, Done}
+use Rattle.pg_response.specs.declared.segment.begun.Open.TheVariants as begun
+use Rattle.pg_response.specs.Segment.{Within}
 use Rattle.pg_client.specs.declared.stand.Stand.TheVariants.{Starting, Idle, Busy}
 use Rattle.pg_client.specs.declared.startup.Welcome.TheVariants.{Fresh, Asked, Admitted}
 use Rattle.pg_client.specs.declared.settings.Settings.{Settings}
 use Rattle.pg_client.specs.Stand.{Leads, Rejected, hear, hear_with, Stands}
-use Rattle.pg_segment.specs.SegmentCalls.{segment_of}
+use Rattle.pg_response.specs.SegmentCalls.{segment_of}
 use Rattle.pg_client.specs.Private.Calling.{with_request}
 use Rattle.pg_client.specs.Private.Hearing.{fault_at}
 use Rattle.pg_client.proofs.Agreeing.{no_copy_in}
 use Rattle.pg_client.proofs.Happening.{hears, did_start, expected_came, expected_did, expected_nothing}
-use Rattle.pg_segment.proofs.Outcomes.{read_outcome}
+use Rattle.pg_response.proofs.Outcomes.{read_outcome}
 use Rattle.pg_client.proofs.Passwords.{comes_first}
 
 ok : List ℕ

@@ -4,10 +4,10 @@ use Rattle.pg_wire.specs.message.BackMessage.{BackMessage}
 use Rattle.pg_wire.specs.message.BackMessage.TheVariants.{KeyData, ParameterStatus}
 use Rattle.pg_wire.specs.value.Status.{Status}
 use Rattle.pg_wire.specs.declared.session.Request.{Request}
-use Rattle.pg_segment.specs.declared.segment.CopyAnswer.{CopyAnswer}
-use Rattle.pg_segment.specs.declared.segment.CopyAnswer.TheVariants.{Awaited}
-use Rattle.pg_segment.specs.declared.segment.begun.Open.TheVariants as begun
-use Rattle.pg_segment.specs.Segment.{Stage, Within, stage_failed}
+use Rattle.pg_response.specs.declared.segment.CopyAnswer.{CopyAnswer}
+use Rattle.pg_response.specs.declared.segment.CopyAnswer.TheVariants.{Awaited}
+use Rattle.pg_response.specs.declared.segment.begun.Open.TheVariants as begun
+use Rattle.pg_response.specs.Segment.{Stage, Within, stage_failed}
 use Rattle.pg_client.specs.declared.stand.Stand.{Stand}
 use Rattle.pg_client.specs.declared.stand.Stand.TheVariants as stands
 use Rattle.pg_client.specs.declared.settled.Settled.{Settled}

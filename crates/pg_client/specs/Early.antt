@@ -4,7 +4,7 @@ use Rattle.pg_wire.specs.message.BackMessage.{BackMessage}
 use Rattle.pg_wire.specs.message.BackMessage.TheVariants as back
 use Rattle.pg_wire.specs.value.Status.{Status}
 use Rattle.pg_wire.specs.declared.session.Request.{Request}
-use Rattle.pg_segment.specs.Place.{place_in}
+use Rattle.pg_response.specs.Place.{place_in}
 use Rattle.pg_client.specs.declared.call.Call.{Call}
 use Rattle.pg_client.specs.declared.early.EarlyStand.{EarlyStand}
 use Rattle.pg_client.specs.declared.early.EarlyStand.TheVariants as early

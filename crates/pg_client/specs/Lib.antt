@@ -24,9 +24,9 @@ pub mod Startup
 pub mod Stand
 -- Words of private functions, which no public contract cites.
 pub mod Private
--- What pg_segment defines and the contracts here speak of. Who uses pg_client names it through
+-- What pg_response defines and the contracts here speak of. Who uses pg_client names it through
 -- these lines.
-pub use Rattle.pg_segment.specs.Segment
-pub use Rattle.pg_segment.specs.Place
+pub use Rattle.pg_response.specs.Segment
+pub use Rattle.pg_response.specs.Place
 -- Its types.
-pub use Rattle.pg_segment.specs.declared.segment
+pub use Rattle.pg_response.specs.declared.segment

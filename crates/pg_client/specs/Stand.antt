@@ -9,8 +9,8 @@ use Rattle.pg_wire.specs.declared.session.Aside.{Aside}
 use Rattle.pg_wire.specs.declared.session.Outcome.{Outcome}
 use Rattle.pg_wire.specs.declared.session.Request.{Request}
 use Rattle.pg_wire.specs.Segment.{aside_of, asides_of, without_asides, asked, Fits, status_of}
-use Rattle.pg_segment.specs.declared.segment.CopyAnswer.{CopyAnswer}
-use Rattle.pg_segment.specs.declared.segment.CopyAnswer.TheVariants.{Awaited, Done, Refused}
+use Rattle.pg_response.specs.declared.segment.CopyAnswer.{CopyAnswer}
+use Rattle.pg_response.specs.declared.segment.CopyAnswer.TheVariants.{Awaited, Done, Refused}
 use Rattle.pg_client.specs.declared.settled.Settled.{Settled}
 use Rattle.pg_client.specs.declared.stand.Stand.{Stand}
 use Rattle.pg_client.specs.declared.stand.Stand.TheVariants.{New, Starting, Idle, Busy}
@@ -19,7 +19,7 @@ use Rattle.pg_client.specs.declared.startup.Welcome.TheVariants.{Admitted}
 use Rattle.pg_client.specs.declared.call.Call.TheVariants as call
 use Rattle.pg_client.specs.Session.{Happening, Did, Came, can_answer, requests_in, whole_in, rest_in, IsStarted, IsStartup}
 use Rattle.pg_client.specs.Startup.{greet, greet_all}
-use Rattle.pg_segment.specs.Segment.{SegmentView, Reading, read_all, outcome_at, reading_of, next_reading, with_aside, moved_to}
+use Rattle.pg_response.specs.Segment.{SegmentView, Reading, read_all, outcome_at, reading_of, next_reading, with_aside, moved_to}
 
 -- ---- what one message does
 

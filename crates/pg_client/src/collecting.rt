@@ -10,7 +10,7 @@ use crate::phase::Phase;
 use crate::settled::{Loss, Settled};
 use crate::stand::Stand;
 use crate::startup::{ToSend, Welcome};
-use pg_segment::{Auth, CopyAnswer};
+use pg_response::{Auth, CopyAnswer};
 use pg_wire::{Aside, BackMessage, Fields, Request, RowView, Seq, Status};
 use std::alloc::Global;
 use std::collections::VecDeque;

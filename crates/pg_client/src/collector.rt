@@ -5,7 +5,7 @@ ghost use Rattle.pg_wire.specs.Segment.{aside_of};
 ghost use Rattle.pg_wire.specs.message.BackMessage.{BackMessage};
 ghost use Rattle.pg_wire.specs.message.BackMessage.TheVariants.{DataRow, ErrorResponse};
 ghost use Rattle.pg_wire.specs.message.BackMessage.TheVariants.{ParameterStatus};
-ghost use Rattle.pg_segment.specs.Kind.{auth_message, IsResult};
+ghost use Rattle.pg_response.specs.Kind.{auth_message, IsResult};
 ghost use Rattle.pg_client.specs.declared.settled.Settled.{Settled};
 ghost use Rattle.pg_client.specs.declared.stand.Stand.{Stand};
 ghost use Rattle.pg_client.specs.declared.stand.Stand.TheVariants.{New, Starting};
@@ -21,7 +21,7 @@ use crate::parameters::Parameters;
 use crate::phase::Phase;
 use crate::settled::Loss;
 use crate::startup::ToSend;
-use pg_segment::{Auth, CopyAnswer};
+use pg_response::{Auth, CopyAnswer};
 use pg_wire::{Aside, BackMessage, Fields, Request, RowView, Seq, Status};
 use std::alloc::Global;
 

@@ -3,7 +3,7 @@
 ghost use Rattle.std.specs.Prelude.{◌≡◌, ◌≢◌, ◌∷◌, ◌↔◌, [], IfNone, IfOk, IfSome, IsTrue};
 ghost use Rattle.pg_wire.specs.message.BackMessage.TheVariants.{DataRow, ErrorResponse};
 ghost use Rattle.pg_wire.specs.message.BackMessage.TheVariants.{ParameterStatus};
-ghost use Rattle.pg_segment.specs.Kind.{auth_message, IsResult};
+ghost use Rattle.pg_response.specs.Kind.{auth_message, IsResult};
 ghost use Rattle.pg_client.specs.Private.Collector.{SetsParameter};
 ghost use Rattle.pg_client.specs.Private.Early.{early_answered, early_asked, early_ends};
 ghost use Rattle.pg_client.specs.Private.Early.{early_loss, early_phase, early_takes_key};
@@ -20,7 +20,7 @@ use crate::phase::Phase;
 use crate::settled::Loss;
 use crate::stand::aside_tag;
 use crate::startup::{ToSend, Welcome};
-use pg_segment::{Auth, CopyAnswer, Place};
+use pg_response::{Auth, CopyAnswer, Place};
 use pg_wire::{Aside, BackMessage, Fields, Request, RowView, Seq, Status, Values};
 use std::alloc::Global;
 use std::collections::VecDeque;

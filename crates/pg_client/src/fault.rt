@@ -9,7 +9,7 @@ ghost use Rattle.pg_client.specs.declared.fault.CallFault.TheVariants.{Encode};
 ghost use Rattle.pg_client.specs.declared.fault.FeedFault.TheVariants as feeding;
 
 use crate::phase::{Cause, Phase};
-use pg_segment::ReadFault;
+use pg_response::ReadFault;
 use pg_wire::{EncodeFault, Fields, WireFault};
 use std::alloc::AllocError;
 use thiserror::Error;

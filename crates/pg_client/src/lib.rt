@@ -52,7 +52,7 @@
 //! | `startup.rt` | `Startup` | how far the startup has come, and what one more message does there |
 //! | `stand.rt` | `Stand` | where a client stands, and what any message does to that |
 //!
-//! `Startup`, `Stand`, and `Segment` of `pg_segment`, are the code's own words, which the history cites and the laws read, and so is
+//! `Startup`, `Stand`, and `Segment` of `pg_response`, are the code's own words, which the history cites and the laws read, and so is
 //! `specs/Private`. The others are what a reader has to believe.
 //!
 //! # How it works
@@ -63,7 +63,7 @@
 //! history is proved once, and an early client is a client without what that collects (`StandsFor`).
 //!
 //! **One message.** `Kind::of` says what it is: an aside, a parameter, an error, ReadyForQuery, a key, a word of the authentication, or a
-//! message of a result. Each kind has its method of `Stand`. Between a request and its ReadyForQuery stands a `Segment` (`pg_segment`), which
+//! message of a result. Each kind has its method of `Stand`. Between a request and its ReadyForQuery stands a `Segment` (`pg_response`), which
 //! reads messages of results, notes asides and errors, and is settled in the end. A row's bytes are copied once, out of the decoder, and moved
 //! from then on. Room for a settled group is wanted at its ReadyForQuery alone, before that is taken in.
 #![tactic(auto)]

@@ -20,7 +20,7 @@ use crate::phase::{Cause, Phase};
 use crate::sending::{put_request, put_start};
 use crate::settings::Settings;
 use crate::settled::Loss;
-use pg_segment::CopyAnswer;
+use pg_response::CopyAnswer;
 use pg_wire::{BackDecoder, Request, Status, frontend};
 use std::alloc::Global;
 use std::marker::Model;

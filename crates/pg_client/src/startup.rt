@@ -1,11 +1,11 @@
 //! The messages of the startup.
 
 ghost use Rattle.std.specs.Prelude.{IfOk};
-ghost use Rattle.pg_segment.specs.Kind.{auth_message};
+ghost use Rattle.pg_response.specs.Kind.{auth_message};
 ghost use Rattle.pg_client.specs.Private.Hearing.{Greets, IsSentFor};
 
 use crate::fault::FeedFault;
-use pg_segment::Auth;
+use pg_response::Auth;
 
 /// How far the startup has come.
 #[derive(Clone, Copy, Debug, PartialEq, Eq)]

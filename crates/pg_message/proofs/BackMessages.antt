@@ -8,16 +8,16 @@ use Rattle.std.proofs.Math.Facts.{sfits_lit}
 use Rattle.std.proofs.lemmas.Bool.{eqb-true, eq-eqb, or_parts, or_from}
 use Rattle.pg_message.specs.declared.backend.kind.BackKind.{BackKind}
 use Rattle.pg_message.specs.declared.backend.kind.BackKind.TheVariants as kinds
-use Rattle.pg_layout.specs.declared.value.Status.TheVariants.{Idle}
+use Rattle.pg_codec.specs.declared.value.Status.TheVariants.{Idle}
 use Rattle.pg_message.specs.declared.message.BackMessage.{BackMessage}
 use Rattle.pg_message.specs.declared.message.BackMessage.TheVariants.{AuthOk, AuthCleartext, AuthMd5, AuthOther, KeyData, ParameterStatus, Ready, RowDescription, DataRow, CommandComplete, ParameterDescription, ErrorResponse, NoticeResponse, Notification, CopyIn, CopyOut, CopyData, CopyDone, EmptyQuery, ParseComplete, BindComplete, CloseComplete, NoData, PortalSuspended}
-use Rattle.pg_layout.specs.Field.{◌⨾◌, int32, byten}
+use Rattle.pg_codec.specs.Field.{◌⨾◌, int32, byten}
 use Rattle.pg_message.specs.Backend.{backend, back_row, tag}
 use Rattle.pg_message.specs.Message.{IsTag, NoMessage, IsMessage}
 use Rattle.pg_message.specs.Private.BackReader.{back_reading, back_kind_of, auth_of_code, auth_message}
 use Rattle.pg_message.specs.Private.Reading.{ends}
-use Rattle.pg_layout.proofs.Layouts.{IsBytes, bind_some, some_is, Spelled, pair_reads, pair_last, reads_last, counted_reads, oid_reads, int32_reads, text_reads, nothing_reads, byten_reads}
-use Rattle.pg_layout.proofs.Fields.{value_reads, column_reads, status_reads, copy_head_reads, error_fields_reads, chosen}
+use Rattle.pg_codec.proofs.Layouts.{IsBytes, bind_some, some_is, Spelled, pair_reads, pair_last, reads_last, counted_reads, oid_reads, int32_reads, text_reads, nothing_reads, byten_reads}
+use Rattle.pg_codec.proofs.Fields.{value_reads, column_reads, status_reads, copy_head_reads, error_fields_reads, chosen}
 use Rattle.pg_message.proofs.Bodies.{IsSpelled, ended_some}
 use Rattle.pg_message.proofs.Tables.{IsRead, is_read, bare_is_read, message_sound, found, body_spelled, IsTable}
 use Rattle.pg_message.proofs.Tables as tables

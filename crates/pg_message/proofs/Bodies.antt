@@ -3,11 +3,11 @@ use Rattle.std.proofs.Common.{◌≡◌, ℕ, ◌+◌, ◌≤◌, Bool, true, fa
 use Rattle.std.proofs.lemmas.Bool.{eqb-true, ltb-false, le-ltb}
 use Rattle.std.proofs.lemmas.List.{nil_from_length}
 use Rattle.std.proofs.lemmas.Option.{none-some}
-use Rattle.pg_layout.specs.declared.fault.EncodeFault.{EncodeFault}
-use Rattle.pg_layout.specs.declared.fault.EncodeFault.TheVariants as faults
+use Rattle.pg_codec.specs.declared.fault.EncodeFault.{EncodeFault}
+use Rattle.pg_codec.specs.declared.fault.EncodeFault.TheVariants as faults
 use Rattle.pg_message.specs.Direction.{Direction, HasSpelling, length_field, longest}
-use Rattle.pg_layout.proofs.Layouts.{some_is}
-use Rattle.pg_layout.proofs.Fields.{chosen}
+use Rattle.pg_codec.proofs.Layouts.{some_is}
+use Rattle.pg_codec.proofs.Fields.{chosen}
 
 -- The message has a spelling, but perhaps for its length.
 pub record IsSpelled {M : Type 0} (d : Direction M) (m : M) : Type 0 where

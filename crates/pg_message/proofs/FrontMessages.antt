@@ -4,17 +4,17 @@ use Rattle.std.specs.Prelude.{ℤ, pos, is_some}
 use Rattle.std.specs.Int.{w16}
 use Rattle.pg_message.specs.declared.frontend.kind.FrontKind.{FrontKind}
 use Rattle.pg_message.specs.declared.frontend.kind.FrontKind.TheVariants as kinds
-use Rattle.pg_layout.specs.declared.value.Target.{Target}
-use Rattle.pg_layout.specs.declared.value.Target.TheVariants.{Statement, Portal}
+use Rattle.pg_codec.specs.declared.value.Target.{Target}
+use Rattle.pg_codec.specs.declared.value.Target.TheVariants.{Statement, Portal}
 use Rattle.pg_message.specs.declared.message.FrontMessage.{FrontMessage}
 use Rattle.pg_message.specs.declared.message.FrontMessage.TheVariants.{Query, Parse, Bind, Describe, Close, Execute, Sync, Flush, Terminate, CopyData, CopyDone, CopyFail, Password}
-use Rattle.pg_layout.specs.Field.{byte1, int16, counted}
+use Rattle.pg_codec.specs.Field.{byte1, int16, counted}
 use Rattle.pg_message.specs.Frontend.{frontend, front_row, tag, target_byte}
-use Rattle.pg_layout.specs.Private.Reader.{choice_at, counted_at, signed_at}
+use Rattle.pg_codec.specs.Private.Reader.{choice_at, counted_at, signed_at}
 use Rattle.pg_message.specs.Private.Reading.{ends}
 use Rattle.pg_message.specs.Private.FrontReader.{BindParts, front_reading, front_kind_of, target_of_byte}
-use Rattle.pg_layout.proofs.Layouts.{bind_some, some_is, Reads, pair_reads, reads_last, counted_reads, oid_reads, int16_reads, int32_reads, text_reads, nothing_reads, byten_reads}
-use Rattle.pg_layout.proofs.Fields.{value_reads, choice_reads, try_next}
+use Rattle.pg_codec.proofs.Layouts.{bind_some, some_is, Reads, pair_reads, reads_last, counted_reads, oid_reads, int16_reads, int32_reads, text_reads, nothing_reads, byten_reads}
+use Rattle.pg_codec.proofs.Fields.{value_reads, choice_reads, try_next}
 use Rattle.pg_message.proofs.Bodies.{IsSpelled}
 use Rattle.pg_message.proofs.Tables.{IsRead, is_read, bare_is_read, found, body_spelled, IsTable}
 

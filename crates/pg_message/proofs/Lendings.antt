@@ -6,11 +6,11 @@ use Rattle.pg_message.specs.declared.backend.kind.BackKind.TheVariants as kinds
 use Rattle.pg_message.specs.declared.lent.Lent.TheVariants.{Row, Error, Notice}
 use Rattle.pg_message.specs.declared.message.BackMessage.{BackMessage}
 use Rattle.pg_message.specs.declared.message.BackMessage.TheVariants.{DataRow, ErrorResponse, NoticeResponse}
-use Rattle.pg_layout.specs.declared.value.ErrorField.{ErrorField}
-use Rattle.pg_layout.specs.Private.Reader.{value_at, counted_at, error_field_at, terminated_at, whole}
+use Rattle.pg_codec.specs.declared.value.ErrorField.{ErrorField}
+use Rattle.pg_codec.specs.Private.Reader.{value_at, counted_at, error_field_at, terminated_at, whole}
 use Rattle.pg_values.specs.Private.View.{row_of, fields_of}
-use Rattle.pg_layout.proofs.Layouts.{IsBytes}
-use Rattle.pg_layout.proofs.Fields.{chosen}
+use Rattle.pg_codec.proofs.Layouts.{IsBytes}
+use Rattle.pg_codec.proofs.Fields.{chosen}
 use Rattle.pg_message.specs.Private.BackReader.{back_reading}
 use Rattle.pg_message.specs.Private.LentReader.{has_lent, lent_body, LendsBody}
 use Rattle.pg_message.specs.Private.Reading.{made_of_whole}

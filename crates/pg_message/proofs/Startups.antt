@@ -1,10 +1,10 @@
 -- A startup packet whose parts were lent one by one.
 use Rattle.std.proofs.Common.{◌≡◌, ◌∙◌, ℕ, ◌+◌, List, ◌∷◌, ◌++◌, [], length, codes, Some, Result, ap, sym, subst, append_assoc}
 use Rattle.std.specs.List.{flat_map}
-use Rattle.pg_layout.specs.declared.fault.EncodeFault.{EncodeFault}
+use Rattle.pg_codec.specs.declared.fault.EncodeFault.{EncodeFault}
 use Rattle.pg_message.specs.declared.message.First.TheVariants.{Startup}
-use Rattle.pg_layout.specs.Field.{◌⨾◌, terminated}
-use Rattle.pg_layout.specs.Part.{packet_of}
+use Rattle.pg_codec.specs.Field.{◌⨾◌, terminated}
+use Rattle.pg_codec.specs.Part.{packet_of}
 use Rattle.pg_message.specs.First.{parameter, packet_fault_of, packet_has_zero, packet_has_no_name, PacketIsOfType, startup_parameters}
 use Rattle.pg_message.specs.Encoder.{EncodesAs, EncodesPacket, AppendsPacket}
 

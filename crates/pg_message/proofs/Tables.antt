@@ -3,14 +3,14 @@ use Rattle.std.proofs.Common.{◌≡◌, ℕ, ◌^◌, ◌<◌, Bool, true, fals
 use Rattle.std.specs.Prelude.{is_some, IfSome, IsSomeAnd}
 use Rattle.std.proofs.lemmas.List.{append-nil}
 use Rattle.std.proofs.lemmas.Option.{none-some, same_Some}
-use Rattle.pg_layout.specs.declared.fault.BodyFault.{BodyFault}
-use Rattle.pg_layout.specs.declared.fault.BodyFault.TheVariants as faults
+use Rattle.pg_codec.specs.declared.fault.BodyFault.{BodyFault}
+use Rattle.pg_codec.specs.declared.fault.BodyFault.TheVariants as faults
 use Rattle.pg_message.specs.Direction.{Row, listed_in, HasSpelling}
 use Rattle.pg_message.specs.Message.{IsTag, NoMessage, OneToOne, IsMessage, TellsTag, JudgesBody, ReadsBody}
 use Rattle.pg_message.specs.Private.Reading.{Reading, made_of_whole, reading, bare, ends, ReadsWhole}
-use Rattle.pg_layout.specs.Private.Reader.{nothing_at}
-use Rattle.pg_layout.specs.Private.Lent.{left_after}
-use Rattle.pg_layout.proofs.Layouts.{IsBytes, bind_some, some_is, Spelled, ReadsLast}
+use Rattle.pg_codec.specs.Private.Reader.{nothing_at}
+use Rattle.pg_codec.specs.Private.Lent.{left_after}
+use Rattle.pg_codec.proofs.Layouts.{IsBytes, bind_some, some_is, Spelled, ReadsLast}
 use Rattle.pg_message.proofs.Bodies.{IsSpelled, spelled_parts, ended}
 
 -- ---- one tag

@@ -3,8 +3,8 @@ use Rattle.std.specs.Prelude.{ℕ, ℤ, pos, Bool, ◌||◌}
 use Rattle.std.specs.Ordering.{int_eq}
 use Rattle.pg_message.specs.declared.message.BackMessage.{BackMessage}
 use Rattle.pg_message.specs.declared.message.BackMessage.TheVariants.{AuthOk, AuthCleartext, AuthMd5, AuthOther, KeyData, ParameterStatus, Ready, RowDescription, DataRow, CommandComplete, EmptyQuery, ParseComplete, BindComplete, CloseComplete, NoData, PortalSuspended, ParameterDescription, ErrorResponse, NoticeResponse, Notification, CopyIn, CopyOut, CopyData, CopyDone}
-use Rattle.pg_layout.specs.Field.{◌⨾◌, int32, oid, byte1, byte4, byten, nothing, value, string, counted, terminated}
-pub use Rattle.pg_layout.specs.Value.{status_byte, format_byte, column, error_field, copy_head}
+use Rattle.pg_codec.specs.Field.{◌⨾◌, int32, oid, byte1, byte4, byten, nothing, value, string, counted, terminated}
+pub use Rattle.pg_codec.specs.Value.{status_byte, format_byte, column, error_field, copy_head}
 use Rattle.pg_message.specs.Direction.{Direction, Row, row, listed_in}
 
 -- the codes of authentication requests that have a message of their own

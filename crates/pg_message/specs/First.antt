@@ -2,13 +2,13 @@
 -- GSSENCRequest).
 use Rattle.std.specs.Prelude.{ℕ, ◌≡◌, ◌+◌, ◌==◌, Bool, false, List, [], ◌∷◌, ◌++◌, length, codes, Option, Some, None}
 use Rattle.std.specs.List.{list_any}
-use Rattle.pg_layout.specs.declared.fault.EncodeFault.{EncodeFault}
+use Rattle.pg_codec.specs.declared.fault.EncodeFault.{EncodeFault}
 use Rattle.pg_message.specs.declared.message.First.{First}
 use Rattle.pg_message.specs.declared.message.First.TheVariants as first
-use Rattle.pg_layout.specs.Field.{Body, ◌⨾◌, int32, nothing, terminated}
-pub use Rattle.pg_layout.specs.Value.{parameter}
-use Rattle.pg_layout.specs.Part.{packet_of}
-pub use Rattle.pg_layout.specs.Part.{longest_packet, packet_fault_of}
+use Rattle.pg_codec.specs.Field.{Body, ◌⨾◌, int32, nothing, terminated}
+pub use Rattle.pg_codec.specs.Value.{parameter}
+use Rattle.pg_codec.specs.Part.{packet_of}
+pub use Rattle.pg_codec.specs.Part.{longest_packet, packet_fault_of}
 
 -- ---- a packet as bytes
 

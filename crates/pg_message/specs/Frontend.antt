@@ -1,10 +1,10 @@
 -- The frontend's messages (Frontend/Backend Protocol, "Message Formats", those marked F).
 use Rattle.std.specs.Prelude.{ℕ}
-use Rattle.pg_layout.specs.declared.value.Target.{Target}
-use Rattle.pg_layout.specs.declared.value.Target.TheVariants.{Statement, Portal}
+use Rattle.pg_codec.specs.declared.value.Target.{Target}
+use Rattle.pg_codec.specs.declared.value.Target.TheVariants.{Statement, Portal}
 use Rattle.pg_message.specs.declared.message.FrontMessage.{FrontMessage}
 use Rattle.pg_message.specs.declared.message.FrontMessage.TheVariants.{Query, Parse, Bind, Describe, Close, Execute, Sync, Flush, Terminate, CopyData, CopyDone, CopyFail, Password}
-use Rattle.pg_layout.specs.Field.{◌⨾◌, int16, int32, oid, byte1, byten, nothing, value, string, counted}
+use Rattle.pg_codec.specs.Field.{◌⨾◌, int16, int32, oid, byte1, byten, nothing, value, string, counted}
 use Rattle.pg_message.specs.Direction.{Direction, Row, row, listed_in}
 
 -- the byte that says what a Describe or a Close names

@@ -1,7 +1,7 @@
 -- What is made of a tag and a body.
 use Rattle.std.specs.Prelude.{ℕ, ◌≡◌, false, Bool, true, List, Result, Ok, Err}
-use Rattle.pg_layout.specs.declared.fault.BodyFault.{BodyFault}
-use Rattle.pg_layout.specs.declared.fault.BodyFault.TheVariants as faults
+use Rattle.pg_codec.specs.declared.fault.BodyFault.{BodyFault}
+use Rattle.pg_codec.specs.declared.fault.BodyFault.TheVariants as faults
 use Rattle.pg_message.specs.Direction.{Direction, HasSpelling}
 
 -- Some message has this tag.

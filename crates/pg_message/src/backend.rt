@@ -29,7 +29,7 @@ use crate::direction::Message;
 use crate::message::BackMessage;
 use judging::is_back_message;
 use kind::BackKind;
-use pg_layout::{
+use pg_codec::{
     BodyFault, Byte, Bytes, Column, CopyHead, Counted, EncodeFault, Int32, Pair, Salt, Status,
     Text, append,
 };

@@ -4,7 +4,7 @@ ghost use Rattle.pg_message.specs.Direction.{Direction};
 ghost use Rattle.pg_message.specs.Encoder.{Encodes};
 ghost use Rattle.pg_message.specs.Message.{TellsTag, JudgesBody, ReadsBody, OneToOne};
 
-use pg_layout::{BodyFault, EncodeFault};
+use pg_codec::{BodyFault, EncodeFault};
 use std::alloc::Global;
 
 /// A message of one direction of the protocol.

@@ -27,7 +27,7 @@ use crate::direction::Message;
 use crate::message::{First, FrontMessage};
 use judging::is_front_message;
 use kind::FrontKind;
-use pg_layout::{
+use pg_codec::{
     BodyFault, BodyPart, Byte, Bytes, Counted, EncodeFault, Int32, Pair, Target, Text, append,
     append_packet,
 };

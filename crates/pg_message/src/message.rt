@@ -2,7 +2,7 @@
 
 mod shown;
 
-use pg_layout::{Column, CopyHead, Status, Target};
+use pg_codec::{Column, CopyHead, Status, Target};
 use pg_seq::Seq;
 use pg_values::{Fields, Values};
 

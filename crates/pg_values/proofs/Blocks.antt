@@ -7,10 +7,10 @@ use Rattle.std.specs.Int.{w16, w32, to_be_bytes, from_be_bytes}
 use Rattle.std.proofs.lemmas.Bool.{ltb-false}
 use Rattle.std.proofs.lemmas.List.{append-nil, get_or-drop, drop_at, drop_more, take_at, take-append-drop, length-drop}
 use Rattle.std.proofs.lemmas.Option.{slice_get-get_or, slice_get_past}
-use Rattle.pg_layout.specs.Field.{value, value_bytes, listed}
-use Rattle.pg_layout.specs.Private.Reader.{◌>>=◌, times_at, value_at, number_at, value_of_length}
-use Rattle.pg_layout.proofs.Layouts.{IsBytes, Spelled, times_again, times_sound, bind_some, some_is, guard_some, wide32}
-use Rattle.pg_layout.proofs.Fields.{value_reads, taken}
+use Rattle.pg_codec.specs.Field.{value, value_bytes, listed}
+use Rattle.pg_codec.specs.Private.Reader.{◌>>=◌, times_at, value_at, number_at, value_of_length}
+use Rattle.pg_codec.proofs.Layouts.{IsBytes, Spelled, times_again, times_sound, bind_some, some_is, guard_some, wide32}
+use Rattle.pg_codec.proofs.Fields.{value_reads, taken}
 use Rattle.pg_values.specs.Private.View.{values_left, row_of}
 use Rattle.pg_values.specs.Private.Block.{IsBlock, IsRow, spelled, starts, starts_at, longest_block}
 use Rattle.pg_values.proofs.Views.{values_are, whole_is}

@@ -10,14 +10,14 @@ use Rattle.std.proofs.lemmas.Bool.{eqb-true}
 use Rattle.std.proofs.lemmas.Cmp.{on_equiv, nat_eq_equiv}
 use Rattle.std.proofs.lemmas.Grind.{flat_map-append}
 use Rattle.std.proofs.lemmas.List.{append-nil, drop-drop, drop_at, get_or_default, length-drop, length-map, map-append, take_at, take_rest}
-use Rattle.pg_layout.specs.Value.{error_field}
-use Rattle.pg_layout.specs.declared.fault.BodyFault.TheVariants.{Bad}
-use Rattle.pg_layout.specs.declared.value.ErrorField.{ErrorField}
-use Rattle.pg_layout.specs.Private.Lent.{lent_field}
-use Rattle.pg_layout.specs.Private.Reader.{after_zero, up_to_zero_at, terminated_at, error_field_at}
-use Rattle.pg_layout.proofs.Fields.{error_fields_reads}
-use Rattle.pg_layout.proofs.Layouts.{IsBytes, bind_some, some_is}
-use Rattle.pg_layout.proofs.Loops.{part_of, with_first, zero_goes_on, zero_ends, zero_is_done, zero_is_past}
+use Rattle.pg_codec.specs.Value.{error_field}
+use Rattle.pg_codec.specs.declared.fault.BodyFault.TheVariants.{Bad}
+use Rattle.pg_codec.specs.declared.value.ErrorField.{ErrorField}
+use Rattle.pg_codec.specs.Private.Lent.{lent_field}
+use Rattle.pg_codec.specs.Private.Reader.{after_zero, up_to_zero_at, terminated_at, error_field_at}
+use Rattle.pg_codec.proofs.Fields.{error_fields_reads}
+use Rattle.pg_codec.proofs.Layouts.{IsBytes, bind_some, some_is}
+use Rattle.pg_codec.proofs.Loops.{part_of, with_first, zero_goes_on, zero_ends, zero_is_done, zero_is_past}
 use Rattle.pg_values.specs.Fields.{fields_spelled}
 use Rattle.pg_values.specs.Private.View.{fields_of, fields_left}
 use Rattle.pg_values.specs.Private.Block.{longest_block}

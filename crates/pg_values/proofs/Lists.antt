@@ -4,9 +4,9 @@ use Rattle.std.specs.Prelude.{map, option_copied, Option, None, Result, Ok, Err}
 use Rattle.std.proofs.lemmas.List.{get_or_default}
 use Rattle.std.specs.Borrow.{Bor}
 use Rattle.std.specs.List.{flat_map, list_any}
-use Rattle.pg_layout.specs.Field.{value_bytes}
-use Rattle.pg_layout.specs.Value.{parameter}
-use Rattle.pg_layout.proofs.Loops.{part_of}
+use Rattle.pg_codec.specs.Field.{value_bytes}
+use Rattle.pg_codec.specs.Value.{parameter}
+use Rattle.pg_codec.proofs.Loops.{part_of}
 
 -- what is said of each element of a list, and of each that is made of one
 pub spelled_map : {X Y : Type 0} (f : Y → List ℕ) (g : X → Y) (xs : List X) → flat_map (λ x. f (g x)) xs ≡ flat_map f (map g xs)

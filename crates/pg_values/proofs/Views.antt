@@ -5,12 +5,12 @@ use Rattle.std.specs.Option.{option_map_or}
 use Rattle.std.specs.Int.{w16}
 use Rattle.std.proofs.lemmas.Bool.{eqb-true}
 use Rattle.std.proofs.lemmas.List.{length-drop, length-take}
-use Rattle.pg_layout.specs.declared.fault.BodyFault.{BodyFault}
-use Rattle.pg_layout.specs.declared.fault.BodyFault.TheVariants as faults
-use Rattle.pg_layout.specs.declared.value.ErrorField.{ErrorField}
-use Rattle.pg_layout.specs.Private.Reader.{◌>>=◌, Fails, number_at, times_at, up_to_zero_at, counted_at, terminated_at, value_at, error_field_at, nonzero_at, string_at, pair_at, whole}
+use Rattle.pg_codec.specs.declared.fault.BodyFault.{BodyFault}
+use Rattle.pg_codec.specs.declared.fault.BodyFault.TheVariants as faults
+use Rattle.pg_codec.specs.declared.value.ErrorField.{ErrorField}
+use Rattle.pg_codec.specs.Private.Reader.{◌>>=◌, Fails, number_at, times_at, up_to_zero_at, counted_at, terminated_at, value_at, error_field_at, nonzero_at, string_at, pair_at, whole}
 use Rattle.pg_values.specs.Private.View.{values_left, fields_within, fields_left, row_of, fields_of}
-use Rattle.pg_layout.proofs.Layouts.{bind_some, some_is}
+use Rattle.pg_codec.proofs.Layouts.{bind_some, some_is}
 
 -- ---- what is still to come
 

@@ -2,9 +2,9 @@
 -- (Frontend/Backend Protocol, "Error and Notice Message Fields").
 use Rattle.std.specs.Prelude.{ℕ, ◌==◌, if◌then◌else◌, List, [], ◌∷◌, Option, None, Some}
 use Rattle.std.specs.Option.{option_or}
-use Rattle.pg_layout.specs.declared.value.ErrorField.{ErrorField}
-use Rattle.pg_layout.specs.Field.{listed}
-use Rattle.pg_layout.specs.Value.{error_field}
+use Rattle.pg_codec.specs.declared.value.ErrorField.{ErrorField}
+use Rattle.pg_codec.specs.Field.{listed}
+use Rattle.pg_codec.specs.Value.{error_field}
 
 -- the text of the first field with this code
 abbrev pub field_text : ℕ → List ErrorField → Option (List ℕ)

@@ -8,10 +8,10 @@ ghost use Rattle.std.specs.Cmp.Lexicographic.{pointwise, lists_per, lists_equiv,
 ghost use Rattle.std.specs.Iterator.{YieldsFirstBy, item_count};
 ghost use Rattle.std.specs.Ordering.{eq_of_both, on};
 ghost use Rattle.std.proofs.lemmas.Cmp.{on_equiv, nat_eq_equiv};
-ghost use Rattle.pg_layout.specs.Value.{error_field};
-ghost use Rattle.pg_layout.specs.declared.fault.EncodeFault.TheVariants.{TooLong, Memory};
-ghost use Rattle.pg_layout.specs.Private.Lent.{lent_field};
-ghost use Rattle.pg_layout.specs.Private.Reader.{Gives, error_field_at, terminated_at};
+ghost use Rattle.pg_codec.specs.Value.{error_field};
+ghost use Rattle.pg_codec.specs.declared.fault.EncodeFault.TheVariants.{TooLong, Memory};
+ghost use Rattle.pg_codec.specs.Private.Lent.{lent_field};
+ghost use Rattle.pg_codec.specs.Private.Reader.{Gives, error_field_at, terminated_at};
 ghost use Rattle.pg_values.specs.Fields.{field_text, code_text, severity_text, message_text};
 ghost use Rattle.pg_values.specs.Fields.{fields_spelled};
 ghost use Rattle.pg_values.specs.Private.Block.{longest_block};
@@ -20,7 +20,7 @@ ghost use Rattle.pg_values.specs.Private.Kept.{fields_kept, IsKept};
 use crate::text_lengths::text_lengths_at;
 use crate::values::ByteText;
 use crate::view::FieldsView;
-use pg_layout::{BodyFault, EncodeFault, LONGEST};
+use pg_codec::{BodyFault, EncodeFault, LONGEST};
 use pg_seq::{ByElement, DebugElement};
 use std::alloc::{AllocError, Global};
 use std::fmt;
@@ -38,7 +38,7 @@ pub struct Fields {
 
 impl Model for Fields {
     ghost use Rattle.std.specs.Prelude.{List};
-    ghost use Rattle.pg_layout.specs.declared.value.ErrorField.{ErrorField};
+    ghost use Rattle.pg_codec.specs.declared.value.ErrorField.{ErrorField};
     ghost use Rattle.pg_values.specs.Private.Kept.{fields_kept, IsKept};
 
     ghost Value = { List ErrorField };
@@ -289,7 +289,7 @@ pub struct KeptFields<'a> {
 
 impl<'a> Model for KeptFields<'a> {
     ghost use Rattle.std.specs.Prelude.{List};
-    ghost use Rattle.pg_layout.specs.declared.value.ErrorField.{ErrorField};
+    ghost use Rattle.pg_codec.specs.declared.value.ErrorField.{ErrorField};
     ghost use Rattle.pg_values.specs.Private.Kept.{fields_kept, IsKept};
 
     ghost Value = { List ErrorField };

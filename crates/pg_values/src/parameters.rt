@@ -2,11 +2,11 @@
 
 ghost use Rattle.std.specs.Prelude.{◌≡◌, ◌<◌, ◌^◌, ◌++◌, ◌==◌, List, ℕ, false, length, map, OnOk};
 ghost use Rattle.std.specs.List.{list_any};
-ghost use Rattle.pg_layout.specs.Field.{terminated};
-ghost use Rattle.pg_layout.specs.Value.{parameter};
-ghost use Rattle.pg_layout.specs.Private.Writer.{LeavesRoom};
+ghost use Rattle.pg_codec.specs.Field.{terminated};
+ghost use Rattle.pg_codec.specs.Value.{parameter};
+ghost use Rattle.pg_codec.specs.Private.Writer.{LeavesRoom};
 
-use pg_layout::{Appender, BodyPart, Terminated};
+use pg_codec::{Appender, BodyPart, Terminated};
 use pg_seq::Seq;
 use std::alloc::AllocError;
 

@@ -2,11 +2,11 @@
 
 ghost use Rattle.std.specs.Prelude.{◌≡◌, ◌<◌, ◌^◌, ◌++◌, List, Option, ℕ, false, length, map};
 ghost use Rattle.std.specs.Prelude.{option_copied, OnOk};
-ghost use Rattle.pg_layout.specs.Field.{counted, exceeds_count, value};
-ghost use Rattle.pg_layout.specs.Private.Writer.{LeavesRoom};
+ghost use Rattle.pg_codec.specs.Field.{counted, exceeds_count, value};
+ghost use Rattle.pg_codec.specs.Private.Writer.{LeavesRoom};
 
 use crate::values::Values;
-use pg_layout::{Appender, BodyPart, Counted};
+use pg_codec::{Appender, BodyPart, Counted};
 use pg_seq::Seq;
 use std::alloc::AllocError;
 

@@ -1,10 +1,10 @@
 //! Where the values of a block begin.
 
 ghost use Rattle.std.specs.Prelude.{◌≡◌, ◌≤◌, length};
-ghost use Rattle.pg_layout.specs.Private.Reader.{Gives};
+ghost use Rattle.pg_codec.specs.Private.Reader.{Gives};
 ghost use Rattle.pg_values.specs.Private.Block.{starts_at, longest_block};
 
-use pg_layout::{BodyFault, lent_value_at};
+use pg_codec::{BodyFault, lent_value_at};
 use std::alloc::Global;
 
 /// Where each of so many values begins, and the bytes after the last of them.

@@ -1,11 +1,11 @@
 //! The fields of an error or a notice that an encoder writes.
 
 ghost use Rattle.std.specs.Prelude.{◌≡◌, false};
-ghost use Rattle.pg_layout.specs.Field.{listed, terminated};
-ghost use Rattle.pg_layout.specs.Value.{error_field};
+ghost use Rattle.pg_codec.specs.Field.{listed, terminated};
+ghost use Rattle.pg_codec.specs.Value.{error_field};
 
 use crate::fields::Fields;
-use pg_layout::{Appender, BodyPart, text_has_zero};
+use pg_codec::{Appender, BodyPart, text_has_zero};
 use std::alloc::AllocError;
 
 /// Fields and the zero byte that closes them. They are written as they are kept, by one copy.

@@ -8,9 +8,9 @@ ghost use Rattle.std.specs.Option.{option_eq};
 ghost use Rattle.std.specs.Cmp.Lexicographic.{pointwise, lists_per, lists_equiv, options_equiv};
 ghost use Rattle.std.specs.Cmp.Lexicographic.{nat_list_eq_equiv};
 ghost use Rattle.std.specs.Cmp.{partial_equiv_from_equiv};
-ghost use Rattle.pg_layout.specs.Field.{value_bytes};
-ghost use Rattle.pg_layout.specs.declared.fault.EncodeFault.TheVariants.{TooLong, Memory};
-ghost use Rattle.pg_layout.specs.Private.Reader.{Gives, counted_at, times_at, value_at};
+ghost use Rattle.pg_codec.specs.Field.{value_bytes};
+ghost use Rattle.pg_codec.specs.declared.fault.EncodeFault.TheVariants.{TooLong, Memory};
+ghost use Rattle.pg_codec.specs.Private.Reader.{Gives, counted_at, times_at, value_at};
 ghost use Rattle.pg_values.specs.Private.Block.{IsBlock, IsRow, spelled, longest_block};
 ghost use Rattle.pg_values.specs.Private.View.{values_left};
 ghost use Rattle.pg_values.specs.Text.{IsTextAt};
@@ -19,7 +19,7 @@ use crate::part::ValueList;
 use crate::places::places_at;
 use crate::text::Text;
 use crate::view::{LentValues, RowView};
-use pg_layout::{BodyFault, EncodeFault, LONGEST, lent_value_at, u16_at};
+use pg_codec::{BodyFault, EncodeFault, LONGEST, lent_value_at, u16_at};
 use pg_seq::{AsText, ByElement, DebugElement, DebugForm};
 use std::alloc::{AllocError, Global};
 use std::fmt;
@@ -89,7 +89,7 @@ fn block_at(alloc: Global, count: u16, bytes: &[u8]) -> Result<(Values, &[u8]), 
 }
 
 /// The values at the beginning of the bytes, after their count, and the bytes after them. They are read once, and copied at once.
-#[tactic(auto, unfolding(pg_layout::specs::Private::Reader::counted_at))]
+#[tactic(auto, unfolding(pg_codec::specs::Private::Reader::counted_at))]
 pub fn values_at(alloc: Global, bytes: &[u8]) -> Result<(Values, &[u8]), BodyFault>
     ensures { Gives (λ x. (x.0, x.1.now)) result (counted_at value_at bytes.now) }
 {

@@ -3,7 +3,7 @@
 ghost use Rattle.std.specs.Prelude.{◌≡◌, Some};
 ghost use Rattle.std.specs.Prelude.{is_some, option_copied, option_map, slice_get, IsSome};
 ghost use Rattle.std.specs.Iterator.{YieldsFirstBy, item_count};
-ghost use Rattle.pg_layout.specs.Private.Lent.{lent_field};
+ghost use Rattle.pg_codec.specs.Private.Lent.{lent_field};
 ghost use Rattle.pg_values.specs.Fields.{field_text, code_text, severity_text, message_text};
 ghost use Rattle.pg_values.specs.Private.View.{row_of, fields_of, values_left, fields_left};
 ghost use Rattle.pg_values.specs.Private.Block.{IsRow};
@@ -11,9 +11,7 @@ ghost use Rattle.pg_values.specs.Private.Kept.{IsFields};
 ghost use Rattle.pg_values.specs.Text.{IsTextAt};
 
 use crate::text::Text;
-use pg_layout::{
-    ErrorField, after_counted, after_terminated, lent_field_at, lent_value_at, u16_at,
-};
+use pg_codec::{ErrorField, after_counted, after_terminated, lent_field_at, lent_value_at, u16_at};
 use pg_seq::Seq;
 use std::marker::Model;
 
@@ -141,7 +139,7 @@ pub struct FieldsView<'a> {
 
 impl<'a> Model for FieldsView<'a> {
     ghost use Rattle.std.specs.Prelude.{List};
-    ghost use Rattle.pg_layout.specs.declared.value.ErrorField.{ErrorField};
+    ghost use Rattle.pg_codec.specs.declared.value.ErrorField.{ErrorField};
     ghost use Rattle.pg_values.specs.Private.View.{fields_left};
     ghost use Rattle.pg_values.specs.Private.Kept.{IsFields};
 
@@ -228,7 +226,7 @@ pub struct LentFields<'a> {
 
 impl<'a> Model for LentFields<'a> {
     ghost use Rattle.std.specs.Prelude.{List};
-    ghost use Rattle.pg_layout.specs.declared.value.ErrorField.{ErrorField};
+    ghost use Rattle.pg_codec.specs.declared.value.ErrorField.{ErrorField};
     ghost use Rattle.pg_values.specs.Private.View.{fields_left};
 
     ghost Value = { List ErrorField };

@@ -3,7 +3,7 @@ use Rattle.std.proofs.Common.{◌≡◌, List, [], ◌∷◌, ◌++◌, Option, 
 use Rattle.std.specs.List.{flat_map, AllByRecursion}
 use Rattle.pg_message.specs.declared.message.BackMessage.{BackMessage}
 use Rattle.pg_message.specs.declared.message.BackMessage.TheVariants as back
-use Rattle.pg_layout.specs.declared.value.Status.{Status}
+use Rattle.pg_codec.specs.declared.value.Status.{Status}
 use Rattle.pg_wire.specs.Segment.{Segments, segments, status_of, put_before}
 use Rattle.pg_wire.specs.Laws.{NoReady, EndsAtReady, AreSegments, OneCut}
 

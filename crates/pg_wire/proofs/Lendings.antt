@@ -6,7 +6,7 @@ use Rattle.std.specs.Option.{IsSome}
 use Rattle.std.proofs.lemmas.List.{drop-take}
 use Rattle.pg_wire.specs.declared.fault.WireFault.{WireFault}
 use Rattle.pg_wire.specs.declared.fault.WireFault.TheVariants as wire
-use Rattle.pg_layout.proofs.Layouts.{IsBytes, IsBytes-take}
+use Rattle.pg_codec.proofs.Layouts.{IsBytes, IsBytes-take}
 use Rattle.pg_message.specs.declared.lent.Lent.{Lent}
 use Rattle.pg_message.specs.declared.message.BackMessage.TheVariants.{DataRow, ErrorResponse, NoticeResponse}
 use Rattle.pg_message.specs.Direction.{Direction, spelling, longest}

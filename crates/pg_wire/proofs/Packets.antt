@@ -9,12 +9,12 @@ use Rattle.std.proofs.lemmas.Int.{ints, of_z-to_z, to_z_pos}
 use Rattle.std.proofs.lemmas.List.{append-nil, append_cancel_left, take_at, take-append-drop, length-take, length-drop, drop-drop}
 use Rattle.std.proofs.lemmas.Nat.{be_bytes_4, from_be_bytes-to_be_bytes_4}
 use Rattle.std.proofs.lemmas.Option.{none-some, same_Some}
-use Rattle.pg_layout.specs.declared.fault.EncodeFault.{EncodeFault}
-use Rattle.pg_layout.specs.declared.fault.EncodeFault.TheVariants as faults
+use Rattle.pg_codec.specs.declared.fault.EncodeFault.{EncodeFault}
+use Rattle.pg_codec.specs.declared.fault.EncodeFault.TheVariants as faults
 use Rattle.pg_wire.specs.declared.fault.WireFault.{WireFault}
 use Rattle.pg_wire.specs.declared.fault.WireFault.TheVariants as wire
-use Rattle.pg_layout.specs.declared.fault.BodyFault.{BodyFault}
-use Rattle.pg_layout.specs.declared.fault.BodyFault.TheVariants as body_faults
+use Rattle.pg_codec.specs.declared.fault.BodyFault.{BodyFault}
+use Rattle.pg_codec.specs.declared.fault.BodyFault.TheVariants as body_faults
 use Rattle.pg_message.specs.Private.Reading.{ReadsWhole}
 use Rattle.pg_wire.specs.declared.first.kind.FirstKind.{FirstKind}
 use Rattle.pg_wire.specs.declared.first.kind.FirstKind.TheVariants as kinds
@@ -22,11 +22,11 @@ use Rattle.pg_message.specs.declared.message.First.{First}
 use Rattle.pg_message.specs.declared.message.First.TheVariants as first
 use Rattle.pg_wire.specs.First.{parameter, code, content, packet_length, longest_packet, packet, packet_holds_list, has_no_name, packet_has_zero, packet_has_no_name, PacketIsOfType, IsPacket, is_last, EndsIn, IsBeginning, PacketHead, PacketCode, IsPacketCode, IsWholePacket, NoPacket, IsFaultyPacket, BeginsNoPacket, IsOpenPacket}
 use Rattle.pg_wire.specs.Laws.{ReadsNoFurther, OneBeginning, PacketsAgain}
-use Rattle.pg_layout.specs.Private.Reader.{pair_at, signed_at, terminated_at, parameter_at, whole}
+use Rattle.pg_codec.specs.Private.Reader.{pair_at, signed_at, terminated_at, parameter_at, whole}
 use Rattle.pg_wire.specs.FirstDecoder.{FirstState, PacketFaultHolds, HasBegun, PacketWantsMemory}
 use Rattle.pg_wire.specs.Private.FirstReader.{first_code, first_kind_of, first_of, FindsPacket}
-use Rattle.pg_layout.proofs.Layouts.{IsBytes, IsBytes-take, wide32, bind_some, pair_reads, int32_reads}
-use Rattle.pg_layout.proofs.Fields.{parameters_reads}
+use Rattle.pg_codec.proofs.Layouts.{IsBytes, IsBytes-take, wide32, bind_some, pair_reads, int32_reads}
+use Rattle.pg_codec.proofs.Fields.{parameters_reads}
 use Rattle.pg_message.proofs.Bodies.{passes, ended_some}
 use Rattle.pg_wire.proofs.Rests.{IsBytes-drop, pos_same}
 

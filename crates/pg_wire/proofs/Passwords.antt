@@ -8,10 +8,10 @@ use Rattle.md5.specs.Md5.{digest_bytes, md5}
 use Rattle.md5.proofs.StandardFacts.{length-md5}
 use Rattle.pg_message.specs.declared.message.FrontMessage.TheVariants.{Password}
 use Rattle.pg_message.specs.Direction.{fault_of, HasSpelling}
-use Rattle.pg_layout.specs.Field.{contains_zero, string}
+use Rattle.pg_codec.specs.Field.{contains_zero, string}
 use Rattle.pg_message.specs.Frontend.{frontend}
 use Rattle.pg_wire.specs.Password.{hex_digest, md5_text}
-use Rattle.pg_layout.proofs.Layouts.{not_zero}
+use Rattle.pg_codec.proofs.Layouts.{not_zero}
 
 -- ---- a digest is bytes
 

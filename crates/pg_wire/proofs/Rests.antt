@@ -10,11 +10,11 @@ use Rattle.pg_wire.specs.declared.fault.WireFault.{WireFault}
 use Rattle.pg_wire.specs.declared.fault.WireFault.TheVariants as wire
 use Rattle.pg_message.specs.Direction.{Direction, spelling, length_field, longest}
 use Rattle.pg_wire.specs.Stream.{IsWithin, Head, IsTag, IsWhole, NoMessage, IsFaulty, BeginsNoMessage, IsOpen}
-use Rattle.pg_layout.specs.declared.fault.BodyFault.{BodyFault}
-use Rattle.pg_layout.specs.declared.fault.BodyFault.TheVariants as body_faults
+use Rattle.pg_codec.specs.declared.fault.BodyFault.{BodyFault}
+use Rattle.pg_codec.specs.declared.fault.BodyFault.TheVariants as body_faults
 use Rattle.pg_message.specs.Message.{IsMessage, ReadsBody}
 use Rattle.pg_wire.specs.Decoder.{WantsMemory}
-use Rattle.pg_layout.proofs.Layouts.{IsBytes, IsBytes-take, wide32}
+use Rattle.pg_codec.proofs.Layouts.{IsBytes, IsBytes-take, wide32}
 use Rattle.pg_message.proofs.Bodies.{spelled_parts, spelled_from}
 
 -- ---- heads

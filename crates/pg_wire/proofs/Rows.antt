@@ -6,13 +6,13 @@ use Rattle.std.proofs.lemmas.Int.{ints}
 use Rattle.std.proofs.Math.Facts.{sfits_lit}
 use Rattle.hex.specs.Hex.{encode_with}
 use Rattle.md5.specs.Md5.{block_words, rounds, compress, hash_after, digest_bytes, md5}
-use Rattle.pg_layout.specs.declared.fault.EncodeFault.TheVariants as faults
+use Rattle.pg_codec.specs.declared.fault.EncodeFault.TheVariants as faults
 use Rattle.pg_wire.specs.declared.fault.WireFault.TheVariants as wire
-use Rattle.pg_layout.specs.declared.value.Status.TheVariants.{Idle, InBlock}
+use Rattle.pg_codec.specs.declared.value.Status.TheVariants.{Idle, InBlock}
 use Rattle.pg_message.specs.declared.message.BackMessage.{BackMessage}
 use Rattle.pg_message.specs.declared.message.BackMessage.TheVariants as back
-use Rattle.pg_layout.specs.declared.value.CopyHead.{CopyHead}
-use Rattle.pg_layout.specs.declared.value.Target.TheVariants.{Statement, Portal}
+use Rattle.pg_codec.specs.declared.value.CopyHead.{CopyHead}
+use Rattle.pg_codec.specs.declared.value.Target.TheVariants.{Statement, Portal}
 use Rattle.pg_wire.specs.declared.session.Aside.TheVariants as aside
 use Rattle.pg_wire.specs.declared.session.ExecEnd.TheVariants as ends
 use Rattle.pg_wire.specs.declared.session.Outcome.{Outcome}
@@ -33,7 +33,7 @@ use Rattle.pg_message.specs.Backend.{backend}
 use Rattle.pg_wire.specs.Stream.{IsStream, IsFaulty, IsOpen}
 use Rattle.pg_wire.specs.Password.{hex_digest, md5_text}
 use Rattle.pg_wire.specs.declared.first.kind.FirstKind.TheVariants as packets
-use Rattle.pg_layout.specs.Private.Reader.{counted_at, times_at, value_at}
+use Rattle.pg_codec.specs.Private.Reader.{counted_at, times_at, value_at}
 use Rattle.pg_wire.proofs.Packets.{no_code, packet_bad}
 use Rattle.pg_message.proofs.BackMessages.{is_tag, no_tag, read_none}
 use Rattle.pg_wire.proofs.Rests.{short_open, partial_open, bad_fault}

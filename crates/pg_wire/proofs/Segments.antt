@@ -4,11 +4,11 @@ use Rattle.std.specs.List.{flat_map, AllByRecursion}
 use Rattle.std.proofs.lemmas.List.{append-nil}
 use Rattle.pg_message.specs.declared.message.BackMessage.{BackMessage}
 use Rattle.pg_message.specs.declared.message.BackMessage.TheVariants.{Ready, DataRow, CommandComplete, EmptyQuery, PortalSuspended, ErrorResponse, CopyData, CopyDone}
-use Rattle.pg_layout.specs.declared.value.Column.{Column}
-use Rattle.pg_layout.specs.declared.value.CopyHead.{CopyHead}
-use Rattle.pg_layout.specs.declared.value.Status.{Status}
+use Rattle.pg_codec.specs.declared.value.Column.{Column}
+use Rattle.pg_codec.specs.declared.value.CopyHead.{CopyHead}
+use Rattle.pg_codec.specs.declared.value.Status.{Status}
 use Rattle.pg_wire.specs.declared.session.Aside.{Aside}
-use Rattle.pg_layout.specs.declared.value.Target.TheVariants.{Statement, Portal}
+use Rattle.pg_codec.specs.declared.value.Target.TheVariants.{Statement, Portal}
 use Rattle.pg_wire.specs.declared.session.ExecEnd.{ExecEnd}
 use Rattle.pg_wire.specs.declared.session.ExecEnd.TheVariants as ends
 use Rattle.pg_wire.specs.declared.session.Outcome.{Outcome}

@@ -7,7 +7,7 @@ use Rattle.pg_message.specs.declared.message.First.{First}
 use Rattle.pg_message.specs.declared.message.BackMessage.{BackMessage}
 use Rattle.pg_message.specs.declared.message.BackMessage.TheVariants.{Ready}
 use Rattle.pg_message.specs.declared.message.FrontMessage.TheVariants.{Password}
-use Rattle.pg_layout.specs.declared.value.Status.{Status}
+use Rattle.pg_codec.specs.declared.value.Status.{Status}
 use Rattle.pg_wire.specs.declared.session.Outcome.{Outcome}
 use Rattle.pg_wire.specs.declared.session.Request.{Request}
 use Rattle.pg_wire.specs.Segment.{Fits, Segments, segments, status_of}

@@ -18,7 +18,7 @@ pub mod Sending
 pub mod Private
 -- What the crates below define and the contracts here speak of. Who uses pg_wire names it through
 -- these lines.
-pub use Rattle.pg_layout.specs.Field
+pub use Rattle.pg_codec.specs.Field
 pub use Rattle.pg_values.specs.Fields
 pub use Rattle.pg_values.specs.Text
 pub use Rattle.pg_message.specs.Direction
@@ -29,7 +29,7 @@ pub use Rattle.pg_message.specs.Lent
 pub use Rattle.pg_message.specs.Encoder
 pub use Rattle.pg_message.specs.Shown
 -- Their types.
-pub use Rattle.pg_layout.specs.declared.fault
-pub use Rattle.pg_layout.specs.declared.value
+pub use Rattle.pg_codec.specs.declared.fault
+pub use Rattle.pg_codec.specs.declared.value
 pub use Rattle.pg_message.specs.declared.message
 pub use Rattle.pg_message.specs.declared.lent

@@ -5,12 +5,12 @@ use Rattle.std.specs.List.{flat_map}
 use Rattle.pg_message.specs.declared.message.BackMessage.{BackMessage}
 use Rattle.pg_message.specs.declared.message.BackMessage.TheVariants.{Ready, RowDescription, DataRow, CommandComplete, EmptyQuery, ParseComplete, BindComplete, CloseComplete, NoData, PortalSuspended, ParameterDescription, ErrorResponse, NoticeResponse, Notification, ParameterStatus, CopyData, CopyDone}
 use Rattle.pg_message.specs.declared.message.BackMessage.TheVariants as back
-use Rattle.pg_layout.specs.declared.value.Column.{Column}
-use Rattle.pg_layout.specs.declared.value.ErrorField.{ErrorField}
+use Rattle.pg_codec.specs.declared.value.Column.{Column}
+use Rattle.pg_codec.specs.declared.value.ErrorField.{ErrorField}
 use Rattle.pg_message.specs.declared.message.FrontMessage.{FrontMessage}
 use Rattle.pg_message.specs.declared.message.FrontMessage.TheVariants as front
-use Rattle.pg_layout.specs.declared.value.Status.{Status}
-use Rattle.pg_layout.specs.declared.value.Target.TheVariants.{Statement, Portal}
+use Rattle.pg_codec.specs.declared.value.Status.{Status}
+use Rattle.pg_codec.specs.declared.value.Target.TheVariants.{Statement, Portal}
 use Rattle.pg_wire.specs.declared.session.Aside.{Aside}
 use Rattle.pg_wire.specs.declared.session.Aside.TheVariants as aside
 use Rattle.pg_wire.specs.declared.session.ExecEnd.{ExecEnd}

@@ -6,7 +6,7 @@ ghost use Rattle.pg_wire.specs.Stream.{Head, IsTag};
 ghost use Rattle.pg_wire.specs.Private.Found.{Judges, Finds, FindsLent, FindsWhole};
 
 use crate::fault::WireFault;
-use pg_layout::BodyFault;
+use pg_codec::BodyFault;
 use pg_message::{BackMessage, Lent, Message};
 use std::alloc::Global;
 

@@ -12,7 +12,7 @@ ghost use Rattle.pg_wire.specs.FirstDecoder.{HasBegun, FirstPushes, FirstTakes, 
 ghost use Rattle.pg_wire.specs.Decoder.{HasTaken};
 ghost use Rattle.pg_message.specs.Direction.{IsLimit};
 ghost use Rattle.pg_message.specs.Frontend.{frontend};
-ghost use Rattle.pg_layout.specs.Private.Reader.{Gives};
+ghost use Rattle.pg_codec.specs.Private.Reader.{Gives};
 ghost use Rattle.pg_wire.specs.Private.FirstReader.{first_of, JudgesPacket, FindsPacket};
 
 use crate::buffer::drop_first;
@@ -21,7 +21,7 @@ use crate::fault::WireFault;
 use crate::spellings::Spellings;
 use bytes::BytesMut;
 use kind::FirstKind;
-use pg_layout::{BodyFault, LONGEST_PACKET, after_terminated, ended, i32_at, terminated};
+use pg_codec::{BodyFault, LONGEST_PACKET, after_terminated, ended, i32_at, terminated};
 use pg_message::{First, FrontMessage};
 use pg_seq::Seq;
 use std::alloc::Global;

@@ -44,7 +44,7 @@
 //! | `link.rt`, `patient.rt` | `Link` | sources and sinks; reads and writes that are made again after an interruption |
 //! | `sending.rt` | `Sending` | bytes that are sent whole, by as many calls of a sink as it takes |
 //!
-//! Three crates below it hold the rest, and `pg_wire` passes on what users need of them: `pg_layout` (how each data type of the protocol
+//! Three crates below it hold the rest, and `pg_wire` passes on what users need of them: `pg_codec` (how each data type of the protocol
 //! is coded), `pg_values` (rows, errors and notices in one block of memory, or read in place) and `pg_message` (messages one by one).
 //!
 //! # How it works
@@ -82,7 +82,7 @@ pub use first::FirstDecoder;
 pub use link::{LinkFault, Over, Sink, Source};
 pub use password::md5_answer;
 pub use patient::{PATIENCE, Patient};
-pub use pg_layout::{
+pub use pg_codec::{
     BodyFault, Column, CopyHead, EncodeFault, ErrorField, LONGEST, LONGEST_PACKET, Status, Target,
 };
 pub use pg_message::{BackMessage, First, FrontMessage, Lent, Message, backend, frontend};

@@ -1,6 +1,6 @@
 //! What a session is made of, for either end: requests, and how they end.
 
-use pg_layout::{Column, CopyHead, Status, Target};
+use pg_codec::{Column, CopyHead, Status, Target};
 use pg_seq::{ByElement, DebugElement, Seq};
 use pg_values::{Fields, Values};
 

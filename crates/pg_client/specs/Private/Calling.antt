@@ -1,7 +1,7 @@
 -- What a call does to where the client stands.
 use Rattle.pg_wire.specs.declared.session.Request.{Request}
-use Rattle.pg_segment.specs.declared.segment.CopyAnswer.{CopyAnswer}
-use Rattle.pg_segment.specs.SegmentCalls.{answering, segment_of}
+use Rattle.pg_response.specs.declared.segment.CopyAnswer.{CopyAnswer}
+use Rattle.pg_response.specs.SegmentCalls.{answering, segment_of}
 use Rattle.pg_client.specs.declared.stand.Stand.{Stand}
 use Rattle.pg_client.specs.declared.stand.Stand.TheVariants.{Idle, Busy}
 

@@ -9,9 +9,9 @@ use Rattle.pg_wire.specs.declared.session.Request.{Request}
 use Rattle.pg_wire.specs.value.Status.{Status}
 use Rattle.pg_wire.specs.Backend.{tag}
 use Rattle.pg_wire.specs.Segment.{aside_of, asked}
-use Rattle.pg_segment.specs.Place.{awaits_data_at, goes, may_end_at_place, start, told}
-use Rattle.pg_segment.specs.declared.segment.CopyAnswer.{CopyAnswer}
-use Rattle.pg_segment.specs.declared.segment.place.Place.{Place}
+use Rattle.pg_response.specs.Place.{awaits_data_at, goes, may_end_at_place, start, told}
+use Rattle.pg_response.specs.declared.segment.CopyAnswer.{CopyAnswer}
+use Rattle.pg_response.specs.declared.segment.place.Place.{Place}
 use Rattle.pg_client.specs.declared.early.EarlyStand.{EarlyStand}
 use Rattle.pg_client.specs.declared.early.EarlyStand.TheVariants as early
 use Rattle.pg_client.specs.declared.fault.FeedFault.{FeedFault}

@@ -9,9 +9,9 @@ use Rattle.pg_wire.specs.value.Status.{Status}
 use Rattle.pg_wire.specs.Backend.{tag}
 use Rattle.pg_client.specs.declared.fault.FeedFault.{FeedFault}
 use Rattle.pg_client.specs.declared.fault.FeedFault.TheVariants as feeding
-use Rattle.pg_segment.specs.declared.fault.ReadFault.{ReadFault}
-use Rattle.pg_segment.specs.declared.fault.ReadFault.TheVariants as reading
-use Rattle.pg_segment.specs.SegmentCalls.{may_end_segment}
+use Rattle.pg_response.specs.declared.fault.ReadFault.{ReadFault}
+use Rattle.pg_response.specs.declared.fault.ReadFault.TheVariants as reading
+use Rattle.pg_response.specs.SegmentCalls.{may_end_segment}
 use Rattle.pg_client.specs.declared.settled.Settled.{Settled}
 use Rattle.pg_client.specs.declared.stand.Stand.{Stand}
 use Rattle.pg_client.specs.declared.stand.Stand.TheVariants.{New, Starting, Idle, Busy}

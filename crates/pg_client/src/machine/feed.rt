@@ -13,7 +13,7 @@ use crate::machine::Machine;
 use crate::phase::Cause;
 use crate::sending::put_password;
 use crate::startup::ToSend;
-use pg_segment::Kind;
+use pg_response::Kind;
 use pg_wire::{Aside, BackMessage, Cut, Fields, Lent, Seq, Status};
 
 impl<K: Collector> Machine<K> {

@@ -6,8 +6,8 @@ use Rattle.pg_message.specs.declared.backend.kind.BackKind.{BackKind}
 use Rattle.pg_message.specs.declared.backend.kind.BackKind.TheVariants as kinds
 use Rattle.pg_message.specs.declared.message.BackMessage.{BackMessage}
 use Rattle.pg_message.specs.declared.message.BackMessage.TheVariants.{AuthOk, AuthCleartext, AuthMd5, AuthOther, KeyData, ParameterStatus, Ready, RowDescription, DataRow, CommandComplete, EmptyQuery, ParseComplete, BindComplete, CloseComplete, NoData, PortalSuspended, ParameterDescription, ErrorResponse, NoticeResponse, Notification, CopyIn, CopyOut, CopyData, CopyDone}
-use Rattle.pg_layout.specs.Field.{◌⨾◌, int32, byten}
-use Rattle.pg_layout.specs.Private.Reader.{pair_at, byten_at, number_at, signed_at, string_at, value_at, counted_at, column_at, terminated_at, error_field_at, choice_at, status_of_byte, copy_head_at}
+use Rattle.pg_codec.specs.Field.{◌⨾◌, int32, byten}
+use Rattle.pg_codec.specs.Private.Reader.{pair_at, byten_at, number_at, signed_at, string_at, value_at, counted_at, column_at, terminated_at, error_field_at, choice_at, status_of_byte, copy_head_at}
 use Rattle.pg_message.specs.Backend.{back_row}
 use Rattle.pg_message.specs.Private.Reading.{Reading, made_of_whole, reading_by, reading, bare, with_tag}
 

@@ -3,11 +3,11 @@ use Rattle.std.specs.Prelude.{ℕ, ℤ, ◌==◌, if◌then◌else◌, List, [],
 use Rattle.std.specs.Int.{w16, w32}
 use Rattle.pg_message.specs.declared.frontend.kind.FrontKind.{FrontKind}
 use Rattle.pg_message.specs.declared.frontend.kind.FrontKind.TheVariants as kinds
-use Rattle.pg_layout.specs.declared.value.Target.{Target}
-use Rattle.pg_layout.specs.declared.value.Target.TheVariants.{Statement, Portal}
+use Rattle.pg_codec.specs.declared.value.Target.{Target}
+use Rattle.pg_codec.specs.declared.value.Target.TheVariants.{Statement, Portal}
 use Rattle.pg_message.specs.declared.message.FrontMessage.{FrontMessage}
 use Rattle.pg_message.specs.declared.message.FrontMessage.TheVariants.{Query, Parse, Bind, Describe, Close, Execute, Sync, Flush, Terminate, CopyData, CopyDone, CopyFail, Password}
-use Rattle.pg_layout.specs.Private.Reader.{pair_at, byten_at, number_at, signed_at, string_at, value_at, counted_at, choice_at}
+use Rattle.pg_codec.specs.Private.Reader.{pair_at, byten_at, number_at, signed_at, string_at, value_at, counted_at, choice_at}
 use Rattle.pg_message.specs.Frontend.{front_row}
 use Rattle.pg_message.specs.Private.Reading.{Reading, reading, bare, with_tag}
 

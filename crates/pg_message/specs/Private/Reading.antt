@@ -1,11 +1,11 @@
 -- How the body of a message is read: the tag says what stands in it, and what was read makes the
 -- message.
 use Rattle.std.specs.Prelude.{ℕ, ◌≡◌, ◌==◌, if◌then◌else◌, Bool, true, false, List, [], ◌∷◌, length, Option, Some, None, is_some, IfSome, IsSomeAnd, Result, Ok, Err}
-use Rattle.pg_layout.specs.declared.fault.BodyFault.{BodyFault}
-use Rattle.pg_layout.specs.declared.fault.BodyFault.TheVariants as faults
-use Rattle.pg_layout.specs.Field.{Body}
-use Rattle.pg_layout.specs.Private.Reader.{◌>>=◌, nothing_at}
-use Rattle.pg_layout.specs.Private.Lent.{left_after}
+use Rattle.pg_codec.specs.declared.fault.BodyFault.{BodyFault}
+use Rattle.pg_codec.specs.declared.fault.BodyFault.TheVariants as faults
+use Rattle.pg_codec.specs.Field.{Body}
+use Rattle.pg_codec.specs.Private.Reader.{◌>>=◌, nothing_at}
+use Rattle.pg_codec.specs.Private.Lent.{left_after}
 use Rattle.pg_message.specs.Direction.{Row}
 
 -- What stands after one tag: the parts of a body, how they are spelled, how they are read, and the

@@ -6,7 +6,7 @@ ghost use Rattle.pg_message.specs.Private.BackReader.{back_reading};
 
 use super::kind::BackKind;
 use crate::judging::is_end;
-use pg_layout::{
+use pg_codec::{
     Column, ErrorField, after_copy_head, after_counted, after_i32, after_status, after_terminated,
     after_text, i32_at,
 };

@@ -1,6 +1,6 @@
 //! Reading the bodies of the backend's messages.
 
-ghost use Rattle.pg_layout.specs.Private.Reader.{Gives};
+ghost use Rattle.pg_codec.specs.Private.Reader.{Gives};
 ghost use Rattle.pg_message.specs.declared.backend.kind.BackKind.TheVariants.{Auth, DataRow};
 ghost use Rattle.pg_message.specs.Backend.{backend};
 ghost use Rattle.pg_message.specs.Private.BackReader.{back_reading};
@@ -8,7 +8,7 @@ ghost use Rattle.pg_message.specs.Private.Reading.{AsksFor};
 
 use super::kind::BackKind;
 use crate::message::BackMessage;
-use pg_layout::{BodyFault, copy_head_at, copy_of, counted, ended, i32_at, status_at, text_at};
+use pg_codec::{BodyFault, copy_head_at, copy_of, counted, ended, i32_at, status_at, text_at};
 use pg_values::{fields_at, values_at};
 use std::alloc::Global;
 

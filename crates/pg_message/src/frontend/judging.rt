@@ -1,15 +1,15 @@
 //! Judging the bodies of the frontend's messages: no message is made, and no memory is asked for.
 
 ghost use Rattle.std.specs.Prelude.{◌≡◌, is_some, option_copied};
-ghost use Rattle.pg_layout.specs.Private.Lent.{left_after};
-ghost use Rattle.pg_layout.specs.Private.Reader.{choice_at};
+ghost use Rattle.pg_codec.specs.Private.Lent.{left_after};
+ghost use Rattle.pg_codec.specs.Private.Reader.{choice_at};
 ghost use Rattle.pg_message.specs.declared.frontend.kind.FrontKind.TheVariants.{Bind};
 ghost use Rattle.pg_message.specs.Private.FrontReader.{front_reading, target_of_byte};
 
 use super::kind::FrontKind;
 use super::reading::target_at;
 use crate::judging::is_end;
-use pg_layout::{after_counted, after_i32, after_text};
+use pg_codec::{after_counted, after_i32, after_text};
 use pg_seq::Seq;
 
 // The bytes after what a Describe or a Close names.

@@ -1,15 +1,15 @@
 //! Reading the bodies of the frontend's messages.
 
 ghost use Rattle.std.specs.Prelude.{IsOkUnless};
-ghost use Rattle.pg_layout.specs.declared.fault.BodyFault.TheVariants.{Bad};
-ghost use Rattle.pg_layout.specs.Private.Reader.{Gives, choice_at};
+ghost use Rattle.pg_codec.specs.declared.fault.BodyFault.TheVariants.{Bad};
+ghost use Rattle.pg_codec.specs.Private.Reader.{Gives, choice_at};
 ghost use Rattle.pg_message.specs.Frontend.{frontend};
 ghost use Rattle.pg_message.specs.Private.FrontReader.{front_reading, target_of_byte};
 ghost use Rattle.pg_message.specs.Private.Reading.{AsksFor};
 
 use super::kind::FrontKind;
 use crate::message::FrontMessage;
-use pg_layout::{BodyFault, Target, copy_of, counted, ended, i32_at, text_at};
+use pg_codec::{BodyFault, Target, copy_of, counted, ended, i32_at, text_at};
 use pg_values::values_at;
 use std::alloc::Global;
 

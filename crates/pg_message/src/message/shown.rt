@@ -3,7 +3,7 @@
 ghost use Rattle.pg_message.specs.Shown.{shown_front};
 
 use crate::message::FrontMessage;
-use pg_layout::Target;
+use pg_codec::Target;
 use pg_seq::Seq;
 use std::fmt;
 

@@ -1,8 +1,8 @@
 -- Values in one block of memory: as a row spells them, one after the other, and where each begins.
 use Rattle.std.specs.Prelude.{ℕ, ◌+◌, ◌≡◌, ◌≤◌, List, [], ◌∷◌, length, Option, Some}
 use Rattle.std.specs.List.{flat_map}
-use Rattle.pg_layout.specs.Field.{value_bytes}
-use Rattle.pg_layout.specs.Private.Reader.{mapped_at, times_at, value_at}
+use Rattle.pg_codec.specs.Field.{value_bytes}
+use Rattle.pg_codec.specs.Private.Reader.{mapped_at, times_at, value_at}
 use Rattle.pg_values.specs.Private.View.{values_left}
 
 -- the values as a row spells them, one after the other

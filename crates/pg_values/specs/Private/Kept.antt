@@ -1,10 +1,10 @@
 -- The fields of an error or a notice in one block of memory: as a message spells them, one after the other, and how long
 -- the text of each is.
 use Rattle.std.specs.Prelude.{ℕ, ◌+◌, ◌≡◌, ◌≤◌, List, [], ◌∷◌, length, map, take, drop, Option, Some}
-use Rattle.pg_layout.specs.declared.value.ErrorField.{ErrorField}
-use Rattle.pg_layout.specs.Field.{terminated}
-use Rattle.pg_layout.specs.Value.{error_field}
-use Rattle.pg_layout.specs.Private.Reader.{mapped_at, terminated_at, error_field_at}
+use Rattle.pg_codec.specs.declared.value.ErrorField.{ErrorField}
+use Rattle.pg_codec.specs.Field.{terminated}
+use Rattle.pg_codec.specs.Value.{error_field}
+use Rattle.pg_codec.specs.Private.Reader.{mapped_at, terminated_at, error_field_at}
 use Rattle.pg_values.specs.Fields.{fields_spelled}
 use Rattle.pg_values.specs.Private.View.{fields_left}
 use Rattle.pg_values.specs.Private.Block.{longest_block}

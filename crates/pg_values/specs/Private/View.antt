@@ -1,8 +1,8 @@
 -- Rows, errors and notices read in place: the values and fields that are still to come.
 use Rattle.std.specs.Prelude.{ℕ, zero, suc, List, [], ◌∷◌, length, Option}
 use Rattle.std.specs.Option.{option_map_or}
-use Rattle.pg_layout.specs.declared.value.ErrorField.{ErrorField}
-use Rattle.pg_layout.specs.Private.Reader.{value_at, counted_at, terminated_at, error_field_at, whole}
+use Rattle.pg_codec.specs.declared.value.ErrorField.{ErrorField}
+use Rattle.pg_codec.specs.Private.Reader.{value_at, counted_at, terminated_at, error_field_at, whole}
 
 -- the values that are still to come: so many, or fewer where the bytes have no more
 unfoldable pub values_left : ℕ → List ℕ → List (Option (List ℕ))

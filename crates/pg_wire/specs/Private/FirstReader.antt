@@ -12,7 +12,7 @@ use Rattle.pg_message.specs.declared.message.First.{First}
 use Rattle.pg_message.specs.declared.message.First.TheVariants as first
 use Rattle.pg_wire.specs.First.{IsPacket, packet, longest_packet, IsWholePacket, IsFaultyPacket, IsOpenPacket}
 use Rattle.pg_wire.specs.FirstDecoder.{PacketWantsMemory}
-use Rattle.pg_layout.specs.Private.Reader.{pair_at, signed_at, terminated_at, parameter_at, whole}
+use Rattle.pg_codec.specs.Private.Reader.{pair_at, signed_at, terminated_at, parameter_at, whole}
 
 -- the code of each kind of packet
 abbrev pub first_code : FirstKind → ℕ

@@ -1,5 +1,5 @@
 use Rattle.std.proofs.Common.{sym, arith}
-use Rattle.pg_layout.specs.Private.Lent.{lent_field}
+use Rattle.pg_codec.specs.Private.Lent.{lent_field}
 use Rattle.pg_values.proofs.Kept.{all_lengths, no_field, one_length, text_short, past_all}
 use Rattle.pg_values.proofs.text_lengths.text_lengths_at.Goals as goal
 

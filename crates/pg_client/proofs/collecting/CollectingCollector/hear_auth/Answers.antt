@@ -1,4 +1,4 @@
-use Rattle.pg_segment.specs.Kind.{auth_message}
+use Rattle.pg_response.specs.Kind.{auth_message}
 use Rattle.pg_client.specs.Private.Hearing.{HearsAuth}
 use Rattle.pg_client.proofs.Collected.{hears_in}
 use Rattle.pg_client.proofs.collecting.CollectingCollector.hear_auth.Goals as goal

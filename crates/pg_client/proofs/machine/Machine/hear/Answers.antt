@@ -1,6 +1,6 @@
 use Rattle.std.proofs.Common.{sym, subst}
 use Rattle.pg_wire.specs.message.BackMessage.TheVariants.{ErrorResponse}
-use Rattle.pg_segment.specs.Kind.{auth_message, IsResult}
+use Rattle.pg_response.specs.Kind.{auth_message, IsResult}
 use Rattle.pg_client.specs.Private.Inside.{machine_view}
 use Rattle.pg_client.specs.Private.Machine.{Handles}
 use Rattle.pg_client.proofs.Handling.{aside_in, auth_in, error_in, result_in}

@@ -1,10 +1,10 @@
 use Rattle.std.proofs.Common.{arith, ℕ, length, get_or, List, [], ◌∷◌, ◌++◌, Err, sym, ap, ◌∙◌}
 use Rattle.std.specs.Borrow.{Bor}
 use Rattle.std.proofs.lemmas.Result.{err_from_is_err_and}
-use Rattle.pg_layout.specs.declared.fault.EncodeFault.{EncodeFault}
-use Rattle.pg_layout.specs.declared.fault.EncodeFault.TheVariants.{TooLong}
-use Rattle.pg_layout.specs.declared.value.ErrorField.{ErrorField}
-use Rattle.pg_layout.specs.Private.Lent.{lent_field}
+use Rattle.pg_codec.specs.declared.fault.EncodeFault.{EncodeFault}
+use Rattle.pg_codec.specs.declared.fault.EncodeFault.TheVariants.{TooLong}
+use Rattle.pg_codec.specs.declared.value.ErrorField.{ErrorField}
+use Rattle.pg_codec.specs.Private.Lent.{lent_field}
 use Rattle.pg_values.specs.Fields.{fields_spelled}
 use Rattle.pg_values.proofs.Lists.{same_fault}
 use Rattle.pg_values.proofs.Kept.{one_of_lent}

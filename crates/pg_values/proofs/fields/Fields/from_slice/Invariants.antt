@@ -1,6 +1,6 @@
 use Rattle.std.proofs.Common.{◌≡◌, take}
 use Rattle.std.specs.Prelude.{map}
-use Rattle.pg_layout.specs.Private.Lent.{lent_field}
+use Rattle.pg_codec.specs.Private.Lent.{lent_field}
 use Rattle.pg_values.proofs.fields.Fields.from_slice.Given as goal
 
 -- the fields so far

@@ -1,5 +1,5 @@
 use Rattle.std.proofs.Common.{◌≡◌, ◌≤◌, ◌+◌, [], ◌∷◌, ◌++◌, length, List, refl, ap, ◌∙◌, arith}
-use Rattle.pg_layout.specs.declared.value.ErrorField.{ErrorField}
+use Rattle.pg_codec.specs.declared.value.ErrorField.{ErrorField}
 use Rattle.pg_values.specs.Private.Block.{longest_block}
 use Rattle.pg_values.proofs.Kept.{one_field_more}
 use Rattle.pg_values.proofs.fields.Fields.push.Goals as goal

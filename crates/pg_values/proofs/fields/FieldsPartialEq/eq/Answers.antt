@@ -1,7 +1,7 @@
 use Rattle.std.proofs.Common.{◌&&◌, Bool, List, sym, ap, ◌∙◌}
 use Rattle.std.specs.Prelude.{nat_eq}
 use Rattle.std.specs.Cmp.Lexicographic.{pointwise}
-use Rattle.pg_layout.specs.declared.value.ErrorField.{ErrorField}
+use Rattle.pg_codec.specs.declared.value.ErrorField.{ErrorField}
 use Rattle.pg_values.specs.Private.Kept.{fields_kept}
 use Rattle.pg_values.proofs.Kept.{compared_fields, equal_fields}
 use Rattle.pg_values.proofs.fields.FieldsPartialEq.eq.Goals as goal

@@ -1,7 +1,7 @@
 use Rattle.std.proofs.Common.{arith, length, List, Option, Err, ℕ, sym, ap, ◌∙◌}
 use Rattle.std.proofs.lemmas.Result.{err_from_is_err_and}
-use Rattle.pg_layout.specs.declared.fault.EncodeFault.{EncodeFault}
-use Rattle.pg_layout.specs.declared.fault.EncodeFault.TheVariants.{TooLong}
+use Rattle.pg_codec.specs.declared.fault.EncodeFault.{EncodeFault}
+use Rattle.pg_codec.specs.declared.fault.EncodeFault.TheVariants.{TooLong}
 use Rattle.pg_values.specs.Private.Block.{spelled}
 use Rattle.pg_values.proofs.Lists.{one_of_all, same_fault}
 use Rattle.pg_values.proofs.values.Values.from_slice.Goals as goal

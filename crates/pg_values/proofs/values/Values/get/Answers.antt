@@ -2,7 +2,7 @@ use Rattle.std.proofs.Common.{◌≡◌, ◌≤◌, length, List, ℕ, Option, S
 use Rattle.std.specs.Prelude.{option_copied}
 use Rattle.std.specs.List.{slice_get}
 use Rattle.std.proofs.lemmas.Bool.{ltb-false}
-use Rattle.pg_layout.proofs.Layouts.{some_is}
+use Rattle.pg_codec.proofs.Layouts.{some_is}
 use Rattle.pg_values.proofs.Blocks.{found_there, read_there, nothing_there}
 use Rattle.pg_values.proofs.values.Values.get.Goals as goal
 

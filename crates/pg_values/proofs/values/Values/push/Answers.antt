@@ -1,6 +1,6 @@
 use Rattle.std.proofs.Common.{rules, ◌≡◌, ◌≤◌, ◌+◌, [], ◌∷◌, ◌++◌, length, List, ℕ, Option, refl, ap, ◌∙◌}
 use Rattle.std.specs.Prelude.{option_copied}
-use Rattle.pg_layout.specs.Field.{value_bytes}
+use Rattle.pg_codec.specs.Field.{value_bytes}
 use Rattle.pg_values.specs.Private.Block.{longest_block}
 use Rattle.pg_values.proofs.Blocks.{one_more}
 use Rattle.pg_values.proofs.values.Values.push.Goals as goal

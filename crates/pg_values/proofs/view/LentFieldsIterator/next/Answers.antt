@@ -1,5 +1,5 @@
 use Rattle.std.proofs.Common.{rules, length, sym, ap, ◌∙◌}
-use Rattle.pg_layout.specs.Private.Lent.{lent_field}
+use Rattle.pg_codec.specs.Private.Lent.{lent_field}
 use Rattle.pg_values.proofs.Views.{field_comes, no_field_comes}
 use Rattle.pg_values.proofs.view.LentFieldsIterator.next.Goals as goal
 

@@ -1,6 +1,6 @@
 use Rattle.std.proofs.Common.{arith}
 use Rattle.std.specs.Int.{w16}
-use Rattle.pg_layout.specs.Private.Reader.{number_at}
+use Rattle.pg_codec.specs.Private.Reader.{number_at}
 use Rattle.pg_values.specs.Private.View.{values_left}
 use Rattle.pg_values.specs.Private.Block.{IsRow}
 use Rattle.pg_values.proofs.Views.{read_bad, row_is, no_row, no_whole}

@@ -1,6 +1,0 @@
-use Rattle.std.proofs.Common.{◌≡◌, false, take}
-use Rattle.pg_layout.specs.Field.{listed}
-use Rattle.pg_layout.proofs.writer.any_has_zero.Given as goal
-
-abbrev pub invariant-loop-item : goal.invariant-loop-item
-invariant-loop-item g l = (listed g.T.Field.layout (take l.item-index l.items)).has_zero ≡ false

@@ -1,6 +1,0 @@
-use Rattle.std.proofs.Common.{◌≡◌, ◌+◌, length, take}
-use Rattle.pg_layout.specs.Field.{listed}
-use Rattle.pg_layout.proofs.writer.room_after_all.Given as goal
-
-abbrev pub invariant-loop-item : goal.invariant-loop-item
-invariant-loop-item g l = l.left + length (listed g.T.Field.layout (take l.item-index l.items)).bytes ≡ l.room

@@ -1,0 +1,66 @@
+//! Kinds of messages.
+
+ghost use Rattle.pg_response.specs.Kind.{IsKind};
+
+use pg_wire::{Aside, BackMessage, Fields, Seq, Status};
+
+/// What kind of message it is.
+#[derive(Debug, Drop)]
+pub enum Kind {
+    /// A message that may come at any time and belongs to no answer, except a parameter's value.
+    Aside(Aside),
+    /// ParameterStatus.
+    Parameter { name: Seq<u8>, value: Seq<u8> },
+    /// ErrorResponse.
+    Error(Fields),
+    /// ReadyForQuery.
+    Ready(Status),
+    /// BackendKeyData.
+    Key { process: i32, secret: i32 },
+    /// A message of the authentication.
+    Auth(Auth),
+    /// Any other message: one of a result, or of the answer to a step.
+    Result(BackMessage),
+}
+
+/// What the server asks for, or says, in a message of the authentication.
+#[derive(Debug, Drop)]
+pub enum Auth {
+    /// The client is let in.
+    Ok,
+    /// The server asks for a password in clear text.
+    Cleartext,
+    /// The server asks for the MD5 text of a password, made with this salt.
+    Md5([u8; 4]),
+    /// The server asks for another way: its code, and what follows it.
+    Other { code: i32, rest: Seq<u8> },
+}
+
+impl Kind {
+    /// The kind of a message.
+    pub fn of(message: BackMessage) -> Kind
+        ensures { IsKind message result }
+    {
+        match message {
+            BackMessage::AuthOk => Kind::Auth(Auth::Ok),
+            BackMessage::AuthCleartext => Kind::Auth(Auth::Cleartext),
+            BackMessage::AuthMd5(salt) => Kind::Auth(Auth::Md5(salt)),
+            BackMessage::AuthOther { code, rest } => Kind::Auth(Auth::Other { code, rest }),
+            BackMessage::KeyData { process, secret } => Kind::Key { process, secret },
+            BackMessage::ParameterStatus { name, value } => Kind::Parameter { name, value },
+            BackMessage::Ready(status) => Kind::Ready(status),
+            BackMessage::ErrorResponse(fields) => Kind::Error(fields),
+            BackMessage::NoticeResponse(fields) => Kind::Aside(Aside::Notice(fields)),
+            BackMessage::Notification {
+                process,
+                channel,
+                payload,
+            } => Kind::Aside(Aside::Notification {
+                process,
+                channel,
+                payload,
+            }),
+            other => Kind::Result(other),
+        }
+    }
+}
