@@ -1,16 +1,11 @@
-//! Asks a server a query, waits for the whole answer, and prints it.
+//! `example_session query 'SELECT 1'`: asks a server a query, waits for the whole answer, and prints it.
 //!
-//! `example_query 'SELECT 1'` asks the server that the environment names, as `PGPORT=5433` does.
-#![tactic(auto)]
+//! A `GroupSession` collects the answer, which is simpler where answers are small. It is made of settings and a link, in main.rt.
 
-use anyhow::{Context, bail};
-use example_base::{Given, Server};
+use anyhow::bail;
 use pg_client::Settled;
 use pg_drive::{GroupEvent, GroupSession};
-use pg_wire::{Over, Part, Patient, Sink, Source};
-use standard_streams::all_open;
-use std::env;
-use std::net::TcpStream;
+use pg_wire::{Part, Sink, Source};
 
 // Starts the session, makes the query and ends the session. It returns what was answered.
 fn ask<L: Source + Sink>(session: &mut GroupSession<L>, query: &str) -> anyhow::Result<Settled> {
@@ -49,21 +44,12 @@ fn print<R: Print>(rt: &R, settled: &Settled) -> anyhow::Result<()> {
     Ok(())
 }
 
-// Asks, and prints what was answered.
-fn ask_and_print<R: Print, L: Source + Sink>(
+/// Asks, and prints what was answered.
+pub fn ask_and_print<R: Print, L: Source + Sink>(
     rt: &R,
     session: &mut GroupSession<L>,
     query: &str,
 ) -> anyhow::Result<()> {
     let settled = ask(session, query)?;
     print(rt, &settled)
-}
-
-fn main(rt: HostRuntime) -> anyhow::Result<()> {
-    all_open(&rt.stdin(), &rt.stdout(), &rt.stderr())?;
-    let query = env::args(&rt)?.nth(1).context("the word is a query")?;
-    let Server { address, settings } = Server::of(&rt, &Given::default())?;
-    let link = Over::new(Patient::new(TcpStream::connect(&rt, address)?));
-    let mut session = GroupSession::new(rt.alloc(), settings, link);
-    ask_and_print(&rt, &mut session, query.as_str())
 }
