@@ -1,6 +1,6 @@
 use Rattle.pg_drive.specs.Drive.{connected}
-use Rattle.test_client.proofs.Asking.{starts_ready}
-use Rattle.test_client.proofs.driver.connect.Goals as goal
+use Rattle.example_base.proofs.Asking.{starts_ready}
+use Rattle.example_base.proofs.driver.connect.Goals as goal
 
 pub returns-clause-ready : goal.returns-clause-ready
 returns-clause-ready g c =

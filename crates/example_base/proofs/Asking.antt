@@ -22,10 +22,10 @@ use Rattle.pg_drive.specs.Carried.{IsDrivenOn, IsLeftDriven, pieces_fed}
 use Rattle.pg_drive.specs.Drive.{Answers, Connection, Drives, IsLost, TakesTurns, TurnsOn, client_kind, connected}
 use Rattle.pg_drive.specs.Group.{GivesGroup, GroupBegins, GroupStarts, GroupTells, TakesGroup, group_start_told}
 use Rattle.pg_drive.specs.Session.{Tells, TellsCame}
-use Rattle.test_client.specs.declared.driver.AskFault.{AskFault}
-use Rattle.test_client.specs.declared.driver.AskFault.TheVariants as fault
-use Rattle.test_client.specs.Driver.{AwaitsRequest, MakesRequest, OnCopyIn, next_result}
-use Rattle.test_client.proofs.OwnGroup.{Laws, own_group}
+use Rattle.example_base.specs.declared.driver.AskFault.{AskFault}
+use Rattle.example_base.specs.declared.driver.AskFault.TheVariants as fault
+use Rattle.example_base.specs.Driver.{AwaitsRequest, MakesRequest, OnCopyIn, next_result}
+use Rattle.example_base.proofs.OwnGroup.{Laws, own_group}
 
 -- a client in a phase between the start and the close is open
 open_between : (client : ClientView) (p : Phase) → phase_of client ≡ p → IsOpenPhase p → client.closed ≡ None

@@ -1,8 +1,8 @@
 use Rattle.std.proofs.Common.{refl, inl, inr, ◌∙◌}
 use Rattle.pg_drive.specs.Drive.{connected}
-use Rattle.test_client.proofs.Asking.{asked_so}
-use Rattle.test_client.proofs.OwnGroup.{Laws}
-use Rattle.test_client.proofs.driver.ask.Goals as goal
+use Rattle.example_base.proofs.Asking.{asked_so}
+use Rattle.example_base.proofs.OwnGroup.{Laws}
+use Rattle.example_base.proofs.driver.ask.Goals as goal
 
 pub returns-in-Ok : goal.returns-in-Ok
 returns-in-Ok g c =

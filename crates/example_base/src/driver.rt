@@ -6,7 +6,7 @@ ghost use Rattle.pg_client.specs.Client.{phase_of};
 ghost use Rattle.pg_client.specs.History.{History, IsHistoryOf};
 ghost use Rattle.pg_drive.specs.Drive.{connected};
 ghost use Rattle.pg_drive.specs.Group.{GroupStarts};
-ghost use Rattle.test_client.specs.Driver.{Asks, AwaitsRequest, OnCopyIn, next_result};
+ghost use Rattle.example_base.specs.Driver.{Asks, AwaitsRequest, OnCopyIn, next_result};
 
 use pg_client::Settled;
 use pg_client::laws::{answers_of_a_run, requests_of_the_calls, story_of_a_run};

@@ -16,7 +16,7 @@ use Rattle.pg_client.specs.Turns.{turns_of}
 use Rattle.pg_drive.specs.declared.event.GroupEvent.TheVariants as event
 use Rattle.pg_drive.specs.Carried.{IsDrivenOn}
 use Rattle.pg_drive.specs.Group.{TakesGroup}
-use Rattle.test_client.specs.Driver.{AwaitsRequest}
+use Rattle.example_base.specs.Driver.{AwaitsRequest}
 
 -- what the laws requests_of_the_calls, story_of_a_run and answers_of_a_run say to a driver
 pub record Laws : Type 0 where

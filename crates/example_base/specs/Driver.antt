@@ -18,8 +18,8 @@ use Rattle.pg_drive.specs.Carried.{IsDrivenOn, pieces_fed}
 use Rattle.pg_drive.specs.Drive.{Connection, Drives, connected}
 use Rattle.pg_drive.specs.Group.{GroupTells, TakesGroup}
 use Rattle.pg_drive.specs.Session.{Tells}
-use Rattle.test_client.specs.declared.driver.AskFault.{AskFault}
-use Rattle.test_client.specs.declared.driver.AskFault.TheVariants as fault
+use Rattle.example_base.specs.declared.driver.AskFault.{AskFault}
+use Rattle.example_base.specs.declared.driver.AskFault.TheVariants as fault
 
 -- The client may be asked the next request: its phase is Ready, and no settled group waits to be
 -- taken.
