@@ -1,10 +1,10 @@
 //! A link that fails at one call, for each call of the drives of an early client: what was sent and received before stands, and the
 //! items that came before are given.
 
-use crate::tests::client::STARTUP;
-use crate::tests::driving::{Beginning, does};
-use crate::tests::early_client::{EarlyStep, Lost, NOTHING, REQUEST, REQUEST_WITH_ERROR, Told};
-use crate::tests::failures::{ERROR, GIVEN, QUERY, SENT};
+use crate::drive::client::STARTUP;
+use crate::drive::driving::{Beginning, does};
+use crate::drive::early_client::{EarlyStep, Lost, NOTHING, REQUEST, REQUEST_WITH_ERROR, Told};
+use crate::drive::failures::{ERROR, GIVEN, QUERY, SENT};
 use pg_client::Phase;
 use std::alloc::Global;
 

@@ -1,6 +1,6 @@
 //! Clients that are driven over a link in memory.
 
-use crate::tests::driving::DriveStep;
+use crate::drive::driving::DriveStep;
 use pg_client::{Client, FeedFault, Loss, Phase, Settings};
 use pg_drive::{DriveFault, Driven, drive};
 use pg_wire::Request;

@@ -1,22 +1,14 @@
-use crate::tests::client::STARTUP;
-use crate::tests::driving::{Beginning, does};
-use crate::tests::early_client::{EarlyStep, NOTHING, REQUEST, REQUEST_WITH_ERROR, Told};
-use crate::tests::early_failures::WHOLE_ANSWER;
+use crate::client::ERROR;
+use crate::drive::client::STARTUP;
+use crate::drive::driving::{Beginning, does};
+use crate::drive::early_client::{EarlyStep, NOTHING, REQUEST, REQUEST_WITH_ERROR, Told};
+use crate::drive::early_failures::WHOLE_ANSWER;
+use crate::early::session::{ANSWER, READY};
 use pg_client::{Cause, Phase};
 use testing::values::WELCOME;
 
-/// RowDescription of one column, DataRow of a null and an empty text, a notice and CommandComplete.
-const ANSWER: &[u8] =
-    b"T\0\0\0\x1a\0\x01n\0\0\0\0\0\0\0\0\0\0\x17\0\x04\xff\xff\xff\xff\0\0D\0\0\0\x0e\0\x02\xff\xff\xff\xff\0\0\0\0N\0\0\0\x05\0C\0\0\0\x0dSELECT 1\0";
-
-/// ReadyForQuery.
-const READY: &[u8] = b"Z\0\0\0\x05I";
-
 /// CopyInResponse without columns, and what must not be received before the data is sent.
 const COPY_IN: &[u8] = b"G\0\0\0\x07\0\0\0N\0\0\0\x05\0";
-
-/// An ErrorResponse.
-const ERROR: &[u8] = b"E\0\0\0\x05\0";
 
 const STARTED: [EarlyStep; 5] = [
     EarlyStep::Gives(15, Told::Ready),

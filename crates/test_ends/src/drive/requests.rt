@@ -1,12 +1,8 @@
-use crate::tests::client::{ClientStep, Lost, Told};
-use crate::tests::driving::{Beginning, does};
+use crate::client::ANSWER;
+use crate::drive::client::{ClientStep, Lost, Told};
+use crate::drive::driving::{Beginning, does};
+use crate::early::session::COPY_IN;
 use pg_client::{Cause, Phase};
-
-/// CommandComplete with the tag `OK`, and ReadyForQuery.
-const ANSWER: &[u8] = b"C\0\0\0\x07OK\0Z\0\0\0\x05I";
-
-/// CopyInResponse without columns.
-const COPY_IN: &[u8] = b"G\0\0\0\x07\0\0\0";
 
 const SETTLED: [ClientStep; 5] = [
     ClientStep::Gives(14, Told::Settled),

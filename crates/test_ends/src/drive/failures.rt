@@ -1,7 +1,7 @@
 //! A link that fails at one call, for each call of a drive: what was sent and received before stands.
 
-use crate::tests::client::{ClientDrive, ClientStep, Lost, STARTUP, Told};
-use crate::tests::driving::{has_asked, over};
+use crate::drive::client::{ClientDrive, ClientStep, Lost, STARTUP, Told};
+use crate::drive::driving::{has_asked, over};
 use pg_client::{Cause, Phase};
 use std::alloc::Global;
 use testing::{MemoryLink, holds, memory_link};

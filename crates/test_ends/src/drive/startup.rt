@@ -1,5 +1,5 @@
-use crate::tests::client::{ClientDrive, ClientStep, Lost, STARTUP, Told, nothing_lost};
-use crate::tests::driving::{Beginning, does, over};
+use crate::drive::client::{ClientDrive, ClientStep, Lost, STARTUP, Told, nothing_lost};
+use crate::drive::driving::{Beginning, does, over};
 use pg_client::{Cause, FeedFault, Phase};
 use pg_drive::DriveFault;
 use std::alloc::Global;

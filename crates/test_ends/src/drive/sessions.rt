@@ -1,19 +1,13 @@
 //! Sessions over a link.
 
-use crate::tests::session::{SessionStep, groups_do, session_does};
+use crate::drive::session::{SessionStep, groups_do, session_does};
+use crate::early::session::{ANSWER, COPY_IN};
 use pg_client::{Cause, Phase};
 use std::alloc::Global;
-
-/// RowDescription of one column, DataRow of a null and an empty text, a notice and CommandComplete.
-const ANSWER: &[u8] =
-    b"T\0\0\0\x1a\0\x01n\0\0\0\0\0\0\0\0\0\0\x17\0\x04\xff\xff\xff\xff\0\0D\0\0\0\x0e\0\x02\xff\xff\xff\xff\0\0\0\0N\0\0\0\x05\0C\0\0\0\x0dSELECT 1\0";
 
 /// RowDescription of one column, DataRow of a null and an empty text, a notice, CommandComplete and ReadyForQuery.
 const WHOLE: &[u8] =
     b"T\0\0\0\x1a\0\x01n\0\0\0\0\0\0\0\0\0\0\x17\0\x04\xff\xff\xff\xff\0\0D\0\0\0\x0e\0\x02\xff\xff\xff\xff\0\0\0\0N\0\0\0\x05\0C\0\0\0\x0dSELECT 1\0Z\0\0\0\x05I";
-
-/// CopyInResponse without columns.
-const COPY_IN: &[u8] = b"G\0\0\0\x07\0\0\0";
 
 /// CommandComplete with the tag `COPY 1`, and ReadyForQuery.
 const COPIED: &[u8] = b"C\0\0\0\x0bCOPY 1\0Z\0\0\0\x05I";

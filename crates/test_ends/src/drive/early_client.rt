@@ -1,6 +1,6 @@
 //! Early clients that are driven over a link, and what driving one came to, in few words.
 
-use crate::tests::driving::DriveStep;
+use crate::drive::driving::DriveStep;
 use pg_client::{Cause, EarlyClient, Item, Loss, Phase, Settings};
 use pg_drive::{DriveFault, DrivenEarly, drive_early};
 use std::alloc::Global;

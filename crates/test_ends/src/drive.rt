@@ -1,3 +1,5 @@
+//! Clients, early clients and sessions that are driven over a link.
+
 mod client;
 mod driving;
 mod early;
