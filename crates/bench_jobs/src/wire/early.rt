@@ -2,8 +2,8 @@
 
 ghost use Rattle.std.specs.Prelude.{◌<◌};
 
-use crate::feed::{COLUMNS, WELCOME, asked, rows_of, settings};
-use crate::size_of_lent;
+use super::feed::{COLUMNS, WELCOME, asked, rows_of, settings};
+use super::size_of_lent;
 use anyhow::bail;
 use pg_client::{EarlyClient, Next};
 use std::alloc::Global;

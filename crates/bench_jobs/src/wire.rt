@@ -1,19 +1,12 @@
-//! Does one work, to be timed (`bench/wire`), and prints a number that it comes to. The words are the work and a number:
-//! - `owned` and `lent` read the stream of a backend on standard input in pieces of so many bytes: how many bytes the values of its rows have;
-//! - `feed` feeds it to a client, as the rows of a query: how many bytes were fed;
-//! - `early` gives it to an early client, which lends the rows: how many bytes their values have;
-//! - `bind` writes a Bind of so many values, a million values in all: how many bytes were written.
-#![tactic(auto)]
+//! Works of the decoder, of the clients and of an encoder, each alone: `bench/wire` times them beside a peer.
 
 mod bind;
 mod early;
 mod feed;
 
-use anyhow::{Context, bail};
+use anyhow::bail;
 use pg_wire::{BackDecoder, BackMessage, Cut, LONGEST, Lent, RowView, WireFault};
 use std::alloc::Global;
-use std::env;
-use std::io::Read;
 
 // How many bytes the values of a row have; 0 of any other message.
 fn size_of(message: &BackMessage) -> u64 {
@@ -87,24 +80,15 @@ fn decode(alloc: Global, stream: &[u8], piece: usize, is_lent: bool) -> anyhow::
     Ok(size)
 }
 
-fn main(rt: HostRuntime) -> anyhow::Result<()> {
-    let alloc = rt.alloc();
-    let words: Vec<String> = env::args(&rt)?.collect(alloc)?;
-    let [_, work, piece] = words.as_slice() else {
-        bail!("the words are a work and a number");
-    };
-    let piece: usize = piece.parse().context("no number")?;
-    let mut stream = Vec::new(alloc);
-    rt.reader().read_to_end(&mut stream)?;
-    let size = match work.as_str() {
-        "read" => stream.len() as u64,
-        "owned" => decode(alloc, stream.as_slice(), piece, false)?,
-        "lent" => decode(alloc, stream.as_slice(), piece, true)?,
-        "feed" => feed::feed(alloc, stream.as_slice(), piece)?,
-        "early" => early::lend(alloc, stream.as_slice(), piece)?,
-        "bind" => bind::bind(alloc, piece)?,
+/// Does the work of a name, on a stream and with a number: what it comes to.
+pub fn work(alloc: Global, name: &str, stream: &[u8], number: usize) -> anyhow::Result<u64> {
+    match name {
+        "read" => Ok(stream.len() as u64),
+        "owned" => decode(alloc, stream, number, false),
+        "lent" => decode(alloc, stream, number, true),
+        "feed" => feed::feed(alloc, stream, number),
+        "early" => early::lend(alloc, stream, number),
+        "bind" => bind::bind(alloc, number),
         other => bail!("no work: {other}"),
-    };
-    println!(rt; "{size}")?;
-    Ok(())
+    }
 }
