@@ -1,4 +1,4 @@
-//! The peer of `bench_wire`: the same work by postgres-protocol.
+//! The peer of the works that `bench_jobs` has in its module `wire`: the same work by postgres-protocol.
 use bytes::BytesMut;
 use fallible_iterator::FallibleIterator;
 use postgres_protocol::message::{backend::Message, frontend};

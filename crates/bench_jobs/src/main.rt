@@ -7,6 +7,13 @@
 //! - `show`: so many recorded streams are shown;
 //! - `trickle`: so many sessions of small extended queries with a scripted backend are played, of which a few bytes arrive at a time;
 //! - `all`: each of them.
+//!
+//! Or it does one work of those in wire.rt (`bench/wire` times it), and prints a number that it comes to. Then the words are the work and a number:
+//! - `owned` and `lent` read the stream of a backend on standard input in pieces of so many bytes: how many bytes the values of its rows have;
+//! - `feed` feeds it to a client, as the rows of a query: how many bytes were fed;
+//! - `early` gives it to an early client, which lends the rows: how many bytes their values have;
+//! - `bind` writes a Bind of so many values, a million values in all: how many bytes were written;
+//! - `read` does no more than read the stream: how many bytes it has.
 #![tactic(auto)]
 
 mod convert;
@@ -18,12 +25,14 @@ mod session;
 mod show;
 mod stream;
 mod trickle;
+mod wire;
 
 use anyhow::{Context, bail};
 use rand_xoshiro::Xoshiro256PlusPlus;
 use rand_xoshiro::rand_core::SeedableRng;
 use std::alloc::Global;
 use std::env;
+use std::io::Read;
 
 /// The jobs.
 const JOBS: [&str; 6] = ["fetch", "stream", "load", "convert", "show", "trickle"];
@@ -42,11 +51,24 @@ fn do_job(alloc: Global, name: &str, seed: u32, size: u32) -> anyhow::Result<u64
     }
 }
 
+// Does the work that the words name, on the stream that is the input, and prints what it comes to.
+fn do_work(rt: &HostRuntime, words: &[String]) -> anyhow::Result<()> {
+    let [_, work, number] = words else {
+        bail!("the words are a job, a seed and a size, or a work and a number");
+    };
+    let number: usize = number.parse().context("no number")?;
+    let mut stream = Vec::new(rt.alloc());
+    rt.reader().read_to_end(&mut stream)?;
+    let size = wire::work(rt.alloc(), work.as_str(), stream.as_slice(), number)?;
+    println!(rt; "{size}")?;
+    Ok(())
+}
+
 fn main(rt: HostRuntime) -> anyhow::Result<()> {
     let alloc = rt.alloc();
     let words: Vec<String> = env::args(&rt)?.collect(alloc)?;
     let [_, job, seed, size] = words.as_slice() else {
-        bail!("the words are a job, a seed and a size");
+        return do_work(&rt, words.as_slice());
     };
     let seed: u32 = seed.parse().context("no seed")?;
     let size: u32 = size.parse().context("no size")?;

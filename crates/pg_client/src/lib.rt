@@ -34,7 +34,7 @@
 //! grammar gives for its messages; phase, status and parameters are functions of what came; and at most one request is in doubt. Contracts
 //! say this of a *history*, which is all that a client was called with, was fed and gave (`History`, `IsHistoryOf` in
 //! `specs/History.antt`): `new` begins with a blank one, and each call says what it appends (`Carries`; of `feed`, `Hears`). No code stores a
-//! history. [`laws::facts_of_a_run`] reads it in the protocol's words, and `test_client` shows how a driver's author uses it.
+//! history. [`laws::facts_of_a_run`] reads it in the protocol's words, and `driver.rt` of `example_base` shows how a driver's author uses it.
 //!
 //! # Files
 //!

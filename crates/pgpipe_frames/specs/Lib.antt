@@ -13,5 +13,7 @@ pub mod Packet
 pub mod Fields
 pub mod Words
 pub mod Text
+-- The JSON object that each frame is shown as.
+pub mod Json
 -- Words of private functions, which no public contract cites.
 pub mod Private

@@ -1,5 +1,5 @@
-//! The frames of a stream, by their length fields alone, and the text that a person reads of each. A frame is a message's tag, length field
-//! and body, or a first packet of a client's connection.
+//! The frames of a stream, by their length fields alone, the text that a person reads of each, and the JSON object that a program reads. A frame
+//! is a message's tag, length field and body, or a first packet of a client's connection.
 //!
 //! **The frames.** [`Frames`] takes the bytes of a server or of a client in any pieces, and lends frame after frame, whatever its tag and its
 //! body are. Only a length that can't be ends the stream.
@@ -22,6 +22,8 @@
 //! says its text (`Readable`), so a list is shown once for all elements. A text is escaped in runs (`put_some` in `text`): the bytes in front
 //! that are shown as they are, at once, or one that isn't. A word of the definitions that stands for a long text is opaque to all but the
 //! function that appends it.
+//!
+//! **As JSON.** [`json::put_frame`] appends the object of a frame (json.rt and the files in json/).
 #![tactic(auto)]
 
 mod backend;
@@ -29,6 +31,7 @@ mod fields;
 mod frame_text;
 mod frames;
 mod frontend;
+pub mod json;
 mod judge;
 pub mod laws;
 mod next;

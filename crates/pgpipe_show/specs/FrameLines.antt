@@ -11,7 +11,7 @@ use Rattle.pgpipe_frames.specs.declared.next.NextFrame.{NextFrame}
 use Rattle.pgpipe_frames.specs.declared.next.NextFrame.TheVariants as next
 use Rattle.pgpipe_frames.specs.Frames.{Frame, AreFramed}
 use Rattle.pgpipe_frames.specs.Reading.{IsReadAs, IsPacketReadAs}
-use Rattle.pgpipe_json.specs.Frame.{IsJsonText}
+use Rattle.pgpipe_frames.specs.Json.Frame.{IsJsonText}
 use Rattle.pgpipe_show.specs.Messages.{line}
 use Rattle.pgpipe_show.specs.Packets.{packet_line}
 use Rattle.pgpipe_show.specs.declared.form.Line.{Line}

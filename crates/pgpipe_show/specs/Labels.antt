@@ -15,10 +15,10 @@ use Rattle.pgpipe_frames.specs.declared.next.NextFrame.{NextFrame}
 use Rattle.pgpipe_frames.specs.declared.next.NextFrame.TheVariants as next
 use Rattle.pgpipe_frames.specs.Frames.{code}
 use Rattle.pgpipe_frames.specs.Reading.{IsReadAs, IsPacketReadAs}
-use Rattle.pgpipe_json.specs.Backend.{back_called}
-use Rattle.pgpipe_json.specs.Frontend.{front_called}
-use Rattle.pgpipe_json.specs.Other.{packet_name}
-use Rattle.pgpipe_json.specs.Packet.{packet_called}
+use Rattle.pgpipe_frames.specs.Json.Backend.{back_called}
+use Rattle.pgpipe_frames.specs.Json.Frontend.{front_called}
+use Rattle.pgpipe_frames.specs.Json.Other.{packet_name}
+use Rattle.pgpipe_frames.specs.Json.Packet.{packet_called}
 
 -- what a message of the backend says beside its name: a ReadyForQuery its status, and an ErrorResponse
 -- its code

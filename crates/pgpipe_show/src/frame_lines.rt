@@ -202,7 +202,7 @@ fn write_json(
         line.new.items) }
 {
     line.clear();
-    pgpipe_json::put_frame(alloc, front, kind, frame, line)?;
+    pgpipe_frames::json::put_frame(alloc, front, kind, frame, line)?;
     line.extend_from_slice(b"\n")
 }
 

@@ -106,13 +106,13 @@ fn does(alloc: Global, steps: &[TableStep]) -> bool {
 }
 
 /// CommandComplete with the tag `OK`, and ReadyForQuery.
-const ANSWER: &[u8] = b"C\0\0\0\x07OK\0Z\0\0\0\x05I";
+pub(crate) const ANSWER: &[u8] = b"C\0\0\0\x07OK\0Z\0\0\0\x05I";
 
 /// All of it but its last byte.
 const HALF: &[u8] = b"C\0\0\0\x07OK\0Z\0\0\0\x05";
 
 /// ErrorResponse without a field.
-const ERROR: &[u8] = b"E\0\0\0\x05\0";
+pub(crate) const ERROR: &[u8] = b"E\0\0\0\x05\0";
 
 const WAITING: [TableStep; 5] = [
     TableStep::Begin,

@@ -2,4 +2,4 @@
 
 mod items;
 mod lent;
-mod session;
+pub(crate) mod session;

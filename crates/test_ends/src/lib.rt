@@ -1,5 +1,5 @@
-//! Tests of both ends of a connection: of the client, of the early client and of the scripted backend, also over a link, by their public
-//! interface alone.
+//! Tests of both ends of a connection: of the client, of the early client and of the scripted backend, also over a link (`drive`, `serve`), by
+//! their public interface alone.
 //!
 //! They stand in a crate of their own, so that no library is proved once more for the sake of its tests.
 #![tactic(auto)]
@@ -8,6 +8,8 @@
 mod backend;
 #[cfg(test)]
 mod client;
+#[cfg(test)]
+mod drive;
 #[cfg(test)]
 mod early;
 #[cfg(test)]

@@ -1,5 +1,5 @@
 use Rattle.std.proofs.Common.{rules}
-use Rattle.pgpipe_json.specs.Frame.{IsJsonText}
+use Rattle.pgpipe_frames.specs.Json.Frame.{IsJsonText}
 use Rattle.pgpipe_show.proofs.Framings.{newline_put}
 use Rattle.pgpipe_show.proofs.frame_lines.write_json.Goals as goal
 

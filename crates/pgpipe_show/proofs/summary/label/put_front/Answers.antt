@@ -1,6 +1,6 @@
 use Rattle.std.proofs.Common.{drop, slice_index, refl}
 use Rattle.pgpipe_frames.specs.Other.{front_name}
-use Rattle.pgpipe_json.specs.Frontend.{front_called}
+use Rattle.pgpipe_frames.specs.Json.Frontend.{front_called}
 use Rattle.pgpipe_show.proofs.Labels.{text_put}
 use Rattle.pgpipe_show.specs.Labels.{IsFrontLabel, label_or}
 use Rattle.pgpipe_show.proofs.summary.label.put_front.Goals as goal

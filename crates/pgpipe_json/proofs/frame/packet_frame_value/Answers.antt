@@ -1,9 +1,0 @@
-use Rattle.std.proofs.Common.{◌-◌, length, refl}
-use Rattle.pgpipe_json.specs.Packet.{packet_json}
-use Rattle.pgpipe_json.specs.Frame.{IsPacketJson, json_or}
-use Rattle.pgpipe_json.specs.Other.{other_packet}
-use Rattle.pgpipe_json.proofs.Texts.{json_made}
-use Rattle.pgpipe_json.proofs.frame.packet_frame_value.Goals as goal
-
-pub returns : goal.returns
-returns c = json_made (IsPacketJson c.args.frame.now) c.read_packet_value.result (json_or (packet_json (length c.args.frame.now)) (other_packet c.args.frame.now) c.in_ok-read.read) (c.in_ok-read.read, c.in_ok-read.ensures, refl) c.read_packet_value.ensures

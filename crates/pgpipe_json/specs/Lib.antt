@@ -1,8 +1,0 @@
--- What a reader must believe: the JSON object that each frame is shown as.
-pub mod Frame
-pub mod Other
-pub mod Backend
-pub mod Frontend
-pub mod Packet
-pub mod Members
-pub mod Values

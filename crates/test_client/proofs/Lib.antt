@@ -1,3 +1,0 @@
--- Lemmas, by the subject.
-pub mod OwnGroup
-pub mod Asking
