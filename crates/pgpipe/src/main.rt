@@ -177,8 +177,12 @@ fn run_both<R: Files + Print + AllocGlobal>(rt: &R, showing: &Showing, telling: 
         return plainly(Ok(ExitCode::SUCCESS));
     };
     let input = front.get_ref().last_error().or(back.get_ref().last_error());
-    let reason = stream_reason(input, sink.last_error())
-        .or(both_reason(&failure, places, front.first(), back.first()));
+    let reason = stream_reason(input, sink.last_error()).or(both_reason(
+        &failure,
+        places,
+        front.first(),
+        back.first(),
+    ));
     failed(telling, failure, reason)
 }
 

@@ -101,7 +101,7 @@ guess_at offset front first = if offset == 0 then side_guess front first else No
 abbrev pub side_reason : Bool → Rule → FramePlace → List ℕ → Reason
 side_reason front r place first =
     message_reason (Some (record { number = place.number; line = 1; offset = place.offset })) r
-        (guess_at place.offset front first)
+    (guess_at place.offset front first)
 
 -- why both sides of a connection aren't printed whole, by their places and first bytes
 abbrev pub both_reason : Failure → BothPlaces → List ℕ → List ℕ → Option Reason
