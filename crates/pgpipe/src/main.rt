@@ -7,9 +7,10 @@ ghost use Rattle.pgpipe_cli.specs.Tasks.{IsTask};
 use pg_pair::{Carry, Direct};
 use pg_wire::{Over, Patient};
 use pgpipe_cli::{
-    Asked, Disk, Failure, Listening, NotedDisk, Reason, ServeTask, Showing, Subject, Task, Telling,
-    Watched, asked_of, connect_to_itself, do_both, do_task, exit_code, explain, file_failure,
-    file_reason, serve_file, stream_reason, task_reason, words_failure,
+    Asked, BothDone, Disk, Failure, FirstBytes, Listening, NotedDisk, Reason, ServeTask, Showing,
+    Subject, Task, Telling, Watched, asked_of, both_reason, connect_to_itself, do_both, do_task,
+    exit_code, explain, file_failure, file_reason, serve_file, stream_reason, task_reason,
+    words_failure,
 };
 use pgpipe_explain::Tracked;
 use pgpipe_show::{Colored, Form, Line};
@@ -167,13 +168,22 @@ fn run_both<R: Files + Print + AllocGlobal>(rt: &R, showing: &Showing, telling: 
         Ok(back) => back,
         Err((failure, reason)) => return failed(telling, failure, reason),
     };
-    let mut front = Over::new(Patient::new(front));
-    let mut back = Over::new(Patient::new(back));
+    let alloc = rt.alloc();
+    let mut front = FirstBytes::new(alloc, Over::new(Patient::new(front)));
+    let mut back = FirstBytes::new(alloc, Over::new(Patient::new(back)));
     let mut sink = Over::new(Patient::new(io::writer(rt)));
-    match do_both(rt.alloc(), &mut front, &mut back, &mut sink) {
-        Ok(()) => plainly(Ok(ExitCode::SUCCESS)),
-        Err(failure) => plainly(Err(failure)),
-    }
+    let BothDone { result, places } = do_both(alloc, &mut front, &mut back, &mut sink);
+    let Err(failure) = result else {
+        return plainly(Ok(ExitCode::SUCCESS));
+    };
+    let input = front.get_ref().last_error().or(back.get_ref().last_error());
+    let reason = stream_reason(input, sink.last_error()).or(both_reason(
+        &failure,
+        places,
+        front.first(),
+        back.first(),
+    ));
+    failed(telling, failure, reason)
 }
 
 // Does a task other than that of serving clients, its lines in colour or not.
@@ -243,22 +253,29 @@ fn run_told<R: Files + Clock + Print + Eprint + AllocGlobal, I: Read + Drop, C: 
     let alloc = rt.alloc();
     let subject = Subject::of(&task);
     let files = NotedDisk::new(rt);
-    let reader = Over::new(Patient::new(input));
+    let reader = FirstBytes::new(alloc, Over::new(Patient::new(input)));
     let tracked = Tracked::new(alloc, reader, subject.input());
-    let mut source = Watched::new(alloc, rt, tracked, subject.input(), telling.progress);
+    let mut source = Watched::new(rt, tracked, subject.input(), telling.progress);
     let writer = Over::new(Patient::new(io::writer(rt)));
     let mut sink = Tracked::new(alloc, Colored::new(writer, color), subject.output());
     let Err(failure) = do_task(alloc, task, &files, carrier, &mut source, &mut sink) else {
         return plainly(Ok(ExitCode::SUCCESS));
     };
+    let tracked = source.get_ref();
+    let reader = tracked.get_ref();
     let streams = stream_reason(
-        source.get_ref().get_ref().last_error(),
+        reader.get_ref().last_error(),
         sink.get_ref().get_ref().last_error(),
     );
-    let place = source.get_ref().place(sink.tracker().place.number);
+    // a summary is one text, and of it the input ends where the fault is; of the others the output ends there
+    let place = if matches!(subject, Subject::Show { summary: true, .. }) {
+        Some(tracked.tracker().place)
+    } else {
+        tracked.place(sink.tracker().place.number)
+    };
     let reason = streams
         .or(file_reason(alloc, subject, &failure, files.into_last()))
-        .or(task_reason(subject, &failure, place, source.first()));
+        .or(task_reason(subject, &failure, place, reader.first()));
     failed(telling, failure, reason)
 }
 

@@ -1,5 +1,5 @@
 -- Why a task failed, in a second line.
-use Rattle.std.specs.Prelude.{ℕ, Bool, if◌then◌else◌, List, Option, Some, None, option_map}
+use Rattle.std.specs.Prelude.{ℕ, ◌==◌, Bool, true, false, if◌then◌else◌, List, Option, Some, None, option_map}
 use Rattle.pg_wire.specs.declared.fault.WireFault.{WireFault}
 use Rattle.pgpipe_convert.specs.declared.format.Format.{Format}
 use Rattle.pgpipe_convert.specs.declared.format.Format.TheVariants as format
@@ -8,7 +8,9 @@ use Rattle.pgpipe_explain.specs.declared.guess.Guess.{Guess}
 use Rattle.pgpipe_explain.specs.declared.rule.Rule.{Rule}
 use Rattle.pgpipe_explain.specs.declared.rule.Rule.TheVariants as rule
 use Rattle.pgpipe_explain.specs.Faults.{back_rule, binary_rule, front_rule, option_rule, row_rule, script_rule, text_rule}
-use Rattle.pgpipe_explain.specs.Guess.{guess_of}
+use Rattle.pgpipe_explain.specs.Guess.{guess_of, side_guess}
+use Rattle.pgpipe_show.specs.declared.both.place.FramePlace.{FramePlace}
+use Rattle.pgpipe_show.specs.declared.both.printing.BothPlaces.{BothPlaces}
 use Rattle.pgpipe_cli.specs.declared.explaining.Subject.{Subject}
 use Rattle.pgpipe_cli.specs.declared.explaining.Subject.TheVariants as subject
 use Rattle.pgpipe_cli.specs.declared.failure.Failure.{Failure}
@@ -77,7 +79,7 @@ clients_reason _ = None
 
 -- why a task failed whose words and script are right, by what it is about
 abbrev pub subject_reason : Subject → Failure → Option Place → List ℕ → Option Reason
-subject_reason (subject.Show front) f place first = show_reason front f place first
+subject_reason (subject.Show front summary) f place first = show_reason front f place first
 subject_reason (subject.Convert from to) f place first = convert_reason from f place
 subject_reason (subject.Loop comments) f place first = carrier_reason f
 subject_reason subject.Serve f place first = clients_reason f
@@ -90,3 +92,25 @@ rule_first None other = other
 -- why a task failed
 abbrev pub task_reason : Subject → Failure → Option Place → List ℕ → Option Reason
 task_reason s f place first = rule_first (rule_of f) (subject_reason s f place first)
+
+-- what the stream of one side of a connection looks like, where its first byte is that of a frame
+abbrev pub guess_at : ℕ → Bool → List ℕ → Option Guess
+guess_at offset front first = if offset == 0 then side_guess front first else None
+
+-- why the stream of one side of a connection isn't printed whole
+abbrev pub side_reason : Bool → Rule → FramePlace → List ℕ → Reason
+side_reason front r place first =
+    message_reason (Some (record { number = place.number; line = 1; offset = place.offset })) r
+    (guess_at place.offset front first)
+
+-- why both sides of a connection aren't printed whole, by their places and first bytes
+abbrev pub both_reason : Failure → BothPlaces → List ℕ → List ℕ → Option Reason
+both_reason (failure.FrontRest n) places front back =
+    Some (side_reason true (rest_rule true) places.front front)
+both_reason (failure.FrontFault f) places front back =
+    Some (side_reason true (fault_rule true f) places.front front)
+both_reason (failure.BackRest n) places front back =
+    Some (side_reason false (rest_rule false) places.back back)
+both_reason (failure.BackFault f) places front back =
+    Some (side_reason false (fault_rule false f) places.back back)
+both_reason _ places front back = None

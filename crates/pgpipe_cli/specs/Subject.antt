@@ -11,7 +11,7 @@ use Rattle.pgpipe_cli.specs.declared.tasks.Task.TheVariants as task
 
 -- what a task is about; with `true` the files of a loop may have comments
 abbrev pub subject_of : Task → Subject
-subject_of (task.Show s) = subject.Show s.front
+subject_of (task.Show s) = subject.Show s.front s.summary
 subject_of (task.Convert c) = subject.Convert c.from c.to
 subject_of (task.Loop l) = subject.Loop l.comments
 subject_of (task.Serve s) = subject.Serve
@@ -27,14 +27,14 @@ rows_of format.Binary = kind.Binary
 
 -- what the input has; a loop and a server read nothing of it
 abbrev pub input_of : Subject → TrackedKind
-input_of (subject.Show front) = stream_messages front
+input_of (subject.Show front summary) = stream_messages front
 input_of (subject.Convert from to) = rows_of from
 input_of (subject.Loop comments) = kind.Back
 input_of subject.Serve = kind.Back
 
 -- what the output gets: lines, or the rows of a file
 abbrev pub output_of : Subject → TrackedKind
-output_of (subject.Show front) = kind.Text
+output_of (subject.Show front summary) = kind.Text
 output_of (subject.Convert from to) = rows_of to
 output_of (subject.Loop comments) = kind.Text
 output_of subject.Serve = kind.Text

@@ -20,7 +20,7 @@ use pg_pair::Carry;
 use pg_wire::{Sink, Source};
 use pgpipe_convert::convert_with;
 use pgpipe_show::show::show_as;
-use pgpipe_show::{Form, show_both, summarize};
+use pgpipe_show::{BothPlaces, Form, show_both, summarize};
 use std::alloc::Global;
 use std::process::ExitCode;
 
@@ -69,17 +69,30 @@ fn do_showing<S: Source, K: Sink>(
     }
 }
 
+/// What came of printing both sides of a connection.
+#[derive(Drop)]
+pub struct BothDone {
+    /// How the program ends.
+    pub result: Result<(), Failure>,
+    /// Where each side stands.
+    pub places: BothPlaces,
+}
+
 /// Prints both sides of a connection together.
 pub fn do_both<F: Source, B: Source, K: Sink>(
     alloc: Global,
     front: &mut F,
     back: &mut B,
     sink: &mut K,
-) -> Result<(), Failure>
+) -> BothDone
     ensures { DoesBoth F.gives F.failures F.has_ended B.gives B.failures B.has_ended K.takes
-        K.failures front.old back.old sink.old result front.new back.new sink.new }
+        K.failures front.old back.old sink.old result.result front.new back.new sink.new }
 {
-    both_result_of(show_both(alloc, front, back, sink))
+    let shown = show_both(alloc, front, back, sink);
+    BothDone {
+        result: both_result_of(shown.answer),
+        places: shown.places,
+    }
 }
 
 // Converts what the source gives, once the options are judged.

@@ -1,7 +1,8 @@
 //! Why a task failed, by what its streams and files came to.
 
 ghost use Rattle.std.specs.Prelude.{◌≡◌};
-ghost use Rattle.pgpipe_cli.specs.Explaining.{carrier_reason, clients_reason, convert_reason};
+ghost use Rattle.pgpipe_cli.specs.Explaining.{both_reason, carrier_reason, clients_reason};
+ghost use Rattle.pgpipe_cli.specs.Explaining.{convert_reason, side_reason};
 ghost use Rattle.pgpipe_cli.specs.Explaining.{fault_rule, message_reason, rest_rule, row_reason};
 ghost use Rattle.pgpipe_cli.specs.Explaining.{row_rule_of, rule_of, show_reason, stream_rule};
 ghost use Rattle.pgpipe_cli.specs.Explaining.{subject_reason, task_reason};
@@ -16,8 +17,9 @@ use pg_wire::WireFault;
 use pgpipe_convert::Format;
 use pgpipe_explain::{
     Guess, Place, Rule, TrackedKind, back_rule, binary_rule, calls_reason, front_rule, guess_of,
-    option_rule, row_rule, script_reason, script_rule, text_rule,
+    option_rule, row_rule, script_reason, script_rule, side_guess, text_rule,
 };
+use pgpipe_show::{BothPlaces, FramePlace};
 use std::alloc::Global;
 use std::io;
 
@@ -28,6 +30,8 @@ pub enum Subject {
     Show {
         /// Whether it is a client's.
         front: bool,
+        /// Whether it is summed up, so that the output has no part for each part of the input.
+        summary: bool,
     },
     /// A file is converted.
     Convert {
@@ -74,6 +78,7 @@ impl Subject {
         match task {
             Task::Show(showing) => Subject::Show {
                 front: showing.front,
+                summary: showing.summary,
             },
             Task::Convert(conversion) => Subject::Convert {
                 from: conversion.from,
@@ -91,7 +96,7 @@ impl Subject {
         ensures { result ≡ input_of self }
     {
         match self {
-            Subject::Show { front } => stream_messages(front),
+            Subject::Show { front, summary: _ } => stream_messages(front),
             Subject::Convert { from, to: _ } => rows_of(from),
             Subject::Loop { comments: _ } => TrackedKind::Back,
             Subject::Serve => TrackedKind::Back,
@@ -103,7 +108,10 @@ impl Subject {
         ensures { result ≡ output_of self }
     {
         match self {
-            Subject::Show { front: _ } => TrackedKind::Text,
+            Subject::Show {
+                front: _,
+                summary: _,
+            } => TrackedKind::Text,
             Subject::Convert { from: _, to } => rows_of(to),
             Subject::Loop { comments: _ } => TrackedKind::Text,
             Subject::Serve => TrackedKind::Text,
@@ -318,7 +326,7 @@ fn subject_reason(
     ensures { result ≡ subject_reason subject failure.now place first.now }
 {
     match subject {
-        Subject::Show { front } => show_reason(front, failure, place, first),
+        Subject::Show { front, summary: _ } => show_reason(front, failure, place, first),
         Subject::Convert { from, to: _ } => convert_reason(from, failure, place),
         Subject::Loop { comments: _ } => carrier_reason(failure),
         Subject::Serve => clients_reason(failure),
@@ -339,5 +347,45 @@ pub fn task_reason(
     match rule_of(failure) {
         Some(rule) => Some(Reason::Rule(rule)),
         None => subject_reason(subject, failure, place, first),
+    }
+}
+
+// Why the stream of one side of a connection isn't printed whole, which begins with these bytes and stands at this place.
+fn side_reason(front: bool, rule: Rule, place: FramePlace, first: &[u8]) -> Reason
+    ensures { result ≡ side_reason front rule place first.now }
+{
+    let place = Place {
+        number: place.number,
+        line: 1,
+        offset: place.offset,
+    };
+    // past the first byte the stream is that of its side
+    let guess = if place.offset == 0 {
+        side_guess(front, first)
+    } else {
+        None
+    };
+    message_reason(Some(place), rule, guess)
+}
+
+/// Why both sides of a connection, which stand at these places and begin with these bytes, aren't printed whole. None: the reason isn't given here.
+pub fn both_reason(
+    failure: &Failure,
+    places: BothPlaces,
+    front: &[u8],
+    back: &[u8],
+) -> Option<Reason>
+    ensures { result ≡ both_reason failure.now places front.now back.now }
+{
+    match failure {
+        Failure::FrontRest(_) => Some(side_reason(true, rest_rule(true), places.front, front)),
+        Failure::FrontFault(fault) => {
+            Some(side_reason(true, fault_rule(true, *fault), places.front, front))
+        }
+        Failure::BackRest(_) => Some(side_reason(false, rest_rule(false), places.back, back)),
+        Failure::BackFault(fault) => {
+            Some(side_reason(false, fault_rule(false, *fault), places.back, back))
+        }
+        _ => None,
     }
 }

@@ -6,12 +6,12 @@
 //! | `doing.rt`, `text_options.rt`, `loop_files.rt`, `comments.rt`, `serving.rt` | `Doing`, `TextOptions`, `LoopFiles`, `Comments`, `Serving` | each task done over a source, a sink, a carrier and a `FileStore` |
 //! | `files.rt`, `network.rt`, `listening.rt` | | the disk, the connection of a loop to itself, the port of a server: nothing is assumed of what they answer |
 //! | `failure.rt` | `Failure` | how the program ends, with its status |
-//! | `explaining.rt`, `reason.rt`, `noted_files.rt`, `watched.rt` | `Subject`, `Explaining` | with `--explain` why a task failed, with `--progress` how far it is |
+//! | `explaining.rt`, `reason.rt`, `first_bytes.rt`, `noted_files.rt`, `watched.rt` | `Subject`, `Explaining` | with `--explain` why a task failed, with `--progress` how far it is |
 //!
 //! **Reasons and progress stand beside the task**, which is done alike with them and without: `main` puts source and sink into wrappers that pass on all
 //! that comes. `Tracked` (`pgpipe_explain`) follows the bytes: the part that a fault stands in is the next line or row of the output, and its place is looked
-//! for in the last piece that was received. `Watched` keeps the first 8 bytes, for a guess, and tells how far the work is. `NotedDisk` keeps what came
-//! of the last file that was read.
+//! for in the last piece that was received; a summary ends where the input does. `show_both` tells the places of its two streams itself. `FirstBytes` keeps
+//! the first 8 bytes, for a guess, and `Watched` tells how far the work is. `NotedDisk` keeps what came of the last file that was read.
 #![tactic(auto)]
 
 mod asked;
@@ -21,6 +21,7 @@ mod doing;
 mod explaining;
 mod failure;
 mod files;
+mod first_bytes;
 mod help;
 mod input_file;
 mod listening;
@@ -35,10 +36,11 @@ mod text_options;
 mod watched;
 
 pub use asked::{Asked, Telling, asked_of};
-pub use doing::{do_both, do_task, exit_code, explain};
-pub use explaining::{Subject, file_reason, stream_reason, task_reason};
+pub use doing::{BothDone, do_both, do_task, exit_code, explain};
+pub use explaining::{Subject, both_reason, file_reason, stream_reason, task_reason};
 pub use failure::{Failure, file_failure, words_failure};
 pub use files::{Disk, FileStore};
+pub use first_bytes::FirstBytes;
 pub use listening::Listening;
 pub use loop_files::{break_files, run_files};
 pub use network::{TcpEnd, connect_to_itself};

@@ -1,17 +1,13 @@
-//! A source that is watched: its first bytes are kept, and how far it is may be told on standard error.
+//! A source that is watched: how far it is may be told on standard error.
 
 ghost use Rattle.std.specs.Prelude.{◌≡◌};
 
 use pg_wire::{LinkFault, Source};
 use pgpipe_explain::{Tracked, TrackedKind, Tracker};
-use std::alloc::Global;
 use std::time::{Clock, Duration, Instant};
 
 // How many milliseconds no further line is printed after one.
 const PAUSE: u64 = 250;
-
-// How many of the first bytes are kept.
-const FIRST: usize = 8;
 
 /// What a tracker follows.
 pub trait Followed {
@@ -25,8 +21,8 @@ impl<S> Followed for Tracked<S> {
     }
 }
 
-/// A tracked source whose first 8 bytes are kept. If it is asked to, it prints how far it is: after a piece was received, and at most four times a
-/// second. It passes on all that the source gives.
+/// A tracked source that prints how far it is, if it is asked to: after a piece was received, and at most four times a second. It passes on all that
+/// the source gives.
 #[derive(Drop)]
 pub struct Watched<'a, R, T> {
     rt: &'a R,
@@ -34,18 +30,11 @@ pub struct Watched<'a, R, T> {
     kind: TrackedKind,
     is_told: bool,
     last: Option<Instant>,
-    first: Vec<u8>,
 }
 
 impl<'a, R, T> Watched<'a, R, T> {
     /// Nothing was received yet.
-    pub fn new(
-        alloc: Global,
-        rt: &'a R,
-        inner: T,
-        kind: TrackedKind,
-        is_told: bool,
-    ) -> Watched<'a, R, T>
+    pub fn new(rt: &'a R, inner: T, kind: TrackedKind, is_told: bool) -> Watched<'a, R, T>
         ensures { result.inner ≡ inner }
     {
         Watched {
@@ -54,7 +43,6 @@ impl<'a, R, T> Watched<'a, R, T> {
             kind,
             is_told,
             last: None,
-            first: Vec::new(alloc),
         }
     }
 
@@ -63,20 +51,6 @@ impl<'a, R, T> Watched<'a, R, T> {
         ensures { result.now ≡ self.now.inner }
     {
         &self.inner
-    }
-
-    /// The first bytes of all that was received, unless memory for them ran out: at most 8.
-    pub fn first(&self) -> &[u8] {
-        self.first.as_slice()
-    }
-
-    // Keeps what is missing of the first bytes.
-    fn keep_first(&mut self, piece: &[u8])
-        ensures { self.new.inner ≡ self.old.inner }
-    {
-        let wanted = FIRST.saturating_sub(self.first.len()).min(piece.len());
-        // where memory for them runs out, the stream looks like nothing
-        let _ = self.first.extend_from_slice(piece.split_at(wanted).0);
     }
 }
 
@@ -110,11 +84,10 @@ impl<R: Clock + Eprint, T: Followed> Watched<'_, R, T> {
         let _ = eprintln!(self.rt; "pgpipe: {parts} {whole}, bytes {bytes}");
     }
 
-    // Takes note of a piece that was received.
-    fn note(&mut self, piece: &[u8])
+    // Takes note that a piece was received.
+    fn note(&mut self)
         ensures { self.new.inner ≡ self.old.inner }
     {
-        self.keep_first(piece);
         if self.is_told && self.may_tell() {
             self.tell();
         }
@@ -131,7 +104,7 @@ impl<R: Clock + Eprint, T: Followed + Source> Source for Watched<'_, R, T> {
     fn receive(&mut self, into: &mut [u8]) -> Result<usize, LinkFault> {
         match self.inner.receive(into) {
             Ok(count) => {
-                self.note(&into[..count]);
+                self.note();
                 Ok(count)
             }
             Err(fault) => Err(fault),

@@ -1,5 +1,5 @@
 -- What the first bytes of a stream look like.
-use Rattle.std.specs.Prelude.{ℕ, Bool, ◌||◌, nat_eq, if◌then◌else◌, List, [], ◌∷◌, Option, Some, None, codes}
+use Rattle.std.specs.Prelude.{ℕ, Bool, ◌||◌, nat_eq, if◌then◌else◌, List, [], ◌∷◌, Option, Some, None, option_map, codes}
 use Rattle.std.specs.List.{starts_with}
 use Rattle.pgpipe_explain.specs.declared.guess.Guess.{Guess}
 use Rattle.pgpipe_explain.specs.declared.guess.Guess.TheVariants as guess
@@ -50,3 +50,13 @@ guess_of front first =
     else if is_granted first then Some guess.Granted
     else if front then front_guess first
     else back_guess first
+
+-- the same guess, where there is a file of each side
+abbrev pub exchanged : Guess → Guess
+exchanged guess.Client = guess.Exchanged
+exchanged guess.Server = guess.Exchanged
+exchanged g = g
+
+-- what a stream that begins so looks like, if it can't be that side's, where there is a file of each
+abbrev pub side_guess : Bool → List ℕ → Option Guess
+side_guess front first = option_map exchanged (guess_of front first)

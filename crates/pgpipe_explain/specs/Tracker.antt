@@ -1,6 +1,8 @@
 -- What each byte of a stream or of a file does: it stands within its message or row, or ends it. Only lengths and line ends count; whether
 -- a message or a row has a meaning isn't judged.
 use Rattle.std.specs.Prelude.{ℕ, ◌+◌, ◌-◌, ◌*◌, ◌/◌, ◌%◌, ◌==◌, ◌||◌, nat_lt, if◌then◌else◌, List, [], ◌∷◌, Option, Some, None}
+use Rattle.pg_wire.specs.Direction.{longest}
+use Rattle.pg_wire.specs.First.{longest_packet}
 use Rattle.pgpipe_explain.specs.declared.binary.Binary.{Binary}
 use Rattle.pgpipe_explain.specs.declared.binary.Binary.TheVariants as binary
 use Rattle.pgpipe_explain.specs.declared.place.Place.{Place}
@@ -65,15 +67,27 @@ body_of left n =
     if left == 0 then effect.Last (phase.Wire (beginning n))
     else effect.Within (phase.Wire (wire.Body left n))
 
+-- a message's length came; after one that can't be nothing has an end
+abbrev pub message_of : ℕ → ByteEffect
+message_of n =
+    if nat_lt n 4 || nat_lt longest n then effect.Within (phase.Wire wire.Rest)
+    else body_of (n - 4) next.Message
+
+-- a first packet's length came; after one that can't be nothing has an end
+abbrev pub packet_of : ℕ → ByteEffect
+packet_of n =
+    if nat_lt n 8 || nat_lt longest_packet n then effect.Within (phase.Wire wire.Rest)
+    else effect.Within (phase.Wire (wire.Code 0 0 (n - 8)))
+
 -- A message is a tag, a length field, which counts itself, and a body; a first packet has no tag, and
 -- its body begins with a code.
 abbrev pub wire_taken : Wire → ℕ → ByteEffect
 wire_taken (wire.Head seen word) b =
     if nat_lt seen 4 then effect.Within (phase.Wire (wire.Head (seen + 1) (with_byte word b)))
-    else body_of (with_byte word b - 4) next.Message
+    else message_of (with_byte word b)
 wire_taken (wire.Length seen word) b =
     if nat_lt seen 3 then effect.Within (phase.Wire (wire.Length (seen + 1) (with_byte word b)))
-    else effect.Within (phase.Wire (wire.Code 0 0 (with_byte word b - 8)))
+    else packet_of (with_byte word b)
 wire_taken (wire.Code seen word left) b =
     if nat_lt seen 3 then effect.Within (phase.Wire (wire.Code (seen + 1) (with_byte word b) left))
     else body_of left (next_by (with_byte word b))

@@ -1,7 +1,8 @@
 //! What a stream looks like.
 
 ghost use Rattle.std.specs.Prelude.{◌≡◌};
-ghost use Rattle.pgpipe_explain.specs.Guess.{begins_with, guess_of, is_capture};
+ghost use Rattle.pgpipe_explain.specs.Guess.{begins_with, exchanged, guess_of, is_capture};
+ghost use Rattle.pgpipe_explain.specs.Guess.{side_guess};
 
 use thiserror::Error;
 
@@ -14,6 +15,9 @@ pub enum Guess {
     /// What a server sends.
     #[error("this looks like a server's stream: leave --front out")]
     Server,
+    /// What the other side sends, where there is a file of each.
+    #[error("this looks like the other side's stream: maybe the two files are exchanged")]
+    Exchanged,
     /// A file of captured packets.
     #[error("this looks like a capture file: take its streams out of it, as tcpflow does")]
     Capture,
@@ -100,4 +104,24 @@ pub fn guess_of(front: bool, first: &[u8]) -> Option<Guess>
         return front_guess(first);
     }
     back_guess(first)
+}
+
+// The same guess, where there is a file of each side.
+fn exchanged(guess: Guess) -> Guess
+    ensures { result ≡ exchanged guess }
+{
+    match guess {
+        Guess::Client | Guess::Server => Guess::Exchanged,
+        other => other,
+    }
+}
+
+/// What the stream of one side looks like, if it can't be that of the client (`front`) or of the server, where there is a file of each.
+pub fn side_guess(front: bool, first: &[u8]) -> Option<Guess>
+    ensures { result ≡ side_guess front first.now }
+{
+    match guess_of(front, first) {
+        Some(guess) => Some(exchanged(guess)),
+        None => None,
+    }
 }

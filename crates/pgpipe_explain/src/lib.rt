@@ -38,7 +38,7 @@ pub use calls::calls_reason;
 pub use faults::{
     back_rule, binary_rule, front_rule, option_rule, row_rule, script_rule, text_rule,
 };
-pub use guess::{Guess, guess_of};
+pub use guess::{Guess, guess_of, side_guess};
 pub use kind::FieldKind;
 pub use place::Place;
 pub use reason::LineReason;

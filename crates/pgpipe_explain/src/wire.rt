@@ -1,9 +1,11 @@
 //! The messages and first packets of a stream, by their length fields.
 
 ghost use Rattle.std.specs.Prelude.{◌≡◌, ◌<◌, ◌^◌};
-ghost use Rattle.pgpipe_explain.specs.Tracker.{body_of, next_by, wire_taken, with_byte};
+ghost use Rattle.pgpipe_explain.specs.Tracker.{body_of, message_of, next_by, packet_of};
+ghost use Rattle.pgpipe_explain.specs.Tracker.{wire_taken, with_byte};
 
 use crate::tracker::{ByteEffect, Phase};
+use pg_wire::{LONGEST, LONGEST_PACKET};
 
 /// What comes after a first packet, or that a message comes after a message.
 #[derive(Clone, Copy)]
@@ -27,7 +29,7 @@ pub enum Wire {
     Code(u8, u32, u32),
     /// So many bytes are left, and then comes this.
     Body(u32, NextPart),
-    /// Nothing more comes that has an end.
+    /// Nothing more comes that has an end: after a request to cancel, or after a length field that can't be.
     Rest,
 }
 
@@ -78,6 +80,26 @@ fn body(left: u32, next: NextPart) -> ByteEffect
     ByteEffect::Within(Phase::Wire(Wire::Body(left, next)))
 }
 
+// What the last byte of a message's length field does, which makes this number.
+fn message_of(length: u32) -> ByteEffect
+    ensures { result ≡ message_of length }
+{
+    if length < 4 || length > LONGEST {
+        return ByteEffect::Within(Phase::Wire(Wire::Rest));
+    }
+    body(length - 4, NextPart::Message)
+}
+
+// What the last byte of a first packet's length field does, which makes this number.
+fn packet_of(length: u32) -> ByteEffect
+    ensures { result ≡ packet_of length }
+{
+    if length < 8 || length > LONGEST_PACKET {
+        return ByteEffect::Within(Phase::Wire(Wire::Rest));
+    }
+    ByteEffect::Within(Phase::Wire(Wire::Code(0, 0, length - 8)))
+}
+
 impl Wire {
     /// Before a message.
     pub fn message() -> Wire
@@ -93,7 +115,8 @@ impl Wire {
         Wire::Length(0, 0)
     }
 
-    /// What a byte does. A length field counts itself.
+    /// What a byte does. A length field counts itself: at least 4 and at most 1,073,741,823 in a message, and 8 to 10,000 in a first packet. After one
+    /// that can't be no part ends.
     pub fn take(self, byte: u8) -> ByteEffect
         ensures { result ≡ wire_taken self byte }
     {
@@ -101,14 +124,11 @@ impl Wire {
             Wire::Head(seen, word) if seen < 4 => {
                 ByteEffect::Within(Phase::Wire(Wire::Head(seen + 1, with_byte(word, byte))))
             }
-            Wire::Head(_, word) => body(with_byte(word, byte).saturating_sub(4), NextPart::Message),
+            Wire::Head(_, word) => message_of(with_byte(word, byte)),
             Wire::Length(seen, word) if seen < 3 => {
                 ByteEffect::Within(Phase::Wire(Wire::Length(seen + 1, with_byte(word, byte))))
             }
-            Wire::Length(_, word) => {
-                let left = with_byte(word, byte).saturating_sub(8);
-                ByteEffect::Within(Phase::Wire(Wire::Code(0, 0, left)))
-            }
+            Wire::Length(_, word) => packet_of(with_byte(word, byte)),
             Wire::Code(seen, word, left) if seen < 3 => {
                 ByteEffect::Within(Phase::Wire(Wire::Code(seen + 1, with_byte(word, byte), left)))
             }

@@ -11,6 +11,7 @@ pub mod Talk
 pub mod Turn
 pub mod Entries
 pub mod Both
+pub mod FramePlace
 pub mod Laws
 -- Of a summary: what a stream is summed up as.
 pub mod Summary

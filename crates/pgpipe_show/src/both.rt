@@ -3,6 +3,7 @@
 //! - talk.rt: who has the turn, by the messages that were sent
 //! - turn.rt: the same from the first packet on, and where a stream has ended
 //! - reader.rt: one stream, frame by frame
+//! - place.rt: where its frames begin
 //! - page.rt: lines
 //! - tell.rt: one line more
 //! - printing.rt: the whole ([`show_both`])
@@ -14,11 +15,13 @@
 //! in its file while the other is read, and of each no more is kept than a frame and the piece that it ended in.
 
 mod page;
+mod place;
 mod printing;
 mod reader;
 mod talk;
 mod tell;
 mod turn;
 
-pub use printing::show_both;
+pub use place::FramePlace;
+pub use printing::{BothPlaces, BothShown, show_both};
 pub use turn::{BothEnds, Ended};

@@ -52,7 +52,7 @@ pub mod show;
 mod stop;
 mod summary;
 
-pub use both::{BothEnds, Ended, show_both};
+pub use both::{BothEnds, BothPlaces, BothShown, Ended, FramePlace, show_both};
 pub use color::Colored;
 pub use form::{Form, Line};
 pub use summary::summarize;

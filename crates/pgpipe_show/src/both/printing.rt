@@ -6,6 +6,7 @@ ghost use Rattle.pgpipe_show.specs.Both.{ShowsBoth};
 ghost use Rattle.pgpipe_show.specs.Private.Telling.{IsUntouched, Stands, StepTells, Stops};
 
 use super::page::Page;
+use super::place::FramePlace;
 use super::reader::Reader;
 use super::tell::{tell, tell_answer};
 use super::turn::{BothEnds, Due, Turn};
@@ -16,6 +17,24 @@ use std::alloc::{AllocError, Global};
 
 // The most entries that are printed.
 const MOST_ENTRIES: u64 = 18_446_744_073_709_551_615;
+
+/// Where each of two streams stands: its next frame, which isn't whole where the stream ended in a rest or with a bad length field.
+#[derive(Clone, Copy)]
+pub struct BothPlaces {
+    /// The client's.
+    pub front: FramePlace,
+    /// The server's.
+    pub back: FramePlace,
+}
+
+/// What came of printing both streams.
+#[derive(Drop)]
+pub struct BothShown {
+    /// How each ended, or why the work stopped before that.
+    pub answer: Result<BothEnds, ToolFault>,
+    /// Where each stands.
+    pub places: BothPlaces,
+}
 
 // What the work is done with.
 #[derive(Drop)]
@@ -95,6 +114,44 @@ impl Work {
         }
         Stop::Endless
     }
+
+    // Prints both streams.
+    fn print<F: Source, B: Source, K: Sink>(
+        &mut self,
+        front: &mut F,
+        back: &mut B,
+        sink: &mut K,
+    ) -> Result<BothEnds, ToolFault>
+        requires front { self.old.front.frames
+            ≡ record { next = next.Packet; kept = []; held = [] } }
+        requires back { self.old.back.frames
+            ≡ record { next = next.Message; kept = []; held = [] } }
+        requires page { self.old.page.outbox ≡ [] }
+        ensures { ShowsBoth F.gives F.failures F.has_ended B.gives B.failures B.has_ended K.takes
+            K.failures front.old back.old sink.old result front.new back.new sink.new }
+    {
+        let stop = self.run(front, back, sink);
+        match stop.settle(self.page.outbox.collected(), sink) {
+            Ok(()) => stop.answer(),
+            Err(_) => Err(ToolFault::Device),
+        }
+    }
+
+    // Where both streams stand.
+    fn places(&self) -> BothPlaces {
+        BothPlaces {
+            front: self.front.place,
+            back: self.back.place,
+        }
+    }
+}
+
+// Where both streams begin.
+fn first_places() -> BothPlaces {
+    BothPlaces {
+        front: FramePlace::first(),
+        back: FramePlace::first(),
+    }
 }
 
 /// Prints the two streams of one connection together, each from a source of its own. The sources have no times. A line is `-> ` and the text of a
@@ -106,8 +163,8 @@ impl Work {
 /// nothing more of them is read. After a CancelRequest nothing more of the client's stream is read.
 ///
 /// What is returned says how each stream ended: with a whole frame, with a rest that is none, or with a bad length field. A length field is from 4 to
-/// 1,073,741,823 in a message, and from 8 to 10,000 in a first packet. At most one frame of each stream is kept, and lines are sent in pieces of
-/// 65,536 bytes.
+/// 1,073,741,823 in a message, and from 8 to 10,000 in a first packet. It also says where, for a person: no contract speaks of these places. At most
+/// one frame of each stream is kept, and lines are sent in pieces of 65,536 bytes.
 ///
 /// `Device`: the sink failed in this call, and a prefix of the lines was sent. Or a source failed, or gave no whole frame and no end in
 /// 1,099,511,627,776 receives, or more than 18,446,744,073,709,551,614 entries came; then all lines were sent.
@@ -118,17 +175,21 @@ pub fn show_both<F: Source, B: Source, K: Sink>(
     front: &mut F,
     back: &mut B,
     sink: &mut K,
-) -> Result<BothEnds, ToolFault>
+) -> BothShown
     ensures { ShowsBoth F.gives F.failures F.has_ended B.gives B.failures B.has_ended K.takes
-        K.failures front.old back.old sink.old result front.new back.new sink.new }
+        K.failures front.old back.old sink.old result.answer front.new back.new sink.new }
 {
-    let mut work = match Work::new(alloc) {
-        Ok(work) => work,
-        Err(_) => return Err(ToolFault::Memory),
-    };
-    let stop = work.run(front, back, sink);
-    match stop.settle(work.page.outbox.collected(), sink) {
-        Ok(()) => stop.answer(),
-        Err(_) => Err(ToolFault::Device),
+    match Work::new(alloc) {
+        Ok(mut work) => {
+            let answer = work.print(front, back, sink);
+            BothShown {
+                answer,
+                places: work.places(),
+            }
+        }
+        Err(_) => BothShown {
+            answer: Err(ToolFault::Memory),
+            places: first_places(),
+        },
     }
 }

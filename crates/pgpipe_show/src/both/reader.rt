@@ -7,6 +7,7 @@ ghost use Rattle.pgpipe_show.specs.Entries.{end_by};
 ghost use Rattle.pgpipe_show.specs.Private.Telling.{Fetches, Looks, Received, ReceivedByte};
 ghost use Rattle.pgpipe_show.specs.Private.Telling.{look_on};
 
+use super::place::FramePlace;
 use super::turn::{BothEnds, Ended};
 use pg_wire::Source;
 use pgpipe_base::Stop;
@@ -29,6 +30,8 @@ pub enum Look {
 #[derive(Drop)]
 pub struct Reader {
     pub frames: Frames,
+    /// Where the frame begins that comes next.
+    pub place: FramePlace,
     // where pieces are received
     into: Vec<u8>,
     ghost a_piece: { length into.items ≡ longest_piece },
@@ -67,6 +70,7 @@ impl Reader {
     {
         Ok(Reader {
             frames: Frames::new(alloc, first),
+            place: FramePlace::first(),
             into: vec![in alloc; 0; PIECE]?,
         })
     }
@@ -86,7 +90,10 @@ impl Reader {
         ensures { Looks self.old.frames result self.new.frames }
     {
         match self.frames.next() {
-            Ok(true) => Look::Frame,
+            Ok(true) => {
+                self.place = self.place.after(self.frames.frame().len());
+                Look::Frame
+            }
             Ok(false) => look_on(self.frames.upcoming()),
             Err(fault) => Look::Over(Ended::Fault(fault)),
         }

@@ -86,6 +86,7 @@ fn tell_byte<S: Source, K: Sink>(
         reader.new.frames.next reader.new.frames.kept source.new page.new.outbox sink.new }
 {
     if is_reply(request, byte) {
+        reader.place = reader.place.past_byte();
         return tell_reply(turn, byte, page, sink);
     }
     match reader.frames.push(&[byte]) {
