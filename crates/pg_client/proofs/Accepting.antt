@@ -136,18 +136,18 @@ call_carries old stand c none follows spelled h r =
       stream = r.stream;
       places = places_more h.calls c (length h.fed) r.places;
       ordered = ordered_more h.calls c (length h.fed) r.ordered r.places;
-      allowed = subst AreAllowed (sym line) (allowed_more hs (Did c) r.allowed (record { in_place = follows.in_place hs (h.given ++ old.settled) (answer_is_said hs r.expected.after r.allowed) there; not_terminated = not_yet }));
-      terminated = subst (λ (x : List Happening). IsTerminated x ↔ (closing c ≡ Some cause.Terminated)) (sym line) (terminated_by hs c not_yet);
-      expected = subst (Expected old.settings.password) (sym line) (expected_did old.settings.password hs c stand (h.given ++ old.settled) r.expected now);
+      happened = record {
+        allowed = subst AreAllowed (sym line) (allowed_more hs (Did c) r.happened.allowed (record { in_place = follows.in_place hs (h.given ++ old.settled) (answer_is_said hs r.happened.expected.after r.happened.allowed) there; not_terminated = not_yet }));
+        expected = subst (Expected old.settings.password) (sym line) (expected_did old.settings.password hs c stand (h.given ++ old.settled) r.happened.expected now);
+        sent_is = ap (λ (bs : List ℕ). bs ++ sent_by old.settings c) r.happened.sent_is ∙ sym (sent_more old.settings hs (Did c)) ∙ ap (sent_in old.settings) (sym line);
+        spelled = subst (AllByRecursion (IsSpelledAt old.settings)) (sym line) (spelled_more old.settings hs (Did c) r.happened.spelled spelled);
+      };
       was = stand;
       stands = subst (λ (x : List Happening). Stands x stand (h.given ++ old.settled)) (sym line) now;
       shows = subst (Shows stand stand (closing c)) (sym (not_handed_back r.was old.stand old.closed h.handed_back none r.shows)) (shows_same stand (closing c));
       ends = subst (λ (x : List Happening). Ends old.settings x h.rest old.kept (closing c)) (sym line) (ends_open old.settings hs h.rest old.kept c (subst (Ends old.settings hs h.rest old.kept) none r.ends));
-      status = r.status;
-      parameters = r.parameters;
-      key = r.key;
-      sent_is = ap (λ (bs : List ℕ). bs ++ sent_by old.settings c) r.sent_is ∙ sym (sent_more old.settings hs (Did c)) ∙ ap (sent_in old.settings) (sym line);
-      spelled = subst (AllByRecursion (IsSpelledAt old.settings)) (sym line) (spelled_more old.settings hs (Did c) r.spelled spelled);
+      terminated = subst (λ (x : List Happening). IsTerminated x ↔ (closing c ≡ Some cause.Terminated)) (sym line) (terminated_by hs c not_yet);
+      knows = r.knows;
     }
 
 -- ---- where each call may be made

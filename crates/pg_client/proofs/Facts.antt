@@ -68,7 +68,7 @@ pub history_facts : (h : History) (client : ClientView) → IsHistoryOf h client
 history_facts h client r =
     let f = stand_facts (happenings h) r.was (h.given ++ client.settled) r.stands in
     record {
-      expected = r.expected;
+      expected = r.happened.expected;
       in_order = f.in_order;
-      phase = phase_by (happenings h) r.was client.stand client.closed h.handed_back (h.given ++ client.settled) (answer_is_said (happenings h) r.expected.after r.allowed) f r.shows;
+      phase = phase_by (happenings h) r.was client.stand client.closed h.handed_back (h.given ++ client.settled) (answer_is_said (happenings h) r.happened.expected.after r.happened.allowed) f r.shows;
     }

@@ -26,7 +26,7 @@ use Rattle.pg_client.specs.Session.{Happening, Came, IsTerminated, AreAllowed, I
 use Rattle.pg_client.specs.Client.{ClientView, option_or, last_from, value_of, value_said, key_said, Shows, unsettled_of, has_failed}
 use Rattle.pg_client.specs.Sent.{answer_to, sent_in, IsSpelledAt}
 use Rattle.pg_client.specs.Closed.{IsFaultFor, IsRefusedAt, cause_of, IsKept, Ends}
-use Rattle.pg_client.specs.History.{Calls, merged, with_ends, happenings, IsHistoryOf, History, with_heard, with_fed}
+use Rattle.pg_client.specs.History.{Calls, merged, with_ends, happenings, IsHistoryOf, History, MayHappen, with_heard, with_fed}
 use Rattle.pg_client.specs.Feed.{FeedAnswers}
 use Rattle.pg_client.specs.Stand.{Effect, Leads, Settles, Rejected, hear_with, Stands}
 use Rattle.pg_client.specs.declared.item.Item.{Item}
@@ -79,21 +79,25 @@ module _ (before : ℕ) (past : History) (client : ClientView) (r : IsHearing be
           stream = subst (λ (bs : List ℕ). IsStream backend new.settings.limit past.fed (past.heard ++ m ∷ []) bs) (sym kept) (at new.settings.limit (ap (λ (x : Settings). x.limit) settings));
           places = r.places;
           ordered = r.ordered;
+          happened = record {
+            allowed = subst AreAllowed (sym came) (allowed_more (happenings past) (Came m) r.happened.allowed tt);
+            expected = subst (λ (x : Settings). Expected x.password (merged past.calls (with_ends 0 (past.heard ++ m ∷ [])))) (sym settings)
+                (subst (Expected client.settings.password) (sym came) (expected_came client.settings.password (happenings past) m new.stand (past.given ++ new.settled) r.happened.expected h k answerable));
+            sent_is = ap (λ (bs : List ℕ). bs ++ flat_map (spelling frontend) (answer_to client.settings m)) r.happened.sent_is ∙ sym (sent_more client.settings (happenings past) (Came m)) ∙ ap (sent_in client.settings) (sym came) ∙ ap (λ (x : Settings). sent_in x (merged past.calls (with_ends 0 (past.heard ++ m ∷ [])))) (sym settings);
+            spelled = subst (λ (x : Settings). AllByRecursion (IsSpelledAt x) (merged past.calls (with_ends 0 (past.heard ++ m ∷ [])))) (sym settings)
+                (subst (AllByRecursion (IsSpelledAt client.settings)) (sym came) (spelled_more client.settings (happenings past) (Came m) r.happened.spelled spelled));
+          };
           within = r.within;
           late = λ n others w e. omega (arith, r.late m more within begins, ap length heard_bytes, length-append (flat_map (spelling backend) past.heard) (spelling backend m));
           is_open = is_open;
           not_handed_back = r.not_handed_back;
           not_terminated = subst (λ (hs : List Happening). IsTerminated hs → ⊥) (sym came) (not_terminated_more (happenings past) (Came m) r.not_terminated (λ t. t));
-          allowed = subst AreAllowed (sym came) (allowed_more (happenings past) (Came m) r.allowed tt);
-          expected = subst (λ (x : Settings). Expected x.password (merged past.calls (with_ends 0 (past.heard ++ m ∷ [])))) (sym settings)
-              (subst (Expected client.settings.password) (sym came) (expected_came client.settings.password (happenings past) m new.stand (past.given ++ new.settled) r.expected h k answerable));
           stands = subst (λ (hs : List Happening). Stands hs new.stand (past.given ++ new.settled)) (sym came) h;
-          status = knows.status ∙ ap (option_or (status_of m)) r.status ∙ sym (last_from-more status_of None past.heard m);
-          parameters = λ name. knows.parameters name ∙ ap (option_or (value_said name m)) (r.parameters name) ∙ sym (last_from-more (value_said name) None past.heard m);
-          key = knows.key ∙ ap (option_or (key_said m)) r.key ∙ sym (last_from-more key_said None past.heard m);
-          sent_is = ap (λ (bs : List ℕ). bs ++ flat_map (spelling frontend) (answer_to client.settings m)) r.sent_is ∙ sym (sent_more client.settings (happenings past) (Came m)) ∙ ap (sent_in client.settings) (sym came) ∙ ap (λ (x : Settings). sent_in x (merged past.calls (with_ends 0 (past.heard ++ m ∷ [])))) (sym settings);
-          spelled = subst (λ (x : Settings). AllByRecursion (IsSpelledAt x) (merged past.calls (with_ends 0 (past.heard ++ m ∷ [])))) (sym settings)
-              (subst (AllByRecursion (IsSpelledAt client.settings)) (sym came) (spelled_more client.settings (happenings past) (Came m) r.spelled spelled));
+          knows = record {
+            status = knows.status ∙ ap (option_or (status_of m)) r.knows.status ∙ sym (last_from-more status_of None past.heard m);
+            parameters = λ name. knows.parameters name ∙ ap (option_or (value_said name m)) (r.knows.parameters name) ∙ sym (last_from-more (value_said name) None past.heard m);
+            key = knows.key ∙ ap (option_or (key_said m)) r.knows.key ∙ sym (last_from-more key_said None past.heard m);
+          };
         }
 
     by_effect : (new : ClientView) (e : Effect) → new.settings ≡ client.settings → new.kept ≡ more → new.closed ≡ None → AllByRecursion (HasSpelling frontend) (answer_to client.settings m) → Knows m client new → MovesBy e client new
@@ -112,7 +116,7 @@ module _ (before : ℕ) (past : History) (client : ClientView) (r : IsHearing be
   next_heard new out end h =
       let one : HearsOne h.0 (leaving client new.kept) new = h.3 in
       by_effect h.0 new.kept h.1 h.2 new (hear_with client.settings.password client.stand h.0) one.settings refl (one.closed ∙ r.is_open) h.4.0 (record { status = one.knows.status; parameters = one.knows.parameters; key = one.knows.key }) (moved one.moves)
-      (hears client.settings.password (happenings past) client.stand (past.given ++ client.settled) h.0 (answer_is_said (happenings past) r.expected.after r.allowed) r.stands)
+      (hears client.settings.password (happenings past) client.stand (past.given ++ client.settled) h.0 (answer_is_said (happenings past) r.happened.expected.after r.happened.allowed) r.stands)
     where
       moved_by : (e : Effect) → MovesBy e (leaving client new.kept) new → MovesBy e client new
       moved_by (Leads s) k = k
@@ -137,42 +141,36 @@ module _ (before : ℕ) (past : History) (client : ClientView) (r : IsHearing be
     stream = r.stream;
     places = places_more past.calls before (length past.fed) r.within r.places;
     ordered = r.ordered;
-    allowed = r.allowed;
-    terminated = (λ t. absurd (r.not_terminated t), λ e. absurd (let k : None ≡ Some cause.Terminated = sym r.is_open ∙ e in cc));
-    expected = r.expected;
+    happened = r.happened;
     was = client.stand;
     stands = r.stands;
     shows = shows_none client.stand client.closed past.handed_back r.is_open r.not_handed_back;
     ends = subst (Ends client.settings (happenings past) client.kept client.kept) (sym r.is_open) (record { kept_is = refl; is_open = open_rest });
-    status = r.status;
-    parameters = r.parameters;
-    key = r.key;
-    sent_is = r.sent_is;
-    spelled = r.spelled;
+    terminated = (λ t. absurd (r.not_terminated t), λ e. absurd (let k : None ≡ Some cause.Terminated = sym r.is_open ∙ e in cc));
+    knows = r.knows;
   }
 
   -- a client that is closed for a cause of its own knows what it knew
   pub closed_history : (new : ClientView) (c : Cause) → HearsNothing client new → new.closed ≡ Some c → (c ≡ cause.Terminated → ⊥) → Ends client.settings (happenings past) client.kept new.kept (Some c) → IsHistoryOf (record past { rest = client.kept }) new
   closed_history new c nothing is other ends =
-      let at : (x : Settings) → x ≡ client.settings → IsStream backend x.limit past.fed past.heard client.kept × (past.sent ≡ sent_in x (happenings past)) × AllByRecursion (IsSpelledAt x) (happenings past) × Ends x (happenings past) client.kept new.kept (Some c) × Expected x.password (happenings past) =
-      (λ x e. subst (λ (y : Settings). IsStream backend y.limit past.fed past.heard client.kept × (past.sent ≡ sent_in y (happenings past)) × AllByRecursion (IsSpelledAt y) (happenings past) × Ends y (happenings past) client.kept new.kept (Some c) × Expected y.password (happenings past)) (sym e) (r.stream, r.sent_is, r.spelled, ends, r.expected)) in
+      let at : (x : Settings) → x ≡ client.settings → IsStream backend x.limit past.fed past.heard client.kept × MayHappen x (happenings past) past.sent × Ends x (happenings past) client.kept new.kept (Some c) =
+      (λ x e. subst (λ (y : Settings). IsStream backend y.limit past.fed past.heard client.kept × MayHappen y (happenings past) past.sent × Ends y (happenings past) client.kept new.kept (Some c)) (sym e) (r.stream, r.happened, ends)) in
       let same = at new.settings nothing.settings in
       record {
         stream = same.0;
         places = places_more past.calls before (length past.fed) r.within r.places;
         ordered = r.ordered;
-        allowed = r.allowed;
-        terminated = (λ t. absurd (r.not_terminated t), λ e. absurd (other (let k : Some c ≡ Some cause.Terminated = sym is ∙ e in cc)));
-        expected = same.4;
+        happened = same.1;
         was = client.stand;
         stands = subst (λ (ts : List Settled). Stands (happenings past) client.stand (past.given ++ ts)) (sym nothing.settled) r.stands;
         shows = subst (λ (o : Option Cause). Shows client.stand new.stand o past.handed_back) (sym is) (subst (Shows client.stand new.stand (Some c)) (sym r.not_handed_back) nothing.alike);
-        ends = subst (Ends new.settings (happenings past) client.kept new.kept) (sym is) same.3;
-        status = nothing.knows.status ∙ r.status;
-        parameters = λ name. ap (value_of name) nothing.knows.parameters ∙ r.parameters name;
-        key = nothing.knows.key ∙ r.key;
-        sent_is = same.1;
-        spelled = same.2;
+        ends = subst (Ends new.settings (happenings past) client.kept new.kept) (sym is) same.2;
+        terminated = (λ t. absurd (r.not_terminated t), λ e. absurd (other (let k : Some c ≡ Some cause.Terminated = sym is ∙ e in cc)));
+        knows = record {
+          status = nothing.knows.status ∙ r.knows.status;
+          parameters = λ name. ap (value_of name) nothing.knows.parameters ∙ r.knows.parameters name;
+          key = nothing.knows.key ∙ r.knows.key;
+        };
       }
 
 -- ---- a fault
@@ -228,7 +226,7 @@ module _ (before : ℕ) (past : History) (client : ClientView) (r : IsHearing be
         more = h.1;
         begins = h.3;
         within = h.2;
-        unexpected = rejected_unexpected client.settings.password (happenings past) client.stand (past.given ++ client.settled) m (answer_is_said (happenings past) r.expected.after r.allowed) r.stands h.4;
+        unexpected = rejected_unexpected client.settings.password (happenings past) client.stand (past.given ++ client.settled) m (answer_is_said (happenings past) r.happened.expected.after r.happened.allowed) r.stands h.4;
         fault = subst (IsFaultFor client.settings.password (happenings past) m) (sym h.5) (fault_for client.settings.password (happenings past) client.stand (past.given ++ client.settled) m r.stands h.4);
       } in
       named_closes f new named refused h.6 h.7
@@ -251,19 +249,14 @@ at_rest before past client rest r = record {
   stream = r.stream;
   places = r.places;
   ordered = r.ordered;
+  happened = r.happened;
   within = r.within;
   late = r.late;
   is_open = r.is_open;
   not_handed_back = r.not_handed_back;
   not_terminated = r.not_terminated;
-  allowed = r.allowed;
-  expected = r.expected;
   stands = r.stands;
-  status = r.status;
-  parameters = r.parameters;
-  key = r.key;
-  sent_is = r.sent_is;
-  spelled = r.spelled;
+  knows = r.knows;
 }
 
 -- The client has gone on, and what was added is what it has put out. What was told of the events before is told of those after.
@@ -386,6 +379,7 @@ module _ (h : History) (old : ClientView) (none : old.closed ≡ None) (r : IsHi
     stream = subst (λ (bs : List ℕ). IsStream backend old.settings.limit (h.fed ++ piece) h.heard (bs ++ piece)) (sym kept_open.kept_is) stream_more;
     places = r.places;
     ordered = r.ordered;
+    happened = r.happened;
     within = omega (arith, length-append h.fed piece);
     late = λ m more within begins.
         let k : h.rest ++ piece ≡ spelling backend m ++ more = ap (λ (bs : List ℕ). bs ++ piece) (sym kept_open.kept_is) ∙ begins in
@@ -393,14 +387,8 @@ module _ (h : History) (old : ClientView) (none : old.closed ≡ None) (r : IsHi
     is_open = none;
     not_handed_back = nothing_back;
     not_terminated = (λ t. let e : old.closed ≡ Some cause.Terminated = r.terminated.0 t in cc);
-    allowed = r.allowed;
-    expected = r.expected;
     stands = subst (λ (s : Stand). Stands (happenings h) s (h.given ++ old.settled)) (sym stands_there) r.stands;
-    status = r.status;
-    parameters = r.parameters;
-    key = r.key;
-    sent_is = r.sent_is;
-    spelled = r.spelled;
+    knows = r.knows;
   }
 
   pub starved : (was : Telling) (kept : List ℕ) → 0 < length piece → HearsTold (with_fed piece h) piece [] (Err feeding.Memory) was (record old { kept = kept; closed = Some cause.Memory }) was
@@ -419,18 +407,13 @@ module _ (h : History) (old : ClientView) (none : old.closed ≡ None) (r : IsHi
         stream = stream_more;
         places = places_more h.calls (length h.fed) (length (h.fed ++ piece)) (omega (arith, length-append h.fed piece)) r.places;
         ordered = r.ordered;
-        allowed = r.allowed;
-        terminated = (λ t. absurd (let e : old.closed ≡ Some cause.Terminated = r.terminated.0 t in cc), λ e. cc);
-        expected = r.expected;
+        happened = r.happened;
         was = r.was;
         stands = r.stands;
         shows = subst (Shows r.was old.stand (Some cause.Memory)) (sym nothing_back) (record { request = ap unsettled_of stands_there; error = ap has_failed stands_there });
         ends = tt;
-        status = r.status;
-        parameters = r.parameters;
-        key = r.key;
-        sent_is = r.sent_is;
-        spelled = r.spelled;
+        terminated = (λ t. absurd (let e : old.closed ≡ Some cause.Terminated = r.terminated.0 t in cc), λ e. cc);
+        knows = r.knows;
       }
 
   pub unfed : (was : Telling) → piece ≡ [] → HearsTold (with_fed piece h) piece [] (Ok tt) was old was

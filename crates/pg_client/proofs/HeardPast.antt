@@ -66,17 +66,12 @@ heard_of h unread more added now r past =
       stream = record { whole = sym e ∙ sym (append-nil (flat_map (spelling backend) (h.heard ++ more))); each = r.stream.each };
       places = r.places;
       ordered = r.ordered;
+      happened = r.happened;
       within = omega (arith, length-append h.fed taken);
       late = λ m after within begins. absurd (omega (arith, ap length begins, length-append (spelling backend m) after, some_bytes m));
       is_open = r.is_open;
       not_handed_back = r.not_handed_back;
       not_terminated = r.not_terminated;
-      allowed = r.allowed;
-      expected = r.expected;
       stands = r.stands;
-      status = r.status;
-      parameters = r.parameters;
-      key = r.key;
-      sent_is = r.sent_is;
-      spelled = r.spelled;
+      knows = r.knows;
     }

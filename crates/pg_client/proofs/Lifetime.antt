@@ -44,18 +44,13 @@ blank_begins v kept stand settled status parameters key closed = record {
   stream = record { whole = refl; each = tt };
   places = tt;
   ordered = tt;
-  allowed = none_allowed;
-  terminated = (λ t. absurd t, λ e. absurd (let k : None ≡ Some cause.Terminated = sym closed ∙ e in cc));
-  expected = expected_nothing v.settings.password;
+  happened = record { allowed = none_allowed; expected = expected_nothing v.settings.password; sent_is = refl; spelled = tt };
   was = New;
   stands = (refl, settled);
   shows = subst (λ (o : Option Cause). Shows New v.stand o false) (sym closed) stand;
   ends = subst (Ends v.settings [] [] v.kept) (sym closed) (record { kept_is = kept; is_open = nothing_is_open v.settings.limit });
-  status = status;
-  parameters = λ name. rw parameters refl;
-  key = key;
-  sent_is = refl;
-  spelled = tt;
+  terminated = (λ t. absurd t, λ e. absurd (let k : None ≡ Some cause.Terminated = sym closed ∙ e in cc));
+  knows = record { status = status; parameters = λ name. rw parameters refl; key = key };
 }
 
 -- ---- a group is taken
@@ -69,18 +64,13 @@ taken v old (Some t) left same e = λ h r0.
       stream = r.stream;
       places = r.places;
       ordered = r.ordered;
-      allowed = r.allowed;
-      terminated = r.terminated;
-      expected = r.expected;
+      happened = r.happened;
       was = r.was;
       stands = subst (Stands (happenings h) r.was) (ap (λ (ts : List Settled). h.given ++ ts) e ∙ sym (append_assoc h.given (t ∷ []) left)) r.stands;
       shows = r.shows;
       ends = r.ends;
-      status = r.status;
-      parameters = r.parameters;
-      key = r.key;
-      sent_is = r.sent_is;
-      spelled = r.spelled;
+      terminated = r.terminated;
+      knows = r.knows;
     }
 
 -- ---- the connection is lost
@@ -121,18 +111,13 @@ lost_carries v old closed same now h r0 =
       stream = r.stream;
       places = r.places;
       ordered = r.ordered;
-      allowed = r.allowed;
-      terminated = subst (λ (o : Option Cause). IsTerminated (happenings h) ↔ (o ≡ Some cause.Terminated)) (sym now) (terminated_by (happenings h) v.closed r.terminated);
-      expected = r.expected;
+      happened = r.happened;
       was = r.was;
       stands = r.stands;
       shows = subst (λ (o : Option Cause). Shows r.was New o true) (sym now) refl;
       ends = subst (Ends v.settings (happenings h) h.rest v.kept) (sym now) (ends_by v.settings (happenings h) h.rest v.kept v.closed r.ends);
-      status = r.status;
-      parameters = r.parameters;
-      key = r.key;
-      sent_is = r.sent_is;
-      spelled = r.spelled;
+      terminated = subst (λ (o : Option Cause). IsTerminated (happenings h) ↔ (o ≡ Some cause.Terminated)) (sym now) (terminated_by (happenings h) v.closed r.terminated);
+      knows = r.knows;
     }
 
 -- the first cause, as it is computed

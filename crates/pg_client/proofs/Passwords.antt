@@ -366,10 +366,10 @@ ends_so : (settings : Settings) (hs : List Happening) (rest kept : List ℕ) (cl
 ends_so settings hs rest kept closed is ends = (subst (Ends settings hs rest kept) is ends).1
 
 pub history_in_turns : (h : History) (client : ClientView) → IsHistoryOf h client → InTurns client.settings (happenings h) h.sent
-history_in_turns h client r = in_turns client.settings (happenings h) r.allowed r.expected open_then h.sent r.sent_is
+history_in_turns h client r = in_turns client.settings (happenings h) r.happened.allowed r.happened.expected open_then h.sent r.happened.sent_is
   where
     open_then : (before : List Happening) (m : BackMessage) (later : List Happening) → happenings h ≡ before ++ Came m ∷ later → IsTerminated before → ⊥
     open_then before m later e t =
         let end = ends_so client.settings (happenings h) h.rest client.kept client.closed (r.terminated.0 (subst IsTerminated (sym e) (terminated_begins before (Came m ∷ later) t))) r.ends in
         let s = front_splits end.0 (Did call.Terminate) before (Came m) later (sym end.1 ∙ e) in
-        (r.allowed end.0 call.Terminate [] end.1).not_terminated (subst IsTerminated (sym s.1) (terminated_begins before s.0 t))
+        (r.happened.allowed end.0 call.Terminate [] end.1).not_terminated (subst IsTerminated (sym s.1) (terminated_begins before s.0 t))

@@ -125,15 +125,15 @@ pub takes_turns : (h : History) (client : ClientView) → IsHistoryOf h client �
 takes_turns h client r =
     let hs : List Happening = happenings h in
     let facts = history_facts h client r in
-    let after : AllAfter hs = r.expected.after in
+    let after : AllAfter hs = r.happened.expected.after in
     record {
-      in_turn = λ before later e. counted before (after_begins before later (subst AllAfter e after)) (allowed_begins before later (subst AreAllowed e r.allowed));
-      asked = λ before q later e. ready_counted before (r.allowed before (call.Request q) later e).in_place.1;
-      copied = λ before c later copy e. copied_in_turn hs before c later after r.allowed copy e;
+      in_turn = λ before later e. counted before (after_begins before later (subst AllAfter e after)) (allowed_begins before later (subst AreAllowed e r.happened.allowed));
+      asked = λ before q later e. ready_counted before (r.happened.allowed before (call.Request q) later e).in_place.1;
+      copied = λ before c later copy e. copied_in_turn hs before c later after r.happened.allowed copy e;
       copies = all_copies (calls_in hs);
       settled_all = settled_length (requests_in hs) (groups_in hs) (h.given ++ client.settled) facts.in_order;
       settled_first = first_settled (requests_in hs) (groups_in hs) (h.given ++ client.settled) facts.in_order ∙ ap (take (length (h.given ++ client.settled))) (requests_of_calls hs);
       ready = λ e. settled_length (requests_in hs) (groups_in hs) (h.given ++ client.settled) facts.in_order ∙ ready_counted hs (open_ready hs client.closed ((facts.phase phase.Ready).0 e));
-      ended = λ e. copy_under_way hs after r.allowed (open_copying hs client.closed ((facts.phase phase.CopyingIn).0 e)).1;
-      copying = λ e. let o = open_copying hs client.closed ((facts.phase phase.CopyingIn).0 e) in copying_since hs after r.allowed (λ t. not_closed client.closed o.0 (r.terminated.0 t)) o.1;
+      ended = λ e. copy_under_way hs after r.happened.allowed (open_copying hs client.closed ((facts.phase phase.CopyingIn).0 e)).1;
+      copying = λ e. let o = open_copying hs client.closed ((facts.phase phase.CopyingIn).0 e) in copying_since hs after r.happened.allowed (λ t. not_closed client.closed o.0 (r.terminated.0 t)) o.1;
     }

@@ -79,6 +79,24 @@ AreOrdered [] = Unit {0}
 AreOrdered (c ∷ []) = Unit {0}
 AreOrdered (c ∷ d ∷ cs) = (c.1 ≤ d.1) × AreOrdered (d ∷ cs)
 
+-- What happened may happen, and this went out for it.
+pub record MayHappen (settings : Settings) (hs : List Happening) (sent : List ℕ) : Type 0 where
+  -- each call was allowed when it was made
+  pub allowed : AreAllowed hs
+  -- the server has kept to the protocol in all that was handled
+  pub expected : Expected settings.password hs
+  -- what went out is what the events send, each with a spelling
+  pub sent_is : sent ≡ sent_in settings hs
+  pub spelled : AllByRecursion (IsSpelledAt settings) hs
+
+-- The client knows the last status, the last value of each parameter and the last key that it was
+-- sent, where it has heard these messages.
+pub record KnowsLast (heard : List BackMessage) (client : ClientView) : Type 0 where
+  pub status : client.status ≡ last_said status_of heard
+  pub parameters : (name : List ℕ)
+      → value_of name client.parameters ≡ last_said (value_said name) heard
+  pub key : client.key ≡ last_said key_said heard
+
 -- The client, as it is now, may have gone through this history.
 pub record IsHistoryOf (h : History) (client : ClientView) : Type 0 where
   -- the bytes fed are the messages and the bytes left, within the limit of a message's length
@@ -86,12 +104,8 @@ pub record IsHistoryOf (h : History) (client : ClientView) : Type 0 where
   -- no call has a place after the bytes fed, and the calls are in the order of their places
   pub places : AllByRecursion (λ c. c.1 ≤ length h.fed) h.calls
   pub ordered : AreOrdered h.calls
-  -- each call was allowed when it was made, and the client is closed as Terminated where terminate
-  -- was called
-  pub allowed : AreAllowed (happenings h)
-  pub terminated : IsTerminated (happenings h) ↔ (client.closed ≡ Some cause.Terminated)
-  -- the server has kept to the protocol in all that was handled
-  pub expected : Expected client.settings.password (happenings h)
+  -- what happened may happen, and what went out is what it sends
+  pub happened : MayHappen client.settings (happenings h) h.sent
   -- where the events have led the client, with the settled groups, taken or waiting; and what it
   -- shows of that
   pub was : Stand
@@ -99,14 +113,9 @@ pub record IsHistoryOf (h : History) (client : ClientView) : Type 0 where
   pub shows : Shows was client.stand client.closed h.handed_back
   -- why no message was handled after these
   pub ends : Ends client.settings (happenings h) h.rest client.kept client.closed
-  -- it knows the last status, the last value of each parameter and the last key that it was sent
-  pub status : client.status ≡ last_said status_of h.heard
-  pub parameters : (name : List ℕ)
-      → value_of name client.parameters ≡ last_said (value_said name) h.heard
-  pub key : client.key ≡ last_said key_said h.heard
-  -- what went out is what the events send, each with a spelling
-  pub sent_is : h.sent ≡ sent_in client.settings (happenings h)
-  pub spelled : AllByRecursion (IsSpelledAt client.settings) (happenings h)
+  -- it is closed as Terminated where terminate was called
+  pub terminated : IsTerminated (happenings h) ↔ (client.closed ≡ Some cause.Terminated)
+  pub knows : KnowsLast h.heard client
 
 -- ---- how a call carries it on
 

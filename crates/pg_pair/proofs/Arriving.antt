@@ -28,18 +28,13 @@ emptied h c r = record {
   stream = r.stream;
   places = r.places;
   ordered = r.ordered;
-  allowed = r.allowed;
-  terminated = r.terminated;
-  expected = r.expected;
+  happened = r.happened;
   was = r.was;
   stands = subst (Stands (happenings h) r.was) (sym (append-nil (h.given ++ c.settled))) r.stands;
   shows = r.shows;
   ends = r.ends;
-  status = r.status;
-  parameters = r.parameters;
-  key = r.key;
-  sent_is = r.sent_is;
-  spelled = r.spelled;
+  terminated = r.terminated;
+  knows = r.knows;
 }
 
 -- the pair after the client was fed, and has put out what was sent then

@@ -145,7 +145,7 @@ none_heard (Came m ∷ hs) after e = absurd (after [] m hs refl).started
 pub tied_none : Known → {C : Type 0} (p : PairView C) (t : Tied p) → calls_of t.client.history.calls ≡ [] → Messages p t ≡ []
 tied_none k p t e =
     let told = k.order t.client.history in
-    let nothing : t.client.history.heard ≡ [] = sym (told.messages) ∙ none_heard (Happened p t) t.client.is_history.expected.after (told.calls ∙ e) in
+    let nothing : t.client.history.heard ≡ [] = sym (told.messages) ∙ none_heard (Happened p t) t.client.is_history.happened.expected.after (told.calls ∙ e) in
     ap (messages_after p.client.settings t.client.history.heard) e ∙ ap (λ ms. messages_after p.client.settings ms []) nothing
 
 -- the password that it has sent

@@ -17,11 +17,11 @@ use Rattle.pg_client.specs.declared.stand.Stand.TheVariants.{Starting, Idle}
 use Rattle.pg_client.specs.declared.startup.ToSend.{ToSend}
 use Rattle.pg_client.specs.declared.startup.ToSend.TheVariants as sends
 use Rattle.pg_client.specs.declared.startup.Welcome.TheVariants.{Fresh, Asked}
-use Rattle.pg_client.specs.Session.{IsTerminated, AreAllowed, Expected, can_answer, is_question}
-use Rattle.pg_client.specs.Client.{ClientView, HasSameUnsettled, option_or, last_said, value_of, value_said, key_said}
-use Rattle.pg_client.specs.Sent.{answer_to, IsSpelledAt, sent_in}
+use Rattle.pg_client.specs.Session.{IsTerminated, can_answer, is_question}
+use Rattle.pg_client.specs.Client.{ClientView, HasSameUnsettled, option_or, value_of, value_said, key_said}
+use Rattle.pg_client.specs.Sent.{answer_to}
 use Rattle.pg_client.specs.Closed.{cause_of}
-use Rattle.pg_client.specs.History.{AreOrdered, happenings, History, with_heard}
+use Rattle.pg_client.specs.History.{AreOrdered, happenings, History, KnowsLast, MayHappen, with_heard}
 use Rattle.pg_client.specs.declared.item.Item.{Item}
 use Rattle.pg_client.specs.Feed.{Hears}
 use Rattle.pg_client.specs.Stand.{Effect, Leads, Settles, Rejected, hear_with, Stands}
@@ -146,6 +146,7 @@ pub record IsHearing (before : ℕ) (h : History) (client : ClientView) : Type 0
   -- no call was made since the piece was fed
   pub places : AllByRecursion (λ c. c.1 ≤ before) h.calls
   pub ordered : AreOrdered h.calls
+  pub happened : MayHappen client.settings (happenings h) h.sent
   pub within : before ≤ length h.fed
   -- the next message, if one is whole, ends in this piece
   pub late : (m : BackMessage) (more : List ℕ) → IsWithin backend client.settings.limit m
@@ -154,15 +155,8 @@ pub record IsHearing (before : ℕ) (h : History) (client : ClientView) : Type 0
   pub is_open : client.closed ≡ None
   pub not_handed_back : h.handed_back ≡ false
   pub not_terminated : IsTerminated (happenings h) → ⊥
-  pub allowed : AreAllowed (happenings h)
-  pub expected : Expected client.settings.password (happenings h)
   pub stands : Stands (happenings h) client.stand (h.given ++ client.settled)
-  pub status : client.status ≡ last_said status_of h.heard
-  pub parameters : (name : List ℕ)
-      → value_of name client.parameters ≡ last_said (value_said name) h.heard
-  pub key : client.key ≡ last_said key_said h.heard
-  pub sent_is : h.sent ≡ sent_in client.settings (happenings h)
-  pub spelled : AllByRecursion (IsSpelledAt client.settings) (happenings h)
+  pub knows : KnowsLast h.heard client
 
 -- A client with this history, to which the piece belongs already, handles some more messages, as
 -- Hears says, and what was told of the events before is told of those after.

@@ -1,7 +1,7 @@
 //! Reading the bodies of the backend's messages.
 
 ghost use Rattle.pg_codec.specs.Private.Reader.{Gives};
-ghost use Rattle.pg_message.specs.declared.backend.kind.BackKind.TheVariants.{Auth, DataRow};
+ghost use Rattle.pg_message.specs.declared.backend.kind.BackKind.TheVariants as kinds;
 ghost use Rattle.pg_message.specs.Backend.{backend};
 ghost use Rattle.pg_message.specs.Private.BackReader.{back_reading};
 ghost use Rattle.pg_message.specs.Private.Reading.{AsksFor};
@@ -14,8 +14,9 @@ use std::alloc::Global;
 
 // An authentication request, whose code says which.
 fn auth(alloc: Global, bytes: &[u8]) -> Result<BackMessage, BodyFault>
-    ensures read { Gives (λ m. m) result ((back_reading Auth).message bytes.now) }
-    ensures memory { AsksFor backend.holds_list result ((back_reading Auth).message bytes.now) }
+    ensures read { Gives (λ m. m) result ((back_reading kinds.Auth).message bytes.now) }
+    ensures memory { AsksFor backend.holds_list result
+        ((back_reading kinds.Auth).message bytes.now) }
 {
     let (code, rest) = i32_at(bytes)?;
     match code {
@@ -34,13 +35,83 @@ fn auth(alloc: Global, bytes: &[u8]) -> Result<BackMessage, BodyFault>
 
 // A row.
 fn row(alloc: Global, bytes: &[u8]) -> Result<BackMessage, BodyFault>
-    ensures read { Gives (λ m. m) result ((back_reading DataRow).message bytes.now) }
-    ensures memory { AsksFor backend.holds_list result ((back_reading DataRow).message bytes.now) }
+    ensures read { Gives (λ m. m) result ((back_reading kinds.DataRow).message bytes.now) }
+    ensures memory { AsksFor backend.holds_list result
+        ((back_reading kinds.DataRow).message bytes.now) }
 {
     match values_at(alloc, bytes)? {
         (values, []) => Ok(BackMessage::DataRow(values)),
         _ => Err(BodyFault::Bad),
     }
+}
+
+// A key to cancel with, which takes no memory.
+fn key_data(bytes: &[u8]) -> Result<BackMessage, BodyFault>
+    ensures read { Gives (λ m. m) result ((back_reading kinds.KeyData).message bytes.now) }
+    ensures memory { AsksFor backend.holds_list result
+        ((back_reading kinds.KeyData).message bytes.now) }
+{
+    let (process, rest) = i32_at(bytes)?;
+    let (secret, rest) = i32_at(rest)?;
+    ended(BackMessage::KeyData { process, secret }, rest)
+}
+
+// A parameter's value.
+fn parameter_status(alloc: Global, bytes: &[u8]) -> Result<BackMessage, BodyFault>
+    ensures read { Gives (λ m. m) result ((back_reading kinds.ParameterStatus).message bytes.now) }
+    ensures memory { AsksFor backend.holds_list result
+        ((back_reading kinds.ParameterStatus).message bytes.now) }
+{
+    let (name, rest) = text_at(alloc, bytes)?;
+    let (value, rest) = text_at(alloc, rest)?;
+    ended(BackMessage::ParameterStatus { name, value }, rest)
+}
+
+// The columns of rows.
+fn row_description(alloc: Global, bytes: &[u8]) -> Result<BackMessage, BodyFault>
+    ensures read { Gives (λ m. m) result ((back_reading kinds.RowDescription).message bytes.now) }
+    ensures memory { AsksFor backend.holds_list result
+        ((back_reading kinds.RowDescription).message bytes.now) }
+{
+    let (columns, rest) = counted(alloc, bytes)?;
+    ended(BackMessage::RowDescription(columns), rest)
+}
+
+// An error.
+fn error(alloc: Global, bytes: &[u8]) -> Result<BackMessage, BodyFault>
+    ensures read { Gives (λ m. m) result ((back_reading kinds.ErrorResponse).message bytes.now) }
+    ensures memory { AsksFor backend.holds_list result
+        ((back_reading kinds.ErrorResponse).message bytes.now) }
+{
+    let (fields, rest) = fields_at(alloc, bytes)?;
+    ended(BackMessage::ErrorResponse(fields), rest)
+}
+
+// A notice.
+fn notice(alloc: Global, bytes: &[u8]) -> Result<BackMessage, BodyFault>
+    ensures read { Gives (λ m. m) result ((back_reading kinds.NoticeResponse).message bytes.now) }
+    ensures memory { AsksFor backend.holds_list result
+        ((back_reading kinds.NoticeResponse).message bytes.now) }
+{
+    let (fields, rest) = fields_at(alloc, bytes)?;
+    ended(BackMessage::NoticeResponse(fields), rest)
+}
+
+// A notification.
+fn notification(alloc: Global, bytes: &[u8]) -> Result<BackMessage, BodyFault>
+    ensures read { Gives (λ m. m) result ((back_reading kinds.Notification).message bytes.now) }
+    ensures memory { AsksFor backend.holds_list result
+        ((back_reading kinds.Notification).message bytes.now) }
+{
+    let (process, rest) = i32_at(bytes)?;
+    let (channel, rest) = text_at(alloc, rest)?;
+    let (payload, rest) = text_at(alloc, rest)?;
+    let message = BackMessage::Notification {
+        process,
+        channel,
+        payload,
+    };
+    ended(message, rest)
 }
 
 /// The message of this kind and this body. Only a message that holds a list takes memory.
@@ -62,24 +133,13 @@ fn other_message(alloc: Global, kind: BackKind, body: &[u8]) -> Result<BackMessa
 {
     match kind {
         BackKind::Auth => auth(alloc, body),
-        BackKind::KeyData => {
-            let (process, rest) = i32_at(body)?;
-            let (secret, rest) = i32_at(rest)?;
-            ended(BackMessage::KeyData { process, secret }, rest)
-        }
-        BackKind::ParameterStatus => {
-            let (name, rest) = text_at(alloc, body)?;
-            let (value, rest) = text_at(alloc, rest)?;
-            ended(BackMessage::ParameterStatus { name, value }, rest)
-        }
+        BackKind::KeyData => key_data(body),
+        BackKind::ParameterStatus => parameter_status(alloc, body),
         BackKind::Ready => {
             let (status, rest) = status_at(body)?;
             ended(BackMessage::Ready(status), rest)
         }
-        BackKind::RowDescription => {
-            let (columns, rest) = counted(alloc, body)?;
-            ended(BackMessage::RowDescription(columns), rest)
-        }
+        BackKind::RowDescription => row_description(alloc, body),
         BackKind::DataRow => row(alloc, body),
         BackKind::CommandComplete => {
             let (text, rest) = text_at(alloc, body)?;
@@ -95,25 +155,9 @@ fn other_message(alloc: Global, kind: BackKind, body: &[u8]) -> Result<BackMessa
             let (types, rest) = counted(alloc, body)?;
             ended(BackMessage::ParameterDescription(types), rest)
         }
-        BackKind::ErrorResponse => {
-            let (fields, rest) = fields_at(alloc, body)?;
-            ended(BackMessage::ErrorResponse(fields), rest)
-        }
-        BackKind::NoticeResponse => {
-            let (fields, rest) = fields_at(alloc, body)?;
-            ended(BackMessage::NoticeResponse(fields), rest)
-        }
-        BackKind::Notification => {
-            let (process, rest) = i32_at(body)?;
-            let (channel, rest) = text_at(alloc, rest)?;
-            let (payload, rest) = text_at(alloc, rest)?;
-            let message = BackMessage::Notification {
-                process,
-                channel,
-                payload,
-            };
-            ended(message, rest)
-        }
+        BackKind::ErrorResponse => error(alloc, body),
+        BackKind::NoticeResponse => notice(alloc, body),
+        BackKind::Notification => notification(alloc, body),
         BackKind::CopyIn => {
             let (head, rest) = copy_head_at(alloc, body)?;
             ended(BackMessage::CopyIn(head), rest)

@@ -3,6 +3,7 @@
 ghost use Rattle.std.specs.Prelude.{IsOkUnless};
 ghost use Rattle.pg_codec.specs.declared.fault.BodyFault.TheVariants.{Bad};
 ghost use Rattle.pg_codec.specs.Private.Reader.{Gives, choice_at};
+ghost use Rattle.pg_message.specs.declared.frontend.kind.FrontKind.TheVariants as kinds;
 ghost use Rattle.pg_message.specs.Frontend.{frontend};
 ghost use Rattle.pg_message.specs.Private.FrontReader.{front_reading, target_of_byte};
 ghost use Rattle.pg_message.specs.Private.Reading.{AsksFor};
@@ -25,6 +26,39 @@ pub fn target_at(bytes: &[u8]) -> Result<(Target, &[u8]), BodyFault>
     }
 }
 
+// A Parse.
+fn parse(alloc: Global, bytes: &[u8]) -> Result<FrontMessage, BodyFault>
+    ensures read { Gives (λ m. m) result ((front_reading kinds.Parse).message bytes.now) }
+    ensures memory { AsksFor frontend.holds_list result
+        ((front_reading kinds.Parse).message bytes.now) }
+{
+    let (name, rest) = text_at(alloc, bytes)?;
+    let (text, rest) = text_at(alloc, rest)?;
+    let (types, rest) = counted(alloc, rest)?;
+    ended(FrontMessage::Parse { name, text, types }, rest)
+}
+
+// A Bind.
+fn bind(alloc: Global, bytes: &[u8]) -> Result<FrontMessage, BodyFault>
+    ensures read { Gives (λ m. m) result ((front_reading kinds.Bind).message bytes.now) }
+    ensures memory { AsksFor frontend.holds_list result
+        ((front_reading kinds.Bind).message bytes.now) }
+{
+    let (portal, rest) = text_at(alloc, bytes)?;
+    let (statement, rest) = text_at(alloc, rest)?;
+    let (formats, rest) = counted(alloc, rest)?;
+    let (values, rest) = values_at(alloc, rest)?;
+    let (result_formats, rest) = counted(alloc, rest)?;
+    let message = FrontMessage::Bind {
+        portal,
+        statement,
+        formats,
+        values,
+        result_formats,
+    };
+    ended(message, rest)
+}
+
 /// The message of this kind and this body. Only a message that holds a list takes memory.
 pub fn front_message(alloc: Global, kind: FrontKind, body: &[u8]) -> Result<FrontMessage, BodyFault>
     ensures read { Gives (λ m. m) result ((front_reading kind).message body.now) }
@@ -35,27 +69,8 @@ pub fn front_message(alloc: Global, kind: FrontKind, body: &[u8]) -> Result<Fron
             let (text, rest) = text_at(alloc, body)?;
             ended(FrontMessage::Query(text), rest)
         }
-        FrontKind::Parse => {
-            let (name, rest) = text_at(alloc, body)?;
-            let (text, rest) = text_at(alloc, rest)?;
-            let (types, rest) = counted(alloc, rest)?;
-            ended(FrontMessage::Parse { name, text, types }, rest)
-        }
-        FrontKind::Bind => {
-            let (portal, rest) = text_at(alloc, body)?;
-            let (statement, rest) = text_at(alloc, rest)?;
-            let (formats, rest) = counted(alloc, rest)?;
-            let (values, rest) = values_at(alloc, rest)?;
-            let (result_formats, rest) = counted(alloc, rest)?;
-            let message = FrontMessage::Bind {
-                portal,
-                statement,
-                formats,
-                values,
-                result_formats,
-            };
-            ended(message, rest)
-        }
+        FrontKind::Parse => parse(alloc, body),
+        FrontKind::Bind => bind(alloc, body),
         FrontKind::Describe => {
             let (target, rest) = target_at(body)?;
             let (name, rest) = text_at(alloc, rest)?;
