@@ -175,7 +175,7 @@ impl Reader for BinaryReader {
 
 /// A call of a reader, or a question to it.
 #[derive(Clone, Copy)]
-enum Call {
+enum ReaderCall {
     Push(&'static [u8]),
     Next,
     Finish,
@@ -214,20 +214,20 @@ fn given(answer: Result<Option<Row>, Fault>) -> Answer {
     }
 }
 
-fn ask<R: Reader>(reader: &mut R, call: Call) -> Answer {
+fn ask<R: Reader>(reader: &mut R, call: ReaderCall) -> Answer {
     match call {
-        Call::Push(piece) => taken(reader.push(piece)),
-        Call::Next => given(reader.next()),
-        Call::Finish => given(reader.finish()),
-        Call::Done => Answer::Is(reader.done()),
-        Call::Ended => Answer::Is(reader.ended()),
-        Call::RowsGiven => Answer::Count(reader.rows_given()),
-        Call::Offset => Answer::Count(reader.offset()),
+        ReaderCall::Push(piece) => taken(reader.push(piece)),
+        ReaderCall::Next => given(reader.next()),
+        ReaderCall::Finish => given(reader.finish()),
+        ReaderCall::Done => Answer::Is(reader.done()),
+        ReaderCall::Ended => Answer::Is(reader.ended()),
+        ReaderCall::RowsGiven => Answer::Count(reader.rows_given()),
+        ReaderCall::Offset => Answer::Count(reader.offset()),
     }
 }
 
 // Whether a reader answers each call so.
-fn answers<R: Reader>(reader: &mut R, steps: &[(Call, Answer)]) -> bool {
+fn answers<R: Reader>(reader: &mut R, steps: &[(ReaderCall, Answer)]) -> bool {
     for (call, wanted) in steps {
         if ask(reader, *call) != *wanted {
             return false;

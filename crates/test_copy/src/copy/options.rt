@@ -111,7 +111,7 @@ fn the_default_is_a_tab(rt: HostRuntime) {
 
 /// A file of one column, the canonical lines of its rows before the end of the input where it comes whole, the lines in all, and the fault
 /// at the end.
-type File = (
+type LineEndFile = (
     &'static [u8],
     &'static [u8],
     &'static [u8],
@@ -134,7 +134,7 @@ fn wanted(fault: Option<TextFault>) -> Option<Fault> {
 }
 
 // Whether the file, which comes in two pieces, gives its lines and is answered its fault at the end.
-fn gives_in_two(alloc: Global, file: File, place: usize) -> bool {
+fn gives_in_two(alloc: Global, file: LineEndFile, place: usize) -> bool {
     let (bytes, _, all, fault) = file;
     let mut reader = TextReader::new(alloc, Some(1));
     let mut lines = Vec::new(alloc);
@@ -146,7 +146,7 @@ fn gives_in_two(alloc: Global, file: File, place: usize) -> bool {
 }
 
 // Whether the file gives its first lines before the end of the input; and in all the same, wherever it is cut.
-fn gives(alloc: Global, file: File) -> bool {
+fn gives(alloc: Global, file: LineEndFile) -> bool {
     if !writes_before(alloc, file.0, file.1) {
         return false;
     }
@@ -158,7 +158,7 @@ fn gives(alloc: Global, file: File) -> bool {
     true
 }
 
-fn all_give(alloc: Global, files: &[File]) -> bool {
+fn all_give(alloc: Global, files: &[LineEndFile]) -> bool {
     for file in files {
         if !gives(alloc, *file) {
             return false;
@@ -167,7 +167,7 @@ fn all_give(alloc: Global, files: &[File]) -> bool {
     true
 }
 
-const ALIKE: [File; 6] = [
+const ALIKE: [LineEndFile; 6] = [
     (b"a\r\n", b"a\n", b"a\n", None),
     (b"a\r\nb\r\n", b"a\nb\n", b"a\nb\n", None),
     (b"a\rb\r", b"a\nb\n", b"a\nb\n", None),
@@ -185,7 +185,7 @@ const RAW_RETURN: Option<TextFault> = Some(TextFault::RawReturn);
 
 const RAW_NEWLINE: Option<TextFault> = Some(TextFault::RawNewline);
 
-const OTHERS: [File; 4] = [
+const OTHERS: [LineEndFile; 4] = [
     (b"a\nb\r\n", b"a\n", b"a\n", RAW_RETURN),
     (b"a\r\nb\r", b"a\n", b"a\n", RAW_RETURN),
     (b"a\rb\n", b"a\n", b"a\n", RAW_NEWLINE),
