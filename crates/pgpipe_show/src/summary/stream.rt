@@ -3,7 +3,7 @@
 ghost use Rattle.std.specs.Prelude.{◌≡◌, ◌≤◌, ◌+◌, ◌-◌, ◌^◌, ◌++◌, ℕ, List, [], length, min, take};
 ghost use Rattle.std.specs.Prelude.{IfOk, OnOk};
 ghost use Rattle.std.specs.List.{FoldsTo, concat};
-ghost use Rattle.pgpipe_base.specs.Receiving.{longest_piece};
+ghost use Rattle.pgpipe_base.specs.Receiving.{receive_limit};
 ghost use Rattle.pgpipe_frames.specs.Frames.{fewest};
 ghost use Rattle.pgpipe_show.specs.FrameLines.{first_of};
 ghost use Rattle.pgpipe_show.specs.Counts.{counted};
@@ -110,7 +110,7 @@ struct Counting {
     label: Vec<u8>,
     // where pieces are received
     into: Vec<u8>,
-    ghost a_piece: { length into.items ≡ longest_piece },
+    ghost a_piece: { length into.items ≡ receive_limit },
 }
 
 impl Counting {
