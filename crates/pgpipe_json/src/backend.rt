@@ -14,7 +14,7 @@ ghost use Rattle.pgpipe_json.specs.Values.{hex_json, list_json, signed_json, tex
 ghost use Rattle.pgpipe_json.specs.Values.{word_or_null};
 
 use crate::members::{begin, put_hidden, put_optional, put_shown, put_text, put_word};
-use crate::values::{Shown, hex_value, word_value};
+use crate::values::{ToJson, hex_value, word_value};
 use pg_wire::{BackMessage, Column, CopyHead, Fields, Seq, Status};
 use pgpipe_frames::{array_type, other_type, plain_type};
 use serde_json::{Map, Value};
@@ -74,7 +74,7 @@ fn put_type(
     put_shown("format", &column.format, alloc, object)
 }
 
-impl Shown for Column {
+impl ToJson for Column {
     ghost shown = { column_json };
 
     fn value(&self, alloc: Global) -> Result<Value, AllocError> {
