@@ -1,6 +1,6 @@
 //! Files with options, and the ways in which lines end.
 
-use super::{Fault, WrittenRow, row, write_left, write_piece, writes};
+use super::{WrittenRow, row, wanted_text, write_left, write_piece, writes};
 use pg_copy::{OptionFault, Row, RowFault, TextFault, TextOptions, TextReader};
 use std::alloc::{AllocError, Global};
 
@@ -126,13 +126,6 @@ fn writes_before(alloc: Global, piece: &[u8], wanted: &[u8]) -> bool {
     lines.as_slice() == wanted
 }
 
-fn wanted(fault: Option<TextFault>) -> Option<Fault> {
-    match fault {
-        Some(fault) => Some(Fault::Text(fault)),
-        None => None,
-    }
-}
-
 // Whether the file, which comes in two pieces, gives its lines and is answered its fault at the end.
 fn gives_in_two(alloc: Global, file: LineEndFile, place: usize) -> bool {
     let (bytes, _, all, fault) = file;
@@ -142,7 +135,7 @@ fn gives_in_two(alloc: Global, file: LineEndFile, place: usize) -> bool {
     let _ = write_piece(&mut reader, front, bytes.len(), &mut lines);
     let _ = write_piece(&mut reader, back, bytes.len(), &mut lines);
     let found = write_left(&mut reader, bytes.len(), &mut lines);
-    found == wanted(fault) && lines.as_slice() == all
+    found == wanted_text(fault) && lines.as_slice() == all
 }
 
 // Whether the file gives its first lines before the end of the input; and in all the same, wherever it is cut.

@@ -1,7 +1,7 @@
 //! Text files.
 
 use super::Answer::{Is, Nothing, Row, Taken};
-use super::{Answer, Fault, ReaderCall, WrittenRow, answers, write_file, writes};
+use super::{Answer, Fault, ReaderCall, WrittenRow, answers, wanted_text, write_file, writes};
 use pg_copy::{RowFault, TextFault, TextReader, write_text_field};
 use std::alloc::Global;
 
@@ -15,20 +15,13 @@ fn reader(alloc: Global, columns: u16) -> TextReader {
 /// How many columns a file has, its bytes, the canonical lines of its rows, and the fault after them.
 type TextFile = (u16, &'static [u8], &'static [u8], Option<TextFault>);
 
-fn wanted(fault: Option<TextFault>) -> Option<Fault> {
-    match fault {
-        Some(fault) => Some(Fault::Text(fault)),
-        None => None,
-    }
-}
-
 // Whether the file gives its lines and its fault, where the first piece has so many bytes, and each other one so many.
 fn gives_cut(alloc: Global, file: TextFile, first: usize, size: usize) -> bool {
     let (columns, bytes, lines, fault) = file;
     let mut reader = reader(alloc, columns);
     let mut written = Vec::new(alloc);
     let found = write_file(&mut reader, bytes, first, size, &mut written);
-    found == wanted(fault) && written.as_slice() == lines
+    found == wanted_text(fault) && written.as_slice() == lines
 }
 
 // Whether the file gives its lines and its fault, however it is cut.
