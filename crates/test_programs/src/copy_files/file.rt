@@ -7,7 +7,7 @@ ghost use Rattle.pg_copy.specs.Text.{default_options, written_row};
 ghost use Rattle.pg_copy.specs.Binary.{written_head, binary_row, trailer};
 
 use crate::byte_cut::ByteCut;
-use anyhow::{Result, bail};
+use anyhow::{Result, bail, ensure};
 use pg_copy::{
     BinaryReader, Row, TextReader, write_binary_head, write_binary_row, write_binary_trailer,
     write_text_row,
@@ -75,17 +75,13 @@ impl CopyFormat for TextReader {
     }
 
     fn push(&mut self, piece: &[u8]) -> Result<()> {
-        if self.ended() {
-            bail!("the input has ended");
-        }
+        ensure!(!self.ended(), "the input has ended");
         TextReader::push(self, piece)?;
         Ok(())
     }
 
     fn next(&mut self) -> Result<Option<Row>> {
-        if self.ended() {
-            bail!("the input has ended");
-        }
+        ensure!(!self.ended(), "the input has ended");
         Ok(TextReader::next(self)?)
     }
 
@@ -108,17 +104,13 @@ impl CopyFormat for BinaryReader {
     }
 
     fn push(&mut self, piece: &[u8]) -> Result<()> {
-        if self.ended() {
-            bail!("the input has ended");
-        }
+        ensure!(!self.ended(), "the input has ended");
         BinaryReader::push(self, piece)?;
         Ok(())
     }
 
     fn next(&mut self) -> Result<Option<Row>> {
-        if self.ended() {
-            bail!("the input has ended");
-        }
+        ensure!(!self.ended(), "the input has ended");
         Ok(BinaryReader::next(self)?)
     }
 
