@@ -152,12 +152,7 @@ fn gives(alloc: Global, file: LineEndFile) -> bool {
 }
 
 fn all_give(alloc: Global, files: &[LineEndFile]) -> bool {
-    for file in files {
-        if !gives(alloc, *file) {
-            return false;
-        }
-    }
-    true
+    files.iter().all(|file| gives(alloc, *file))
 }
 
 const ALIKE: [LineEndFile; 6] = [

@@ -37,12 +37,7 @@ fn gives(alloc: Global, file: TextFile) -> bool {
 }
 
 fn all_give(alloc: Global, files: &[TextFile]) -> bool {
-    for file in files {
-        if !gives(alloc, *file) {
-            return false;
-        }
-    }
-    true
+    files.iter().all(|file| gives(alloc, *file))
 }
 
 const LINES: [TextFile; 4] = [
