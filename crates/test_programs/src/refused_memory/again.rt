@@ -2,7 +2,7 @@
 
 ghost use Rattle.std.specs.Prelude.{◌≡◌, Some};
 
-use crate::copy_files::file::{COLUMNS, LIMIT};
+use crate::copy_files::reader::{COLUMNS, LIMIT};
 use anyhow::{Result, ensure};
 use pg_copy::{
     BinaryFault, BinaryReader, Row, RowFault, TextFault, TextReader, write_binary_head,
