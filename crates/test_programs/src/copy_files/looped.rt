@@ -61,7 +61,7 @@ pub fn is_written_again<R: LentFormat>(alloc: Global, bytes: &[u8], rows: usize)
 }
 
 /// Passes the rows by that wait, and says why none stands after them.
-pub fn fault_after<R: CopyReader>(reader: &mut R) -> Option<R::Fault>
+pub fn fault_after<R: CopyReader>(reader: &mut R) -> Option<R::ReaderFault>
     requires { R.has_ended reader.old ≡ false }
 {
     loop {

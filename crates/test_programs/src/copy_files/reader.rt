@@ -16,7 +16,7 @@ pub const LIMIT: u32 = 65_536;
 /// A reader of either format. Each row that it gives leaves fewer bytes to be read.
 pub trait CopyReader: Drop {
     /// What stands in the place of a row.
-    type Fault: Error;
+    type ReaderFault: Error;
 
     // whether the input has ended
     ghost has_ended: { Self → Bool };
@@ -35,32 +35,32 @@ pub trait CopyReader: Drop {
         ensures { result ≡ has_ended self.now };
 
     /// Takes the next piece.
-    fn push(&mut self, piece: &[u8]) -> Result<(), Self::Fault>
+    fn push(&mut self, piece: &[u8]) -> Result<(), Self::ReaderFault>
         requires { has_ended self.old ≡ false }
         ensures { OnOk result (has_ended self.new ≡ false) };
 
     /// The next row that waits.
-    fn next(&mut self) -> Result<Option<Row>, Self::Fault>
+    fn next(&mut self) -> Result<Option<Row>, Self::ReaderFault>
         requires { has_ended self.old ≡ false }
         ensures ended { has_ended self.new ≡ false }
         ensures fewer { (row : Row) → result ≡ Ok (Some row) → kept self.new < kept self.old };
 
     /// Whether a next row waits, which is lent.
-    fn next_lent(&mut self) -> Result<bool, Self::Fault>
+    fn next_lent(&mut self) -> Result<bool, Self::ReaderFault>
         requires { has_ended self.old ≡ false }
         ensures ended { has_ended self.new ≡ false }
         ensures fewer { result ≡ Ok true → kept self.new < kept self.old };
 
     /// The next row that is left at the end of the input.
-    fn finish(&mut self) -> Result<Option<Row>, Self::Fault>
+    fn finish(&mut self) -> Result<Option<Row>, Self::ReaderFault>
         ensures { (row : Row) → result ≡ Ok (Some row) → kept self.new < kept self.old };
 
     /// Whether a fault is that memory was refused.
-    fn is_memory(fault: &Self::Fault) -> bool;
+    fn is_memory(fault: &Self::ReaderFault) -> bool;
 }
 
 impl CopyReader for TextReader {
-    type Fault = TextFault;
+    type ReaderFault = TextFault;
 
     ghost has_ended = { λ reader. reader.ended };
 
@@ -99,7 +99,7 @@ impl CopyReader for TextReader {
 }
 
 impl CopyReader for BinaryReader {
-    type Fault = BinaryFault;
+    type ReaderFault = BinaryFault;
 
     ghost has_ended = { λ reader. reader.ended };
 

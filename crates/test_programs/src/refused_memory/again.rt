@@ -35,7 +35,7 @@ impl Refused {
 }
 
 // Whether memory was refused to a call of a reader.
-fn is_refused<R: CopyReader, T>(answer: &Result<T, R::Fault>) -> bool {
+fn is_refused<R: CopyReader, T>(answer: &Result<T, R::ReaderFault>) -> bool {
     match answer {
         Ok(_) => false,
         Err(fault) => R::is_memory(fault),
