@@ -70,11 +70,7 @@ enum WriterCall {
     GiveUp,
 }
 
-fn make(
-    writer: &mut TextRowWriter,
-    call: WriterCall,
-    lines: &mut Vec<u8>,
-) -> Result<(), RowFault> {
+fn make(writer: &mut TextRowWriter, call: WriterCall, lines: &mut Vec<u8>) -> Result<(), RowFault> {
     match call {
         WriterCall::Field(value) => writer.field(value, lines),
         WriterCall::End => writer.end(lines),
