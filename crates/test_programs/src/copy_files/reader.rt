@@ -1,6 +1,6 @@
 //! The readers of both formats, as the loops of a caller see them.
 
-ghost use Rattle.std.specs.Prelude.{◌≡◌, ◌<◌, ℕ, Bool, Ok, true, false, length, OnOk};
+ghost use Rattle.std.specs.Prelude.{◌≡◌, ◌<◌, ℕ, Bool, Ok, Some, true, false, length, OnOk};
 ghost use Rattle.pg_copy.specs.Row.{Row};
 
 use pg_copy::{BinaryFault, BinaryReader, Row, TextFault, TextReader};
@@ -24,11 +24,15 @@ pub trait CopyReader: Drop {
     // how many bytes are kept
     ghost kept: { Self → ℕ };
 
+    // It has the width and the limit of these files.
+    ghost has_width: { Self → Type 0 };
+
     /// Nothing was read yet.
     fn begin(alloc: Global) -> Self
     where
         Self: Sized,
-        ensures { has_ended result ≡ false };
+        ensures begun { has_ended result ≡ false }
+        ensures width { has_width result };
 
     /// Whether the input has ended.
     fn ended(&self) -> bool
@@ -65,6 +69,8 @@ impl CopyReader for TextReader {
     ghost has_ended = { λ reader. reader.ended };
 
     ghost kept = { λ reader. length reader.kept };
+
+    ghost has_width = { λ reader. reader.columns ≡ Some 3 };
 
     fn begin(alloc: Global) -> TextReader {
         TextReader::new(alloc, Some(COLUMNS))
@@ -104,6 +110,8 @@ impl CopyReader for BinaryReader {
     ghost has_ended = { λ reader. reader.ended };
 
     ghost kept = { λ reader. length reader.kept };
+
+    ghost has_width = { λ reader. (reader.columns ≡ 3) × (reader.limit ≡ 65536) };
 
     fn begin(alloc: Global) -> BinaryReader {
         BinaryReader::new(alloc, COLUMNS, LIMIT)

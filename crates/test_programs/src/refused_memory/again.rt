@@ -49,7 +49,9 @@ pub struct Again<R> {
 }
 
 impl<R: CopyReader> Again<R> {
-    pub fn new(alloc: Global) -> Again<R> {
+    pub fn new(alloc: Global) -> Again<R>
+        ensures { R.has_width result.reader }
+    {
         Again {
             reader: R::begin(alloc),
         }
