@@ -2,7 +2,7 @@
 -- pushed, until there is something to answer.
 use Rattle.std.specs.Prelude.{◌≡◌, ◌≢◌, ℕ, ◌<◌, ◌≤◌, ◌⊎◌, Bool, true, List, [], length, codes, Result, Ok, Err, OnOk}
 use Rattle.std.specs.List.{FoldsTo}
-use Rattle.pg_wire.specs.Link.{HasRisen}
+use Rattle.pg_wire.specs.Link.{HasRisen, longest_piece}
 use Rattle.pg_backend.specs.declared.fault.BackendFault.{BackendFault}
 use Rattle.pg_backend.specs.declared.fault.BackendFault.TheVariants as faults
 use Rattle.pg_backend.specs.Backend.{CarriesStep, IsClosed, Steps, Stores}
@@ -13,10 +13,6 @@ use Rattle.pg_backend.specs.declared.answered.AnswerFault.TheVariants as fault
 use Rattle.pg_backend.specs.declared.answered.Answered.{Answered}
 use Rattle.pg_backend.specs.declared.answered.Answered.TheVariants as answered
 use Rattle.pg_wire.specs.Sending.{FailsToSend, Sends}
-
--- The most bytes that are received at once.
-abbrev pub longest_piece : ℕ
-longest_piece = 4096
 
 -- The code of the fault with which a client can't be answered.
 abbrev pub answer_code : AnswerFault → List ℕ

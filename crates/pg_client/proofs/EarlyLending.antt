@@ -23,7 +23,7 @@ use Rattle.pg_client.specs.Client.{ClientView}
 use Rattle.pg_client.specs.Feed.{FeedAnswers}
 use Rattle.pg_client.specs.History.{Carries, History, IsHistoryOf, happenings, with_call, with_fed, with_handed_back, with_heard}
 use Rattle.pg_client.specs.Lost.{HandsBack, Loses}
-use Rattle.pg_client.specs.Early.{EarlyHears, EarlyView, IsEarlyHistoryOf, Row}
+use Rattle.pg_client.specs.Early.{EarlyHears, EarlyView, IsEarlyHistoryOf, RowValues}
 use Rattle.pg_client.specs.EarlyLent.{ComesBefore, EarlyHearsNext, EarlyHearsSome, FeedsAll, FeedsNothing, GivesBefore, IsEarlyHistoryBefore, Lends, LosesBefore, NextByCause, NextByItems, Pushes, PushesByCause, RefusesPiece, TakesLent, lent_items}
 use Rattle.pg_client.specs.Private.Collector.{Telling, TellsSame}
 use Rattle.pg_client.specs.Private.Feeding.{IsHearing}
@@ -50,7 +50,7 @@ closes settings hs rest piece feeding.Closed closed a = absurd a
 -- ---- histories
 
 -- which row is lent is no part of it
-lending_other : (h : History) (given : List Item) (e : EarlyView) (held : Option Row) → IsEarlyHistoryOf h given e → IsEarlyHistoryOf h given (record e { held = held })
+lending_other : (h : History) (given : List Item) (e : EarlyView) (held : Option RowValues) → IsEarlyHistoryOf h given e → IsEarlyHistoryOf h given (record e { held = held })
 lending_other h given e held r = record { client = r.client; stands_for = ap (λ (x : EarlyView). record x { held = held }) r.stands_for; history = r.history; items = r.items }
 
 pub waited_one : (unread : List ℕ) (h : History) (given : List Item) (e : EarlyView) (t : Item) (ts : List Item) → e.items ≡ t ∷ ts → IsEarlyHistoryBefore unread h given e → IsEarlyHistoryBefore unread h (given ++ t ∷ []) (record e { items = ts })
@@ -153,7 +153,7 @@ module _ (m : MachineView Queue) (none : m.closed ≡ None) (unread : List ℕ) 
     next_heard next.Nothing g is_open = all_heard (Ok tt) g.1
     next_heard next.Held g is_open =
         let heard = some_heard (giving (Early (DataRow g.0)) n.collector) (Early (DataRow g.0)) (λ hs k. k) g.2 in
-        (heard.2.1, subst (λ (o : Option Row). EarlyHearsSome unread h given (lent_items o) (early_view n) before after) (sym (ap (λ (c : Option Cause). row_at c n.held) is_open ∙ ap row_of g.1)) heard.0)
+        (heard.2.1, subst (λ (o : Option RowValues). EarlyHearsSome unread h given (lent_items o) (early_view n) before after) (sym (ap (λ (c : Option Cause). row_at c n.held) is_open ∙ ap row_of g.1)) heard.0)
     next_heard (next.Item t) g is_open =
         let heard = some_heard (giving_other t n.collector) t (λ hs k. k.1) g.1 in
         (heard.2.1.1, (heard.2.0, heard.0))

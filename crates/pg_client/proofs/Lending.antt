@@ -48,7 +48,7 @@ use Rattle.pg_client.specs.Client.{ClientView}
 use Rattle.pg_client.specs.Closed.{cause_of}
 use Rattle.pg_client.specs.Session.{Happening}
 use Rattle.pg_client.specs.Stand.{Effect, Leads, Stands, hear, hear_with}
-use Rattle.pg_client.specs.Early.{Row, early_stand, item_for, items_in}
+use Rattle.pg_client.specs.Early.{RowValues, early_stand, item_for, items_in}
 use Rattle.pg_client.specs.EarlyLent.{IsNoRow}
 use Rattle.pg_client.specs.Private.Collector.{Telling, TellsMessage, TellsSame}
 use Rattle.pg_client.specs.Private.Early.{early_fault, early_leads, items_at, TakesIn}
@@ -65,7 +65,7 @@ use Rattle.pg_client.proofs.Messages.{asks_nothing, heard_and_sent, result_heard
 
 -- ---- which values a row has decides nothing
 
-answers_row : (s : Step) (row : Row) → opens_answer s (back.DataRow row) ≡ opens_answer s (back.DataRow [])
+answers_row : (s : Step) (row : RowValues) → opens_answer s (back.DataRow row) ≡ opens_answer s (back.DataRow [])
 answers_row (step.Parse name text types) row = refl
 answers_row (step.Bind portal statement formats values result_formats) row = refl
 answers_row (step.Describe Statement name) row = refl
@@ -73,12 +73,12 @@ answers_row (step.Describe Portal name) row = refl
 answers_row (step.Execute portal max_rows) row = refl
 answers_row (step.Close target name) row = refl
 
-opens_row : (l : What) (row : Row) → opens l (back.DataRow row) ≡ opens l (back.DataRow [])
+opens_row : (l : What) (row : RowValues) → opens l (back.DataRow row) ≡ opens l (back.DataRow [])
 opens_row Results row = refl
 opens_row (Steps []) row = refl
 opens_row (Steps (s ∷ ss)) row = answers_row s row
 
-follows_row : (l : What) (p : Pending) (a : CopyAnswer) (row : Row) → follows l p a (back.DataRow row) ≡ follows l p a (back.DataRow [])
+follows_row : (l : What) (p : Pending) (a : CopyAnswer) (row : RowValues) → follows l p a (back.DataRow row) ≡ follows l p a (back.DataRow [])
 follows_row l pending.Nothing a row = opens_row l row
 follows_row l pending.Rows a row = refl
 follows_row l pending.CopyOut a row = refl
@@ -89,10 +89,10 @@ follows_row l pending.CopyIn Refused row = refl
 follows_row l pending.Described a row = refl
 follows_row l pending.Executed a row = refl
 
-goes_row : (a : What) (p : Place) (row : Row) → goes a p (back.DataRow row) ≡ goes a p (back.DataRow [])
+goes_row : (a : What) (p : Place) (row : RowValues) → goes a p (back.DataRow row) ≡ goes a p (back.DataRow [])
 goes_row a p row = ap (λ (o : Option Pending). cond p.failed None (option_map (led_to a p) o)) (follows_row (still_asked a p.answers) p.pending p.answer row)
 
-row_leads : (stand : EarlyStand) (row : Row) → early_leads stand (back.DataRow row) ≡ early_leads stand (back.DataRow [])
+row_leads : (stand : EarlyStand) (row : RowValues) → early_leads stand (back.DataRow row) ≡ early_leads stand (back.DataRow [])
 row_leads early.New row = refl
 row_leads (early.Starting Fresh) row = refl
 row_leads (early.Starting Asked) row = refl
@@ -100,7 +100,7 @@ row_leads (early.Starting Admitted) row = refl
 row_leads early.Idle row = refl
 row_leads (early.Busy request place) row = ap (option_map (early.Busy request)) (goes_row (asked request) place row)
 
-row_fault : (stand : EarlyStand) (row : Row) → early_fault stand (back.DataRow row) ≡ early_fault stand (back.DataRow [])
+row_fault : (stand : EarlyStand) (row : RowValues) → early_fault stand (back.DataRow row) ≡ early_fault stand (back.DataRow [])
 row_fault early.New row = refl
 row_fault (early.Starting Fresh) row = refl
 row_fault (early.Starting Asked) row = refl
@@ -108,7 +108,7 @@ row_fault (early.Starting Admitted) row = refl
 row_fault early.Idle row = refl
 row_fault (early.Busy request place) row = refl
 
-pub passes_any : (old new : EarlyStand) (row : Row) (r : Result Unit FeedFault) → PassesRow old [] r new → PassesRow old row r new
+pub passes_any : (old new : EarlyStand) (row : RowValues) (r : Result Unit FeedFault) → PassesRow old [] r new → PassesRow old row r new
 passes_any old new row (Ok x) h = row_leads old row ∙ h
 passes_any old new row (Err f) h = (row_leads old row ∙ h.0, h.1 ∙ sym (row_fault old row), h.2)
 
@@ -134,10 +134,10 @@ module _ (now new : MachineView Queue) (before after : List ℕ) where
 
 -- ---- a row that is lent
 
-row_is : (row : Row) → IsResult (back.DataRow row)
+row_is : (row : RowValues) → IsResult (back.DataRow row)
 row_is row = record { no_aside = refl; no_end = refl; no_error = refl; no_welcome = refl }
 
-items_row : (stand now : EarlyStand) (row : Row) → early_leads stand (back.DataRow row) ≡ Some now → items_at stand (back.DataRow row) ≡ Early (back.DataRow row) ∷ []
+items_row : (stand now : EarlyStand) (row : RowValues) → early_leads stand (back.DataRow row) ≡ Some now → items_at stand (back.DataRow row) ≡ Early (back.DataRow row) ∷ []
 items_row early.New now row e = absurd cc
 items_row (early.Starting Fresh) now row e = absurd cc
 items_row (early.Starting Asked) now row e = absurd cc
@@ -145,7 +145,7 @@ items_row (early.Starting Admitted) now row e = absurd cc
 items_row early.Idle now row e = absurd cc
 items_row (early.Busy request place) now row e = refl
 
-module _ (v : MachineView Queue) (k : Queue) (row : Row) (out : List ℕ) where
+module _ (v : MachineView Queue) (k : Queue) (row : RowValues) (out : List ℕ) where
   abbrev m : BackMessage
   m = back.DataRow row
 
@@ -193,7 +193,7 @@ module _ (v : MachineView Queue) (k : Queue) (row : Row) (out : List ℕ) where
 
 -- the message is no row
 abbrev pub IsOther : BackMessage → Type 0
-IsOther m = (row : Row) → m ≡ back.DataRow row → ⊥
+IsOther m = (row : RowValues) → m ≡ back.DataRow row → ⊥
 
 pub other_not_lent : (m : BackMessage) → is_lent m ≡ false → IsOther m
 other_not_lent m never row e = let k : is_lent (back.DataRow row) ≡ false = subst (λ (x : BackMessage). is_lent x ≡ false) e never in cc
@@ -402,7 +402,7 @@ pub row_closed : (c : Option Cause) (held : Option Lent) → is_some c ≡ true 
 row_closed None held e = absurd cc
 row_closed (Some c) held e = refl
 
-pub no_row : (held : Option Lent) → ((row : Row) → held ≡ Some (lents.Row row) → ⊥) → row_of held ≡ None
+pub no_row : (held : Option Lent) → ((row : RowValues) → held ≡ Some (lents.Row row) → ⊥) → row_of held ≡ None
 no_row None other = refl
 no_row (Some (lents.Row row)) other = absurd (other row refl)
 no_row (Some (lents.Error fields)) other = refl

@@ -55,8 +55,8 @@ items_in hs = items_after_startup (requests_in hs) (whole_in hs) (rest_in hs)
 -- ---- an early client
 
 -- The values of a row ("Message Formats", DataRow). None is null.
-abbrev pub Row : Type 0
-Row = List (Option (List ℕ))
+abbrev pub RowValues : Type 0
+RowValues = List (Option (List ℕ))
 
 -- What a clause sees of an early client: its state, whatever it stores that in.
 pub record EarlyView : Type 0 where
@@ -75,7 +75,7 @@ pub record EarlyView : Type 0 where
   -- why it is closed; None while it is open
   pub closed : Option Cause
   -- the row that it lends, if it lends one
-  pub held : Option Row
+  pub held : Option RowValues
 
 -- Where a client stands, without what it has collected there.
 abbrev pub early_stand : Stand → EarlyStand
@@ -86,7 +86,7 @@ early_stand (stands.Busy segment) = early.Busy segment.request (place_in segment
 
 -- The early client with these items that stands where the client stands, and lends this row or
 -- none.
-abbrev pub early_of : ClientView → List Item → Option Row → EarlyView
+abbrev pub early_of : ClientView → List Item → Option RowValues → EarlyView
 early_of client items held =
     record {
       settings = client.settings;

@@ -15,7 +15,7 @@ use Rattle.pg_client.specs.declared.phase.Cause.TheVariants as cause
 use Rattle.pg_client.specs.declared.settled.Loss.{Loss}
 use Rattle.pg_client.specs.History.{History, happenings, with_call, with_fed, with_handed_back, with_heard}
 use Rattle.pg_client.specs.Lost.{Loses}
-use Rattle.pg_client.specs.Early.{EarlyHears, EarlyView, IsEarlyHistoryOf, Row}
+use Rattle.pg_client.specs.Early.{EarlyHears, EarlyView, IsEarlyHistoryOf, RowValues}
 
 -- ---- bytes that are still to be heard
 
@@ -108,13 +108,13 @@ pub record EarlyHearsSome (unread : List ℕ) (h : History) (given gives : List 
       (given ++ gives) new
 
 -- The item of the row that is lent.
-abbrev pub lent_items : Option Row → List Item
+abbrev pub lent_items : Option RowValues → List Item
 lent_items None = []
 lent_items (Some row) = Early (DataRow row) ∷ []
 
 -- The item is no row.
 abbrev pub IsNoRow : Item → Type 0
-IsNoRow t = (row : Row) → t ≢ Early (DataRow row)
+IsNoRow t = (row : RowValues) → t ≢ Early (DataRow row)
 
 -- What an early client with this history, where no item waits, does with the bytes that it is still
 -- to hear. Nothing: it hears all of them, as if they were fed now. Held: it hears messages up to a
@@ -134,8 +134,8 @@ EarlyHearsNext unread h given (Err f) new before after = (new.held ≡ None)
 
 -- Whether a row is lent after this result: after Held one is, and after Nothing and Item none. Of a
 -- fault EarlyHearsNext says it.
-abbrev pub Lends : Result Next FeedFault → Option Row → Type 0
-Lends (Ok next.Held) held = (row : Row) × (held ≡ Some row)
+abbrev pub Lends : Result Next FeedFault → Option RowValues → Type 0
+Lends (Ok next.Held) held = (row : RowValues) × (held ≡ Some row)
 Lends (Ok _) held = held ≡ None
 Lends (Err f) held = Unit {0}
 

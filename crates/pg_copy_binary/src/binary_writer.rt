@@ -8,7 +8,7 @@ ghost use Rattle.pg_copy_rows.specs.Row.{is_long, width_fault, field_fault, bina
 ghost use Rattle.pg_copy_binary.specs.Binary.{value, binary_row, written_head, trailer};
 
 use crate::format::{LONGEST_VALUE, NULL, SIGNATURE, TRAILER};
-use pg_copy_rows::format::{MOST_FIELDS, lent};
+use pg_copy_rows::format::{MOST_FIELDS, lent, settle};
 use pg_copy_rows::{Row, RowFault};
 use pg_seq::Seq;
 use std::alloc::AllocError;
@@ -19,13 +19,8 @@ pub fn write_binary_head(buf: &mut Vec<u8>) -> Result<(), RowFault>
     ensures { Writes None written_head buf.old.items result buf.new.items }
 {
     let before = buf.len();
-    match put_head(buf) {
-        Ok(()) => Ok(()),
-        Err(_) => {
-            buf.truncate(before);
-            Err(RowFault::Memory)
-        }
-    }
+    let written = put_head(buf);
+    settle(buf, before, written)
 }
 
 // The signature, no flags, and the length of an empty extension.
@@ -164,13 +159,8 @@ pub fn write_binary_field(field: Option<&[u8]>, buf: &mut Vec<u8>) -> Result<(),
         return Err(fault);
     }
     let before = buf.len();
-    match put_value(field, buf) {
-        Ok(()) => Ok(()),
-        Err(_) => {
-            buf.truncate(before);
-            Err(RowFault::Memory)
-        }
-    }
+    let written = put_value(field, buf);
+    settle(buf, before, written)
 }
 
 /// Appends the row: the number of its values, and each value after its length; a null is the length -1 (PostgreSQL documentation, page COPY, "Binary
@@ -185,11 +175,6 @@ pub fn write_binary_row(row: &Row, buf: &mut Vec<u8>) -> Result<(), RowFault>
         return Err(fault);
     }
     let before = buf.len();
-    match put_values(fields, buf) {
-        Ok(()) => Ok(()),
-        Err(_) => {
-            buf.truncate(before);
-            Err(RowFault::Memory)
-        }
-    }
+    let written = put_values(fields, buf);
+    settle(buf, before, written)
 }

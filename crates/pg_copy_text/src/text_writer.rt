@@ -11,7 +11,7 @@ ghost use Rattle.pg_copy_text.specs.Text.{written_row, is_like_null, text_fault}
 
 use crate::plain::{is_plain, plain_end};
 use crate::text_options::TextOptions;
-use pg_copy_rows::format::{is_misfit, lent};
+use pg_copy_rows::format::{is_misfit, lent, settle};
 use pg_copy_rows::{Row, RowFault};
 use pg_seq::Seq;
 use std::alloc::AllocError;
@@ -101,13 +101,8 @@ fn write_fields(
         (written_row options.now fields.now) buf.old.items result buf.new.items }
 {
     let before = buf.len();
-    match put_row(fields, options, buf) {
-        Ok(()) => Ok(()),
-        Err(_) => {
-            buf.truncate(before);
-            Err(RowFault::Memory)
-        }
-    }
+    let written = put_row(fields, options, buf);
+    settle(buf, before, written)
 }
 
 // How many of these bytes spell the byte as it is written, if they begin with it.
@@ -172,13 +167,8 @@ pub fn write_text_field(field: Option<&[u8]>, buf: &mut Vec<u8>) -> Result<(), R
         result buf.new.items }
 {
     let before = buf.len();
-    match put_field(field, &TextOptions::default(), buf) {
-        Ok(()) => Ok(()),
-        Err(_) => {
-            buf.truncate(before);
-            Err(RowFault::Memory)
-        }
-    }
+    let written = put_field(field, &TextOptions::default(), buf);
+    settle(buf, before, written)
 }
 
 /// Appends the canonical line of the row: null is `\N`, the bytes 08 to 0D are written by their letters, a backslash is doubled, and all other bytes

@@ -2,6 +2,7 @@
 use Rattle.std.specs.Prelude.{◌≡◌, ◌≢◌, ℕ, ◌<◌, ◌≤◌, ◌⊎◌, List, [], length, codes, Option, Some, None, Result, Ok, Err}
 use Rattle.std.specs.List.{FoldsTo}
 use Rattle.pg_wire.specs.Link.{HasRisen}
+pub use Rattle.pg_wire.specs.Link.{longest_piece}
 use Rattle.pg_client.specs.declared.phase.Cause.TheVariants as cause
 use Rattle.pg_client.specs.declared.phase.Phase.{Phase}
 use Rattle.pg_client.specs.declared.phase.Phase.TheVariants as phase
@@ -21,10 +22,6 @@ use Rattle.pg_wire.specs.Sending.{FailsToSend, Sends}
 abbrev pub drive_code : DriveFault → List ℕ
 drive_code (fault.Feed f) = codes "D1"
 drive_code (fault.Link loss) = codes "D2"
-
--- The most bytes that are received at once.
-abbrev pub longest_piece : ℕ
-longest_piece = 4096
 
 -- ---- what is driven
 

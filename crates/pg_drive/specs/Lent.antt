@@ -16,7 +16,7 @@ use Rattle.pg_client.specs.declared.phase.Phase.TheVariants as phase
 use Rattle.pg_client.specs.declared.settled.Loss.{Loss}
 use Rattle.pg_client.specs.Calls.{RefusesUnless}
 use Rattle.pg_client.specs.Client.{ClientView, IsOpenPhase}
-use Rattle.pg_client.specs.Early.{EarlyAccepts, EarlyView, Row, StandsFor}
+use Rattle.pg_client.specs.Early.{EarlyAccepts, EarlyView, RowValues, StandsFor}
 use Rattle.pg_client.specs.EarlyLent.{ComesBefore, IsEarlyHistoryBefore, LosesBefore, Pushes, RefusesPiece, TakesLent}
 use Rattle.pg_client.specs.History.{History}
 use Rattle.pg_drive.specs.declared.answer.DrivenEarly.{DrivenEarly}
@@ -110,8 +110,8 @@ module _ {L : Type 0} (takes : L → List ℕ → L → Type 0) (send_failures :
 
 -- What is returned for an event that is to be owned, where this row is lent: a row as a message, or
 -- that memory for it ran out, and any other event as it is.
-abbrev pub Owns : Event → Option Row → Result Event SessionFault → Type 0
-Owns event.Row held (Ok owned) = (row : Row) × (held ≡ Some row)
+abbrev pub Owns : Event → Option RowValues → Result Event SessionFault → Type 0
+Owns event.Row held (Ok owned) = (row : RowValues) × (held ≡ Some row)
     × (owned ≡ event.Message (DataRow row))
 Owns event.Row held (Err f) = f ≡ fault.Memory
 Owns lent held result = result ≡ Ok lent

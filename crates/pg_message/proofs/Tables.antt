@@ -5,7 +5,7 @@ use Rattle.std.proofs.lemmas.List.{append-nil}
 use Rattle.std.proofs.lemmas.Option.{none-some, same_Some}
 use Rattle.pg_codec.specs.declared.fault.BodyFault.{BodyFault}
 use Rattle.pg_codec.specs.declared.fault.BodyFault.TheVariants as faults
-use Rattle.pg_message.specs.Direction.{Row, listed_in, HasSpelling}
+use Rattle.pg_message.specs.Direction.{TableRow, listed_in, HasSpelling}
 use Rattle.pg_message.specs.Message.{IsTag, NoMessage, OneToOne, IsMessage, TellsTag, JudgesBody, ReadsBody}
 use Rattle.pg_message.specs.Private.Reading.{Reading, made_of_whole, reading, bare, ends, ReadsWhole}
 use Rattle.pg_codec.specs.Private.Reader.{nothing_at}
@@ -16,7 +16,7 @@ use Rattle.pg_message.proofs.Bodies.{IsSpelled, spelled_parts, ended}
 -- ---- one tag
 
 -- What stands after a tag is read as it is spelled, and makes messages of the table with this tag.
-pub record IsRead {M : Type 0} (table : M → Row) (r : Reading M) : Type 0 where
+pub record IsRead {M : Type 0} (table : M → TableRow) (r : Reading M) : Type 0 where
   pub reads : ReadsLast r.spelled r.read
   pub whole : (bytes : List ℕ) → r.message bytes ≡ made_of_whole r.make (r.read bytes)
   pub left_is : (bytes : List ℕ) → ends (r.left bytes) ≡ is_some (r.message bytes)
@@ -32,7 +32,7 @@ ends_where_read {M} {A} make (Some x) = by_end (eqb (length x.1) 0)
     by_end true = refl
     by_end false = refl
 
-pub is_read : {M A : Type 0} (table : M → Row) (t : ℕ) (read : List ℕ → Option (A × List ℕ)) (make : A → M) → ((a : A) → (table (make a)).tag ≡ t) → ((a : A) → (table (make a)).has_reserved_code ≡ false) → ReadsLast (λ a. (table (make a)).body) read → A → IsRead table (reading table t read make)
+pub is_read : {M A : Type 0} (table : M → TableRow) (t : ℕ) (read : List ℕ → Option (A × List ℕ)) (make : A → M) → ((a : A) → (table (make a)).tag ≡ t) → ((a : A) → (table (make a)).has_reserved_code ≡ false) → ReadsLast (λ a. (table (make a)).body) read → A → IsRead table (reading table t read make)
 is_read {M} {A} table t read make tag_is not_reserved reads one = record {
   reads = reads;
   whole = λ _. refl;
@@ -49,11 +49,11 @@ is_read {M} {A} table t read make tag_is not_reserved reads one = record {
   one_is = tag_is one;
 }
 
-pub bare_is_read : {M : Type 0} (table : M → Row) (t : ℕ) (m : M) → (table m).tag ≡ t → (table m).has_reserved_code ≡ false → ReadsLast (λ (_ : Unit {0}). (table m).body) nothing_at → IsRead table (bare table t m)
+pub bare_is_read : {M : Type 0} (table : M → TableRow) (t : ℕ) (m : M) → (table m).tag ≡ t → (table m).has_reserved_code ≡ false → ReadsLast (λ (_ : Unit {0}). (table m).body) nothing_at → IsRead table (bare table t m)
 bare_is_read table t m tag_is not_reserved reads = is_read table t nothing_at (λ _. m) (λ _. tag_is) (λ _. not_reserved) reads tt
 
 -- what is read is a message with this tag and this body
-pub message_sound : {M : Type 0} (table : M → Row) (r : Reading M) → IsRead table r → (bytes : List ℕ) (m : M) → IsBytes bytes → r.message bytes ≡ Some m → IsMessage (listed_in table) r.tag bytes m
+pub message_sound : {M : Type 0} (table : M → TableRow) (r : Reading M) → IsRead table r → (bytes : List ℕ) (m : M) → IsBytes bytes → r.message bytes ≡ Some m → IsMessage (listed_in table) r.tag bytes m
 message_sound table r is bytes m fits e =
     let x = bind_some (r.read bytes) (λ (a : r.Parts × List ℕ). cond (eqb (length a.1) 0) (r.make a.0) None) m (sym (is.whole bytes) ∙ e) in
     let g = ended x.0.1 (r.make x.0.0) m x.2 in
@@ -63,24 +63,24 @@ message_sound table r is bytes m fits e =
     subst (λ (b : List ℕ). IsMessage (listed_in table) r.tag b m) (sym same) (is.made x.0.0 m t.spelled g.1)
 
 -- what keeps no message of a table from having a spelling
-pub body_spelled : {M : Type 0} (table : M → Row) (m : M) → IsSpelled (listed_in table) m → Spelled (table m).body
+pub body_spelled : {M : Type 0} (table : M → TableRow) (m : M) → IsSpelled (listed_in table) m → Spelled (table m).body
 body_spelled table m s = record { no_zero = s.no_zero; countable = s.countable; of_type = s.of_type }
 
 -- a message that is made of these parts is read of its body
-pub found : {M K : Type 0} {table : M → Row} {of : K → Reading M} (kind_of : ℕ → Option K) → ((k : K) → IsRead table (of k)) → (i : K) (a : (of i).Parts) (m : M) → (of i).make a ≡ Some m → kind_of (table m).tag ≡ Some i → Spelled ((of i).spelled a) → length ((of i).spelled a).bytes < 2 ^ 31
+pub found : {M K : Type 0} {table : M → TableRow} {of : K → Reading M} (kind_of : ℕ → Option K) → ((k : K) → IsRead table (of k)) → (i : K) (a : (of i).Parts) (m : M) → (of i).make a ≡ Some m → kind_of (table m).tag ≡ Some i → Spelled ((of i).spelled a) → length ((of i).spelled a).bytes < 2 ^ 31
     → (k : K) × (kind_of (table m).tag ≡ Some k) × ((of k).message ((of i).spelled a).bytes ≡ Some m)
 found {M} {K} {table} {of} kind_of each i a m e kind s short = (i, kind, (each i).whole ((of i).spelled a).bytes ∙ rw ((each i).reads.again a s short) e)
 
 -- ---- all tags
 
 -- Each message has a tag, whose reading reads it, and no two readings have one tag.
-pub record IsTable {M K : Type 0} (table : M → Row) (of : K → Reading M) (kind_of : ℕ → Option K) : Type 0 where
+pub record IsTable {M K : Type 0} (table : M → TableRow) (of : K → Reading M) (kind_of : ℕ → Option K) : Type 0 where
   pub each : (k : K) → IsRead table (of k)
   pub own : (k : K) → kind_of (of k).tag ≡ Some k
   pub known : (m : M) → is_some (kind_of (table m).tag) ≡ true
   pub again : (m : M) → IsSpelled (listed_in table) m → length (table m).body.bytes < 2 ^ 31 → (k : K) × (kind_of (table m).tag ≡ Some k) × ((of k).message (table m).body.bytes ≡ Some m)
 
-module _ {M K : Type 0} {table : M → Row} {of : K → Reading M} {kind_of : ℕ → Option K} (is : IsTable table of kind_of) where
+module _ {M K : Type 0} {table : M → TableRow} {of : K → Reading M} {kind_of : ℕ → Option K} (is : IsTable table of kind_of) where
   again : (m : M) → HasSpelling (listed_in table) m → (k : K) × (kind_of (table m).tag ≡ Some k) × ((of k).message (table m).body.bytes ≡ Some m)
   again m s = let p = spelled_parts (listed_in table) m s in is.again m p.0 (omega (arith, p.1))
 

@@ -5,7 +5,7 @@ use Rattle.pg_message.specs.declared.message.BackMessage.{BackMessage}
 use Rattle.pg_message.specs.declared.message.BackMessage.TheVariants.{AuthOk, AuthCleartext, AuthMd5, AuthOther, KeyData, ParameterStatus, Ready, RowDescription, DataRow, CommandComplete, EmptyQuery, ParseComplete, BindComplete, CloseComplete, NoData, PortalSuspended, ParameterDescription, ErrorResponse, NoticeResponse, Notification, CopyIn, CopyOut, CopyData, CopyDone}
 use Rattle.pg_codec.specs.Field.{◌⨾◌, int32, oid, byte1, byte4, byten, nothing, value, string, counted, terminated}
 pub use Rattle.pg_codec.specs.Value.{status_byte, format_byte, column, error_field, copy_head}
-use Rattle.pg_message.specs.Direction.{Direction, Row, row, listed_in}
+use Rattle.pg_message.specs.Direction.{Direction, TableRow, row, listed_in}
 
 -- the codes of authentication requests that have a message of their own
 abbrev pub is_reserved : ℤ → Bool
@@ -13,7 +13,7 @@ is_reserved code = int_eq code (pos 0) || int_eq code (pos 3) || int_eq code (po
 
 -- Each message: its first byte, and what stands after its length field. An authentication request
 -- that has a message of its own is written as another.
-abbrev pub back_row : BackMessage → Row
+abbrev pub back_row : BackMessage → TableRow
 back_row AuthOk = row 82 (int32 (pos 0))  -- R
 back_row AuthCleartext = row 82 (int32 (pos 3))
 back_row (AuthMd5 salt) = row 82 (int32 (pos 5) ⨾ byte4 salt)

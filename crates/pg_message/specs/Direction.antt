@@ -43,17 +43,17 @@ pub record HasSpelling {M : Type 0} (d : Direction M) (m : M) : Type 0 where
 
 -- A row of a table of messages: the tag, the body, and whether the message has a code that other
 -- messages have.
-pub record Row : Type 1 where
+pub record TableRow : Type 1 where
   pub tag : ℕ
   pub body : Body
   pub has_reserved_code : Bool
 
 -- the row of a message that has no such code
-abbrev pub row : ℕ → Body → Row
+abbrev pub row : ℕ → Body → TableRow
 row tag body = record { tag = tag; body = body; has_reserved_code = false }
 
 -- the direction whose messages are those of a table
-abbrev pub listed_in : {M : Type 0} → (M → Row) → Direction M
+abbrev pub listed_in : {M : Type 0} → (M → TableRow) → Direction M
 listed_in table = record {
   tag = λ m. (table m).tag;
   body = λ m. (table m).body.bytes;

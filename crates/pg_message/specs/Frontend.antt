@@ -5,7 +5,7 @@ use Rattle.pg_codec.specs.declared.value.Target.TheVariants.{Statement, Portal}
 use Rattle.pg_message.specs.declared.message.FrontMessage.{FrontMessage}
 use Rattle.pg_message.specs.declared.message.FrontMessage.TheVariants.{Query, Parse, Bind, Describe, Close, Execute, Sync, Flush, Terminate, CopyData, CopyDone, CopyFail, Password}
 use Rattle.pg_codec.specs.Field.{◌⨾◌, int16, int32, oid, byte1, byten, nothing, value, string, counted}
-use Rattle.pg_message.specs.Direction.{Direction, Row, row, listed_in}
+use Rattle.pg_message.specs.Direction.{Direction, TableRow, row, listed_in}
 
 -- the byte that says what a Describe or a Close names
 abbrev pub target_byte : Target → ℕ
@@ -13,7 +13,7 @@ target_byte Statement = 83  -- S
 target_byte Portal = 80  -- P
 
 -- Each message: its first byte, and what stands after its length field.
-abbrev pub front_row : FrontMessage → Row
+abbrev pub front_row : FrontMessage → TableRow
 front_row (Query text) = row 81 (string text)  -- Q
 front_row (Parse name text types) = row 80 (string name ⨾ string text ⨾ counted oid types)  -- P
 front_row (Bind portal statement formats values result_formats) = row 66

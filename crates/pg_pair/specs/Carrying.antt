@@ -1,6 +1,7 @@
 -- What the calls of a carrier do, and what is delivered of a piece that it has carried.
 use Rattle.std.specs.Prelude.{ℕ, ◌≡◌, ◌≤◌, nat_eq, nat_lt, cond, Bool, true, List, [], ◌∷◌, length, take, Result, Ok, Err}
 use Rattle.pg_wire.specs.Link.{HasRisen}
+pub use Rattle.pg_wire.specs.Link.{longest_piece}
 use Rattle.pg_pair.specs.declared.carry.CarryFault.{CarryFault}
 use Rattle.pg_pair.specs.declared.carry.Way.{Way}
 
@@ -8,10 +9,6 @@ use Rattle.pg_pair.specs.declared.carry.Way.{Way}
 -- bytes that arrive or a fault, and the carrier after it
 abbrev pub Carrying : Type 0 → Type 1
 Carrying C = C → Way → List ℕ → Result (List ℕ) CarryFault → C → Type 0
-
--- the most bytes of one piece
-abbrev pub longest_piece : ℕ
-longest_piece = 4096
 
 -- what arrived, by a call's result: the first n bytes of the buffer that the carrier filled, or its
 -- fault

@@ -254,9 +254,9 @@ impl Eq for Fields {
 
 /// A field as `{:?}` writes it.
 #[derive(Drop)]
-struct Shown<'a>(u8, &'a [u8]);
+struct ShownField<'a>(u8, &'a [u8]);
 
-impl fmt::Debug for Shown<'_> {
+impl fmt::Debug for ShownField<'_> {
     fn fmt<W: fmt::Write>(&self, f: &mut fmt::Formatter<W>) -> fmt::Result {
         f.debug_struct("ErrorField")
             .field("code", &self.0)
@@ -270,7 +270,7 @@ impl fmt::Debug for Fields {
     fn fmt<W: fmt::Write>(&self, f: &mut fmt::Formatter<W>) -> fmt::Result {
         let mut list = f.debug_list();
         for field in self.iter() {
-            list.entry(&Shown(field.0, field.1));
+            list.entry(&ShownField(field.0, field.1));
         }
         list.finish()
     }

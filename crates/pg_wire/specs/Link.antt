@@ -20,6 +20,11 @@ abbrev pub passed_on : Result ℕ LinkFault → List ℕ → List ℕ
 passed_on (Ok n) bytes = take n bytes
 passed_on (Err fault) bytes = []
 
+-- The most bytes of one piece: those that are received over a link at once, or carried at once from
+-- one end to the other.
+abbrev pub longest_piece : ℕ
+longest_piece = 4096
+
 -- what stands behind a source or a sink, and how many of its calls have failed
 pub record Counted (T : Type 0) : Type 0 where
   pub inner : T

@@ -8,7 +8,7 @@ use Rattle.pg_wire.specs.declared.link.LinkFault.{LinkFault}
 use Rattle.pg_wire.specs.Link.{HasRisen}
 use Rattle.pg_wire.specs.Sending.{SendsAll}
 use Rattle.hex.specs.Hex.{encode_lower, encode_with, lower_digits}
-use Rattle.pgpipe_base.specs.Receiving.{longest_piece, IsSentAtOnce}
+use Rattle.pgpipe_base.specs.Receiving.{receive_limit, IsSentAtOnce}
 use Rattle.pgpipe_base.specs.Outbox.{most_collected, IsSentBut, Puts}
 use mathlib.Core.List.{IsPrefix}
 
@@ -45,7 +45,7 @@ pub read_back : (n : ℕ) (into old now : List ℕ) → now ≡ take n (into ++ 
 read_back n into old now e all = e ∙ take-append-le n into (drop (length into) old) (omega arith) ∙ take_all n into (omega arith)
 
 -- a piece is no longer than what it was received in
-pub piece_within : (n : ℕ) (into : List ℕ) → length into ≡ longest_piece → length (take n into) ≤ longest_piece
+pub piece_within : (n : ℕ) (into : List ℕ) → length into ≡ receive_limit → length (take n into) ≤ receive_limit
 piece_within n into room = omega (arith, length-take n into)
 
 -- ---- prefixes of a text

@@ -10,8 +10,8 @@ abbrev pub most_receives : ℕ
 most_receives = 2 ^ 40
 
 -- the most bytes that are received at once
-abbrev pub longest_piece : ℕ
-longest_piece = 65536
+abbrev pub receive_limit : ℕ
+receive_limit = 65536
 
 -- The source failed, by its count of failures before and after, or gave no end in 2^40 calls.
 abbrev pub HasStopped : ℕ → ℕ → List (List ℕ) → Type 0

@@ -22,7 +22,7 @@ use Rattle.pgpipe_convert.specs.declared.format.Format.TheVariants as format
 use Rattle.pgpipe_convert.specs.Convert.{FileReading, FileWriting, answered, none_left, IsReadAs, IsWritable, writing_with, trailer_for, AreConverted, AreAllConverted, AreConvertedBefore}
 use Rattle.pgpipe_convert.specs.Private.Converting.{file_by, ended_of, HasReadBy, ComeNext, TakesPiece, RowsArePut, PutsRows, EndConverts, IsAtStep, HasConverted, ArePut, Stops, StepConverts, StepsSource, StopsSource, HasRun}
 use Rattle.pgpipe_base.specs.Outbox.{most_collected, Puts}
-use Rattle.pgpipe_base.specs.Receiving.{longest_piece, most_receives, IsSentAtOnce}
+use Rattle.pgpipe_base.specs.Receiving.{receive_limit, most_receives, IsSentAtOnce}
 use Rattle.pgpipe_base.proofs.Pieces.{joined, one_more, prefix_of_itself, sent_at_first, sent_on, received_on, puts_as, puts_then, sends_on, sent_all, put_at_once, sent_at_once, puts_collected}
 
 abbrev at : FileReading → Bool → List ℕ → RowsRead Converted
@@ -279,11 +279,11 @@ module _ {S K : Type 0} (gives : S → List ℕ → S → Type 0) (source_failur
   }
 
   -- what stood before the last piece
-  stood_before : (sink : K) (earlier last bytes : List ℕ) (r : RowReader) (out : List ℕ) (sink' : K) (st : HasConverted takes failures file to sink earlier r out sink') → bytes ≡ earlier ++ last → length last ≤ longest_piece → AreConvertedBefore file to bytes st.text
+  stood_before : (sink : K) (earlier last bytes : List ℕ) (r : RowReader) (out : List ℕ) (sink' : K) (st : HasConverted takes failures file to sink earlier r out sink') → bytes ≡ earlier ++ last → length last ≤ receive_limit → AreConvertedBefore file to bytes st.text
   stood_before sink earlier last bytes r out sink' st whole fits = record { earlier = earlier; last = last; whole = whole; a_piece = fits; all_converted = all_converted takes failures file to sink earlier r out sink' st }
 
   pub run_stops : (ended : Type 0) (source : S) (sink : K) (n : ℕ) (source' : S) (r : RowReader) (out : List ℕ) (sink' : K) (piece : List ℕ) (source'' : S) (s : Stop Converted) (r' : RowReader) (out' : List ℕ) (sink'' : K) (runs : Runs gives source_failures takes failures file to source sink n source' r out sink')
-      → length piece ≤ longest_piece → gives source' piece source'' → StepsSource ended (source_failures source') (source_failures source'') (Err s) → StepConverts takes failures file to ended sink (concat runs.pieces ++ piece) runs.stands.text runs.stands.put.pieces (Err s) r' out' sink''
+      → length piece ≤ receive_limit → gives source' piece source'' → StepsSource ended (source_failures source') (source_failures source'') (Err s) → StepConverts takes failures file to ended sink (concat runs.pieces ++ piece) runs.stands.text runs.stands.put.pieces (Err s) r' out' sink''
       → HasRun gives source_failures ended takes failures file to source sink s source'' out' sink''
   run_stops ended source sink n source' r out sink' piece source'' s r' out' sink'' runs fits p src stops = record {
     pieces = runs.pieces ++ piece ∷ [];

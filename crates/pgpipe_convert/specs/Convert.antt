@@ -15,7 +15,7 @@ use Rattle.pgpipe_base.specs.declared.fault.ToolFault.{ToolFault}
 use Rattle.pgpipe_base.specs.declared.fault.ToolFault.TheVariants as fault
 use Rattle.pgpipe_base.specs.Outbox.{most_collected}
 use mathlib.Core.List.{IsPrefix}
-use Rattle.pgpipe_base.specs.Receiving.{longest_piece}
+use Rattle.pgpipe_base.specs.Receiving.{receive_limit}
 
 -- ---- the file that is read
 
@@ -155,7 +155,7 @@ pub record AreConvertedBefore (file : FileReading) (to : FileWriting)
   pub earlier : List ℕ
   pub last : List ℕ
   pub whole : bytes ≡ earlier ++ last
-  pub a_piece : length last ≤ longest_piece
+  pub a_piece : length last ≤ receive_limit
   pub all_converted : AreAllConverted file to earlier text
 
 -- The text is the head and whole rows of these bytes, and no row of those before the last piece is

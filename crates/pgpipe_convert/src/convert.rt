@@ -4,7 +4,7 @@ ghost use Rattle.std.specs.Prelude.{◌≡◌, ◌<◌, ◌≤◌, ◌++◌, ℕ
 ghost use Rattle.std.specs.Prelude.{OnOk};
 ghost use Rattle.std.specs.List.{FoldsTo, concat};
 ghost use Rattle.pg_wire.specs.Link.{HasRisen};
-ghost use Rattle.pgpipe_base.specs.Receiving.{longest_piece, HasStopped, CountsNoFailure};
+ghost use Rattle.pgpipe_base.specs.Receiving.{receive_limit, HasStopped, CountsNoFailure};
 ghost use Rattle.pgpipe_base.specs.Receiving.{IsSentAtOnce};
 ghost use Rattle.pg_copy.specs.Text.{default_options};
 ghost use Rattle.pgpipe_convert.specs.Convert.{FileReading, file_of, file_with, writing_with};
@@ -45,7 +45,7 @@ struct Converting<'a> {
     out: Vec<u8>,
     // where pieces are received
     into: Vec<u8>,
-    ghost a_piece: { length into.items ≡ longest_piece },
+    ghost a_piece: { length into.items ≡ receive_limit },
 }
 
 impl Converting<'_> {
@@ -58,7 +58,7 @@ impl Converting<'_> {
         requires at { IsAtStep self.old.reader }
         requires width { HasWidth (file_by self.old.reader) self.old.to.columns }
         ensures to { self.new.to ≡ self.old.to }
-        ensures steps { (piece : List ℕ) × (length piece ≤ longest_piece)
+        ensures steps { (piece : List ℕ) × (length piece ≤ receive_limit)
             × S.gives source.old piece source.new
             × ((file : FileReading) (start : K) (bytes : List ℕ)
             (stands : HasConverted K.takes K.failures file (writing_by self.old.to) start bytes

@@ -6,8 +6,8 @@ use Rattle.pg_wire.specs.First.{longest_packet}
 use Rattle.pgpipe_explain.specs.declared.binary.Binary.{Binary}
 use Rattle.pgpipe_explain.specs.declared.binary.Binary.TheVariants as binary
 use Rattle.pgpipe_explain.specs.declared.place.Place.{Place}
-use Rattle.pgpipe_explain.specs.declared.text.Text.{Text}
-use Rattle.pgpipe_explain.specs.declared.text.Text.TheVariants as text
+use Rattle.pgpipe_explain.specs.declared.text.LastByte.{LastByte}
+use Rattle.pgpipe_explain.specs.declared.text.LastByte.TheVariants as text
 use Rattle.pgpipe_explain.specs.declared.tracker.TrackedKind.{TrackedKind}
 use Rattle.pgpipe_explain.specs.declared.tracker.TrackedKind.TheVariants as kind
 use Rattle.pgpipe_explain.specs.declared.tracker.Phase.{Phase}
@@ -29,7 +29,7 @@ with_byte word b = (word % 16777216) * 256 + b
 
 -- A line ends at a newline, a return, or a return with a newline directly after it. One of these after
 -- a backslash stands within its line of the file's rows.
-abbrev pub text_taken : Text → ℕ → ByteEffect
+abbrev pub text_taken : LastByte → ℕ → ByteEffect
 text_taken text.Escape b =
     if (b == 10) || (b == 13) then effect.Line (phase.Text text.Plain)
     else effect.Within (phase.Text text.Plain)

@@ -5,9 +5,9 @@ ghost use Rattle.pgpipe_explain.specs.Tracker.{text_taken};
 
 use crate::tracker::{ByteEffect, Phase};
 
-/// What came last in a line.
+/// What the last byte was, of those that have come of a line.
 #[derive(Clone, Copy)]
-pub enum Text {
+pub enum LastByte {
     /// Nothing that changes what the next byte is.
     Plain,
     /// A backslash that begins an escape.
@@ -16,21 +16,21 @@ pub enum Text {
     Return,
 }
 
-impl Text {
+impl LastByte {
     /// What a byte does: an escaped line end stands within its line.
     pub fn take(self, byte: u8) -> ByteEffect
         ensures { result ≡ text_taken self byte }
     {
         match (self, byte) {
-            (Text::Escape, b'\n' | b'\r') => ByteEffect::Line(Phase::Text(Text::Plain)),
-            (Text::Escape, _) => ByteEffect::Within(Phase::Text(Text::Plain)),
-            (_, b'\n') => ByteEffect::Last(Phase::Text(Text::Plain)),
-            (Text::Plain, b'\\') => ByteEffect::Within(Phase::Text(Text::Escape)),
-            (Text::Plain, b'\r') => ByteEffect::Within(Phase::Text(Text::Return)),
-            (Text::Plain, _) => ByteEffect::Within(Phase::Text(Text::Plain)),
-            (Text::Return, b'\\') => ByteEffect::First(Phase::Text(Text::Escape)),
-            (Text::Return, b'\r') => ByteEffect::First(Phase::Text(Text::Return)),
-            (Text::Return, _) => ByteEffect::First(Phase::Text(Text::Plain)),
+            (LastByte::Escape, b'\n' | b'\r') => ByteEffect::Line(Phase::Text(LastByte::Plain)),
+            (LastByte::Escape, _) => ByteEffect::Within(Phase::Text(LastByte::Plain)),
+            (_, b'\n') => ByteEffect::Last(Phase::Text(LastByte::Plain)),
+            (LastByte::Plain, b'\\') => ByteEffect::Within(Phase::Text(LastByte::Escape)),
+            (LastByte::Plain, b'\r') => ByteEffect::Within(Phase::Text(LastByte::Return)),
+            (LastByte::Plain, _) => ByteEffect::Within(Phase::Text(LastByte::Plain)),
+            (LastByte::Return, b'\\') => ByteEffect::First(Phase::Text(LastByte::Escape)),
+            (LastByte::Return, b'\r') => ByteEffect::First(Phase::Text(LastByte::Return)),
+            (LastByte::Return, _) => ByteEffect::First(Phase::Text(LastByte::Plain)),
         }
     }
 }

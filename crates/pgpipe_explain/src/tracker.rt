@@ -5,7 +5,7 @@ ghost use Rattle.pgpipe_explain.specs.Tracker.{after, after_byte, begun, place_i
 
 use crate::binary::Binary;
 use crate::place::Place;
-use crate::text::Text;
+use crate::text::LastByte;
 use crate::wire::Wire;
 
 /// What is tracked.
@@ -27,7 +27,7 @@ pub enum Phase {
     /// A message or a first packet.
     Wire(Wire),
     /// A line of a text file.
-    Text(Text),
+    Text(LastByte),
     /// The header of a binary file, a row or the trailer.
     Binary(Binary),
 }
@@ -74,7 +74,7 @@ impl Tracker {
             phase: match kind {
                 TrackedKind::Back => Phase::Wire(Wire::message()),
                 TrackedKind::Front => Phase::Wire(Wire::packet()),
-                TrackedKind::Text => Phase::Text(Text::Plain),
+                TrackedKind::Text => Phase::Text(LastByte::Plain),
                 TrackedKind::Binary => Phase::Binary(Binary::header()),
             },
         }

@@ -7,7 +7,7 @@ use Rattle.pgpipe_base.specs.declared.stop.Stop.TheVariants as stop
 use Rattle.pgpipe_show.specs.declared.show.Shown.{Shown}
 use Rattle.pgpipe_show.specs.declared.show.Shown.TheVariants as shown
 use Rattle.pgpipe_show.specs.declared.decoding.Decoding.{Decoding}
-use Rattle.pgpipe_base.specs.Receiving.{most_receives, longest_piece, IsSentAtOnce}
+use Rattle.pgpipe_base.specs.Receiving.{most_receives, receive_limit, IsSentAtOnce}
 use Rattle.pgpipe_show.specs.Show.{AreAllShown, AreShownBefore}
 use Rattle.pgpipe_show.specs.Way.{Way}
 use Rattle.pgpipe_show.specs.Private.Showing.{way_of, unshown, AreAt, HasShown, StepShows, Stops, StopsSource, HasRun, StepsSource}
@@ -19,7 +19,7 @@ pub record Runs {S K : Type 0} (gives : S → List ℕ → S → Type 0) (source
   pub pieces : List (List ℕ)
   pub received : FoldsTo gives source pieces source'
   pub counted : length pieces ≡ count
-  pub within : length (concat pieces) ≤ longest_piece * count
+  pub within : length (concat pieces) ≤ receive_limit * count
   pub sound : source_failures source' ≡ source_failures source
   pub side : way_of at ≡ way
   pub stands : HasShown takes failures sink (concat pieces) at collected sink'
@@ -27,7 +27,7 @@ pub record Runs {S K : Type 0} (gives : S → List ℕ → S → Type 0) (source
   pub at_once : IsSentAtOnce (AreAllShown way) pieces stands.put.pieces
 
 -- a piece more is within a piece's bound more
-within_more : (pieces : List (List ℕ)) (piece : List ℕ) (n : ℕ) → length (concat pieces) ≤ longest_piece * n → length piece ≤ longest_piece → length (concat (pieces ++ piece ∷ [])) ≤ longest_piece * (n + 1)
+within_more : (pieces : List (List ℕ)) (piece : List ℕ) (n : ℕ) → length (concat pieces) ≤ receive_limit * n → length piece ≤ receive_limit → length (concat (pieces ++ piece ∷ [])) ≤ receive_limit * (n + 1)
 within_more pieces piece n all one = omega (arith, ap (λ (l : List ℕ). length l) (joined pieces piece), length-append (concat pieces) piece)
 
 module _ {S K : Type 0} (gives : S → List ℕ → S → Type 0) (source_failures : S → ℕ) (takes : K → List ℕ → K → Type 0) (failures : K → ℕ) (way : Way) where
@@ -43,7 +43,7 @@ module _ {S K : Type 0} (gives : S → List ℕ → S → Type 0) (source_failur
   sent_before source sink n source' at c sink' piece r = received_on (AreAllShown way) r.pieces r.stands.put.pieces piece (λ some. lines_sent sink (concat r.pieces) at c sink' r.stands r.side r.nothing_left) r.at_once
 
   pub runs_more : (source : S) (sink : K) (n : ℕ) (source' : S) (at : Decoding) (c : List ℕ) (sink' : K) (piece : List ℕ) (source'' : S) (at' : Decoding) (c' : List ℕ) (sink'' : K) (r : Runs gives source_failures takes failures way source sink n source' at c sink')
-      → length piece ≤ longest_piece → gives source' piece source'' → source_failures source'' ≡ source_failures source' → StepShows takes failures (way_of at) sink (concat r.pieces ++ piece) r.stands.put.pieces (Ok at') c' sink'' → c' ≡ []
+      → length piece ≤ receive_limit → gives source' piece source'' → source_failures source'' ≡ source_failures source' → StepShows takes failures (way_of at) sink (concat r.pieces ++ piece) r.stands.put.pieces (Ok at') c' sink'' → c' ≡ []
       → Runs gives source_failures takes failures way source sink (n + 1) source'' at' c' sink''
   runs_more source sink n source' at c sink' piece source'' at' c' sink'' r fits p same next none = record {
     pieces = r.pieces ++ piece ∷ [];
@@ -58,11 +58,11 @@ module _ {S K : Type 0} (gives : S → List ℕ → S → Type 0) (source_failur
   }
 
   -- there is room for one more piece
-  pub has_room : (source : S) (sink : K) (n : ℕ) (source' : S) (at : Decoding) (c : List ℕ) (sink' : K) → n < most_receives → Runs gives source_failures takes failures way source sink n source' at c sink' → unshown at + longest_piece < 2 ^ 64
+  pub has_room : (source : S) (sink : K) (n : ℕ) (source' : S) (at : Decoding) (c : List ℕ) (sink' : K) → n < most_receives → Runs gives source_failures takes failures way source sink n source' at c sink' → unshown at + receive_limit < 2 ^ 64
   has_room source sink n source' at c sink' few r = omega (arith, r.within, kept_within takes failures sink (concat r.pieces) c sink' at r.stands)
 
   -- what stood before the last piece
-  stood_before : (sink : K) (earlier last bytes : List ℕ) (at : Decoding) (c : List ℕ) (sink' : K) (st : HasShown takes failures sink earlier at c sink') → way_of at ≡ way → c ≡ [] → bytes ≡ earlier ++ last → length last ≤ longest_piece → AreShownBefore way bytes (concat st.put.pieces)
+  stood_before : (sink : K) (earlier last bytes : List ℕ) (at : Decoding) (c : List ℕ) (sink' : K) (st : HasShown takes failures sink earlier at c sink') → way_of at ≡ way → c ≡ [] → bytes ≡ earlier ++ last → length last ≤ receive_limit → AreShownBefore way bytes (concat st.put.pieces)
   stood_before sink earlier last bytes at c sink' st side none whole fits = record {
     earlier = earlier;
     last = last;
@@ -81,7 +81,7 @@ module _ {S K : Type 0} (gives : S → List ℕ → S → Type 0) (source_failur
   source_of ended old mid new pieces stop.Endless e s = absurd s
 
   pub run_stops : (ended : Type 0) (source : S) (sink : K) (n : ℕ) (source' : S) (at : Decoding) (c : List ℕ) (sink' : K) (piece : List ℕ) (source'' : S) (h : Stop Shown) (c' : List ℕ) (sink'' : K) (r : Runs gives source_failures takes failures way source sink n source' at c sink')
-      → length piece ≤ longest_piece → gives source' piece source'' → StepsSource {A = Decoding} ended (source_failures source') (source_failures source'') (Err h) → Stops takes failures (way_of at) sink (concat r.pieces ++ piece) r.stands.put.pieces h c' sink''
+      → length piece ≤ receive_limit → gives source' piece source'' → StepsSource {A = Decoding} ended (source_failures source') (source_failures source'') (Err h) → Stops takes failures (way_of at) sink (concat r.pieces ++ piece) r.stands.put.pieces h c' sink''
       → HasRun gives source_failures ended takes failures way source sink h source'' c' sink''
   run_stops ended source sink n source' at c sink' piece source'' h c' sink'' r fits p s stops = record {
     pieces = r.pieces ++ piece ∷ [];

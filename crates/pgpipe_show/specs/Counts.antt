@@ -7,12 +7,12 @@ use Rattle.pgpipe_show.specs.declared.summary.counts.FrameCount.{FrameCount}
 use Rattle.pgpipe_show.specs.Labels.{IsLabelOf}
 
 -- a label, with how many frames have it, and how many bytes they have together
-abbrev pub Row : Type 0
-Row = List ℕ × FrameCount
+abbrev pub CountRow : Type 0
+CountRow = List ℕ × FrameCount
 
 -- what was counted: a row for each label, in the order of their bytes, and all frames together
 pub record SummaryState : Type 0 where
-  pub rows : List Row
+  pub rows : List CountRow
   pub total : FrameCount
 
 -- nothing
@@ -27,13 +27,13 @@ with_frame size c = record {
 }
 
 -- what stands at a label: nothing counted, where no row has it
-abbrev pub counted_at : List ℕ → List Row → FrameCount
+abbrev pub counted_at : List ℕ → List CountRow → FrameCount
 counted_at label [] = none_counted
 counted_at label (r ∷ rows) = match_ordering (slice_cmp nat_cmp label r.0)
     (counted_at label rows) r.1 (counted_at label rows)
 
 -- the rows, with this at a label
-abbrev pub with_row : List ℕ → FrameCount → List Row → List Row
+abbrev pub with_row : List ℕ → FrameCount → List CountRow → List CountRow
 with_row label c [] = (label, c) ∷ []
 with_row label c (r ∷ rows) = match_ordering (slice_cmp nat_cmp label r.0)
     ((label, c) ∷ r ∷ rows) ((r.0, c) ∷ rows) (r ∷ with_row label c rows)

@@ -21,7 +21,7 @@ use Rattle.pgpipe_show.specs.FrameLines.{AreFramesShown}
 use Rattle.pgpipe_show.specs.Messages.{lines}
 use Rattle.pgpipe_show.specs.Packets.{packet_lines, next_after, have_ended}
 use Rattle.pgpipe_show.specs.Way.{Way}
-use Rattle.pgpipe_base.specs.Receiving.{longest_piece}
+use Rattle.pgpipe_base.specs.Receiving.{receive_limit}
 use Rattle.pgpipe_base.specs.Outbox.{most_collected}
 use mathlib.Core.List.{IsPrefix}
 
@@ -122,7 +122,7 @@ pub record AreShownBefore (way : Way) (bytes text : List ℕ) : Type 0 where
   pub earlier : List ℕ
   pub last : List ℕ
   pub whole : bytes ≡ earlier ++ last
-  pub a_piece : length last ≤ longest_piece
+  pub a_piece : length last ≤ receive_limit
   pub shown : AreAllShown way earlier text
 
 -- The text is whole lines for these bytes, and none of those for the bytes before the last piece is

@@ -3,7 +3,7 @@ use Rattle.std.specs.Prelude.{ℕ, min, List, ◌++◌, length, drop, codes}
 use Rattle.std.specs.Fmt.{decimal}
 use Rattle.std.specs.List.{flat_map}
 use Rattle.pgpipe_show.specs.declared.summary.counts.FrameCount.{FrameCount}
-use Rattle.pgpipe_show.specs.Counts.{Row, SummaryState}
+use Rattle.pgpipe_show.specs.Counts.{CountRow, SummaryState}
 
 -- a number in decimal, at the right of twelve places, or in as many as it needs
 abbrev pub aligned : ℕ → List ℕ
@@ -14,7 +14,7 @@ abbrev pub table_line : FrameCount → List ℕ → List ℕ
 table_line c label = aligned c.count ++ aligned c.bytes ++ codes "  " ++ label ++ codes "\n"
 
 -- the line of a row
-abbrev pub row_line : Row → List ℕ
+abbrev pub row_line : CountRow → List ℕ
 row_line r = table_line r.1 r.0
 
 -- what stands over the columns

@@ -26,8 +26,8 @@ pub struct Framing {
     pub frames: Frames,
 }
 
-// What a stream begins with.
-fn first_of(front: bool) -> NextFrame
+/// What a stream begins with.
+pub fn first_of(front: bool) -> NextFrame
     ensures { result ≡ first_of front }
 {
     if front {

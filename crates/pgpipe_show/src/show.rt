@@ -3,7 +3,7 @@
 ghost use Rattle.std.specs.Prelude.{◌≡◌, ◌<◌, ◌≤◌, ◌+◌, ◌^◌, ◌++◌, ℕ, List, [], length, IfOk, OnOk};
 ghost use Rattle.std.specs.List.{FoldsTo, concat};
 ghost use Rattle.pg_wire.specs.Link.{HasRisen};
-ghost use Rattle.pgpipe_base.specs.Receiving.{longest_piece, HasStopped, CountsNoFailure};
+ghost use Rattle.pgpipe_base.specs.Receiving.{receive_limit, HasStopped, CountsNoFailure};
 ghost use Rattle.pgpipe_base.specs.Receiving.{IsSentAtOnce};
 ghost use Rattle.pgpipe_show.specs.Show.{AreAllShown, ShowAnswers, EndsStream};
 ghost use Rattle.pgpipe_show.specs.Way.{messages_of};
@@ -38,7 +38,7 @@ struct Showing {
     spelled: Vec<u8>,
     // where pieces are received
     into: Vec<u8>,
-    ghost a_piece: { length into.items ≡ longest_piece },
+    ghost a_piece: { length into.items ≡ receive_limit },
 }
 
 impl Showing {
@@ -50,8 +50,8 @@ impl Showing {
         sink: &mut K,
     ) -> Result<Decoding, Stop<Shown>>
         requires sound { IsSoundAt decoding }
-        requires room { unshown decoding + longest_piece < 2 ^ 64 }
-        ensures steps { (piece : List ℕ) × (length piece ≤ longest_piece)
+        requires room { unshown decoding + receive_limit < 2 ^ 64 }
+        ensures steps { (piece : List ℕ) × (length piece ≤ receive_limit)
             × S.gives source.old piece source.new
             × ((start : K) (bytes : List ℕ)
             (stands : HasShown K.takes K.failures start bytes decoding self.old.outbox sink.old)

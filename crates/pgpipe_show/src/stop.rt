@@ -1,13 +1,13 @@
 //! Why showing stops.
 
 ghost use Rattle.std.specs.Prelude.{◌≡◌};
-ghost use Rattle.pgpipe_show.specs.Private.Showing.{end_stop, fault_stop};
+ghost use Rattle.pgpipe_show.specs.Private.Stopping.{end_stop, fault_stop};
 
 use crate::show::Shown;
 use pg_wire::WireFault;
 use pgpipe_base::Stop;
 
-/// Why the work stops where a decoder returns a fault.
+/// Why the work stops where a decoder, or a reader of frames, returns a fault.
 pub fn fault_stop(fault: WireFault) -> Stop<Shown>
     ensures { result ≡ fault_stop fault }
 {

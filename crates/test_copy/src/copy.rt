@@ -175,7 +175,7 @@ impl Reader for BinaryReader {
 
 /// A call of a reader, or a question to it.
 #[derive(Clone, Copy)]
-enum Call {
+enum ReaderCall {
     Push(&'static [u8]),
     Next,
     Finish,
@@ -214,20 +214,20 @@ fn given(answer: Result<Option<Row>, Fault>) -> Answer {
     }
 }
 
-fn ask<R: Reader>(reader: &mut R, call: Call) -> Answer {
+fn ask<R: Reader>(reader: &mut R, call: ReaderCall) -> Answer {
     match call {
-        Call::Push(piece) => taken(reader.push(piece)),
-        Call::Next => given(reader.next()),
-        Call::Finish => given(reader.finish()),
-        Call::Done => Answer::Is(reader.done()),
-        Call::Ended => Answer::Is(reader.ended()),
-        Call::RowsGiven => Answer::Count(reader.rows_given()),
-        Call::Offset => Answer::Count(reader.offset()),
+        ReaderCall::Push(piece) => taken(reader.push(piece)),
+        ReaderCall::Next => given(reader.next()),
+        ReaderCall::Finish => given(reader.finish()),
+        ReaderCall::Done => Answer::Is(reader.done()),
+        ReaderCall::Ended => Answer::Is(reader.ended()),
+        ReaderCall::RowsGiven => Answer::Count(reader.rows_given()),
+        ReaderCall::Offset => Answer::Count(reader.offset()),
     }
 }
 
 // Whether a reader answers each call so.
-fn answers<R: Reader>(reader: &mut R, steps: &[(Call, Answer)]) -> bool {
+fn answers<R: Reader>(reader: &mut R, steps: &[(ReaderCall, Answer)]) -> bool {
     for (call, wanted) in steps {
         if ask(reader, *call) != *wanted {
             return false;
@@ -250,10 +250,29 @@ fn written(answer: Result<Option<Row>, Fault>, lines: &mut Vec<u8>) -> Answer {
     }
 }
 
-// Writes the rows that wait, of which there are no more than `most`, and gives the fault after them, if there is one.
-fn write_waiting<R: Reader>(reader: &mut R, most: usize, lines: &mut Vec<u8>) -> Option<Fault> {
+/// Which rows of a reader are written: those that wait, or those that are left at the end of the input.
+#[derive(Clone, Copy)]
+enum Rows {
+    Waiting,
+    Left,
+}
+
+fn next_row<R: Reader>(reader: &mut R, rows: Rows) -> Result<Option<Row>, Fault> {
+    match rows {
+        Rows::Waiting => reader.next(),
+        Rows::Left => reader.finish(),
+    }
+}
+
+// Writes these rows, of which there are no more than `most`, and gives the fault after them, if there is one.
+fn write_rows<R: Reader>(
+    reader: &mut R,
+    rows: Rows,
+    most: usize,
+    lines: &mut Vec<u8>,
+) -> Option<Fault> {
     for _ in 0..=most {
-        match written(reader.next(), lines) {
+        match written(next_row(reader, rows), lines) {
             Answer::Row => {}
             Answer::Fault(fault) => return Some(fault),
             _ => return None,
@@ -262,17 +281,8 @@ fn write_waiting<R: Reader>(reader: &mut R, most: usize, lines: &mut Vec<u8>) ->
     None
 }
 
-// Writes the rows that are left at the end of the input, of which there are no more than `most`, and gives the fault after them, if
-// there is one.
 fn write_left<R: Reader>(reader: &mut R, most: usize, lines: &mut Vec<u8>) -> Option<Fault> {
-    for _ in 0..=most {
-        match written(reader.finish(), lines) {
-            Answer::Row => {}
-            Answer::Fault(fault) => return Some(fault),
-            _ => return None,
-        }
-    }
-    None
+    write_rows(reader, Rows::Left, most, lines)
 }
 
 // Pushes a piece, and writes the rows that wait then.
@@ -283,7 +293,7 @@ fn write_piece<R: Reader>(
     lines: &mut Vec<u8>,
 ) -> Option<Fault> {
     match reader.push(piece) {
-        Ok(()) => write_waiting(reader, most, lines),
+        Ok(()) => write_rows(reader, Rows::Waiting, most, lines),
         Err(fault) => Some(fault),
     }
 }
@@ -307,6 +317,14 @@ fn write_file<R: Reader>(
         }
     }
     write_left(reader, file.len(), lines)
+}
+
+// The fault of a text file that is wanted, if one is.
+fn wanted_text(fault: Option<TextFault>) -> Option<Fault> {
+    match fault {
+        Some(fault) => Some(Fault::Text(fault)),
+        None => None,
+    }
 }
 
 // ---- rows, one after the other

@@ -9,12 +9,11 @@ mod passwords;
 mod session;
 mod settled;
 
-use judge::are_so;
 use pg_client::{CallFault, Cause, Phase};
 use pg_wire::{Status, WireFault};
 use session::fresh;
 use std::alloc::Global;
-use testing::holds;
+use testing::{are_so, holds};
 
 /// A request.
 #[derive(Clone, Copy)]

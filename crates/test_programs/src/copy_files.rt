@@ -3,7 +3,9 @@
 //! files.
 
 pub mod file;
+mod looped;
 mod loops;
+pub mod reader;
 mod text_loops;
 
 use crate::byte_cut::ByteCut;

@@ -4,8 +4,9 @@
 
 mod again;
 
-use again::{BinaryAgain, FilePart, Refused, TextAgain, write_again};
+use again::{Again, FilePart, Refused, write_again};
 use anyhow::Result;
+use pg_copy::{BinaryReader, TextReader};
 use std::alloc::Global;
 use std::io::{self, BufRead, Read, Write};
 
@@ -14,23 +15,23 @@ const PIECE: usize = 100;
 
 // Puts the binary file that a reader makes of the text.
 fn put_binary(
-    reader: &mut TextAgain,
+    reader: &mut Again<TextReader>,
     text: &[u8],
     out: &mut Vec<u8>,
     refused: &mut Refused,
 ) -> Result<()> {
     write_again(&FilePart::Head, out, refused)?;
     for piece in text.chunks(PIECE) {
-        reader.push(piece, refused)?;
+        reader.push(piece, &mut refused.text)?;
         for _ in 0..u64::MAX {
-            let Some(row) = reader.next(refused)? else {
+            let Some(row) = reader.next(&mut refused.text)? else {
                 break;
             };
             write_again(&FilePart::Binary(&row), out, refused)?;
         }
     }
     for _ in 0..u64::MAX {
-        let Some(row) = reader.finish(refused)? else {
+        let Some(row) = reader.finish(&mut refused.text)? else {
             break;
         };
         write_again(&FilePart::Binary(&row), out, refused)?;
@@ -40,28 +41,28 @@ fn put_binary(
 
 // Puts the file in binary.
 fn to_binary(alloc: Global, text: &[u8], out: &mut Vec<u8>, refused: &mut Refused) -> Result<()> {
-    let mut reader = TextAgain::new(alloc);
+    let mut reader: Again<TextReader> = Again::new(alloc);
     put_binary(&mut reader, text, out, refused)
 }
 
 // Puts the text that a reader makes of the binary file.
 fn put_text(
-    reader: &mut BinaryAgain,
+    reader: &mut Again<BinaryReader>,
     binary: &[u8],
     out: &mut Vec<u8>,
     refused: &mut Refused,
 ) -> Result<()> {
     for piece in binary.chunks(PIECE) {
-        reader.push(piece, refused)?;
+        reader.push(piece, &mut refused.binary)?;
         for _ in 0..u64::MAX {
-            let Some(row) = reader.next(refused)? else {
+            let Some(row) = reader.next(&mut refused.binary)? else {
                 break;
             };
             write_again(&FilePart::Text(&row), out, refused)?;
         }
     }
     for _ in 0..u64::MAX {
-        let Some(row) = reader.finish(refused)? else {
+        let Some(row) = reader.finish(&mut refused.binary)? else {
             break;
         };
         write_again(&FilePart::Text(&row), out, refused)?;
@@ -71,7 +72,7 @@ fn put_text(
 
 // Puts the binary file in text.
 fn to_text(alloc: Global, binary: &[u8], out: &mut Vec<u8>, refused: &mut Refused) -> Result<()> {
-    let mut reader = BinaryAgain::new(alloc);
+    let mut reader: Again<BinaryReader> = Again::new(alloc);
     put_text(&mut reader, binary, out, refused)
 }
 

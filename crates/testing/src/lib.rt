@@ -1,5 +1,5 @@
-//! What the crates of tests have in common: [`holds`] and [`is_told`], by which a test says what is so of a value, a link in memory
-//! ([`MemoryLink`]), and the values that tests are written with ([`values`]).
+//! What the crates of tests have in common: [`holds`] and [`is_told`], by which a test says what is so of a value, [`are_so`], which judges the
+//! steps of a table, a link in memory ([`MemoryLink`]), and the values that tests are written with ([`values`]).
 #![tactic(auto)]
 
 ghost use Rattle.std.specs.Prelude.{◌≡◌, ◌↔◌, IfOk, IfSome, IsTrue, MatchOption, false};
@@ -31,4 +31,20 @@ pub fn is_told<D: Display + Drop>(alloc: Global, value: D, text: &str) -> Result
         IfSome (D.output value) (λ bytes. IsTrue told ↔ (bytes ≡ text.now))) }
 {
     Ok(format!(in alloc; "{value}")?.as_str() == text)
+}
+
+/// A step of a table: what is done with a value that is tested, or what must come of it.
+pub trait TestStep<T>: Copy {
+    /// Does what the step says, and whether it was so.
+    fn is_so(self, alloc: Global, it: &mut T) -> bool;
+}
+
+/// Whether each of these steps is so, one after the other.
+pub fn are_so<T, S: TestStep<T>>(alloc: Global, it: &mut T, steps: &[S]) -> bool {
+    for step in steps {
+        if !step.is_so(alloc, it) {
+            return false;
+        }
+    }
+    true
 }

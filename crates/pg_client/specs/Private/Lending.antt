@@ -19,7 +19,7 @@ use Rattle.pg_client.specs.declared.settled.Settled.{Settled}
 use Rattle.pg_client.specs.declared.stand.Stand.{Stand}
 use Rattle.pg_client.specs.Session.{Happening, Came}
 use Rattle.pg_client.specs.Stand.{Stands}
-use Rattle.pg_client.specs.Early.{Row as Values}
+use Rattle.pg_client.specs.Early.{RowValues}
 use Rattle.pg_client.specs.EarlyLent.{IsNoRow}
 use Rattle.pg_client.specs.Private.Collector.{Collects, Telling}
 use Rattle.pg_client.specs.Private.Early.{early_fault, early_leads}
@@ -75,7 +75,7 @@ TakesOldest old (Some given) new = IsOldest old given new
 -- ---- a message
 
 -- A row that is lent comes to an early client that stands there.
-abbrev pub PassesRow : EarlyStand → Values → Result Unit FeedFault → EarlyStand → Type 0
+abbrev pub PassesRow : EarlyStand → RowValues → Result Unit FeedFault → EarlyStand → Type 0
 PassesRow old row (Ok x) new = early_leads old (DataRow row) ≡ Some new
 PassesRow old row (Err f) new = (early_leads old (DataRow row) ≡ None)
     × (f ≡ early_fault old (DataRow row)) × (new ≡ old)
@@ -104,7 +104,7 @@ abbrev pub WholeBy : BackMessage → MachineView Queue → Option Next → Machi
 WholeBy m old None new before after = HandlesWhole queued m old (Ok tt) new before after
     × (waiting new ≡ [])
 WholeBy m old (Some next.Nothing) new before after = ⊥
-WholeBy m old (Some next.Held) new before after = (row : Values) × (new.held ≡ Some (Row row))
+WholeBy m old (Some next.Held) new before after = (row : RowValues) × (new.held ≡ Some (Row row))
     × WholeGiving (giving (Early (DataRow row)) new.collector) m old new before after
 WholeBy m old (Some (next.Item t)) new before after = (row_of new.held ≡ None)
     × WholeGiving (giving_other t new.collector) m old new before after
@@ -139,7 +139,7 @@ NextBy old (Ok None) new before after = HandlesNext queued old (Ok true) new bef
     × (waiting new ≡ []) × (length new.kept < length old.kept)
 NextBy old (Ok (Some next.Nothing)) new before after = (row_of new.held ≡ None)
     × HandlesNext queued old (Ok false) new before after
-NextBy old (Ok (Some next.Held)) new before after = (row : Values) × (new.held ≡ Some (Row row))
+NextBy old (Ok (Some next.Held)) new before after = (row : RowValues) × (new.held ≡ Some (Row row))
     × NextGiving (giving (Early (DataRow row)) new.collector) old new before after
 NextBy old (Ok (Some (next.Item t))) new before after = (row_of new.held ≡ None)
     × NextGiving (giving_other t new.collector) old new before after
@@ -162,7 +162,7 @@ abbrev pub GivesBy : MachineView Queue → Result Next FeedFault → MachineView
     → List ℕ → Type 0
 GivesBy old (Ok next.Nothing) new before after = (row_of new.held ≡ None)
     × HandlesAll emptied old (Ok tt) new before after
-GivesBy old (Ok next.Held) new before after = (row : Values) × (new.held ≡ Some (Row row))
+GivesBy old (Ok next.Held) new before after = (row : RowValues) × (new.held ≡ Some (Row row))
     × GoesGiving (giving (Early (DataRow row)) new.collector) old new before after
 GivesBy old (Ok (next.Item t)) new before after = (row_of new.held ≡ None)
     × GoesGiving (giving_other t new.collector) old new before after

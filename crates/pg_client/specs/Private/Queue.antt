@@ -4,7 +4,7 @@ use Rattle.pg_wire.specs.lent.Lent.{Lent}
 use Rattle.pg_wire.specs.lent.Lent.TheVariants as lents
 use Rattle.pg_client.specs.declared.early.Queue.{Queue}
 use Rattle.pg_client.specs.declared.phase.Cause.{Cause}
-use Rattle.pg_client.specs.Early.{EarlyView, Row, early_stand, items_in}
+use Rattle.pg_client.specs.Early.{EarlyView, RowValues, early_stand, items_in}
 use Rattle.pg_client.specs.Private.Collector.{Collects}
 use Rattle.pg_client.specs.Private.Machine.{MachineView}
 
@@ -18,13 +18,13 @@ queued =
     }
 
 -- The row that is lent, if that is one.
-abbrev pub row_of : Option Lent → Option Row
+abbrev pub row_of : Option Lent → Option RowValues
 row_of (Some (lents.Row values)) = Some values
 row_of _ = None
 
 -- The row that a client lends that is closed for this reason, or open (None): a closed one lends
 -- none.
-abbrev pub row_at : Option Cause → Option Lent → Option Row
+abbrev pub row_at : Option Cause → Option Lent → Option RowValues
 row_at None held = row_of held
 row_at (Some c) held = None
 

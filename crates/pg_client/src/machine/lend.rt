@@ -5,7 +5,7 @@ ghost use Rattle.pg_wire.specs.lent.Lent.TheVariants.{Row};
 ghost use Rattle.pg_client.specs.Private.Lending.{GivesBy, HearsLent, IsOldest, IsStill};
 ghost use Rattle.pg_client.specs.Private.Lending.{KeepsPiece, NextBy, TakesNext, TakesOldest};
 ghost use Rattle.pg_client.specs.Private.Lending.{waiting};
-ghost use Rattle.pg_client.specs.Early.{Row as Values};
+ghost use Rattle.pg_client.specs.Early.{RowValues};
 ghost use Rattle.pg_client.specs.Private.Machine.{IsOfSame};
 ghost use Rattle.pg_client.specs.Private.Queue.{row_at, row_of};
 
@@ -124,7 +124,7 @@ impl Machine<Queue> {
     fn pass_row(&mut self) -> Result<Option<Next>, FeedFault>
         requires { waiting self.old ≡ [] }
         ensures same { IsOfSame self.old self.new }
-        ensures hears { (row : Values) → self.old.held ≡ Some (Row row)
+        ensures hears { (row : RowValues) → self.old.held ≡ Some (Row row)
             → HearsLent self.old result self.new }
     {
         match self.collector.pass_row(self.alloc) {
@@ -135,7 +135,7 @@ impl Machine<Queue> {
 
     // Whether what is lent is a row.
     fn lends_row(&self) -> bool
-        ensures yes { result ≡ true → (row : Values) × (self.now.held ≡ Some (Row row)) }
+        ensures yes { result ≡ true → (row : RowValues) × (self.now.held ≡ Some (Row row)) }
         ensures no { result ≡ false → row_of self.now.held ≡ None }
     {
         matches!(self.decoder.held(), Some(Lent::Row(_)))

@@ -6,7 +6,7 @@ use Rattle.pg_codec.specs.declared.fault.BodyFault.TheVariants as faults
 use Rattle.pg_codec.specs.Field.{Body}
 use Rattle.pg_codec.specs.Private.Reader.{◌>>=◌, nothing_at}
 use Rattle.pg_codec.specs.Private.Lent.{left_after}
-use Rattle.pg_message.specs.Direction.{Row}
+use Rattle.pg_message.specs.Direction.{TableRow}
 
 -- What stands after one tag: the parts of a body, how they are spelled, how they are read, and the
 -- message that they make, if they make one; and so the message of a whole body; and what judging a
@@ -39,13 +39,13 @@ reading_by {M} {A} tag spelled read make left = record {
 
 -- the reading of a tag whose messages are all made of their parts, and are spelled as the table
 -- says
-abbrev pub reading : {M A : Type 0} → (M → Row) → ℕ → (List ℕ → Option (A × List ℕ)) → (A → M)
-    → Reading M
+abbrev pub reading : {M A : Type 0} → (M → TableRow) → ℕ → (List ℕ → Option (A × List ℕ))
+    → (A → M) → Reading M
 reading table tag read make = reading_by tag (λ a. (table (make a)).body) read
     (λ a. Some (make a)) (λ bytes. left_after (read bytes))
 
 -- the reading of a tag with one message, which has no body
-abbrev pub bare : {M : Type 0} → (M → Row) → ℕ → M → Reading M
+abbrev pub bare : {M : Type 0} → (M → TableRow) → ℕ → M → Reading M
 bare table tag m = reading table tag nothing_at (λ _. m)
 
 -- the first of these kinds that has this tag

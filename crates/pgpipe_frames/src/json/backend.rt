@@ -15,7 +15,7 @@ ghost use Rattle.pgpipe_frames.specs.Json.Values.{hex_json, list_json, signed_js
 ghost use Rattle.pgpipe_frames.specs.Json.Values.{word_or_null};
 
 use super::members::{begin, put_hidden, put_optional, put_shown, put_text, put_word};
-use super::values::{Shown, hex_value, word_value};
+use super::values::{ToJson, hex_value, word_value};
 use crate::words::{array_type, other_type, plain_type};
 use pg_wire::{BackMessage, Column, CopyHead, Fields, Seq, Status};
 use serde_json::{Map, Value};
@@ -75,7 +75,7 @@ fn put_type(
     put_shown("format", &column.format, alloc, object)
 }
 
-impl Shown for Column {
+impl ToJson for Column {
     ghost shown = { column_json };
 
     fn value(&self, alloc: Global) -> Result<Value, AllocError> {

@@ -6,7 +6,7 @@ ghost use Rattle.serde_json.specs.View.{members_view};
 ghost use Rattle.pgpipe_frames.specs.Json.Members.{head_members};
 ghost use Rattle.pgpipe_frames.specs.Json.Values.{hidden_json, text_json, text_or_null};
 
-use super::values::{Shown, hidden_value, optional_value, text_value};
+use super::values::{ToJson, hidden_value, optional_value, text_value};
 use serde_json::{Map, Value};
 use std::alloc::{AllocError, Global};
 
@@ -66,7 +66,7 @@ pub fn put_hidden(
 }
 
 /// Puts what is shown.
-pub fn put_shown<T: Shown>(
+pub fn put_shown<T: ToJson>(
     key: &str,
     item: &T,
     alloc: Global,

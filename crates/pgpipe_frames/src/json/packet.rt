@@ -8,13 +8,13 @@ ghost use Rattle.pgpipe_frames.specs.Json.Packet.{parameter_json};
 
 use super::backend::put_key;
 use super::members::{begin, put_shown, put_text};
-use super::values::Shown;
+use super::values::ToJson;
 use pg_wire::{First, Seq};
 use serde_json::{Map, Value};
 use std::alloc::{AllocError, Global};
 
 /// A parameter of a startup.
-impl Shown for (Seq<u8>, Seq<u8>) {
+impl ToJson for (Seq<u8>, Seq<u8>) {
     ghost shown = { parameter_json };
 
     fn value(&self, alloc: Global) -> Result<Value, AllocError> {

@@ -13,7 +13,7 @@ use std::alloc::{AllocError, Global};
 use std::str::from_utf8;
 
 /// Something that is shown as a JSON value.
-pub trait Shown {
+pub trait ToJson {
     ghost use Rattle.serde_json.specs.Data.{Data};
 
     // The value that it is shown as.
@@ -79,7 +79,7 @@ pub fn word_value(alloc: Global, word: Option<&str>) -> Result<Value, AllocError
     }
 }
 
-impl Shown for bool {
+impl ToJson for bool {
     ghost shown = { boolean };
 
     fn value(&self, _alloc: Global) -> Result<Value, AllocError> {
@@ -87,7 +87,7 @@ impl Shown for bool {
     }
 }
 
-impl Shown for usize {
+impl ToJson for usize {
     ghost shown = { count_json };
 
     fn value(&self, _alloc: Global) -> Result<Value, AllocError> {
@@ -96,7 +96,7 @@ impl Shown for usize {
 }
 
 /// An object id or a code.
-impl Shown for u32 {
+impl ToJson for u32 {
     ghost shown = { count_json };
 
     fn value(&self, _alloc: Global) -> Result<Value, AllocError> {
@@ -105,7 +105,7 @@ impl Shown for u32 {
 }
 
 /// A format, a size or the number of an attribute.
-impl Shown for i16 {
+impl ToJson for i16 {
     ghost shown = { signed_json };
 
     fn value(&self, _alloc: Global) -> Result<Value, AllocError> {
@@ -113,7 +113,7 @@ impl Shown for i16 {
     }
 }
 
-impl Shown for i32 {
+impl ToJson for i32 {
     ghost shown = { signed_json };
 
     fn value(&self, _alloc: Global) -> Result<Value, AllocError> {
@@ -122,7 +122,7 @@ impl Shown for i32 {
 }
 
 // A list of what is shown, in its order.
-fn list_value<T: Shown>(alloc: Global, items: &[T]) -> Result<Value, AllocError>
+fn list_value<T: ToJson>(alloc: Global, items: &[T]) -> Result<Value, AllocError>
     ensures { IfOk result (λ v. view v ≡ list_json T.shown items.now) }
 {
     let mut list = Vec::new(alloc);
@@ -133,7 +133,7 @@ fn list_value<T: Shown>(alloc: Global, items: &[T]) -> Result<Value, AllocError>
     Ok(Value::from(list))
 }
 
-impl<T: Shown> Shown for Seq<T> {
+impl<T: ToJson> ToJson for Seq<T> {
     ghost shown = { list_json T.shown };
 
     fn value(&self, alloc: Global) -> Result<Value, AllocError> {
@@ -153,7 +153,7 @@ fn values_value(alloc: Global, values: LentValues<'_>) -> Result<Value, AllocErr
     Ok(Value::from(list))
 }
 
-impl Shown for Values {
+impl ToJson for Values {
     ghost shown = { list_json text_or_null };
 
     fn value(&self, alloc: Global) -> Result<Value, AllocError> {

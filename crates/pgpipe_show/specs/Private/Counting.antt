@@ -1,8 +1,6 @@
 -- How far the counting has come.
-use Rattle.std.specs.Prelude.{ℕ, zero, suc, ◌≡◌, ◌<◌, ◌-◌, ◌^◌, min, Bool, List, [], ◌++◌, length, Result, Ok, Err}
+use Rattle.std.specs.Prelude.{ℕ, ◌≡◌, ◌<◌, ◌-◌, ◌^◌, min, Bool, List, [], ◌++◌, length, Result, Ok, Err}
 use Rattle.std.specs.List.{FoldsTo, concat}
-use Rattle.pg_wire.specs.declared.fault.WireFault.{WireFault}
-use Rattle.pg_wire.specs.declared.fault.WireFault.TheVariants as wire
 use Rattle.pgpipe_base.specs.declared.stop.Stop.{Stop}
 use Rattle.pgpipe_base.specs.declared.stop.Stop.TheVariants as stop
 use Rattle.pgpipe_frames.specs.declared.next.NextFrame.{NextFrame}
@@ -14,16 +12,7 @@ use Rattle.pgpipe_show.specs.declared.show.Shown.{Shown}
 use Rattle.pgpipe_show.specs.declared.show.Shown.TheVariants as shown
 use Rattle.pgpipe_show.specs.Counts.{SummaryState}
 use Rattle.pgpipe_show.specs.Summary.{IsSummedUp}
-
--- why the work stops where a reader of frames answers a fault
-abbrev pub fault_stop : WireFault → Stop Shown
-fault_stop wire.Memory = stop.Memory
-fault_stop f = stop.Answer (shown.Fault f)
-
--- why the work stops where the source has ended, and so many bytes are left
-abbrev pub end_stop : ℕ → Stop Shown
-end_stop zero = stop.Answer shown.Whole
-end_stop (suc n) = stop.Answer (shown.Rest (suc n))
+pub use Rattle.pgpipe_show.specs.Private.Stopping.{end_stop, fault_stop}
 
 -- The frames of these bytes were counted, but for an open rest, which the reader keeps.
 abbrev pub IsOpenAt : Bool → List ℕ → SummaryState → FramesState → Type 0

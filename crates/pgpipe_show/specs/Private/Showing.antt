@@ -1,8 +1,6 @@
 -- How far the work has come.
-use Rattle.std.specs.Prelude.{ℕ, zero, suc, ◌≡◌, ◌<◌, ◌≤◌, Bool, true, false, List, [], length, None, Result, Ok, Err}
+use Rattle.std.specs.Prelude.{ℕ, ◌≡◌, ◌<◌, ◌≤◌, Bool, true, false, List, [], length, None, Result, Ok, Err}
 use Rattle.std.specs.List.{FoldsTo, concat}
-use Rattle.pg_wire.specs.declared.fault.WireFault.{WireFault}
-use Rattle.pg_wire.specs.declared.fault.WireFault.TheVariants as wire
 use Rattle.pg_wire.specs.declared.link.LinkFault.{LinkFault}
 use Rattle.pg_wire.specs.message.First.{First}
 use Rattle.pg_wire.specs.Backend.{backend}
@@ -35,16 +33,7 @@ use Rattle.pgpipe_base.specs.Outbox.{most_collected, Puts, StaysWithin}
 use mathlib.Core.List.{IsPrefix}
 use Rattle.pgpipe_show.specs.Show.{length_limit, AreMessages, IsClientSide, AreShown, IsOpenFor, IsFaultyFor, AreAllShown, AreShownBefore}
 use Rattle.pgpipe_base.specs.Receiving.{most_receives, IsSentAtOnce}
-
--- why the work stops where a decoder answers a fault
-abbrev pub fault_stop : WireFault → Stop Shown
-fault_stop wire.Memory = stop.Memory
-fault_stop f = stop.Answer (shown.Fault f)
-
--- why the work stops where the source has ended, and so many bytes are left
-abbrev pub end_stop : ℕ → Stop Shown
-end_stop zero = stop.Answer shown.Whole
-end_stop (suc n) = stop.Answer (shown.Rest (suc n))
+pub use Rattle.pgpipe_show.specs.Private.Stopping.{end_stop, fault_stop}
 
 -- A line is put, and no more is collected than there is room for; or memory ran out, and then
 -- nothing was put; or the sink failed.

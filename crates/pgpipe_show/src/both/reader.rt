@@ -1,7 +1,7 @@
 //! One stream, frame by frame.
 
 ghost use Rattle.std.specs.Prelude.{◌≡◌, ℕ, List, [], length, IfOk};
-ghost use Rattle.pgpipe_base.specs.Receiving.{longest_piece};
+ghost use Rattle.pgpipe_base.specs.Receiving.{receive_limit};
 ghost use Rattle.pgpipe_frames.specs.declared.judge.FrameJudgement.TheVariants as judge;
 ghost use Rattle.pgpipe_show.specs.Entries.{end_by};
 ghost use Rattle.pgpipe_show.specs.Private.Telling.{Fetches, Looks, Received, ReceivedByte};
@@ -34,7 +34,7 @@ pub struct Reader {
     pub place: FramePlace,
     // where pieces are received
     into: Vec<u8>,
-    ghost a_piece: { length into.items ≡ longest_piece },
+    ghost a_piece: { length into.items ≡ receive_limit },
 }
 
 /// Receives one byte, where the source gives one before its end.

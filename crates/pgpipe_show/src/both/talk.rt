@@ -146,6 +146,17 @@ fn wants_answer(field: Option<[u8; 4]>) -> bool
     }
 }
 
+// The server goes on answering.
+fn goes_on(query: bool, copied: bool, behind: bool) -> Talk
+    ensures { result ≡ Answering query copied behind }
+{
+    Talk::Answering {
+        query,
+        copied,
+        behind,
+    }
+}
+
 // After a request for authentication, which may want an answer.
 fn after_request(query: bool, copied: bool, behind: bool, wants: bool) -> Talk
     ensures { result ≡ after_request query copied behind wants }
@@ -156,11 +167,7 @@ fn after_request(query: bool, copied: bool, behind: bool, wants: bool) -> Talk
             behind: true,
         }
     } else {
-        Talk::Answering {
-            query,
-            copied,
-            behind,
-        }
+        goes_on(query, copied, behind)
     }
 }
 
@@ -177,11 +184,7 @@ fn after_answer(query: bool, copied: bool, behind: bool, frame: &[u8]) -> Talk
     } else if tag == b'G' || tag == b'W' {
         after_copy_in(query, copied, behind)
     } else {
-        Talk::Answering {
-            query,
-            copied,
-            behind,
-        }
+        goes_on(query, copied, behind)
     }
 }
 

@@ -3,57 +3,26 @@
 ghost use Rattle.std.specs.Prelude.{◌≡◌, ◌≤◌, ◌+◌, ◌-◌, ◌^◌, ◌++◌, ℕ, List, [], length, min, take};
 ghost use Rattle.std.specs.Prelude.{IfOk, OnOk};
 ghost use Rattle.std.specs.List.{FoldsTo, concat};
-ghost use Rattle.pgpipe_base.specs.Receiving.{longest_piece};
+ghost use Rattle.pgpipe_base.specs.Receiving.{receive_limit};
 ghost use Rattle.pgpipe_frames.specs.Frames.{fewest};
-ghost use Rattle.pgpipe_show.specs.FrameLines.{first_of};
 ghost use Rattle.pgpipe_show.specs.Counts.{counted};
 ghost use Rattle.pgpipe_show.specs.Labels.{IsLabelOf};
-ghost use Rattle.pgpipe_show.specs.Private.Counting.{AreAt, Counts, GoesOn, HasRun, end_stop};
-ghost use Rattle.pgpipe_show.specs.Private.Counting.{fault_stop};
+ghost use Rattle.pgpipe_show.specs.Private.Counting.{AreAt, Counts, GoesOn, HasRun};
 ghost use Rattle.pgpipe_show.specs.Summary.{IsSummedUp, SumsUp};
 ghost use Rattle.pgpipe_show.specs.Table.{table};
 
 use super::counts::Summary;
 use super::label::write_label;
 use super::table::table_text;
+use crate::framing::first_of;
 use crate::show::Shown;
-use pg_wire::{Sink, Source, WireFault};
+use crate::stop::{end_stop, fault_stop};
+use pg_wire::{Sink, Source};
 use pgpipe_base::outbox::send_all;
 use pgpipe_base::receiving::{MOST_RECEIVES, PIECE};
 use pgpipe_base::{Stop, ToolFault};
 use pgpipe_frames::{Frames, NextFrame};
 use std::alloc::{AllocError, Global};
-
-// Why the work stops where the source has ended, and so many bytes are left.
-fn end_stop(left: usize) -> Stop<Shown>
-    ensures { result ≡ end_stop left }
-{
-    match left {
-        0 => Stop::Answer(Shown::Whole),
-        _ => Stop::Answer(Shown::Rest(left)),
-    }
-}
-
-// Why the work stops at a bad length field.
-fn fault_stop(fault: WireFault) -> Stop<Shown>
-    ensures { result ≡ fault_stop fault }
-{
-    match fault {
-        WireFault::Memory => Stop::Memory,
-        _ => Stop::Answer(Shown::Fault(fault)),
-    }
-}
-
-// What a stream begins with.
-fn first_of(front: bool) -> NextFrame
-    ensures { result ≡ first_of front }
-{
-    if front {
-        NextFrame::Packet
-    } else {
-        NextFrame::Message
-    }
-}
 
 // Counts a frame.
 fn count_frame(
@@ -110,7 +79,7 @@ struct Counting {
     label: Vec<u8>,
     // where pieces are received
     into: Vec<u8>,
-    ghost a_piece: { length into.items ≡ longest_piece },
+    ghost a_piece: { length into.items ≡ receive_limit },
 }
 
 impl Counting {

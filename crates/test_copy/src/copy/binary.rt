@@ -1,7 +1,7 @@
 //! Binary files.
 
 use super::Answer::{Is, Nothing, Taken};
-use super::{Answer, Call, Fault, answers, row, write_file};
+use super::{Answer, Fault, ReaderCall, answers, row, write_file};
 use pg_copy::{
     BinaryFault, BinaryReader, Row, RowFault, write_binary_head, write_binary_row,
     write_binary_trailer,
@@ -20,7 +20,7 @@ const TRUNCATED: Option<BinaryFault> = Some(BinaryFault::Truncated);
 
 /// What a file of one column, with values of at most two bytes, begins with and what follows, the canonical lines of its rows, and the
 /// fault after them.
-type File = (
+type BinaryFile = (
     &'static [u8],
     &'static [u8],
     &'static [u8],
@@ -47,7 +47,7 @@ fn wanted(fault: Option<BinaryFault>) -> Option<Fault> {
 }
 
 // Whether these bytes give the file's lines and its fault, where the first piece has so many, and each other one so many.
-fn gives_cut(alloc: Global, bytes: &[u8], first: usize, size: usize, file: File) -> bool {
+fn gives_cut(alloc: Global, bytes: &[u8], first: usize, size: usize, file: BinaryFile) -> bool {
     let (_, _, lines, fault) = file;
     let mut written = Vec::new(alloc);
     let found = write_column(alloc, bytes, first, size, &mut written);
@@ -55,7 +55,7 @@ fn gives_cut(alloc: Global, bytes: &[u8], first: usize, size: usize, file: File)
 }
 
 // Whether these bytes give the file's lines and its fault, however they are cut.
-fn gives(alloc: Global, bytes: &[u8], file: File) -> bool {
+fn gives(alloc: Global, bytes: &[u8], file: BinaryFile) -> bool {
     for first in 0..=bytes.len() {
         for size in 1..=bytes.len() {
             if !gives_cut(alloc, bytes, first, size, file) {
@@ -66,7 +66,7 @@ fn gives(alloc: Global, bytes: &[u8], file: File) -> bool {
     true
 }
 
-fn all_give(alloc: Global, files: &[File]) -> Result<bool, AllocError> {
+fn all_give(alloc: Global, files: &[BinaryFile]) -> Result<bool, AllocError> {
     for file in files {
         let bytes = [file.0, file.1].concat(alloc)?;
         if !gives(alloc, bytes.as_slice(), *file) {
@@ -103,7 +103,7 @@ fn a_file_cut_anywhere_is_truncated(rt: HostRuntime) {
     assert!(rt; is_truncated_everywhere(rt.alloc(), EXTENDED, b"a\\t\n\\N\n\n"));
 }
 
-const ROWS: [File; 2] = [
+const ROWS: [BinaryFile; 2] = [
     (HEAD, b"\xFF\xFF", b"", None),
     (
         HEAD,
@@ -118,7 +118,7 @@ fn rows_stand_before_the_trailer(rt: HostRuntime) {
     assert!(rt; all_give(rt.alloc(), &ROWS) == Ok(true));
 }
 
-const TRAILERS: [File; 3] = [
+const TRAILERS: [BinaryFile; 3] = [
     (HEAD, b"\xFF\xFF\0", b"", Some(BinaryFault::AfterTrailer)),
     (HEAD, b"\xFF", b"", TRUNCATED),
     (HEAD, b"\0\x01\0\0\0\x01a\0\x01\0", b"a\n", TRUNCATED),
@@ -129,7 +129,7 @@ fn the_trailer_comes_last(rt: HostRuntime) {
     assert!(rt; all_give(rt.alloc(), &TRAILERS) == Ok(true));
 }
 
-const HEADS: [File; 3] = [
+const HEADS: [BinaryFile; 3] = [
     (
         b"PGCOPY\r\xFF\r\n\0",
         b"\0",
@@ -155,7 +155,7 @@ fn heads_have_their_faults(rt: HostRuntime) {
     assert!(rt; all_give(rt.alloc(), &HEADS) == Ok(true));
 }
 
-const SKIPPED: [File; 2] = [
+const SKIPPED: [BinaryFile; 2] = [
     (
         SIGNATURE,
         b"\0\0\0\x01\0\0\0\x02\xAA\xBB\xFF\xFF",
@@ -175,7 +175,7 @@ fn extensions_are_skipped(rt: HostRuntime) {
     assert!(rt; all_give(rt.alloc(), &SKIPPED) == Ok(true));
 }
 
-const CUT_SHORT: [File; 2] = [
+const CUT_SHORT: [BinaryFile; 2] = [
     (SIGNATURE, b"\0\0\0\0\0\0\0\x03ab", b"", TRUNCATED),
     (
         SIGNATURE,
@@ -190,7 +190,7 @@ fn extensions_come_whole(rt: HostRuntime) {
     assert!(rt; all_give(rt.alloc(), &CUT_SHORT) == Ok(true));
 }
 
-const COUNTS: [File; 2] = [
+const COUNTS: [BinaryFile; 2] = [
     (HEAD, b"\0\x02", b"", Some(BinaryFault::FieldCount(2))),
     (HEAD, b"\xFF\xFE", b"", Some(BinaryFault::FieldCount(-2))),
 ];
@@ -200,7 +200,7 @@ fn rows_have_their_faults(rt: HostRuntime) {
     assert!(rt; all_give(rt.alloc(), &COUNTS) == Ok(true));
 }
 
-const LENGTHS: [File; 2] = [
+const LENGTHS: [BinaryFile; 2] = [
     (
         HEAD,
         b"\0\x01\0\0\0\x03",
@@ -223,20 +223,20 @@ fn values_have_their_faults(rt: HostRuntime) {
 // ---- a reader's calls, one by one
 
 // Whether a new reader of one column, with values of at most one byte, answers each call so.
-fn comes(alloc: Global, steps: &[(Call, Answer)]) -> bool {
+fn comes(alloc: Global, steps: &[(ReaderCall, Answer)]) -> bool {
     let mut reader = BinaryReader::new(alloc, 1, 1);
     answers(&mut reader, steps)
 }
 
-const LEFT: [(Call, Answer); 5] = [
-    (Call::Push(HEAD), Taken),
+const LEFT: [(ReaderCall, Answer); 5] = [
+    (ReaderCall::Push(HEAD), Taken),
     (
-        Call::Push(b"\0\x01\0\0\0\x01a\0\x01\xFF\xFF\xFF\xFF\xFF\xFF"),
+        ReaderCall::Push(b"\0\x01\0\0\0\x01a\0\x01\xFF\xFF\xFF\xFF\xFF\xFF"),
         Taken,
     ),
-    (Call::Finish, Answer::Row),
-    (Call::Finish, Answer::Row),
-    (Call::Finish, Nothing),
+    (ReaderCall::Finish, Answer::Row),
+    (ReaderCall::Finish, Answer::Row),
+    (ReaderCall::Finish, Nothing),
 ];
 
 #[test]
@@ -244,15 +244,15 @@ fn rows_are_left_at_the_end(rt: HostRuntime) {
     assert!(rt; comes(rt.alloc(), &LEFT));
 }
 
-const DONE: [(Call, Answer); 8] = [
-    (Call::Push(HEAD), Taken),
-    (Call::Push(b"\xFF\xFF"), Taken),
-    (Call::Done, Is(false)),
-    (Call::Next, Nothing),
-    (Call::Done, Is(true)),
-    (Call::Ended, Is(false)),
-    (Call::Finish, Nothing),
-    (Call::Ended, Is(true)),
+const DONE: [(ReaderCall, Answer); 8] = [
+    (ReaderCall::Push(HEAD), Taken),
+    (ReaderCall::Push(b"\xFF\xFF"), Taken),
+    (ReaderCall::Done, Is(false)),
+    (ReaderCall::Next, Nothing),
+    (ReaderCall::Done, Is(true)),
+    (ReaderCall::Ended, Is(false)),
+    (ReaderCall::Finish, Nothing),
+    (ReaderCall::Ended, Is(true)),
 ];
 
 #[test]
@@ -262,15 +262,15 @@ fn a_reader_is_done_at_the_trailer(rt: HostRuntime) {
 
 const AFTER_TRAILER: Answer = Answer::Fault(Fault::Binary(BinaryFault::AfterTrailer));
 
-const FAILED: [(Call, Answer); 8] = [
-    (Call::Push(HEAD), Taken),
-    (Call::Push(b"\xFF\xFF"), Taken),
-    (Call::Next, Nothing),
-    (Call::Push(b"\0"), Taken),
-    (Call::Done, Is(false)),
-    (Call::Next, AFTER_TRAILER),
-    (Call::Push(b"\0"), AFTER_TRAILER),
-    (Call::Finish, AFTER_TRAILER),
+const FAILED: [(ReaderCall, Answer); 8] = [
+    (ReaderCall::Push(HEAD), Taken),
+    (ReaderCall::Push(b"\xFF\xFF"), Taken),
+    (ReaderCall::Next, Nothing),
+    (ReaderCall::Push(b"\0"), Taken),
+    (ReaderCall::Done, Is(false)),
+    (ReaderCall::Next, AFTER_TRAILER),
+    (ReaderCall::Push(b"\0"), AFTER_TRAILER),
+    (ReaderCall::Finish, AFTER_TRAILER),
 ];
 
 #[test]

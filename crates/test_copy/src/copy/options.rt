@@ -1,6 +1,6 @@
 //! Files with options, and the ways in which lines end.
 
-use super::{Fault, WrittenRow, row, write_left, write_piece, writes};
+use super::{WrittenRow, row, wanted_text, write_left, write_piece, writes};
 use pg_copy::{OptionFault, Row, RowFault, TextFault, TextOptions, TextReader};
 use std::alloc::{AllocError, Global};
 
@@ -111,7 +111,7 @@ fn the_default_is_a_tab(rt: HostRuntime) {
 
 /// A file of one column, the canonical lines of its rows before the end of the input where it comes whole, the lines in all, and the fault
 /// at the end.
-type File = (
+type LineEndFile = (
     &'static [u8],
     &'static [u8],
     &'static [u8],
@@ -126,15 +126,8 @@ fn writes_before(alloc: Global, piece: &[u8], wanted: &[u8]) -> bool {
     lines.as_slice() == wanted
 }
 
-fn wanted(fault: Option<TextFault>) -> Option<Fault> {
-    match fault {
-        Some(fault) => Some(Fault::Text(fault)),
-        None => None,
-    }
-}
-
 // Whether the file, which comes in two pieces, gives its lines and is answered its fault at the end.
-fn gives_in_two(alloc: Global, file: File, place: usize) -> bool {
+fn gives_in_two(alloc: Global, file: LineEndFile, place: usize) -> bool {
     let (bytes, _, all, fault) = file;
     let mut reader = TextReader::new(alloc, Some(1));
     let mut lines = Vec::new(alloc);
@@ -142,11 +135,11 @@ fn gives_in_two(alloc: Global, file: File, place: usize) -> bool {
     let _ = write_piece(&mut reader, front, bytes.len(), &mut lines);
     let _ = write_piece(&mut reader, back, bytes.len(), &mut lines);
     let found = write_left(&mut reader, bytes.len(), &mut lines);
-    found == wanted(fault) && lines.as_slice() == all
+    found == wanted_text(fault) && lines.as_slice() == all
 }
 
 // Whether the file gives its first lines before the end of the input; and in all the same, wherever it is cut.
-fn gives(alloc: Global, file: File) -> bool {
+fn gives(alloc: Global, file: LineEndFile) -> bool {
     if !writes_before(alloc, file.0, file.1) {
         return false;
     }
@@ -158,16 +151,11 @@ fn gives(alloc: Global, file: File) -> bool {
     true
 }
 
-fn all_give(alloc: Global, files: &[File]) -> bool {
-    for file in files {
-        if !gives(alloc, *file) {
-            return false;
-        }
-    }
-    true
+fn all_give(alloc: Global, files: &[LineEndFile]) -> bool {
+    files.iter().all(|file| gives(alloc, *file))
 }
 
-const ALIKE: [File; 6] = [
+const ALIKE: [LineEndFile; 6] = [
     (b"a\r\n", b"a\n", b"a\n", None),
     (b"a\r\nb\r\n", b"a\nb\n", b"a\nb\n", None),
     (b"a\rb\r", b"a\nb\n", b"a\nb\n", None),
@@ -185,7 +173,7 @@ const RAW_RETURN: Option<TextFault> = Some(TextFault::RawReturn);
 
 const RAW_NEWLINE: Option<TextFault> = Some(TextFault::RawNewline);
 
-const OTHERS: [File; 4] = [
+const OTHERS: [LineEndFile; 4] = [
     (b"a\nb\r\n", b"a\n", b"a\n", RAW_RETURN),
     (b"a\r\nb\r", b"a\n", b"a\n", RAW_RETURN),
     (b"a\rb\n", b"a\n", b"a\n", RAW_NEWLINE),

@@ -64,17 +64,17 @@ fn rows_of_text_are_lent(rt: HostRuntime) {
 
 /// A call of a writer.
 #[derive(Clone, Copy)]
-enum Call {
+enum WriterCall {
     Field(Option<&'static [u8]>),
     End,
     GiveUp,
 }
 
-fn make(writer: &mut TextRowWriter, call: Call, lines: &mut Vec<u8>) -> Result<(), RowFault> {
+fn make(writer: &mut TextRowWriter, call: WriterCall, lines: &mut Vec<u8>) -> Result<(), RowFault> {
     match call {
-        Call::Field(value) => writer.field(value, lines),
-        Call::End => writer.end(lines),
-        Call::GiveUp => {
+        WriterCall::Field(value) => writer.field(value, lines),
+        WriterCall::End => writer.end(lines),
+        WriterCall::GiveUp => {
             writer.give_up();
             Ok(())
         }
@@ -82,7 +82,7 @@ fn make(writer: &mut TextRowWriter, call: Call, lines: &mut Vec<u8>) -> Result<(
 }
 
 /// A call, what it answers, and all that is written then.
-type Step = (Call, Result<(), RowFault>, &'static [u8]);
+type Step = (WriterCall, Result<(), RowFault>, &'static [u8]);
 
 // Whether the writer answers each call so, and writes these lines by it.
 fn writes(alloc: Global, writer: &mut TextRowWriter, steps: &[Step]) -> bool {
@@ -96,12 +96,12 @@ fn writes(alloc: Global, writer: &mut TextRowWriter, steps: &[Step]) -> bool {
 }
 
 const ROWS: [Step; 6] = [
-    (Call::Field(Some(b"a\tb")), Ok(()), b"a\\tb"),
-    (Call::Field(None), Ok(()), b"a\\tb\t\\N"),
-    (Call::End, Ok(()), b"a\\tb\t\\N\n"),
-    (Call::Field(Some(b"")), Ok(()), b"a\\tb\t\\N\n"),
-    (Call::End, Ok(()), b"a\\tb\t\\N\n\n"),
-    (Call::End, Err(RowFault::Width(0)), b"a\\tb\t\\N\n\n"),
+    (WriterCall::Field(Some(b"a\tb")), Ok(()), b"a\\tb"),
+    (WriterCall::Field(None), Ok(()), b"a\\tb\t\\N"),
+    (WriterCall::End, Ok(()), b"a\\tb\t\\N\n"),
+    (WriterCall::Field(Some(b"")), Ok(()), b"a\\tb\t\\N\n"),
+    (WriterCall::End, Ok(()), b"a\\tb\t\\N\n\n"),
+    (WriterCall::End, Err(RowFault::Width(0)), b"a\\tb\t\\N\n\n"),
 ];
 
 #[test]
@@ -111,15 +111,15 @@ fn a_row_is_written_field_by_field(rt: HostRuntime) {
 }
 
 const LIKE_NULL: [Step; 5] = [
-    (Call::Field(Some(b"a,b")), Ok(()), b"a\\,b"),
+    (WriterCall::Field(Some(b"a,b")), Ok(()), b"a\\,b"),
     (
-        Call::Field(Some(b"-")),
+        WriterCall::Field(Some(b"-")),
         Err(RowFault::LikeNull(1)),
         b"a\\,b",
     ),
-    (Call::Field(None), Ok(()), b"a\\,b,-"),
-    (Call::GiveUp, Ok(()), b"a\\,b,-"),
-    (Call::End, Err(RowFault::Width(0)), b"a\\,b,-"),
+    (WriterCall::Field(None), Ok(()), b"a\\,b,-"),
+    (WriterCall::GiveUp, Ok(()), b"a\\,b,-"),
+    (WriterCall::End, Err(RowFault::Width(0)), b"a\\,b,-"),
 ];
 
 // Whether a writer whose fields are parted by commas, and whose null is a dash, answers and writes so.

@@ -1,7 +1,7 @@
 //! Text files.
 
 use super::Answer::{Is, Nothing, Row, Taken};
-use super::{Answer, Call, Fault, WrittenRow, answers, write_file, writes};
+use super::{Answer, Fault, ReaderCall, WrittenRow, answers, wanted_text, write_file, writes};
 use pg_copy::{RowFault, TextFault, TextReader, write_text_field};
 use std::alloc::Global;
 
@@ -13,26 +13,19 @@ fn reader(alloc: Global, columns: u16) -> TextReader {
 // ---- files, however they are cut
 
 /// How many columns a file has, its bytes, the canonical lines of its rows, and the fault after them.
-type File = (u16, &'static [u8], &'static [u8], Option<TextFault>);
-
-fn wanted(fault: Option<TextFault>) -> Option<Fault> {
-    match fault {
-        Some(fault) => Some(Fault::Text(fault)),
-        None => None,
-    }
-}
+type TextFile = (u16, &'static [u8], &'static [u8], Option<TextFault>);
 
 // Whether the file gives its lines and its fault, where the first piece has so many bytes, and each other one so many.
-fn gives_cut(alloc: Global, file: File, first: usize, size: usize) -> bool {
+fn gives_cut(alloc: Global, file: TextFile, first: usize, size: usize) -> bool {
     let (columns, bytes, lines, fault) = file;
     let mut reader = reader(alloc, columns);
     let mut written = Vec::new(alloc);
     let found = write_file(&mut reader, bytes, first, size, &mut written);
-    found == wanted(fault) && written.as_slice() == lines
+    found == wanted_text(fault) && written.as_slice() == lines
 }
 
 // Whether the file gives its lines and its fault, however it is cut.
-fn gives(alloc: Global, file: File) -> bool {
+fn gives(alloc: Global, file: TextFile) -> bool {
     for first in 0..=file.1.len() {
         for size in 1..=file.1.len() {
             if !gives_cut(alloc, file, first, size) {
@@ -43,16 +36,11 @@ fn gives(alloc: Global, file: File) -> bool {
     true
 }
 
-fn all_give(alloc: Global, files: &[File]) -> bool {
-    for file in files {
-        if !gives(alloc, *file) {
-            return false;
-        }
-    }
-    true
+fn all_give(alloc: Global, files: &[TextFile]) -> bool {
+    files.iter().all(|file| gives(alloc, *file))
 }
 
-const LINES: [File; 4] = [
+const LINES: [TextFile; 4] = [
     (4, b"a\\tb\t\\N\t\t\\\\N\n", b"a\\tb\t\\N\t\t\\\\N\n", None),
     (1, b"\n", b"\n", None),
     (1, b"a\nb", b"a\nb\n", None),
@@ -64,14 +52,14 @@ fn lines_have_their_fields(rt: HostRuntime) {
     assert!(rt; all_give(rt.alloc(), &LINES));
 }
 
-const MARKS: [File; 2] = [(1, b"\\.\na\n", b"", None), (1, b"\\.", b"", None)];
+const MARKS: [TextFile; 2] = [(1, b"\\.\na\n", b"", None), (1, b"\\.", b"", None)];
 
 #[test]
 fn the_end_mark_ends_the_rows(rt: HostRuntime) {
     assert!(rt; all_give(rt.alloc(), &MARKS));
 }
 
-const ESCAPES: [File; 4] = [
+const ESCAPES: [TextFile; 4] = [
     (1, b"\\b\\v\\f\\r\\.\n", b"\\b\\v\\f\\r.\n", None),
     (4, b"\\1011\t\\x41\t\\x\t\\8", b"A1\tA\tx\t8\n", None),
     (1, b"\\777\n\\400\n", b"\xFF\n\0\n", None),
@@ -83,7 +71,7 @@ fn escapes_spell_their_bytes(rt: HostRuntime) {
     assert!(rt; all_give(rt.alloc(), &ESCAPES));
 }
 
-const FAULTS: [File; 4] = [
+const FAULTS: [TextFile; 4] = [
     (1, b"a\nb\r\n", b"a\n", Some(TextFault::RawReturn)),
     (1, b"a\\", b"", Some(TextFault::LoneBackslash)),
     (2, b"\n", b"", Some(TextFault::Columns(1))),
@@ -98,22 +86,22 @@ fn faults_stand_in_the_place_of_rows(rt: HostRuntime) {
 // ---- a reader's calls, one by one
 
 // Whether a new reader of one column answers each call so.
-fn of_one(alloc: Global, steps: &[(Call, Answer)]) -> bool {
+fn of_one(alloc: Global, steps: &[(ReaderCall, Answer)]) -> bool {
     let mut reader = reader(alloc, 1);
     answers(&mut reader, steps)
 }
 
 // Whether a new reader of any number of columns answers each call so.
-fn of_any(alloc: Global, steps: &[(Call, Answer)]) -> bool {
+fn of_any(alloc: Global, steps: &[(ReaderCall, Answer)]) -> bool {
     let mut reader = TextReader::new(alloc, None);
     answers(&mut reader, steps)
 }
 
-const LEFT: [(Call, Answer); 4] = [
-    (Call::Push(b"a\nb"), Taken),
-    (Call::Finish, Row),
-    (Call::Finish, Row),
-    (Call::Finish, Nothing),
+const LEFT: [(ReaderCall, Answer); 4] = [
+    (ReaderCall::Push(b"a\nb"), Taken),
+    (ReaderCall::Finish, Row),
+    (ReaderCall::Finish, Row),
+    (ReaderCall::Finish, Nothing),
 ];
 
 #[test]
@@ -123,13 +111,13 @@ fn rows_are_left_at_the_end(rt: HostRuntime) {
 
 const TWO_COLUMNS: Answer = Answer::Fault(Fault::Text(TextFault::Columns(2)));
 
-const FAILED: [(Call, Answer); 6] = [
-    (Call::Push(b"a\tb\nb\n"), Taken),
-    (Call::Next, TWO_COLUMNS),
-    (Call::Next, TWO_COLUMNS),
-    (Call::Push(b"c\n"), TWO_COLUMNS),
-    (Call::Finish, TWO_COLUMNS),
-    (Call::Done, Is(false)),
+const FAILED: [(ReaderCall, Answer); 6] = [
+    (ReaderCall::Push(b"a\tb\nb\n"), Taken),
+    (ReaderCall::Next, TWO_COLUMNS),
+    (ReaderCall::Next, TWO_COLUMNS),
+    (ReaderCall::Push(b"c\n"), TWO_COLUMNS),
+    (ReaderCall::Finish, TWO_COLUMNS),
+    (ReaderCall::Done, Is(false)),
 ];
 
 #[test]
@@ -137,14 +125,14 @@ fn a_fault_is_answered_for_good(rt: HostRuntime) {
     assert!(rt; of_one(rt.alloc(), &FAILED));
 }
 
-const MARKED: [(Call, Answer); 7] = [
-    (Call::Push(b"a\tb\n\\.\nc"), Taken),
-    (Call::Next, Row),
-    (Call::Done, Is(false)),
-    (Call::Next, Nothing),
-    (Call::Done, Is(true)),
-    (Call::Push(b"d\n"), Taken),
-    (Call::Next, Nothing),
+const MARKED: [(ReaderCall, Answer); 7] = [
+    (ReaderCall::Push(b"a\tb\n\\.\nc"), Taken),
+    (ReaderCall::Next, Row),
+    (ReaderCall::Done, Is(false)),
+    (ReaderCall::Next, Nothing),
+    (ReaderCall::Done, Is(true)),
+    (ReaderCall::Push(b"d\n"), Taken),
+    (ReaderCall::Next, Nothing),
 ];
 
 #[test]
@@ -152,11 +140,11 @@ fn a_reader_is_done_after_the_mark(rt: HostRuntime) {
     assert!(rt; of_any(rt.alloc(), &MARKED));
 }
 
-const ENDED: [(Call, Answer); 4] = [
-    (Call::Ended, Is(false)),
-    (Call::Finish, Nothing),
-    (Call::Ended, Is(true)),
-    (Call::Done, Is(false)),
+const ENDED: [(ReaderCall, Answer); 4] = [
+    (ReaderCall::Ended, Is(false)),
+    (ReaderCall::Finish, Nothing),
+    (ReaderCall::Ended, Is(true)),
+    (ReaderCall::Done, Is(false)),
 ];
 
 #[test]
@@ -164,24 +152,24 @@ fn a_reader_ends(rt: HostRuntime) {
     assert!(rt; of_any(rt.alloc(), &ENDED));
 }
 
-const PLACE_OF_A_FAULT: [(Call, Answer); 6] = [
-    (Call::Push(b"a\r\n\\\n\r\nd\te\r\n"), Taken),
-    (Call::Next, Row),
-    (Call::Next, Row),
-    (Call::Next, TWO_COLUMNS),
-    (Call::RowsGiven, Answer::Count(2)),
-    (Call::Offset, Answer::Count(7)),
+const PLACE_OF_A_FAULT: [(ReaderCall, Answer); 6] = [
+    (ReaderCall::Push(b"a\r\n\\\n\r\nd\te\r\n"), Taken),
+    (ReaderCall::Next, Row),
+    (ReaderCall::Next, Row),
+    (ReaderCall::Next, TWO_COLUMNS),
+    (ReaderCall::RowsGiven, Answer::Count(2)),
+    (ReaderCall::Offset, Answer::Count(7)),
 ];
 
 // the last line is open
-const END: [(Call, Answer); 7] = [
-    (Call::Push(b"a\rbc"), Taken),
-    (Call::Finish, Row),
-    (Call::Offset, Answer::Count(2)),
-    (Call::Finish, Row),
-    (Call::Finish, Nothing),
-    (Call::RowsGiven, Answer::Count(2)),
-    (Call::Offset, Answer::Count(4)),
+const END: [(ReaderCall, Answer); 7] = [
+    (ReaderCall::Push(b"a\rbc"), Taken),
+    (ReaderCall::Finish, Row),
+    (ReaderCall::Offset, Answer::Count(2)),
+    (ReaderCall::Finish, Row),
+    (ReaderCall::Finish, Nothing),
+    (ReaderCall::RowsGiven, Answer::Count(2)),
+    (ReaderCall::Offset, Answer::Count(4)),
 ];
 
 #[test]

@@ -5,6 +5,7 @@ use super::{TableFault, TableRequest, TableStep};
 use pg_client::{CallFault, Cause, FeedFault, Phase};
 use pg_wire::{Fields, Request};
 use std::alloc::{AllocError, Global};
+use testing::TestStep;
 
 fn fault(alloc: Global, fault: TableFault) -> FeedFault {
     match fault {
@@ -99,30 +100,21 @@ fn has_come(alloc: Global, session: &mut TriedClient, step: TableStep) -> bool {
     }
 }
 
-// Does what a step says, and whether it was so.
-fn is_so(alloc: Global, session: &mut TriedClient, step: TableStep) -> bool {
-    match step {
-        TableStep::Start => session.starts(),
-        TableStep::Take(bytes) => session.takes(bytes),
-        TableStep::Send => session.sends(),
-        TableStep::Begin => session.begins(),
-        TableStep::Introduce(messages) => session.is_introduced(messages),
-        TableStep::Make(made) => session.makes(alloc, made),
-        TableStep::Chunk(bytes) => session.puts_chunk(bytes),
-        TableStep::EndCopy => session.ends_copy(),
-        TableStep::FailCopy(reason) => session.fails_copy(reason),
-        TableStep::Terminate => session.terminates(),
-        TableStep::Cancel => session.cancels(),
-        _ => has_come(alloc, session, step),
-    }
-}
-
-/// Whether each of these steps is so, one after the other.
-pub fn are_so(alloc: Global, session: &mut TriedClient, steps: &[TableStep]) -> bool {
-    for step in steps {
-        if !is_so(alloc, session, *step) {
-            return false;
+impl TestStep<TriedClient> for TableStep {
+    fn is_so(self, alloc: Global, it: &mut TriedClient) -> bool {
+        match self {
+            TableStep::Start => it.starts(),
+            TableStep::Take(bytes) => it.takes(bytes),
+            TableStep::Send => it.sends(),
+            TableStep::Begin => it.begins(),
+            TableStep::Introduce(messages) => it.is_introduced(messages),
+            TableStep::Make(made) => it.makes(alloc, made),
+            TableStep::Chunk(bytes) => it.puts_chunk(bytes),
+            TableStep::EndCopy => it.ends_copy(),
+            TableStep::FailCopy(reason) => it.fails_copy(reason),
+            TableStep::Terminate => it.terminates(),
+            TableStep::Cancel => it.cancels(),
+            _ => has_come(alloc, it, self),
         }
     }
-    true
 }

@@ -1,13 +1,12 @@
 //! A server that asks for a password.
 
-use super::judge::are_so;
 use super::session::{TriedClient, session_of};
 use super::{TableFault, TableRequest, TableStep};
 use pg_client::{CallFault, Cause, Client, Phase, Settings};
 use pg_wire::{EncodeFault, Seq};
 use std::alloc::{AllocError, Global};
-use testing::holds;
 use testing::values::WELCOME;
+use testing::{are_so, holds};
 
 // A client of the user `c` and the database `d` with this password, in phase New, which has put nothing out.
 fn given(alloc: Global, password: &[u8]) -> Result<TriedClient, AllocError> {

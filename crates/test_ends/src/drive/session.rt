@@ -231,25 +231,34 @@ fn link_is_so(link: &mut MemoryLink<'static>, step: SessionStep) -> bool {
     true
 }
 
+// What a step comes to that both kinds of session take in the same way: whether it was so.
+macro_rules! is_so_of_both {
+    ($session:expr, $step:expr) => {
+        match $step {
+            SessionStep::Pieces(pieces) => {
+                $session.pieces = pieces;
+                true
+            }
+            SessionStep::Starts(told) => starts_as($session.start()) == told,
+            SessionStep::Ask => $session.query("SELECT 1").is_ok(),
+            SessionStep::Copy(chunk) => $session.copy_chunk(chunk).is_ok(),
+            SessionStep::EndCopy => $session.copy_done().is_ok(),
+            SessionStep::Ends(some) => hands_back($session.end()) == Some(some),
+            SessionStep::Stands(phase) => $session.client.phase() == phase,
+            SessionStep::Waits(count) => $session.out.len() == count,
+            step => link_is_so(&mut $session.link, step),
+        }
+    };
+}
+
 impl Judged for Session<MemoryLink<'static>> {
     fn is_so(&mut self, step: SessionStep) -> bool {
         match step {
-            SessionStep::Pieces(pieces) => {
-                self.pieces = pieces;
-                true
-            }
-            SessionStep::Starts(told) => starts_as(self.start()) == told,
-            SessionStep::Ask => self.query("SELECT 1").is_ok(),
             SessionStep::Gives(wanted) => gives(self, wanted),
             SessionStep::Lends(wanted) => lends(self, wanted),
             SessionStep::LendsValues(count) => width_lent(self) == count,
             SessionStep::Finds(wanted) => finds(self, wanted),
-            SessionStep::Copy(chunk) => self.copy_chunk(chunk).is_ok(),
-            SessionStep::EndCopy => self.copy_done().is_ok(),
-            SessionStep::Ends(some) => hands_back(self.end()) == Some(some),
-            SessionStep::Stands(phase) => self.client.phase() == phase,
-            SessionStep::Waits(count) => self.out.len() == count,
-            _ => link_is_so(&mut self.link, step),
+            _ => is_so_of_both!(self, step),
         }
     }
 }
@@ -257,19 +266,8 @@ impl Judged for Session<MemoryLink<'static>> {
 impl Judged for GroupSession<MemoryLink<'static>> {
     fn is_so(&mut self, step: SessionStep) -> bool {
         match step {
-            SessionStep::Pieces(pieces) => {
-                self.pieces = pieces;
-                true
-            }
-            SessionStep::Starts(told) => starts_as(self.start()) == told,
-            SessionStep::Ask => self.query("SELECT 1").is_ok(),
             SessionStep::Gives(wanted) => gives_groups(self, wanted),
-            SessionStep::Copy(chunk) => self.copy_chunk(chunk).is_ok(),
-            SessionStep::EndCopy => self.copy_done().is_ok(),
-            SessionStep::Ends(some) => hands_back(self.end()) == Some(some),
-            SessionStep::Stands(phase) => self.client.phase() == phase,
-            SessionStep::Waits(count) => self.out.len() == count,
-            _ => link_is_so(&mut self.link, step),
+            _ => is_so_of_both!(self, step),
         }
     }
 }

@@ -3,8 +3,8 @@
 use pg_client::{Cause, EarlyClient, Item, Loss, Next, Phase, Settings};
 use pg_wire::{Request, Seq, Status};
 use std::alloc::{AllocError, Global};
-use testing::holds;
 use testing::values::{WELCOME, query};
+use testing::{TestStep, are_so, holds};
 
 /// RowDescription of one column, DataRow of a null and an empty text, a notice and CommandComplete.
 pub(crate) const ANSWER: &[u8] =
@@ -254,25 +254,17 @@ fn has_come(alloc: Global, session: &mut TriedEarlyClient, step: EarlyTableStep)
     }
 }
 
-// Does what a step says, and whether it was so.
-fn is_so(alloc: Global, session: &mut TriedEarlyClient, step: EarlyTableStep) -> bool {
-    match step {
-        EarlyTableStep::Start => session.starts(),
-        EarlyTableStep::Ask => session.asks(alloc),
-        EarlyTableStep::Feed(bytes) => session.feeds(bytes),
-        EarlyTableStep::Push(bytes) => session.pushes(bytes),
-        EarlyTableStep::Copy(chunk) => session.copies(chunk),
-        _ => has_come(alloc, session, step),
-    }
-}
-
-fn are_so(alloc: Global, session: &mut TriedEarlyClient, steps: &[EarlyTableStep]) -> bool {
-    for step in steps {
-        if !is_so(alloc, session, *step) {
-            return false;
+impl TestStep<TriedEarlyClient> for EarlyTableStep {
+    fn is_so(self, alloc: Global, it: &mut TriedEarlyClient) -> bool {
+        match self {
+            EarlyTableStep::Start => it.starts(),
+            EarlyTableStep::Ask => it.asks(alloc),
+            EarlyTableStep::Feed(bytes) => it.feeds(bytes),
+            EarlyTableStep::Push(bytes) => it.pushes(bytes),
+            EarlyTableStep::Copy(chunk) => it.copies(chunk),
+            _ => has_come(alloc, it, self),
         }
     }
-    true
 }
 
 /// Whether a new session does what these steps say.

@@ -1,43 +1,24 @@
 //! Files of either format, read in pieces and written.
 
-ghost use Rattle.std.specs.Prelude.{◌≡◌, ◌++◌, ℕ, List, Some, IfOk, OnOk};
+ghost use Rattle.std.specs.Prelude.{◌≡◌, ◌++◌, ℕ, List, IfOk, OnOk};
 ghost use Rattle.std.specs.List.{flat_map};
 ghost use Rattle.pg_copy.specs.Row.{Row};
 ghost use Rattle.pg_copy.specs.Text.{default_options, written_row};
 ghost use Rattle.pg_copy.specs.Binary.{written_head, binary_row, trailer};
 
 use crate::byte_cut::ByteCut;
-use anyhow::{Result, bail};
+use crate::copy_files::reader::CopyReader;
+use anyhow::{Result, bail, ensure};
 use pg_copy::{
     BinaryReader, Row, TextReader, write_binary_head, write_binary_row, write_binary_trailer,
     write_text_row,
 };
 use std::alloc::Global;
 
-/// How many columns the files have.
-pub const COLUMNS: u16 = 3;
-
-/// The longest value that is read of a binary file.
-pub const LIMIT: u32 = 65_536;
-
-/// A reader of a format, beside which its writers stand.
-pub trait CopyFormat: Drop {
+/// A format: a reader of its files, and how they are written.
+pub trait CopyFormat: CopyReader {
     // the file that is written of rows
     ghost file_of: { List Row → List ℕ };
-
-    /// Nothing was read yet.
-    fn begin(alloc: Global) -> Self
-    where
-        Self: Sized;
-
-    /// Takes the next piece.
-    fn push(&mut self, piece: &[u8]) -> Result<()>;
-
-    /// The next row that waits.
-    fn next(&mut self) -> Result<Option<Row>>;
-
-    /// The next row that is left at the end of the input.
-    fn finish(&mut self) -> Result<Option<Row>>;
 
     /// Appends a whole file of these rows.
     fn write(rows: &[Row], buf: &mut Vec<u8>) -> Result<()>
@@ -68,31 +49,6 @@ fn write_binary_rows(rows: &[Row], buf: &mut Vec<u8>) -> Result<()>
 impl CopyFormat for TextReader {
     ghost file_of = { flat_map (written_row default_options) };
 
-    fn begin(alloc: Global) -> TextReader
-        ensures { result.columns ≡ Some 3 }
-    {
-        TextReader::new(alloc, Some(COLUMNS))
-    }
-
-    fn push(&mut self, piece: &[u8]) -> Result<()> {
-        if self.ended() {
-            bail!("the input has ended");
-        }
-        TextReader::push(self, piece)?;
-        Ok(())
-    }
-
-    fn next(&mut self) -> Result<Option<Row>> {
-        if self.ended() {
-            bail!("the input has ended");
-        }
-        Ok(TextReader::next(self)?)
-    }
-
-    fn finish(&mut self) -> Result<Option<Row>> {
-        Ok(TextReader::finish(self)?)
-    }
-
     fn write(rows: &[Row], buf: &mut Vec<u8>) -> Result<()> {
         write_lines(rows, buf)
     }
@@ -100,31 +56,6 @@ impl CopyFormat for TextReader {
 
 impl CopyFormat for BinaryReader {
     ghost file_of = { λ rows. written_head ++ flat_map binary_row rows ++ trailer };
-
-    fn begin(alloc: Global) -> BinaryReader
-        ensures { (result.columns ≡ 3) × (result.limit ≡ 65536) }
-    {
-        BinaryReader::new(alloc, COLUMNS, LIMIT)
-    }
-
-    fn push(&mut self, piece: &[u8]) -> Result<()> {
-        if self.ended() {
-            bail!("the input has ended");
-        }
-        BinaryReader::push(self, piece)?;
-        Ok(())
-    }
-
-    fn next(&mut self) -> Result<Option<Row>> {
-        if self.ended() {
-            bail!("the input has ended");
-        }
-        Ok(BinaryReader::next(self)?)
-    }
-
-    fn finish(&mut self) -> Result<Option<Row>> {
-        Ok(BinaryReader::finish(self)?)
-    }
 
     fn write(rows: &[Row], buf: &mut Vec<u8>) -> Result<()> {
         write_binary_head(buf)?;
@@ -134,16 +65,22 @@ impl CopyFormat for BinaryReader {
     }
 }
 
+fn next_row<R: CopyReader>(reader: &mut R) -> Result<Option<Row>> {
+    ensure!(!reader.ended(), "the input has ended");
+    Ok(reader.next()?)
+}
+
 // Pushes a piece, and takes the rows that wait then, of which there are no more than bytes.
-fn read_piece<F: CopyFormat>(
-    reader: &mut F,
+fn read_piece<R: CopyReader>(
+    reader: &mut R,
     piece: &[u8],
     most: usize,
     rows: &mut Vec<Row>,
 ) -> Result<()> {
+    ensure!(!reader.ended(), "the input has ended");
     reader.push(piece)?;
     for _ in 0..=most {
-        match reader.next()? {
+        match next_row(reader)? {
             Some(row) => rows.push(row)?,
             None => return Ok(()),
         }
@@ -152,8 +89,8 @@ fn read_piece<F: CopyFormat>(
 }
 
 // Pushes a file that comes in pieces, and takes the rows that wait after each.
-fn push_pieces<F: CopyFormat>(
-    reader: &mut F,
+fn push_pieces<R: CopyReader>(
+    reader: &mut R,
     bytes: &[u8],
     cut: ByteCut,
     rows: &mut Vec<Row>,
@@ -176,7 +113,7 @@ fn push_pieces<F: CopyFormat>(
 }
 
 // Takes the rows that are left at the end of the input, of which there are no more than bytes.
-fn read_left<F: CopyFormat>(reader: &mut F, most: usize, rows: &mut Vec<Row>) -> Result<()> {
+fn read_left<R: CopyReader>(reader: &mut R, most: usize, rows: &mut Vec<Row>) -> Result<()> {
     for _ in 0..=most {
         match reader.finish()? {
             Some(row) => rows.push(row)?,
@@ -187,8 +124,8 @@ fn read_left<F: CopyFormat>(reader: &mut F, most: usize, rows: &mut Vec<Row>) ->
 }
 
 // Reads a file that comes in pieces to its end.
-fn read_pieces<F: CopyFormat>(
-    reader: &mut F,
+fn read_pieces<R: CopyReader>(
+    reader: &mut R,
     bytes: &[u8],
     cut: ByteCut,
     rows: &mut Vec<Row>,
@@ -198,13 +135,13 @@ fn read_pieces<F: CopyFormat>(
 }
 
 /// Appends the rows of a file that comes in pieces.
-pub fn read<F: CopyFormat>(
+pub fn read<R: CopyReader>(
     alloc: Global,
     bytes: &[u8],
     cut: ByteCut,
     rows: &mut Vec<Row>,
 ) -> Result<()> {
-    let mut reader = F::begin(alloc);
+    let mut reader = R::begin(alloc);
     read_pieces(&mut reader, bytes, cut, rows)
 }
 

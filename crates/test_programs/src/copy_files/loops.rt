@@ -1,54 +1,15 @@
-//! The loops of a caller: over the rows that wait, and over those that are left.
+//! The loops of a caller over the rows of a binary file, which are lent.
 
 ghost use Rattle.std.specs.Prelude.{◌≡◌, false, OnOk};
 
-use crate::copy_files::file::{COLUMNS, LIMIT};
+use crate::copy_files::looped::{LentFormat, fault_after, has_rows, is_written_again};
+use crate::copy_files::reader::{COLUMNS, LIMIT};
 use anyhow::{Result, bail, ensure};
 use pg_copy::{
     BinaryFault, BinaryReader, Row, write_binary_count, write_binary_field, write_binary_head,
     write_binary_trailer,
 };
 use std::alloc::Global;
-
-// Takes the rows that wait.
-fn take_waiting(reader: &mut BinaryReader, rows: &mut Vec<Row>) -> Result<()>
-    requires { reader.old.ended ≡ false }
-{
-    while let Some(row) = reader.next()? {
-        rows.push(row)?;
-    }
-    Ok(())
-}
-
-// Says that the input has ended, and takes the rows that are left.
-fn take_left(reader: &mut BinaryReader, rows: &mut Vec<Row>) -> Result<()> {
-    while let Some(row) = reader.finish()? {
-        rows.push(row)?;
-    }
-    Ok(())
-}
-
-// Takes the rows of a file that comes whole.
-fn take_all(reader: &mut BinaryReader, bytes: &[u8], rows: &mut Vec<Row>) -> Result<()>
-    requires { reader.old.ended ≡ false }
-{
-    reader.push(bytes)?;
-    take_waiting(reader, rows)?;
-    take_left(reader, rows)
-}
-
-// Appends the rows of a binary file that comes whole.
-fn put_rows(alloc: Global, bytes: &[u8], rows: &mut Vec<Row>) -> Result<()> {
-    let mut reader = BinaryReader::new(alloc, COLUMNS, LIMIT);
-    take_all(&mut reader, bytes, rows)
-}
-
-// Whether a binary file that comes whole has these rows.
-fn has_rows(alloc: Global, bytes: &[u8], rows: &[Row]) -> Result<bool> {
-    let mut found = Vec::new(alloc);
-    put_rows(alloc, bytes, &mut found)?;
-    Ok(found.as_slice() == rows)
-}
 
 // Writes the row that the reader lends, value by value.
 fn write_held(reader: &BinaryReader, out: &mut Vec<u8>) -> Result<()> {
@@ -105,28 +66,10 @@ fn write_file(reader: &mut BinaryReader, bytes: &[u8], rows: usize, out: &mut Ve
     Ok(write_binary_trailer(out)?)
 }
 
-fn put_again(alloc: Global, bytes: &[u8], rows: usize, out: &mut Vec<u8>) -> Result<()> {
-    let mut reader = BinaryReader::new(alloc, COLUMNS, LIMIT);
-    write_file(&mut reader, bytes, rows, out)
-}
-
-// Whether a binary file of so many rows is written again as it was.
-fn is_written_again(alloc: Global, bytes: &[u8], rows: usize) -> Result<bool> {
-    let mut out = Vec::new(alloc);
-    put_again(alloc, bytes, rows, &mut out)?;
-    Ok(out.as_slice() == bytes)
-}
-
-// Passes the rows by that wait, and says why none stands after them.
-fn fault_after(reader: &mut BinaryReader) -> Option<BinaryFault>
-    requires { reader.old.ended ≡ false }
-{
-    loop {
-        match reader.next_lent() {
-            Ok(true) => {}
-            Ok(false) => return None,
-            Err(fault) => return Some(fault),
-        }
+impl LentFormat for BinaryReader {
+    fn put_again(alloc: Global, bytes: &[u8], rows: usize, out: &mut Vec<u8>) -> Result<()> {
+        let mut reader = BinaryReader::new(alloc, COLUMNS, LIMIT);
+        write_file(&mut reader, bytes, rows, out)
     }
 }
 
@@ -153,11 +96,11 @@ fn place_of_fault(alloc: Global, bytes: &[u8]) -> Result<u64> {
 /// Reads a binary file of these rows by the loops.
 pub fn check(alloc: Global, file: &[u8], rows: &[Row]) -> Result<()> {
     ensure!(
-        has_rows(alloc, file, rows)?,
+        has_rows::<BinaryReader>(alloc, file, rows)?,
         "a loop over the reader gives other rows"
     );
     ensure!(
-        is_written_again(alloc, file, rows.len())?,
+        is_written_again::<BinaryReader>(alloc, file, rows.len())?,
         "another binary file is written of rows that are lent"
     );
     ensure!(

@@ -1,51 +1,12 @@
-//! The loops of a caller over the rows of a text file: over those that wait, and over those that are left.
+//! The loops of a caller over the rows of a text file, which are lent.
 
 ghost use Rattle.std.specs.Prelude.{◌≡◌, false, OnOk};
 
-use crate::copy_files::file::COLUMNS;
+use crate::copy_files::looped::{LentFormat, fault_after, has_rows, is_written_again};
+use crate::copy_files::reader::COLUMNS;
 use anyhow::{Result, bail, ensure};
 use pg_copy::{Row, TextFault, TextReader, TextRowWriter};
 use std::alloc::Global;
-
-// Takes the rows that wait.
-fn take_waiting(reader: &mut TextReader, rows: &mut Vec<Row>) -> Result<()>
-    requires { reader.old.ended ≡ false }
-{
-    while let Some(row) = reader.next()? {
-        rows.push(row)?;
-    }
-    Ok(())
-}
-
-// Says that the input has ended, and takes the rows that are left.
-fn take_left(reader: &mut TextReader, rows: &mut Vec<Row>) -> Result<()> {
-    while let Some(row) = reader.finish()? {
-        rows.push(row)?;
-    }
-    Ok(())
-}
-
-// Takes the rows of a file that comes whole.
-fn take_all(reader: &mut TextReader, bytes: &[u8], rows: &mut Vec<Row>) -> Result<()>
-    requires { reader.old.ended ≡ false }
-{
-    reader.push(bytes)?;
-    take_waiting(reader, rows)?;
-    take_left(reader, rows)
-}
-
-// Appends the rows of a text file that comes whole.
-fn put_rows(alloc: Global, bytes: &[u8], rows: &mut Vec<Row>) -> Result<()> {
-    let mut reader = TextReader::new(alloc, Some(COLUMNS));
-    take_all(&mut reader, bytes, rows)
-}
-
-// Whether a text file that comes whole has these rows.
-fn has_rows(alloc: Global, bytes: &[u8], rows: &[Row]) -> Result<bool> {
-    let mut found = Vec::new(alloc);
-    put_rows(alloc, bytes, &mut found)?;
-    Ok(found.as_slice() == rows)
-}
 
 // Writes the row that the reader lends, value by value.
 fn write_held(reader: &TextReader, writer: &mut TextRowWriter, out: &mut Vec<u8>) -> Result<()> {
@@ -107,28 +68,10 @@ fn write_file(reader: &mut TextReader, bytes: &[u8], rows: usize, out: &mut Vec<
     check_end(reader, rows, bytes.len())
 }
 
-fn put_again(alloc: Global, bytes: &[u8], rows: usize, out: &mut Vec<u8>) -> Result<()> {
-    let mut reader = TextReader::new(alloc, Some(COLUMNS));
-    write_file(&mut reader, bytes, rows, out)
-}
-
-// Whether a text file of so many rows is written again as it was.
-fn is_written_again(alloc: Global, bytes: &[u8], rows: usize) -> Result<bool> {
-    let mut out = Vec::new(alloc);
-    put_again(alloc, bytes, rows, &mut out)?;
-    Ok(out.as_slice() == bytes)
-}
-
-// Passes the rows by that wait, and says why none stands after them.
-fn fault_after(reader: &mut TextReader) -> Option<TextFault>
-    requires { reader.old.ended ≡ false }
-{
-    loop {
-        match reader.next_lent() {
-            Ok(true) => {}
-            Ok(false) => return None,
-            Err(fault) => return Some(fault),
-        }
+impl LentFormat for TextReader {
+    fn put_again(alloc: Global, bytes: &[u8], rows: usize, out: &mut Vec<u8>) -> Result<()> {
+        let mut reader = TextReader::new(alloc, Some(COLUMNS));
+        write_file(&mut reader, bytes, rows, out)
     }
 }
 
@@ -154,11 +97,11 @@ fn place_of_fault(alloc: Global, bytes: &[u8]) -> Result<u64> {
 /// Reads a text file of these rows by the loops.
 pub fn check(alloc: Global, file: &[u8], rows: &[Row]) -> Result<()> {
     ensure!(
-        has_rows(alloc, file, rows)?,
+        has_rows::<TextReader>(alloc, file, rows)?,
         "a loop over the reader of text gives other rows"
     );
     ensure!(
-        is_written_again(alloc, file, rows.len())?,
+        is_written_again::<TextReader>(alloc, file, rows.len())?,
         "another text is written of rows that are lent"
     );
     ensure!(

@@ -1,20 +1,20 @@
 //! Calls of readers and writers that are made once more where memory was refused.
 
-ghost use Rattle.std.specs.Prelude.{◌≡◌, Some};
-
-use crate::copy_files::file::{COLUMNS, LIMIT};
+use crate::copy_files::reader::CopyReader;
 use anyhow::{Result, ensure};
 use pg_copy::{
-    BinaryFault, BinaryReader, Row, RowFault, TextFault, TextReader, write_binary_head,
-    write_binary_row, write_binary_trailer, write_text_row,
+    BinaryFault, Row, RowFault, TextFault, write_binary_head, write_binary_row,
+    write_binary_trailer, write_text_row,
 };
 use std::alloc::Global;
 
 /// Whose memory ran out.
 #[derive(Clone, Copy, Debug, Default, Drop)]
 pub struct Refused {
-    text: bool,
-    binary: bool,
+    /// That of the reader of the text file.
+    pub text: bool,
+    /// That of the reader of the binary file.
+    pub binary: bool,
     row: bool,
 }
 
@@ -34,90 +34,57 @@ impl Refused {
     }
 }
 
-/// A reader of the text file.
-#[derive(Drop)]
-pub struct TextAgain {
-    reader: TextReader,
+// Whether memory was refused to a call of a reader.
+fn is_refused<R: CopyReader, T>(answer: &Result<T, R::ReaderFault>) -> bool {
+    match answer {
+        Ok(_) => false,
+        Err(fault) => R::is_memory(fault),
+    }
 }
 
-impl TextAgain {
-    pub fn new(alloc: Global) -> TextAgain
-        ensures { result.reader.columns ≡ Some 3 }
+/// A reader whose calls are made once more where memory was refused. Each call says whether it was.
+#[derive(Drop)]
+pub struct Again<R> {
+    reader: R,
+}
+
+impl<R: CopyReader> Again<R> {
+    pub fn new(alloc: Global) -> Again<R>
+        ensures { R.has_width result.reader }
     {
-        TextAgain {
-            reader: TextReader::new(alloc, Some(COLUMNS)),
+        Again {
+            reader: R::begin(alloc),
         }
     }
 
-    pub fn push(&mut self, piece: &[u8], refused: &mut Refused) -> Result<()> {
+    pub fn push(&mut self, piece: &[u8], refused: &mut bool) -> Result<()> {
         ensure!(!self.reader.ended(), "the input has ended");
-        match self.reader.push(piece) {
-            Err(TextFault::Memory) => refused.text = true,
-            answer => return Ok(answer?),
+        let answer = self.reader.push(piece);
+        if !is_refused::<R, ()>(&answer) {
+            return Ok(answer?);
         }
+        *refused = true;
         ensure!(!self.reader.ended(), "a refused push ends the input");
         Ok(self.reader.push(piece)?)
     }
 
-    pub fn next(&mut self, refused: &mut Refused) -> Result<Option<Row>> {
+    pub fn next(&mut self, refused: &mut bool) -> Result<Option<Row>> {
         ensure!(!self.reader.ended(), "the input has ended");
-        match self.reader.next() {
-            Err(TextFault::Memory) => refused.text = true,
-            answer => return Ok(answer?),
+        let answer = self.reader.next();
+        if !is_refused::<R, Option<Row>>(&answer) {
+            return Ok(answer?);
         }
+        *refused = true;
         ensure!(!self.reader.ended(), "a refused row ends the input");
         Ok(self.reader.next()?)
     }
 
-    pub fn finish(&mut self, refused: &mut Refused) -> Result<Option<Row>> {
-        match self.reader.finish() {
-            Err(TextFault::Memory) => refused.text = true,
-            answer => return Ok(answer?),
+    pub fn finish(&mut self, refused: &mut bool) -> Result<Option<Row>> {
+        let answer = self.reader.finish();
+        if !is_refused::<R, Option<Row>>(&answer) {
+            return Ok(answer?);
         }
-        Ok(self.reader.finish()?)
-    }
-}
-
-/// A reader of the binary file.
-#[derive(Drop)]
-pub struct BinaryAgain {
-    reader: BinaryReader,
-}
-
-impl BinaryAgain {
-    pub fn new(alloc: Global) -> BinaryAgain
-        ensures { (result.reader.columns ≡ 3) × (result.reader.limit ≡ 65536) }
-    {
-        BinaryAgain {
-            reader: BinaryReader::new(alloc, COLUMNS, LIMIT),
-        }
-    }
-
-    pub fn push(&mut self, piece: &[u8], refused: &mut Refused) -> Result<()> {
-        ensure!(!self.reader.ended(), "the input has ended");
-        match self.reader.push(piece) {
-            Err(BinaryFault::Memory) => refused.binary = true,
-            answer => return Ok(answer?),
-        }
-        ensure!(!self.reader.ended(), "a refused push ends the input");
-        Ok(self.reader.push(piece)?)
-    }
-
-    pub fn next(&mut self, refused: &mut Refused) -> Result<Option<Row>> {
-        ensure!(!self.reader.ended(), "the input has ended");
-        match self.reader.next() {
-            Err(BinaryFault::Memory) => refused.binary = true,
-            answer => return Ok(answer?),
-        }
-        ensure!(!self.reader.ended(), "a refused row ends the input");
-        Ok(self.reader.next()?)
-    }
-
-    pub fn finish(&mut self, refused: &mut Refused) -> Result<Option<Row>> {
-        match self.reader.finish() {
-            Err(BinaryFault::Memory) => refused.binary = true,
-            answer => return Ok(answer?),
-        }
+        *refused = true;
         Ok(self.reader.finish()?)
     }
 }

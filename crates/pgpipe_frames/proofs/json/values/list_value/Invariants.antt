@@ -4,4 +4,4 @@ use Rattle.pgpipe_frames.proofs.json.values.list_value.Given as goal
 
 -- those that were gone over have their values
 abbrev pub invariant-loop-item : goal.invariant-loop-item
-invariant-loop-item g l = map view l.list.items ≡ map g.T.Shown.shown (take l.item-index l.items)
+invariant-loop-item g l = map view l.list.items ≡ map g.T.ToJson.shown (take l.item-index l.items)
