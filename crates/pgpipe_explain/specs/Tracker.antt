@@ -68,14 +68,14 @@ body_of left n =
     else effect.Within (phase.Wire (wire.Body left n))
 
 -- a message's length came; after one that can't be nothing has an end
-abbrev pub message_of : ℕ → ByteEffect
-message_of n =
+abbrev pub after_length : ℕ → ByteEffect
+after_length n =
     if nat_lt n 4 || nat_lt longest n then effect.Within (phase.Wire wire.Rest)
     else body_of (n - 4) next.Message
 
 -- a first packet's length came; after one that can't be nothing has an end
-abbrev pub packet_of : ℕ → ByteEffect
-packet_of n =
+abbrev pub after_packet_length : ℕ → ByteEffect
+after_packet_length n =
     if nat_lt n 8 || nat_lt longest_packet n then effect.Within (phase.Wire wire.Rest)
     else effect.Within (phase.Wire (wire.Code 0 0 (n - 8)))
 
@@ -84,10 +84,10 @@ packet_of n =
 abbrev pub wire_taken : Wire → ℕ → ByteEffect
 wire_taken (wire.Head seen word) b =
     if nat_lt seen 4 then effect.Within (phase.Wire (wire.Head (seen + 1) (with_byte word b)))
-    else message_of (with_byte word b)
+    else after_length (with_byte word b)
 wire_taken (wire.Length seen word) b =
     if nat_lt seen 3 then effect.Within (phase.Wire (wire.Length (seen + 1) (with_byte word b)))
-    else packet_of (with_byte word b)
+    else after_packet_length (with_byte word b)
 wire_taken (wire.Code seen word left) b =
     if nat_lt seen 3 then effect.Within (phase.Wire (wire.Code (seen + 1) (with_byte word b) left))
     else body_of left (next_by (with_byte word b))

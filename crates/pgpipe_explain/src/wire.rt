@@ -1,7 +1,7 @@
 //! The messages and first packets of a stream, by their length fields.
 
 ghost use Rattle.std.specs.Prelude.{◌≡◌, ◌<◌, ◌^◌};
-ghost use Rattle.pgpipe_explain.specs.Tracker.{body_of, message_of, next_by, packet_of};
+ghost use Rattle.pgpipe_explain.specs.Tracker.{body_of, after_length, next_by, after_packet_length};
 ghost use Rattle.pgpipe_explain.specs.Tracker.{wire_taken, with_byte};
 
 use crate::tracker::{ByteEffect, Phase};
@@ -81,8 +81,8 @@ fn body(left: u32, next: NextPart) -> ByteEffect
 }
 
 // What the last byte of a message's length field does, which makes this number.
-fn message_of(length: u32) -> ByteEffect
-    ensures { result ≡ message_of length }
+fn after_length(length: u32) -> ByteEffect
+    ensures { result ≡ after_length length }
 {
     if length < 4 || length > LONGEST {
         return ByteEffect::Within(Phase::Wire(Wire::Rest));
@@ -91,8 +91,8 @@ fn message_of(length: u32) -> ByteEffect
 }
 
 // What the last byte of a first packet's length field does, which makes this number.
-fn packet_of(length: u32) -> ByteEffect
-    ensures { result ≡ packet_of length }
+fn after_packet_length(length: u32) -> ByteEffect
+    ensures { result ≡ after_packet_length length }
 {
     if length < 8 || length > LONGEST_PACKET {
         return ByteEffect::Within(Phase::Wire(Wire::Rest));
@@ -124,11 +124,11 @@ impl Wire {
             Wire::Head(seen, word) if seen < 4 => {
                 ByteEffect::Within(Phase::Wire(Wire::Head(seen + 1, with_byte(word, byte))))
             }
-            Wire::Head(_, word) => message_of(with_byte(word, byte)),
+            Wire::Head(_, word) => after_length(with_byte(word, byte)),
             Wire::Length(seen, word) if seen < 3 => {
                 ByteEffect::Within(Phase::Wire(Wire::Length(seen + 1, with_byte(word, byte))))
             }
-            Wire::Length(_, word) => packet_of(with_byte(word, byte)),
+            Wire::Length(_, word) => after_packet_length(with_byte(word, byte)),
             Wire::Code(seen, word, left) if seen < 3 => {
                 ByteEffect::Within(Phase::Wire(Wire::Code(seen + 1, with_byte(word, byte), left)))
             }
