@@ -250,13 +250,13 @@ at_rest before past client rest r = record {
   places = r.places;
   ordered = r.ordered;
   happened = r.happened;
+  knows = r.knows;
   within = r.within;
   late = r.late;
   is_open = r.is_open;
   not_handed_back = r.not_handed_back;
   not_terminated = r.not_terminated;
   stands = r.stands;
-  knows = r.knows;
 }
 
 -- The client has gone on, and what was added is what it has put out. What was told of the events before is told of those after.

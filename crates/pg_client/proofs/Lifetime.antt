@@ -61,12 +61,12 @@ taken v old None left same e = tt
 taken v old (Some t) left same e = λ h r0.
     let r : IsHistoryOf h v = subst (IsHistoryOf h) (sym same) r0 in
     record {
+      stands = subst (Stands (happenings h) r.was) (ap (λ (ts : List Settled). h.given ++ ts) e ∙ sym (append_assoc h.given (t ∷ []) left)) r.stands;
       stream = r.stream;
       places = r.places;
       ordered = r.ordered;
       happened = r.happened;
       was = r.was;
-      stands = subst (Stands (happenings h) r.was) (ap (λ (ts : List Settled). h.given ++ ts) e ∙ sym (append_assoc h.given (t ∷ []) left)) r.stands;
       shows = r.shows;
       ends = r.ends;
       terminated = r.terminated;

@@ -56,12 +56,8 @@ impl<S: Source> Source for FirstBytes<S> {
     ghost has_ended = { λ b. S.has_ended b.inner };
 
     fn receive(&mut self, into: &mut [u8]) -> Result<usize, LinkFault> {
-        match self.inner.receive(into) {
-            Ok(count) => {
-                self.keep(&into[..count]);
-                Ok(count)
-            }
-            Err(fault) => Err(fault),
-        }
+        let count = self.inner.receive(into)?;
+        self.keep(&into[..count]);
+        Ok(count)
     }
 }

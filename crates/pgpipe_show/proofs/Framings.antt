@@ -26,7 +26,7 @@ use Rattle.pgpipe_show.specs.declared.framing.Framing.{Framing}
 use Rattle.pgpipe_show.specs.declared.show.Shown.{Shown}
 use Rattle.pgpipe_show.specs.declared.show.Shown.TheVariants as shown
 use Rattle.pgpipe_show.specs.FrameLines.{IsLine, IsMessageLine, other_line, AreLines, AreFramesShown, first_of}
-use Rattle.pgpipe_show.specs.Private.Showing.{ArePut, AreAt, HasPutFrames, HasShown, LeavesSource, PutsFrames, PutsLine, PutsLineOf, StepShows, Stops, fault_stop, way_of}
+use Rattle.pgpipe_show.specs.Private.Showing.{ArePut, AreAt, AreWords, HasPutFrames, HasShown, LeavesSource, PutsFrames, PutsLine, PutsLineOf, StepShows, Stops, fault_stop, way_of, words_of}
 use Rattle.pgpipe_show.specs.Way.{Way}
 
 -- ---- lines and frames
@@ -79,6 +79,11 @@ other_line_of D frame known is j = (None, subst (JudgesBody D (slice_index frame
 pub newline_put : {A E : Type 0} (IsText : List ℕ → Type 0) (r : Result A E) (old mid new : List ℕ) → old ≡ [] → (text : List ℕ) × IsText text × (mid ≡ old ++ text) → new ≡ cond (is_ok r) (mid ++ codes "\n") mid → OnOk r ((words : List ℕ) × IsText words × (new ≡ words ++ codes "\n"))
 newline_put IsText (Ok x) old mid new none h e = (h.0, h.1, e ∙ ap (λ (l : List ℕ). l ++ codes "\n") (h.2 ∙ ap (λ (l : List ℕ). l ++ h.0) none))
 newline_put IsText (Err x) old mid new none h e = tt
+
+-- the words of a frame and a newline are its line
+pub words_put : {A E : Type 0} (json front : Bool) (f : Frame) (r : Result A E) (text : List ℕ) → OnOk r ((words : List ℕ) × AreWords json front f words × (text ≡ words ++ codes "\n")) → OnOk r (IsLine (words_of json) front f text)
+words_put false front f r text h = h
+words_put true front f r text h = h
 
 module _ {K : Type 0} (takes : K → List ℕ → K → Type 0) (failures : K → ℕ) (c : List ℕ) (s : K) (IsText : List ℕ → Type 0) where
   -- a line of this kind was put

@@ -1,13 +1,13 @@
 //! The lines of frames.
 
-ghost use Rattle.std.specs.Prelude.{◌≤◌, ◌^◌, true, length, None, OnOk};
+ghost use Rattle.std.specs.Prelude.{◌≡◌, ◌≤◌, ◌^◌, ◌++◌, ℕ, List, true, length, None, OnOk};
 ghost use Rattle.pgpipe_base.specs.Outbox.{line_of};
 ghost use Rattle.pgpipe_frames.specs.Frames.{fewest};
 ghost use Rattle.pgpipe_frames.specs.declared.next.NextFrame.TheVariants.{Packet};
-ghost use Rattle.pgpipe_show.specs.declared.form.Line.TheVariants.{Decoded, Json};
 ghost use Rattle.pgpipe_show.specs.FrameLines.{IsHexLine, IsLine, IsMessageLine, IsSideLine};
 ghost use Rattle.pgpipe_show.specs.FrameLines.{first_line, other_line};
-ghost use Rattle.pgpipe_show.specs.Private.Showing.{LeavesSource, PutsFrames, PutsLine, PutsLineOf};
+ghost use Rattle.pgpipe_show.specs.Private.Showing.{AreWords, LeavesSource, PutsFrames, PutsLine};
+ghost use Rattle.pgpipe_show.specs.Private.Showing.{PutsLineOf, words_of};
 
 use crate::form::Line;
 use crate::messages::put_spelled;
@@ -141,20 +141,42 @@ fn put_hexadecimal<K: Sink>(
     }
 }
 
-// Writes the decoded line of a frame.
-fn write_decoded(
+// Appends the words of a frame's line, decoded or (`json`) as a JSON object.
+fn put_words(
     alloc: Global,
+    json: bool,
     front: bool,
     kind: NextFrame,
     frame: &[u8],
     line: &mut Vec<u8>,
 ) -> Result<(), AllocError>
     requires { fewest kind ≤ length frame.now }
-    ensures { OnOk result (IsLine Decoded front (record { kind = kind; bytes = frame.now })
-        line.new.items) }
+    ensures { OnOk result ((words : List ℕ)
+        × AreWords json front (record { kind = kind; bytes = frame.now }) words
+        × (line.new.items ≡ line.old.items ++ words)) }
+{
+    if json {
+        pgpipe_frames::json::put_frame(alloc, front, kind, frame, line)
+    } else {
+        pgpipe_frames::put_frame(alloc, front, kind, frame, line)
+    }
+}
+
+// Writes the line of a frame in words.
+fn write_words(
+    alloc: Global,
+    json: bool,
+    front: bool,
+    kind: NextFrame,
+    frame: &[u8],
+    line: &mut Vec<u8>,
+) -> Result<(), AllocError>
+    requires { fewest kind ≤ length frame.now }
+    ensures { OnOk result (IsLine (words_of json) front
+        (record { kind = kind; bytes = frame.now }) line.new.items) }
 {
     line.clear();
-    pgpipe_frames::put_frame(alloc, front, kind, frame, line)?;
+    put_words(alloc, json, front, kind, frame, line)?;
     line.extend_from_slice(b"\n")
 }
 
@@ -169,9 +191,10 @@ fn put_text<K: Sink>(text: &Vec<u8>, outbox: &mut Outbox, sink: &mut K) -> Resul
     }
 }
 
-// Puts the decoded line of a frame, which is written whole first.
-fn put_decoded<K: Sink>(
+// Puts the line of a frame in words, which is written whole first.
+fn put_in_words<K: Sink>(
     alloc: Global,
+    json: bool,
     front: bool,
     kind: NextFrame,
     frame: &[u8],
@@ -180,47 +203,10 @@ fn put_decoded<K: Sink>(
     sink: &mut K,
 ) -> Result<(), Stop<Shown>>
     requires { fewest kind ≤ length frame.now }
-    ensures { PutsLineOf K.takes K.failures outbox.old sink.old
-        (IsLine Decoded front (record { kind = kind; bytes = frame.now })) result outbox.new sink.new }
+    ensures { PutsLineOf K.takes K.failures outbox.old sink.old (IsLine (words_of json) front
+        (record { kind = kind; bytes = frame.now })) result outbox.new sink.new }
 {
-    match write_decoded(alloc, front, kind, frame, line) {
-        Ok(()) => put_text(line, outbox, sink),
-        Err(_) => Err(Stop::Memory),
-    }
-}
-
-// Writes the line of a frame as a JSON object.
-fn write_json(
-    alloc: Global,
-    front: bool,
-    kind: NextFrame,
-    frame: &[u8],
-    line: &mut Vec<u8>,
-) -> Result<(), AllocError>
-    requires { fewest kind ≤ length frame.now }
-    ensures { OnOk result (IsLine Json front (record { kind = kind; bytes = frame.now })
-        line.new.items) }
-{
-    line.clear();
-    pgpipe_frames::json::put_frame(alloc, front, kind, frame, line)?;
-    line.extend_from_slice(b"\n")
-}
-
-// Puts the line of a frame as a JSON object, which is written whole first.
-fn put_json<K: Sink>(
-    alloc: Global,
-    front: bool,
-    kind: NextFrame,
-    frame: &[u8],
-    line: &mut Vec<u8>,
-    outbox: &mut Outbox,
-    sink: &mut K,
-) -> Result<(), Stop<Shown>>
-    requires { fewest kind ≤ length frame.now }
-    ensures { PutsLineOf K.takes K.failures outbox.old sink.old
-        (IsLine Json front (record { kind = kind; bytes = frame.now })) result outbox.new sink.new }
-{
-    match write_json(alloc, front, kind, frame, line) {
+    match write_words(alloc, json, front, kind, frame, line) {
         Ok(()) => put_text(line, outbox, sink),
         Err(_) => Err(Stop::Memory),
     }
@@ -243,8 +229,8 @@ fn put_frame<K: Sink>(
 {
     match line {
         Line::Hexadecimal => put_hexadecimal(alloc, front, kind, frame, spelled, outbox, sink),
-        Line::Decoded => put_decoded(alloc, front, kind, frame, spelled, outbox, sink),
-        Line::Json => put_json(alloc, front, kind, frame, spelled, outbox, sink),
+        Line::Decoded => put_in_words(alloc, false, front, kind, frame, spelled, outbox, sink),
+        Line::Json => put_in_words(alloc, true, front, kind, frame, spelled, outbox, sink),
     }
 }
 

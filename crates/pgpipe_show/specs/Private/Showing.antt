@@ -23,9 +23,12 @@ use Rattle.pgpipe_show.specs.declared.decoding.Decoding.{Decoding}
 use Rattle.pgpipe_show.specs.declared.decoding.Decoding.TheVariants as decoding
 use Rattle.pgpipe_frames.specs.declared.judge.FrameJudgement.TheVariants as judge
 use Rattle.pgpipe_frames.specs.Frames.{Frame, judged, AreFramed}
+use Rattle.pgpipe_frames.specs.FrameText.{IsTextOf}
+use Rattle.pgpipe_frames.specs.Json.Frame.{IsJsonText}
 use Rattle.pgpipe_frames.specs.Reader.{FramesState}
 use Rattle.pgpipe_show.specs.declared.form.Form.TheVariants as forms
 use Rattle.pgpipe_show.specs.declared.form.Line.{Line}
+use Rattle.pgpipe_show.specs.declared.form.Line.TheVariants as line_kind
 use Rattle.pgpipe_show.specs.FrameLines.{AreLines, AreFramesShown}
 use Rattle.pgpipe_show.specs.Messages.{lines}
 use Rattle.pgpipe_show.specs.Way.{Way, messages_of}
@@ -139,6 +142,16 @@ PutsPackets takes failures collected sink bytes (Err stop.SinkFailed) new collec
 PutsPackets takes failures collected sink bytes (Err _) new collected' sink' = ⊥
 
 -- ---- the frames of a stream
+
+-- lines in words: decoded, or (true) JSON objects
+abbrev pub words_of : Bool → Line
+words_of false = line_kind.Decoded
+words_of true = line_kind.Json
+
+-- These are the words of a frame's line, without its end.
+abbrev pub AreWords : Bool → Bool → Frame → List ℕ → Type 0
+AreWords false front f words = IsTextOf front f.kind f.bytes words
+AreWords true front f words = IsJsonText front f.kind f.bytes words
 
 -- A line of this kind is put, and no more is collected than there is room for; or memory ran
 -- out, and then nothing was put; or the sink failed.
