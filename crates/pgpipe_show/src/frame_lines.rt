@@ -124,8 +124,8 @@ fn put_first<K: Sink>(
 // Puts the line of a frame in hexadecimal.
 fn put_hexadecimal<K: Sink>(
     alloc: Global,
-    front: bool,
     kind: NextFrame,
+    front: bool,
     frame: &[u8],
     spelled: &mut Vec<u8>,
     outbox: &mut Outbox,
@@ -141,43 +141,39 @@ fn put_hexadecimal<K: Sink>(
     }
 }
 
-// Appends the words of a frame's line, decoded or (`json`) as a JSON object.
-fn put_words(
-    alloc: Global,
+// How a frame is put into words: decoded or as a JSON object, by the side that sent it and by what it is.
+#[derive(Clone, Copy)]
+struct Wording {
     json: bool,
     front: bool,
     kind: NextFrame,
-    frame: &[u8],
-    line: &mut Vec<u8>,
-) -> Result<(), AllocError>
-    requires { fewest kind ≤ length frame.now }
-    ensures { OnOk result ((words : List ℕ)
-        × AreWords json front (record { kind = kind; bytes = frame.now }) words
-        × (line.new.items ≡ line.old.items ++ words)) }
-{
-    if json {
-        pgpipe_frames::json::put_frame(alloc, front, kind, frame, line)
-    } else {
-        pgpipe_frames::put_frame(alloc, front, kind, frame, line)
-    }
 }
 
-// Writes the line of a frame in words.
-fn write_words(
-    alloc: Global,
-    json: bool,
-    front: bool,
-    kind: NextFrame,
-    frame: &[u8],
-    line: &mut Vec<u8>,
-) -> Result<(), AllocError>
-    requires { fewest kind ≤ length frame.now }
-    ensures { OnOk result (IsLine (words_of json) front
-        (record { kind = kind; bytes = frame.now }) line.new.items) }
-{
-    line.clear();
-    put_words(alloc, json, front, kind, frame, line)?;
-    line.extend_from_slice(b"\n")
+impl Wording {
+    // Appends the words of a frame's line, without its end.
+    fn put(self, alloc: Global, frame: &[u8], line: &mut Vec<u8>) -> Result<(), AllocError>
+        requires { fewest self.kind ≤ length frame.now }
+        ensures { OnOk result ((words : List ℕ)
+            × AreWords self.json self.front (record { kind = self.kind; bytes = frame.now }) words
+            × (line.new.items ≡ line.old.items ++ words)) }
+    {
+        if self.json {
+            pgpipe_frames::json::put_frame(alloc, self.front, self.kind, frame, line)
+        } else {
+            pgpipe_frames::put_frame(alloc, self.front, self.kind, frame, line)
+        }
+    }
+
+    // Writes the line of a frame.
+    fn write(self, alloc: Global, frame: &[u8], line: &mut Vec<u8>) -> Result<(), AllocError>
+        requires { fewest self.kind ≤ length frame.now }
+        ensures { OnOk result (IsLine (words_of self.json) self.front
+            (record { kind = self.kind; bytes = frame.now }) line.new.items) }
+    {
+        line.clear();
+        self.put(alloc, frame, line)?;
+        line.extend_from_slice(b"\n")
+    }
 }
 
 // Puts a text.
@@ -194,19 +190,18 @@ fn put_text<K: Sink>(text: &Vec<u8>, outbox: &mut Outbox, sink: &mut K) -> Resul
 // Puts the line of a frame in words, which is written whole first.
 fn put_in_words<K: Sink>(
     alloc: Global,
-    json: bool,
-    front: bool,
-    kind: NextFrame,
+    wording: Wording,
     frame: &[u8],
     line: &mut Vec<u8>,
     outbox: &mut Outbox,
     sink: &mut K,
 ) -> Result<(), Stop<Shown>>
-    requires { fewest kind ≤ length frame.now }
-    ensures { PutsLineOf K.takes K.failures outbox.old sink.old (IsLine (words_of json) front
-        (record { kind = kind; bytes = frame.now })) result outbox.new sink.new }
+    requires { fewest wording.kind ≤ length frame.now }
+    ensures { PutsLineOf K.takes K.failures outbox.old sink.old (IsLine (words_of wording.json)
+        wording.front (record { kind = wording.kind; bytes = frame.now })) result outbox.new
+        sink.new }
 {
-    match write_words(alloc, json, front, kind, frame, line) {
+    match wording.write(alloc, frame, line) {
         Ok(()) => put_text(line, outbox, sink),
         Err(_) => Err(Stop::Memory),
     }
@@ -227,10 +222,22 @@ fn put_frame<K: Sink>(
     ensures { PutsLineOf K.takes K.failures outbox.old sink.old
         (IsLine line front (record { kind = kind; bytes = frame.now })) result outbox.new sink.new }
 {
+    let (decoded, json) = (
+        Wording {
+            json: false,
+            front,
+            kind,
+        },
+        Wording {
+            json: true,
+            front,
+            kind,
+        },
+    );
     match line {
-        Line::Hexadecimal => put_hexadecimal(alloc, front, kind, frame, spelled, outbox, sink),
-        Line::Decoded => put_in_words(alloc, false, front, kind, frame, spelled, outbox, sink),
-        Line::Json => put_in_words(alloc, true, front, kind, frame, spelled, outbox, sink),
+        Line::Hexadecimal => put_hexadecimal(alloc, kind, front, frame, spelled, outbox, sink),
+        Line::Decoded => put_in_words(alloc, decoded, frame, spelled, outbox, sink),
+        Line::Json => put_in_words(alloc, json, frame, spelled, outbox, sink),
     }
 }
 

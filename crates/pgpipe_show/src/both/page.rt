@@ -42,8 +42,8 @@ fn reply_line(byte: u8) -> &'static [u8]
 // Writes the line of a frame.
 fn write_frame(
     alloc: Global,
-    front: bool,
     kind: NextFrame,
+    front: bool,
     frame: &[u8],
     line: &mut Vec<u8>,
 ) -> Result<(), AllocError>
@@ -103,7 +103,7 @@ impl Page {
         ensures { PutsEntry K.takes K.failures self.old.outbox sink.old
             (Message front (record { kind = kind; bytes = frame.now })) result self.new.outbox sink.new }
     {
-        match write_frame(self.alloc, front, kind, frame, &mut self.line) {
+        match write_frame(self.alloc, kind, front, frame, &mut self.line) {
             Ok(()) => put_line(&self.line, &mut self.outbox, sink),
             Err(_) => Err(Stop::Memory),
         }
