@@ -222,18 +222,15 @@ fn put_frame<K: Sink>(
     ensures { PutsLineOf K.takes K.failures outbox.old sink.old
         (IsLine line front (record { kind = kind; bytes = frame.now })) result outbox.new sink.new }
 {
-    let (decoded, json) = (
-        Wording {
-            json: false,
-            front,
-            kind,
-        },
-        Wording {
-            json: true,
-            front,
-            kind,
-        },
-    );
+    let decoded = Wording {
+        json: false,
+        front,
+        kind,
+    };
+    let json = Wording {
+        json: true,
+        ..decoded
+    };
     match line {
         Line::Hexadecimal => put_hexadecimal(alloc, kind, front, frame, spelled, outbox, sink),
         Line::Decoded => put_in_words(alloc, decoded, frame, spelled, outbox, sink),
