@@ -23,15 +23,15 @@
 //! that are shown as they are, at once, or one that isn't. A word of the definitions that stands for a long text is opaque to all but the
 //! function that appends it.
 //!
-//! **As JSON.** [`json::put_frame`] appends the object of a frame (json.rt and the files in json/).
+//! **As JSON.** [`as_json::put_frame`] appends the object of a frame (as_json.rt and the files in as_json/).
 #![tactic(auto)]
 
+pub mod as_json;
 mod backend;
 mod fields;
 mod frame_text;
 mod frames;
 mod frontend;
-pub mod json;
 mod judge;
 pub mod laws;
 mod next;

@@ -158,7 +158,7 @@ impl Wording {
             × (line.new.items ≡ line.old.items ++ words)) }
     {
         if self.json {
-            pgpipe_frames::json::put_frame(alloc, self.front, self.kind, frame, line)
+            pgpipe_frames::as_json::put_frame(alloc, self.front, self.kind, frame, line)
         } else {
             pgpipe_frames::put_frame(alloc, self.front, self.kind, frame, line)
         }

@@ -13,7 +13,7 @@ ghost use Rattle.pgpipe_show.specs.Labels.{IsPacketLabel, back_detail, back_labe
 ghost use Rattle.pgpipe_show.specs.Labels.{marked};
 
 use pg_wire::{BackMessage, First, FrontMessage};
-use pgpipe_frames::json::{back_called, front_called, packet_called, packet_name, status_word};
+use pgpipe_frames::as_json::{back_called, front_called, packet_called, packet_name, status_word};
 use pgpipe_frames::{
     NextFrame, back_name, code_of, front_name, put_whole, read_message, read_packet,
 };

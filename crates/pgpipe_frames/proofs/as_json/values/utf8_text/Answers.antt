@@ -1,5 +1,5 @@
 use Rattle.pgpipe_frames.proofs.JsonTexts.{not_utf8, of_utf8}
-use Rattle.pgpipe_frames.proofs.json.values.utf8_text.Goals as goal
+use Rattle.pgpipe_frames.proofs.as_json.values.utf8_text.Goals as goal
 
 pub returns-in-Ok : goal.returns-in-Ok
 returns-in-Ok c = of_utf8 c.args.bytes.now c.in-Ok.text.now c.in-Ok.ensures.cases.0 c.in-Ok.ensures.cases.1

@@ -1,6 +1,6 @@
 use Rattle.std.proofs.Common.{◌≡◌, map, take}
 use Rattle.serde_json.specs.View.{view}
-use Rattle.pgpipe_frames.proofs.json.values.list_value.Given as goal
+use Rattle.pgpipe_frames.proofs.as_json.values.list_value.Given as goal
 
 -- those that were gone over have their values
 abbrev pub invariant-loop-item : goal.invariant-loop-item

@@ -3,7 +3,7 @@ use Rattle.std.proofs.lemmas.Result.{on_ok_weaker}
 use Rattle.serde_json.specs.Data.{depth}
 use Rattle.serde_json.specs.View.{view}
 use Rattle.pgpipe_frames.proofs.JsonPlain.{plain}
-use Rattle.pgpipe_frames.proofs.json.frame.put_frame.Goals as goal
+use Rattle.pgpipe_frames.proofs.as_json.frame.put_frame.Goals as goal
 
 pub put_value-requires-clause-floatless : goal.put_value-requires-clause-floatless
 put_value-requires-clause-floatless c = (plain c.args.front c.args.kind c.args.frame.now (view c.in_ok-value.value) c.in_ok-value.ensures).floatless

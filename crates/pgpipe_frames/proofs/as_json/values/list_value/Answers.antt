@@ -3,7 +3,7 @@ use Rattle.std.proofs.lemmas.List.{take_all}
 use Rattle.serde_json.specs.Data.{Data, array}
 use Rattle.serde_json.specs.View.{items_of}
 use Rattle.pgpipe_frames.proofs.JsonLists.{one_more}
-use Rattle.pgpipe_frames.proofs.json.values.list_value.Goals as goal
+use Rattle.pgpipe_frames.proofs.as_json.values.list_value.Goals as goal
 
 pub loop-item-preserved : goal.loop-item-preserved
 loop-item-preserved g c = one_more g.T.ToJson.shown c.loop-item.list.items c.push.new.list.items c.in_ok-shown.shown c.args.items.now c.loop-item.item-index c.item-item.result (omega arith) c.item-item.is c.loop-item.invariant c.in_ok-push.ensures.ok c.in_ok-shown.ensures

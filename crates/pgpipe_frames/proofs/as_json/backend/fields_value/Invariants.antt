@@ -1,7 +1,7 @@
 use Rattle.std.proofs.Common.{◌≡◌, ◌++◌, map}
 use Rattle.serde_json.specs.View.{view}
 use Rattle.pgpipe_frames.specs.Json.Backend.{field_json}
-use Rattle.pgpipe_frames.proofs.json.backend.fields_value.Given as goal
+use Rattle.pgpipe_frames.proofs.as_json.backend.fields_value.Given as goal
 
 -- with the fields that are left, the list is that of all
 abbrev pub invariant-fields : goal.invariant-fields
