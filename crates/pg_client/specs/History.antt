@@ -1,12 +1,13 @@
 -- What a client went through, from its beginning: its history. No client stores it. Contracts speak
 -- of it, and say how each call carries it on.
-use Rattle.std.specs.Prelude.{◌≡◌, ℕ, ◌+◌, ◌≤◌, List, [], ◌∷◌, ◌++◌, length, Bool, true, false, cond, Some, ◌↔◌, nat_lt, map}
+use Rattle.std.specs.Prelude.{◌≡◌, ℕ, ℤ, ◌+◌, ◌≤◌, List, [], ◌∷◌, ◌++◌, length, Bool, true, false, cond, Option, Some, ◌↔◌, nat_lt, map}
 use Rattle.std.specs.List.{AllByRecursion}
 use Rattle.pg_wire.specs.message.BackMessage.{BackMessage}
 use Rattle.pg_wire.specs.Backend.{backend}
 use Rattle.pg_wire.specs.Direction.{spelling}
 use Rattle.pg_wire.specs.Segment.{status_of}
 use Rattle.pg_wire.specs.Stream.{IsStream}
+use Rattle.pg_wire.specs.message.BackMessage.TheVariants.{KeyData, ParameterStatus}
 use Rattle.pg_client.specs.declared.stand.Stand.{Stand}
 use Rattle.pg_client.specs.declared.settled.Settled.{Settled}
 use Rattle.pg_client.specs.declared.settings.Settings.{Settings}
@@ -89,13 +90,12 @@ pub record MayHappen (settings : Settings) (hs : List Happening) (sent : List �
   pub sent_is : sent ≡ sent_in settings hs
   pub spelled : AllByRecursion (IsSpelledAt settings) hs
 
--- The client knows the last status, the last value of each parameter and the last key that it was
--- sent, where it has heard these messages.
-pub record KnowsLast (heard : List BackMessage) (client : ClientView) : Type 0 where
-  pub status : client.status ≡ last_said status_of heard
-  pub parameters : (name : List ℕ)
-      → value_of name client.parameters ≡ last_said (value_said name) heard
-  pub key : client.key ≡ last_said key_said heard
+-- These are the last status, the last value of each parameter and the last key of what was heard.
+pub record KnowsLast (heard : List BackMessage) (s : Option Status) (ps : List (List ℕ × List ℕ))
+    (k : Option (ℤ × ℤ)) : Type 0 where
+  pub status : s ≡ last_said status_of heard
+  pub parameters : (name : List ℕ) → value_of name ps ≡ last_said (value_said name) heard
+  pub key : k ≡ last_said key_said heard
 
 -- The client, as it is now, may have gone through this history.
 pub record IsHistoryOf (h : History) (client : ClientView) : Type 0 where
@@ -115,7 +115,7 @@ pub record IsHistoryOf (h : History) (client : ClientView) : Type 0 where
   pub ends : Ends client.settings (happenings h) h.rest client.kept client.closed
   -- it is closed as Terminated where terminate was called
   pub terminated : IsTerminated (happenings h) ↔ (client.closed ≡ Some cause.Terminated)
-  pub knows : KnowsLast h.heard client
+  pub knows : KnowsLast h.heard client.status client.parameters client.key
 
 -- ---- how a call carries it on
 

@@ -156,7 +156,7 @@ pub record IsHearing (before : ℕ) (h : History) (client : ClientView) : Type 0
   pub not_handed_back : h.handed_back ≡ false
   pub not_terminated : IsTerminated (happenings h) → ⊥
   pub stands : Stands (happenings h) client.stand (h.given ++ client.settled)
-  pub knows : KnowsLast h.heard client
+  pub knows : KnowsLast h.heard client.status client.parameters client.key
 
 -- A client with this history, to which the piece belongs already, handles some more messages, as
 -- Hears says, and what was told of the events before is told of those after.
