@@ -7,7 +7,7 @@ use Rattle.pg_wire.specs.Backend.{backend}
 use Rattle.pg_wire.specs.Direction.{spelling}
 use Rattle.pg_wire.specs.Segment.{status_of}
 use Rattle.pg_wire.specs.Stream.{IsStream}
-use Rattle.pg_wire.specs.message.BackMessage.TheVariants.{KeyData, ParameterStatus}
+use Rattle.pg_wire.specs.value.Status.{Status}
 use Rattle.pg_client.specs.declared.stand.Stand.{Stand}
 use Rattle.pg_client.specs.declared.settled.Settled.{Settled}
 use Rattle.pg_client.specs.declared.settings.Settings.{Settings}
