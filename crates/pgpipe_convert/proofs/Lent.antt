@@ -365,6 +365,10 @@ row_of_more values v = sym (map-append option_copied values (v ∷ []))
 pub are_given : (row : Row) → AreGiven (YieldsFirstBy option_copied (λ (left : Row). left)) row row
 are_given row = (YieldsList-from_first option_copied (λ (left : Row). left) row refl).runs
 
+-- the values of a row that an iterator has left are given
+pub values_given : {left : Row} (row : Row) → left ≡ row → AreGiven (YieldsFirstBy option_copied (λ (l : Row). l)) left row
+values_given row e = subst (λ (l : Row). AreGiven (YieldsFirstBy option_copied (λ (k : Row). k)) l row) (sym e) (are_given row)
+
 module _ {S : Type 0} (gives : S → Option LentValue → S → Type 0) where
   -- what was given, one value more and what is left are the row
   pub given_more : (seen : List LentValue) (row : Row) (s t : S) (v : LentValue) (u : S) → AreGiven gives s row → Yields gives s seen t → gives t (Some v) u → (more : Row) × (row ≡ row_of seen ++ option_copied v ∷ more)

@@ -10,7 +10,6 @@ use Rattle.pgpipe_convert.specs.declared.copy_rows.RowReader.{RowReader}
 use Rattle.pgpipe_convert.specs.Convert.{FileWriting}
 use Rattle.pgpipe_convert.specs.Private.Converting.{row_stop, ReadsOn, GivesRow, WritesRow, PutsNext}
 use Rattle.pg_copy.specs.Lent.{as_next, Lends}
-use Rattle.pgpipe_convert.proofs.Readers.{stopped}
 
 -- a writer's answer, with the stop for its fault
 abbrev pub stopped_row : Result Unit RowFault → Result Bool (Stop Converted)
@@ -38,21 +37,27 @@ lent_next at_end to r r' (Some row) out result out' some on w = row_next at_end 
 lent_next at_end to r r' None out result out' some on w = absurd cc
 
 -- the row that `next_lent` lends comes next
-pub lent_reads_on : {F : Type 0} (stop_of : F → Stop Converted) (r r' : RowReader) (held : Option Row) (lends : Bool) (row : Row) → lends ≡ true → held ≡ Some row → GivesRow false r (stopped stop_of (as_next (Ok lends) held)) r' → ReadsOn false r (row ∷ []) r'
-lent_reads_on stop_of r r' (Some x) true row e k g =
+pub lent_reads_on : (r r' : RowReader) (held : Option Row) (lends : Bool) (row : Row) → lends ≡ true → held ≡ Some row → GivesRow false r (as_next (Ok lends) held) r' → ReadsOn false r (row ∷ []) r'
+lent_reads_on r r' (Some x) true row e k g =
     let same : x ≡ row = cc in
     subst (λ (y : Row). ReadsOn false r (y ∷ []) r') same g
-lent_reads_on stop_of r r' None true row e k g = absurd cc
-lent_reads_on stop_of r r' held false row e k g = absurd cc
+lent_reads_on r r' None true row e k g = absurd cc
+lent_reads_on r r' held false row e k g = absurd cc
+
+-- what was made of the row that is lent
+pub held_written : (to : FileWriting) (held : Option Row) (mine : Row) (out : List ℕ) (result : Result Bool (Stop Converted)) (out' : List ℕ) → held ≡ Some mine → WritesRow to mine out result out' → (row : Row) → held ≡ Some row → WritesRow to row out result out'
+held_written to held mine out result out' e w row is =
+    let same : mine ≡ row = cc (is, e) in
+    subst (λ (r : Row). WritesRow to r out result out') same w
 
 -- what `next_lent` answered, and what was made of the row that it lent
-pub lent_puts : {F : Type 0} (stop_of : F → Stop Converted) (to : FileWriting) (r r' : RowReader) (held : Option Row) (lends : Bool) (out : List ℕ) (result : Result Bool (Stop Converted)) (out' : List ℕ) → lends ≡ true → Lends {F = F} (Ok lends) held → GivesRow false r (stopped stop_of (as_next (Ok lends) held)) r' → ((row : Row) → held ≡ Some row → WritesRow to row out result out') → PutsNext false to r out result r' out'
-lent_puts stop_of to r r' held true out result out' e some g w = lent_next false to r r' held out result out' some g w
-lent_puts stop_of to r r' held false out result out' e some g w = absurd cc
+pub lent_puts : (to : FileWriting) (r r' : RowReader) (held : Option Row) (lends : Bool) (out : List ℕ) (result : Result Bool (Stop Converted)) (out' : List ℕ) → lends ≡ true → Lends {F = Stop Converted} (Ok lends) held → GivesRow false r (as_next (Ok lends) held) r' → ((row : Row) → held ≡ Some row → WritesRow to row out result out') → PutsNext false to r out result r' out'
+lent_puts to r r' held true out result out' e some g w = lent_next false to r r' held out result out' some g w
+lent_puts to r r' held false out result out' e some g w = absurd cc
 
-pub none_lent : {F : Type 0} (stop_of : F → Stop Converted) (to : FileWriting) (r r' : RowReader) (held : Option Row) (lends : Bool) (out : List ℕ) → lends ≡ false → GivesRow false r (stopped stop_of (as_next (Ok lends) held)) r' → PutsNext false to r out (Ok false) r' out
-none_lent stop_of to r r' held true out e g = absurd cc
-none_lent stop_of to r r' held false out e g = (g, refl)
+pub none_lent : (to : FileWriting) (r r' : RowReader) (held : Option Row) (lends : Bool) (out : List ℕ) → lends ≡ false → GivesRow false r (as_next (Ok lends) held) r' → PutsNext false to r out (Ok false) r' out
+none_lent to r r' held true out e g = absurd cc
+none_lent to r r' held false out e g = (g, refl)
 
 -- what `finish` answered, and what was made of the row that it gave
 pub left_puts : (to : FileWriting) (r r' : RowReader) (given : Option Row) (row : Row) (out : List ℕ) (result : Result Bool (Stop Converted)) (out' : List ℕ) → given ≡ Some row → GivesRow true r (Ok given) r' → WritesRow to row out result out' → PutsNext true to r out result r' out'

@@ -13,6 +13,7 @@ use Rattle.pg_copy.specs.binary_reader.BinaryStage.TheVariants as binary_stages
 use Rattle.pg_copy.specs.BinaryReader.{BinaryState, HasReadBinary, binary_stage_reading, kept_of, IsReading, PushesBinary, binary_ending}
 use Rattle.pg_copy.specs.BinaryPart.{binary_file_reading, binary_reading}
 use Rattle.pg_copy.specs.Reading.{RowsRead, RowsEnding, Open, Done, Ended, Bad, IsGood, AnswersNext, after_rows, given_by}
+use Rattle.pg_copy.specs.Lent.{as_next, Lends}
 use Rattle.pg_copy.specs.Row.{Row}
 use Rattle.pg_copy.specs.Text.{Options, text_file_reading, text_reading}
 use Rattle.pg_copy.specs.TextReader.{TextState, HasReadText, text_ending, last_text_ending}
@@ -28,6 +29,29 @@ use Rattle.pgpipe_convert.specs.Private.Converting.{text_stop, binary_stop, file
 abbrev pub stopped : {F : Type 0} → (F → Stop Converted) → Result (Option Row) F → Result (Option Row) (Stop Converted)
 stopped stop_of (Ok row) = Ok row
 stopped stop_of (Err f) = Err (stop_of f)
+
+-- a row that is lent, by what the reader of its format answered
+pub lent_by : {F : Type 0} (stop_of : F → Stop Converted) (r r' : RowReader) (held : Option Row) (lent : Result Bool F) (out : Result Bool (Stop Converted)) → MatchResult lent (λ x. out ≡ Ok x) (λ f. IsErrAnd out (λ s. s ≡ stop_of f))
+    → GivesRow false r (stopped stop_of (as_next lent held)) r' → GivesRow false r (as_next out held) r'
+lent_by stop_of r r' held (Ok true) out made g = rw made g
+lent_by stop_of r r' held (Ok false) out made g = rw made g
+lent_by stop_of r r' held (Err f) out made g =
+    let s = err_from_is_err_and out made in
+    rw (s.1, s.2) g
+
+pub lends_by : {F : Type 0} (stop_of : F → Stop Converted) (held : Option Row) (lent : Result Bool F) (out : Result Bool (Stop Converted)) → MatchResult lent (λ x. out ≡ Ok x) (λ f. IsErrAnd out (λ s. s ≡ stop_of f)) → Lends lent held → Lends out held
+lends_by stop_of held (Ok true) out made l = rw made l
+lends_by stop_of held (Ok false) out made l = rw made l
+lends_by stop_of held (Err f) out made l =
+    let s = err_from_is_err_and out made in
+    subst (λ (o : Result Bool (Stop Converted)). Lends o held) (sym s.1) l
+
+-- a row that is left, by what the reader of its format answered
+pub left_by : {F : Type 0} (stop_of : F → Stop Converted) (r r' : RowReader) (left : Result (Option Row) F) (out : Result (Option Row) (Stop Converted)) → MatchResult left (λ x. out ≡ Ok x) (λ f. IsErrAnd out (λ s. s ≡ stop_of f)) → GivesRow true r (stopped stop_of left) r' → GivesRow true r out r'
+left_by stop_of r r' (Ok row) out made g = rw made g
+left_by stop_of r r' (Err f) out made g =
+    let s = err_from_is_err_and out made in
+    rw (s.1, s.2) g
 
 abbrev pub reading_of : List Row → RowsEnding Converted → RowsRead Converted
 reading_of rows ending = record { rows = rows; ending = ending }

@@ -3,16 +3,14 @@
 ghost use Rattle.std.specs.Prelude.{◌≡◌, ◌<◌, ◌≤◌, [], ℕ, List, Some, false, true, length, IfOk};
 ghost use Rattle.std.specs.Prelude.{OnOk};
 ghost use Rattle.std.specs.Iterator.{IsFinite};
+ghost use Rattle.pg_copy.specs.Lent.{as_next, Lends};
 ghost use Rattle.pg_copy.specs.Row.{Row};
-ghost use Rattle.pg_copy.specs.BinaryReader.{HasReadBinary};
-ghost use Rattle.pg_copy.specs.TextReader.{HasReadText};
 ghost use Rattle.pgpipe_convert.specs.Convert.{file_with};
-ghost use Rattle.pgpipe_convert.specs.declared.copy_rows.RowReader.TheVariants.{Text, Binary};
 ghost use Rattle.pgpipe_convert.specs.Private.Values.{AreGiven, writing_by};
-ghost use Rattle.pgpipe_convert.specs.Private.Converting.{file_by, ended_of, HasReadBy, HasWidth};
-ghost use Rattle.pgpipe_convert.specs.Private.Converting.{text_stop, binary_stop, row_stop};
-ghost use Rattle.pgpipe_convert.specs.Private.Converting.{TakesPiece, WritesRow, PutsNext};
-ghost use Rattle.pgpipe_convert.specs.Private.Converting.{SendsMuch, PutsRows};
+ghost use Rattle.pgpipe_convert.specs.Private.Converting.{file_by, ended_of, held_of, HasReadBy};
+ghost use Rattle.pgpipe_convert.specs.Private.Converting.{HasWidth, text_stop, binary_stop};
+ghost use Rattle.pgpipe_convert.specs.Private.Converting.{row_stop, TakesPiece, GivesRow};
+ghost use Rattle.pgpipe_convert.specs.Private.Converting.{WritesRow, PutsNext, SendsMuch, PutsRows};
 
 use crate::convert::Converted;
 use crate::format::{Format, RowWriter, copy_of};
@@ -98,6 +96,30 @@ impl RowReader {
             RowReader::Binary(reader) => reader.push(piece).map_err(binary_stop),
         }
     }
+
+    // Whether a next row waits, which is lent then.
+    fn next_lent(&mut self) -> Result<bool, Stop<Converted>>
+        requires begun { ended_of self.old ≡ false }
+        requires read { (bytes : List ℕ) × (given : List Row) × HasReadBy self.old bytes given }
+        ensures gives { GivesRow false self.old (as_next result (held_of self.new)) self.new }
+        ensures lends { Lends result (held_of self.new) }
+    {
+        match self {
+            RowReader::Text(reader) => reader.next_lent().map_err(text_stop),
+            RowReader::Binary(reader) => reader.next_lent().map_err(binary_stop),
+        }
+    }
+
+    // The next row that is left at the end of the input.
+    fn finish(&mut self) -> Result<Option<Row>, Stop<Converted>>
+        requires { (bytes : List ℕ) × (given : List Row) × HasReadBy self.old bytes given }
+        ensures { GivesRow true self.old result self.new }
+    {
+        match self {
+            RowReader::Text(reader) => reader.finish().map_err(text_stop),
+            RowReader::Binary(reader) => reader.finish().map_err(binary_stop),
+        }
+    }
 }
 
 // Puts a row.
@@ -132,111 +154,63 @@ fn put_lent<'v, I: Iterator<Item = Option<&'v [u8]>> + Drop>(
     }
 }
 
-// Puts the row that a reader of a text file lends.
-fn put_held_text(
-    reader: &TextReader,
+// Puts the row that a reader lends.
+fn put_held(
+    reader: &RowReader,
     to: &mut RowWriter<'_>,
     out: &mut Vec<u8>,
 ) -> Result<bool, Stop<Converted>>
-    requires width { (row : Row) → reader.now.held ≡ Some row → length row ≡ to.old.columns }
-    ensures writes { (row : Row) → reader.now.held ≡ Some row
+    requires width { (row : Row) → held_of reader.now ≡ Some row → length row ≡ to.old.columns }
+    ensures writes { (row : Row) → held_of reader.now ≡ Some row
         → WritesRow (writing_by to.old) row out.old.items result out.new.items }
     ensures same { to.new ≡ to.old }
 {
-    match reader.held() {
-        Some(row) => put_lent(row.values(), row.values(), to, out),
-        None => Ok(false),
+    match reader {
+        RowReader::Text(reader) => match reader.held() {
+            Some(row) => put_lent(row.values(), row.values(), to, out),
+            None => Ok(false),
+        },
+        RowReader::Binary(reader) => match reader.held() {
+            Some(row) => put_lent(row.values(), row.values(), to, out),
+            None => Ok(false),
+        },
     }
 }
 
-// Puts the row that a reader of a binary file lends.
-fn put_held_binary(
-    reader: &BinaryReader,
+// Puts the next row that waits, and returns whether one did.
+fn put_waiting(
+    reader: &mut RowReader,
     to: &mut RowWriter<'_>,
     out: &mut Vec<u8>,
 ) -> Result<bool, Stop<Converted>>
-    requires width { (row : Row) → reader.now.held ≡ Some row → length row ≡ to.old.columns }
-    ensures writes { (row : Row) → reader.now.held ≡ Some row
-        → WritesRow (writing_by to.old) row out.old.items result out.new.items }
-    ensures same { to.new ≡ to.old }
-{
-    match reader.held() {
-        Some(row) => put_lent(row.values(), row.values(), to, out),
-        None => Ok(false),
-    }
-}
-
-// Puts the next row of a text file that waits, and returns whether one did.
-fn put_waiting_text(
-    reader: &mut TextReader,
-    to: &mut RowWriter<'_>,
-    out: &mut Vec<u8>,
-) -> Result<bool, Stop<Converted>>
-    requires begun { reader.old.ended ≡ false }
-    requires read { (bytes : List ℕ) × (given : List Row) × HasReadText reader.old bytes given }
-    requires width { HasWidth (file_by (Text reader.old)) to.old.columns }
-    ensures puts { PutsNext false (writing_by to.old) (Text reader.old) out.old.items result
-        (Text reader.new) out.new.items }
+    requires begun { ended_of reader.old ≡ false }
+    requires read { (bytes : List ℕ) × (given : List Row) × HasReadBy reader.old bytes given }
+    requires width { HasWidth (file_by reader.old) to.old.columns }
+    ensures puts { PutsNext false (writing_by to.old) reader.old out.old.items result reader.new
+        out.new.items }
     ensures same { to.new ≡ to.old }
 {
     match reader.next_lent() {
-        Ok(true) => put_held_text(reader, to, out),
+        Ok(true) => put_held(reader, to, out),
         Ok(false) => Ok(false),
-        Err(fault) => Err(text_stop(fault)),
+        Err(stop) => Err(stop),
     }
 }
 
-// Puts the next row of a binary file that waits, and returns whether one did.
-fn put_waiting_binary(
-    reader: &mut BinaryReader,
-    to: &mut RowWriter<'_>,
-    out: &mut Vec<u8>,
-) -> Result<bool, Stop<Converted>>
-    requires begun { reader.old.ended ≡ false }
-    requires read { (bytes : List ℕ) × (given : List Row) × HasReadBinary reader.old bytes given }
-    requires width { HasWidth (file_by (Binary reader.old)) to.old.columns }
-    ensures puts { PutsNext false (writing_by to.old) (Binary reader.old) out.old.items result
-        (Binary reader.new) out.new.items }
-    ensures same { to.new ≡ to.old }
-{
-    match reader.next_lent() {
-        Ok(true) => put_held_binary(reader, to, out),
-        Ok(false) => Ok(false),
-        Err(fault) => Err(binary_stop(fault)),
-    }
-}
-
-// Puts the next row that is left of a text file at its end, and returns whether one was.
-fn put_left_text(
-    reader: &mut TextReader,
+// Puts the next row that is left at the end of the input, and returns whether one was.
+fn put_left(
+    reader: &mut RowReader,
     to: &RowWriter<'_>,
     out: &mut Vec<u8>,
 ) -> Result<bool, Stop<Converted>>
-    requires { (bytes : List ℕ) × (given : List Row) × HasReadText reader.old bytes given }
-    ensures { PutsNext true (writing_by to.now) (Text reader.old) out.old.items result
-        (Text reader.new) out.new.items }
+    requires { (bytes : List ℕ) × (given : List Row) × HasReadBy reader.old bytes given }
+    ensures { PutsNext true (writing_by to.now) reader.old out.old.items result reader.new
+        out.new.items }
 {
     match reader.finish() {
         Ok(Some(row)) => put_row(&row, to, out),
         Ok(None) => Ok(false),
-        Err(fault) => Err(text_stop(fault)),
-    }
-}
-
-// Puts the next row that is left of a binary file at its end, and returns whether one was.
-fn put_left_binary(
-    reader: &mut BinaryReader,
-    to: &RowWriter<'_>,
-    out: &mut Vec<u8>,
-) -> Result<bool, Stop<Converted>>
-    requires { (bytes : List ℕ) × (given : List Row) × HasReadBinary reader.old bytes given }
-    ensures { PutsNext true (writing_by to.now) (Binary reader.old) out.old.items result
-        (Binary reader.new) out.new.items }
-{
-    match reader.finish() {
-        Ok(Some(row)) => put_row(&row, to, out),
-        Ok(None) => Ok(false),
-        Err(fault) => Err(binary_stop(fault)),
+        Err(stop) => Err(stop),
     }
 }
 
@@ -254,19 +228,10 @@ fn put_next(
         out.new.items }
     ensures same { to.new ≡ to.old }
 {
-    match reader {
-        RowReader::Text(reader) => {
-            if at_end {
-                return put_left_text(reader, to, out);
-            }
-            put_waiting_text(reader, to, out)
-        }
-        RowReader::Binary(reader) => {
-            if at_end {
-                return put_left_binary(reader, to, out);
-            }
-            put_waiting_binary(reader, to, out)
-        }
+    if at_end {
+        put_left(reader, to, out)
+    } else {
+        put_waiting(reader, to, out)
     }
 }
 

@@ -51,6 +51,11 @@ abbrev pub ended_of : RowReader → Bool
 ended_of (reader.Text s) = s.ended
 ended_of (reader.Binary s) = s.ended
 
+-- the row that it lends, if it lends one
+abbrev pub held_of : RowReader → Option Row
+held_of (reader.Text s) = s.held
+held_of (reader.Binary s) = s.held
+
 -- what is still to come of what it was given, or of the whole file, if it was given all
 abbrev pub rows_left : Bool → RowReader → RowsRead Converted
 rows_left false (reader.Text s) = answered converted.Text (text_left s [])
