@@ -1,12 +1,15 @@
 //! `example_session rows 'SELECT generate_series(1, 3)'`: asks a server a query, and prints each row as it comes.
 //!
-//! A row is lent by the `Session` and none is kept, so any number of them passes in the same memory. The session is made of settings and a
-//! link, in main.rt.
+//! A row is lent by the `Session` and none is kept, so any number of them passes in the same memory.
 
-use example_base::{put_error, put_row};
+ghost use Rattle.pg_wire.specs.Direction.{IsLimit};
+
+use example_base::{Server, put_error, put_row};
 use pg_drive::{Event, Session};
-use pg_wire::{BackMessage, Sink, Source, send_all};
+use pg_wire::{BackMessage, Over, Patient, Sink, Source, send_all};
 use std::alloc::Global;
+use std::io;
+use std::net::TcpStream;
 
 // Puts the line of an error. No other message is printed.
 fn put_message(message: &BackMessage, line: &mut Vec<u8>) -> anyhow::Result<()> {
@@ -16,8 +19,8 @@ fn put_message(message: &BackMessage, line: &mut Vec<u8>) -> anyhow::Result<()> 
     Ok(())
 }
 
-/// Starts the session, makes the query, prints what comes, and ends the session.
-pub fn ask<L: Source + Sink, O: Sink>(
+// Starts the session, makes the query, prints what comes, and ends the session.
+fn ask<L: Source + Sink, O: Sink>(
     alloc: Global,
     session: &mut Session<L>,
     query: &str,
@@ -43,4 +46,14 @@ pub fn ask<L: Source + Sink, O: Sink>(
     }
     session.end()?;
     Ok(())
+}
+
+/// Connects to the server, asks the query, and prints the rows.
+pub fn run(rt: &HostRuntime, server: Server, query: &str) -> anyhow::Result<()>
+    requires { IsLimit server.settings.limit }
+{
+    let link = Over::new(Patient::new(TcpStream::connect(rt, server.address)?));
+    let mut session = Session::new(rt.alloc(), server.settings, link);
+    let mut output = Over::new(Patient::new(io::writer(rt)));
+    ask(rt.alloc(), &mut session, query, &mut output)
 }
