@@ -1,4 +1,3 @@
-use Rattle.std.proofs.Common.{Bool}
 use Rattle.pg_copy.specs.Lent.{as_next}
 use Rattle.pgpipe_convert.specs.declared.copy_rows.RowReader.TheVariants.{Text, Binary}
 use Rattle.pgpipe_convert.specs.Private.Converting.{text_stop, binary_stop}
