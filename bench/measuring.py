@@ -35,17 +35,17 @@ def write_rows(path, size):
 
 
 def measure(words, path, pieces=None):
-    """The seconds of one run over the file, those of the processor, and the greatest memory in use in KiB; in pieces of some size, if one is given."""
+    """The seconds of one run over the file, those of the processor, and the greatest memory in use in KiB; in pieces, if the words for them are given."""
     with tempfile.NamedTemporaryFile("r") as said, open(path, "rb") as source, open(os.devnull, "wb") as nothing:
         command = ["env", "time", "-f", "%e %U %S %M", "-o", said.name, *words]
-        subprocess.run([PIECES, str(pieces), *command] if pieces else command, stdin=source, stdout=nothing, check=True)
+        subprocess.run([PIECES, *pieces.split(), *command] if pieces else command, stdin=source, stdout=nothing, check=True)
         elapsed, user, system, memory = map(float, said.read().split())
     return elapsed, user + system, memory
 
 
 def compare(name, path, works, runs):
-    """A line for each work, which run by turns: medians, and the seconds of each over those of the first. A work has words, and the size of the pieces
-    that its input comes in, or None."""
+    """A line for each work, which run by turns: medians, and the seconds of each over those of the first. A work has words, and what bench/pieces is
+    told of the pieces that its input comes in, or None."""
     taken = {work: [] for work in works}
     for _ in range(runs):
         for work, (words, pieces) in works.items():
