@@ -9,10 +9,12 @@ use Rattle.pg_client.specs.declared.call.Call.TheVariants as call
 use Rattle.pg_client.specs.declared.phase.Phase.TheVariants as phase
 use Rattle.pg_client.specs.declared.settled.Settled.{Settled}
 use Rattle.pg_client.specs.Answering.{AllSettled, KeepsOrder, TakesTurns}
-use Rattle.pg_client.specs.Client.{ClientView, phase_of}
+use Rattle.pg_client.specs.Client.{ClientView, groups_waiting, phase_of}
 use Rattle.pg_client.specs.Driving.{requests_by}
 use Rattle.pg_client.specs.History.{Calls, History, IsHistoryOf, happenings, with_call, with_given}
 use Rattle.pg_client.specs.Turns.{turns_of}
+use Rattle.pg_client.specs.Keeping.{collecting}
+use Rattle.pg_client.proofs.Histories.Unread.{carried}
 use Rattle.pg_drive.specs.declared.event.GroupEvent.TheVariants as event
 use Rattle.pg_drive.specs.Carried.{IsDrivenOn}
 use Rattle.pg_drive.specs.Group.{TakesGroup}
@@ -20,11 +22,11 @@ use Rattle.example_base.specs.Driver.{AwaitsRequest}
 
 -- what the laws requests_of_the_calls, story_of_a_run and answers_of_a_run say to a driver
 pub record Laws : Type 0 where
-  pub ready : (h : History) (client : ClientView) → IsHistoryOf h client → phase_of client ≡ phase.Ready → AllSettled (requests_by h.calls) (h.given ++ client.settled)
-  pub back : (h : History) (client : ClientView) → IsHistoryOf h client → client.closed ≡ None → requests_by h.calls ≢ [] → AllSettled (requests_by h.calls) (h.given ++ client.settled) → phase_of client ≡ phase.Ready
+  pub ready : (h : History Settled) (client : ClientView) → IsHistoryOf collecting h client → phase_of client ≡ phase.Ready → AllSettled (requests_by h.calls) (h.given ++ groups_waiting client)
+  pub back : (h : History Settled) (client : ClientView) → IsHistoryOf collecting h client → client.closed ≡ None → requests_by h.calls ≢ [] → AllSettled (requests_by h.calls) (h.given ++ groups_waiting client) → phase_of client ≡ phase.Ready
   pub asked : (calls : Calls) (r : Request) (place : ℕ) → requests_by (calls ++ (call.Request r, place) ∷ []) ≡ requests_by calls ++ r ∷ []
-  pub order : (h : History) → KeepsOrder h
-  pub turns : (h : History) (client : ClientView) → IsHistoryOf h client → TakesTurns (happenings h) (h.given ++ client.settled) client
+  pub order : (h : History Settled) → KeepsOrder h
+  pub turns : (h : History Settled) (client : ClientView) → IsHistoryOf collecting h client → TakesTurns (happenings h) (h.given ++ groups_waiting client) client
 
 abbrev requests : List Settled → List Request
 requests groups = map (λ (s : Settled). s.request) groups
@@ -56,23 +58,23 @@ pub own_group : Laws → (request : Request) (bytes : List ℕ) (old client new 
     → (group.request ≡ request) × AwaitsRequest new
 own_group laws request bytes old client new a k none group t =
     let same : t.group ≡ group = (let e = t.is_group in cc) in
-    let h : History = k.history in
+    let h : History Settled = k.history in
     let given : List Settled = a.history.given in
     let before : List Request = requests_by a.history.calls in
-    let groups : List Settled = h.given ++ client.settled in
+    let groups : List Settled = h.given ++ groups_waiting client in
     let asked : List Request = requests_by h.calls in
     let left : List Request = drop (length groups) asked in
     let was : AllSettled before given = ap requests (sym (append-nil given) ∙ ap (λ (gs : List Settled). given ++ gs) (sym a.none_waits)) ∙ laws.ready a.history old a.is_its_own a.ready in
     let calls : asked ≡ before ++ request ∷ [] = ap requests_by k.calls ∙ laws.asked a.history.calls request (length a.history.fed) in
     let first : requests groups ≡ take (length groups) asked = (laws.turns h client k.is_its_own).settled_first ∙ ap (λ (cs : List Call). take (length groups) (map (λ (turn : Turn). turn.request) (turns_of cs))) (laws.order h).calls in
     let whole : requests groups ++ left ≡ asked = ap (λ (rs : List Request). rs ++ left) first ∙ take-append-drop (length groups) asked in
-    let these : groups ≡ given ++ t.group ∷ new.settled = ap (λ (gs : List Settled). gs ++ client.settled) k.given ∙ ap (λ (gs : List Settled). given ++ gs) t.oldest in
-    let own = last_group given t.group new.settled before request left was (ap (λ (gs : List Settled). requests gs ++ left) (sym these) ∙ whole ∙ calls) in
+    let these : groups ≡ given ++ t.group ∷ groups_waiting new = ap (λ (gs : List Settled). gs ++ groups_waiting client) k.given ∙ ap (λ (gs : List Settled). given ++ gs) t.oldest in
+    let own = last_group given t.group (groups_waiting new) before request left was (ap (λ (gs : List Settled). requests gs ++ left) (sym these) ∙ whole ∙ calls) in
     let all : AllSettled asked groups = sym (append-nil (requests groups)) ∙ ap (λ (rs : List Request). requests groups ++ rs) (sym own.2) ∙ whole in (
       ap (λ (s : Settled). s.request) (sym same) ∙ own.0,
       record {
         history = with_given t.group h;
-        is_its_own = t.history h k.is_its_own;
+        is_its_own = carried collecting client new (with_given t.group) t.history h k.is_its_own;
         ready = ap phase_of t.others ∙ laws.back h client k.is_its_own none (λ e. some_requests before request (sym calls ∙ e)) all;
         none_waits = own.1;
       },

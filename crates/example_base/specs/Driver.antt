@@ -8,14 +8,15 @@ use Rattle.pg_client.specs.declared.fault.CallFault.{CallFault}
 use Rattle.pg_client.specs.declared.phase.Phase.TheVariants as phase
 use Rattle.pg_client.specs.declared.settled.Settled.{Settled}
 use Rattle.pg_client.specs.Calls.{Accepts, RefusesUnless}
-use Rattle.pg_client.specs.Client.{ClientView, phase_of}
+use Rattle.pg_client.specs.Client.{ClientView, groups_waiting, phase_of}
 use Rattle.pg_client.specs.History.{History, IsHistoryOf, with_call}
+use Rattle.pg_client.specs.Keeping.{collecting}
 use Rattle.pg_drive.specs.declared.event.GroupEvent.{GroupEvent}
 use Rattle.pg_drive.specs.declared.event.GroupEvent.TheVariants as event
 use Rattle.pg_drive.specs.declared.event.SessionFault.{SessionFault}
 use Rattle.pg_drive.specs.declared.event.SessionFault.TheVariants as session
 use Rattle.pg_drive.specs.Carried.{IsDrivenOn, pieces_fed}
-use Rattle.pg_drive.specs.Drive.{Connection, Drives, connected}
+use Rattle.pg_drive.specs.Drive.{LinkedClient, Drives, connected}
 use Rattle.pg_drive.specs.Group.{GroupTells, TakesGroup}
 use Rattle.pg_drive.specs.Session.{Tells}
 use Rattle.example_base.specs.declared.driver.AskFault.{AskFault}
@@ -24,10 +25,10 @@ use Rattle.example_base.specs.declared.driver.AskFault.TheVariants as fault
 -- The client may be asked the next request: its phase is Ready, and no settled group waits to be
 -- taken.
 pub record AwaitsRequest (client : ClientView) : Type 0 where
-  pub history : History
-  pub is_its_own : IsHistoryOf history client
+  pub history : History Settled
+  pub is_its_own : IsHistoryOf collecting history client
   pub ready : phase_of client ≡ phase.Ready
-  pub none_waits : client.settled ≡ []
+  pub none_waits : groups_waiting client ≡ []
 
 -- what the session's `next` returned, where `ask` made the request and returned this
 abbrev pub next_result : Result Settled AskFault → Result GroupEvent SessionFault
@@ -41,8 +42,8 @@ OnCopyIn (Err fault.CopyIn) p = p
 OnCopyIn _ p = Unit {0}
 
 -- The client rejected the request, and nothing has changed.
-pub record RefusesRequest {L : Type 0} (request : Request) (old : Connection L)
-    (result : Result Settled AskFault) (new : Connection L) : Type 0 where
+pub record RefusesRequest {L : Type 0} (request : Request) (old : LinkedClient L)
+    (result : Result Settled AskFault) (new : LinkedClient L) : Type 0 where
   pub reason : CallFault
   pub is_fault : result ≡ Err (fault.Session (session.Call reason))
   pub refused : RefusesUnless phase.Ready old.client (call.Request request) reason
@@ -55,15 +56,15 @@ module _ {L : Type 0} (gives takes : L → List ℕ → L → Type 0) (has_ended
   -- The client made the request, and was driven until `next` returned this. By each history it made
   -- the request, and was fed the pieces that the link gave, and nothing else. Then the group that
   -- is returned was taken.
-  pub record MakesRequest (most : ℕ) (request : Request) (old : Connection L)
-      (result : Result Settled AskFault) (new : Connection L) : Type 0 where
+  pub record MakesRequest (most : ℕ) (request : Request) (old : LinkedClient L)
+      (result : Result Settled AskFault) (new : LinkedClient L) : Type 0 where
     -- the client when it had made the request, and what waited to be sent then
     pub client : ClientView
     pub put : List ℕ
-    pub made : Accepts (call.Request request) old.client client old.out put
+    pub made : Accepts collecting (call.Request request) old.client client old.out put
     pub told : Tells (Drives gives takes has_ended receive_failures send_failures most) GroupTells
         (connected old.link client put) (next_result result) new
-    pub history : (h : History) → IsHistoryOf h old.client
+    pub history : (h : History Settled) → IsHistoryOf collecting h old.client
         → IsDrivenOn (with_call old.client.settings (call.Request request) h)
         (concat (pieces_fed gives takes has_ended receive_failures send_failures most
         (connected old.link client put) told.came (connected new.link told.client new.out)
@@ -73,6 +74,6 @@ module _ {L : Type 0} (gives takes : L → List ℕ → L → Type 0) (has_ended
         (λ group. TakesGroup told.client (Ok (event.Settled group)) new.client)
 
   -- What `ask` does, where at most so many pieces are received.
-  abbrev pub Asks : ℕ → Request → Connection L → Result Settled AskFault → Connection L → Type 0
+  abbrev pub Asks : ℕ → Request → LinkedClient L → Result Settled AskFault → LinkedClient L → Type 0
   Asks most request old result new =
       RefusesRequest request old result new ⊎ MakesRequest most request old result new

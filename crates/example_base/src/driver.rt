@@ -3,7 +3,9 @@
 ghost use Rattle.std.specs.Prelude.{◌≡◌, IfOk, OnOk};
 ghost use Rattle.pg_client.specs.declared.phase.Phase.TheVariants as phase;
 ghost use Rattle.pg_client.specs.Client.{phase_of};
+ghost use Rattle.pg_client.specs.declared.settled.Settled.{Settled};
 ghost use Rattle.pg_client.specs.History.{History, IsHistoryOf};
+ghost use Rattle.pg_client.specs.Keeping.{collecting};
 ghost use Rattle.pg_drive.specs.Drive.{connected};
 ghost use Rattle.pg_drive.specs.Group.{GroupStarts};
 ghost use Rattle.example_base.specs.Driver.{Asks, AwaitsRequest, OnCopyIn, next_result};
@@ -29,7 +31,7 @@ pub enum AskFault {
 
 /// Starts a session as [`GroupSession::start`] does, whose faults it has. Then the first request may be asked.
 pub fn connect<L: Source + Sink>(session: &mut GroupSession<L>) -> Result<(), SessionFault>
-    requires { (h : History) × IsHistoryOf h session.old.client }
+    requires { (h : History Settled) × IsHistoryOf collecting h session.old.client }
     ensures ready { OnOk result (AwaitsRequest session.new.client) }
     ensures start { GroupStarts L.gives L.takes L.has_ended L.Source.failures L.Sink.failures
         session.old.pieces (connected session.old.link session.old.client session.old.out.items)

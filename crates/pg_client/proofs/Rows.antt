@@ -11,8 +11,6 @@ use Rattle.pg_wire.specs.fault.EncodeFault.TheVariants as encoding
 use Rattle.pg_wire.specs.message.First.TheVariants.{Cancel}
 use Rattle.pg_wire.specs.message.FrontMessage.TheVariants as front
 use Rattle.pg_wire.specs.value.Status.TheVariants as status
-use Rattle.pg_wire.specs.declared.session.Aside.TheVariants as aside
-use Rattle.pg_wire.specs.declared.session.ExecEnd.TheVariants as ends
 use Rattle.pg_wire.specs.declared.session.Part.TheVariants as part
 use Rattle.pg_wire.specs.declared.session.Request.{Request}
 use Rattle.pg_wire.specs.declared.session.Request.TheVariants.{Query, Group}
@@ -30,27 +28,24 @@ use Rattle.pg_wire.specs.value.Status.{Status}
 use Rattle.pg_client.specs.declared.call.Call.{Call}
 use Rattle.pg_client.specs.declared.call.Call.TheVariants as call
 use Rattle.pg_client.specs.Session.{Happening, Did, Came, IsReady, IsCopyingIn, IsNoCopyIn, IsCalledForLastCopy, IsAfterItsCall, AsksPassword, Expected, IsStartup, key_data, groups_in}
-use Rattle.pg_client.specs.Client.{last_said, value_said, key_said, stand_phase, ClientView}
+use Rattle.pg_client.specs.Client.{last_said, value_said, key_said, stand_phase, View}
 use Rattle.pg_client.specs.Sent.{sent_by, answer_to, call_fault, sent_in}
 use Rattle.pg_client.specs.Closed.{AsksOther, cause_of, IsFaultFor, AwaitsAuthentication}
 use Rattle.pg_client.specs.History.{merged, Calls, with_ends}
 use Rattle.pg_client.specs.Calls.{Cancels, RefusesCopy, RefusesUnless}
 use Rattle.pg_client.specs.Lost.{Loses}
 use Rattle.pg_client.specs.Facts.{FirstSettled}
-use Rattle.pg_response.specs.declared.segment.CopyAnswer.TheVariants.{Awaited, Done}
-use Rattle.pg_response.specs.declared.segment.begun.Open.TheVariants as begun
-use Rattle.pg_response.specs.Segment.{Within}
+use Rattle.pg_client.specs.declared.stand.CopyAnswer.TheVariants.{Awaited, Done}
+use Rattle.pg_response.specs.declared.place.Open.TheVariants as opened
+use Rattle.pg_response.specs.Place.{start}
 use Rattle.pg_client.specs.declared.stand.Stand.TheVariants.{Starting, Idle, Busy}
 use Rattle.pg_client.specs.declared.startup.Welcome.TheVariants.{Fresh, Asked, Admitted}
 use Rattle.pg_client.specs.declared.settings.Settings.{Settings}
-use Rattle.pg_client.specs.Stand.{Leads, Rejected, hear, hear_with, Stands}
-use Rattle.pg_response.specs.SegmentCalls.{segment_of}
+use Rattle.pg_client.specs.Stand.{fault_at, hear, hear_with, Stands}
 use Rattle.pg_client.specs.Private.Calling.{with_request}
-use Rattle.pg_client.specs.Private.Hearing.{fault_at}
-use Rattle.pg_client.proofs.Agreeing.{no_copy_in}
-use Rattle.pg_client.proofs.Happening.{hears, did_start, expected_came, expected_did, expected_nothing}
-use Rattle.pg_response.proofs.Outcomes.{read_outcome}
-use Rattle.pg_client.proofs.Passwords.{comes_first}
+use Rattle.pg_client.proofs.Standing.Agreeing.{no_copy_in}
+use Rattle.pg_client.proofs.Events.Happening.{hears, did_start, expected_came, expected_did, expected_nothing}
+use Rattle.pg_client.proofs.Events.Passwords.{comes_first}
 
 ok : List ℕ
 ok = 79 ∷ 75 ∷ []
@@ -73,9 +68,6 @@ ready = Did call.Start ∷ Came AuthOk ∷ Came (Ready status.Idle) ∷ []
 command_fits : Fits select (CommandComplete ok ∷ Ready status.Idle ∷ []) (record { parts = part.Command ok ∷ []; error = None; status = status.Idle; asides = [] })
 unfolding select
 command_fits = record { body = CommandComplete ok ∷ []; closed = refl; asides = refl; reads = (_, (refl, refl), tt, refl) }
-
-command_read : read_outcome (Query []) (CommandComplete ok ∷ []) status.Idle ≡ Some (record { parts = part.Command ok ∷ []; error = None; status = status.Idle; asides = [] })
-command_read = refl
 
 -- nothing is settled before the ReadyForQuery, and the query with its outcome then
 none_settled : FirstSettled (select ∷ []) (groups_in (busy ++ Came (CommandComplete ok) ∷ [])) []
@@ -119,18 +111,6 @@ lost_failed = (refl, refl)
 error_fits : Fits (Query []) (ErrorResponse [] ∷ Ready status.Failed ∷ []) (record { parts = []; error = Some []; status = status.Failed; asides = [] })
 error_fits = record { body = ErrorResponse [] ∷ []; closed = refl; asides = refl; reads = (_, refl, [], inl refl, [], refl) }
 
--- what the error cuts off is no part, and a notice among rows is an aside
-cut_read : read_outcome (Query []) (CommandComplete ok ∷ RowDescription [] ∷ NoticeResponse [] ∷ DataRow [] ∷ ErrorResponse [] ∷ ErrorResponse [] ∷ []) status.Failed
-    ≡ Some (record { parts = part.Command ok ∷ []; error = Some []; status = status.Failed; asides = aside.Notice [] ∷ [] })
-cut_read = refl
-
--- a group that is cut off after its first step, and one whose portal is suspended
-group_read : read_outcome (Group (step.Parse [] [] [] ∷ step.Execute [] (pos 0) ∷ [])) (ParseComplete ∷ ErrorResponse [] ∷ []) status.Idle ≡ Some (record { parts = part.Parsed ∷ []; error = Some []; status = status.Idle; asides = [] })
-group_read = refl
-
-suspended_read : read_outcome (Group (step.Execute [] (pos 0) ∷ [])) (DataRow [] ∷ PortalSuspended ∷ []) status.Idle ≡ Some (record { parts = part.Executed ([] ∷ []) ends.Suspended ∷ []; error = None; status = status.Idle; asides = [] })
-suspended_read = refl
-
 -- ready: OK isn't expected, and is F2 Unexpected with its tag; an error is F6 ServerEnd
 ok_not_expected : Expected None (ready ++ Came (CommandComplete ok) ∷ []) → ⊥
 unfolding ready
@@ -150,24 +130,21 @@ error_ends : IsFaultFor None ready (ErrorResponse []) (feeding.ServerEnd [])
 unfolding ready
 error_ends = (refl, refl)
 
-ready_refuses : hear (Idle []) (CommandComplete ok) ≡ Rejected
+ready_refuses : hear Idle (CommandComplete ok) ≡ None
 ready_refuses = refl
 
-ready_unexpected : fault_at (Idle []) (CommandComplete ok) ≡ feeding.Unexpected 67
+ready_unexpected : fault_at Idle (CommandComplete ok) ≡ feeding.Unexpected 67
 ready_unexpected = refl
 
-ready_error : fault_at (Idle []) (ErrorResponse []) ≡ feeding.ServerEnd []
+ready_error : fault_at Idle (ErrorResponse []) ≡ feeding.ServerEnd []
 ready_error = refl
 
--- ready: a notice is the first aside of the next outcome
-ready_notes : hear (Idle []) (NoticeResponse []) ≡ Leads (Idle (aside.Notice [] ∷ []))
+-- ready: a notice changes nothing, and a request begins a segment
+ready_notes : hear Idle (NoticeResponse []) ≡ Some Idle
 ready_notes = refl
 
-notice_goes_on : with_request (Idle (aside.Notice [] ∷ [])) select ≡ Busy (record { request = select; parts = []; stage = Within begun.Nothing; asides = aside.Notice [] ∷ []; answer = Awaited })
-notice_goes_on = refl
-
-notice_read : read_outcome (Query []) (NoticeResponse [] ∷ CommandComplete ok ∷ []) status.Idle ≡ Some (record { parts = part.Command ok ∷ []; error = None; status = status.Idle; asides = aside.Notice [] ∷ [] })
-notice_read = refl
+request_begins : with_request Idle select ≡ Busy select start Awaited
+request_begins = refl
 
 -- the startup: an error, another way to authenticate, a password, and ReadyForQuery too early
 abbrev started : List Happening
@@ -209,13 +186,13 @@ startup_other = refl
 startup_password : fault_at (Starting Fresh) AuthCleartext ≡ feeding.PasswordWanted
 startup_password = refl
 
-startup_early : hear (Starting Fresh) (Ready status.Idle) ≡ Rejected
+startup_early : hear (Starting Fresh) (Ready status.Idle) ≡ None
 startup_early = refl
 
 startup_unexpected : fault_at (Starting Fresh) (Ready status.Idle) ≡ feeding.Unexpected 90
 startup_unexpected = refl
 
-startup_whole : hear (Starting Admitted) (Ready status.Idle) ≡ Leads (Idle [])
+startup_whole : hear (Starting Admitted) (Ready status.Idle) ≡ Some Idle
 startup_whole = refl
 
 -- ---- passwords
@@ -233,9 +210,9 @@ asked_startup = record { body = NoticeResponse [] ∷ AuthCleartext ∷ AuthOk �
 
 asked_expected : Expected (Some (97 ∷ [])) (started ++ Came AuthCleartext ∷ [])
 asked_expected =
-    let start : Stands started (Starting Fresh) [] = did_start [] [] (refl, refl) in
-    let heard = hears (Some (97 ∷ [])) started (Starting Fresh) [] AuthCleartext (λ ends. absurd (no_copy_in [] refl ends)) start in
-    expected_came (Some (97 ∷ [])) started AuthCleartext (Starting Asked) [] (expected_did (Some (97 ∷ [])) [] call.Start (Starting Fresh) [] (expected_nothing (Some (97 ∷ []))) start) heard.0 heard.1 heard.2
+    let begun : Stands started (Starting Fresh) = did_start [] refl in
+    let heard = hears (Some (97 ∷ [])) started AuthCleartext (Starting Fresh) (λ ends. absurd (no_copy_in [] refl ends)) begun in
+    expected_came (Some (97 ∷ [])) started AuthCleartext (Starting Asked) (expected_did (Some (97 ∷ [])) [] call.Start (Starting Fresh) (expected_nothing (Some (97 ∷ []))) begun) heard.0 heard.1 heard.2
 
 none_not_expected : Expected None (started ++ Came AuthCleartext ∷ []) → ⊥
 none_not_expected e = let k : false ≡ true = e.answerable.0 in cc
@@ -244,10 +221,10 @@ second_not_expected : Expected (Some (97 ∷ [])) (started ++ Came AuthCleartext
 second_not_expected e = let k : AuthCleartext ∷ [] ≡ [] = (comes_first (AuthMd5 []) refl (Some (97 ∷ [])) (started ++ Came AuthCleartext ∷ []) e).1 in cc
 
 -- the second question is F2 Unexpected, and so is another way of authentication after the first
-asked_once : hear_with (Some (97 ∷ [])) (Starting Fresh) (AuthMd5 []) ≡ Leads (Starting Asked)
+asked_once : hear_with (Some (97 ∷ [])) (Starting Fresh) (AuthMd5 []) ≡ Some (Starting Asked)
 asked_once = refl
 
-asked_twice : hear_with (Some (97 ∷ [])) (Starting Asked) AuthCleartext ≡ Rejected
+asked_twice : hear_with (Some (97 ∷ [])) (Starting Asked) AuthCleartext ≡ None
 asked_twice = refl
 
 twice_unexpected : fault_at (Starting Asked) AuthCleartext ≡ feeding.Unexpected 82
@@ -256,10 +233,10 @@ twice_unexpected = refl
 other_unexpected : fault_at (Starting Asked) (AuthOther (pos 10) []) ≡ feeding.Unexpected 82
 other_unexpected = refl
 
-not_asked : hear_with None (Starting Fresh) AuthCleartext ≡ Rejected
+not_asked : hear_with None (Starting Fresh) AuthCleartext ≡ None
 not_asked = refl
 
-admitted_then : hear_with (Some (97 ∷ [])) (Starting Asked) AuthOk ≡ Leads (Starting Admitted)
+admitted_then : hear_with (Some (97 ∷ [])) (Starting Asked) AuthOk ≡ Some (Starting Admitted)
 admitted_then = refl
 
 -- what is answered, after the startup packet
@@ -329,18 +306,18 @@ cancel_sends : packet (Cancel (pos 1) (pos 2)) ≡ 0 ∷ 0 ∷ 0 ∷ 16 ∷ 4 �
 cancel_sends = refl
 
 -- a second request is made in phase Busy
-busy_client : ClientView
-busy_client = record { settings = settings; kept = []; stand = Busy (segment_of select []); settled = []; status = Some status.Idle; parameters = []; key = None; closed = None }
+busy_client : {K : Type 0} → K → View K
+busy_client k = record { settings = settings; kept = []; held = None; known = record { stand = Busy select start Awaited; keeper = k; status = Some status.Idle; parameters = []; key = None }; closed = None }
 
-second_refused : RefusesUnless phase.Ready busy_client (call.Request select) (fault.NotReady phase.Busy)
+second_refused : {K : Type 0} → (k : K) → RefusesUnless phase.Ready (busy_client k) (call.Request select) (fault.NotReady phase.Busy)
 unfolding busy_client
-second_refused = (refl, λ e. cc)
+second_refused k = (refl, λ e. cc)
 
-chunk_refused : RefusesCopy busy_client (call.Chunk []) (fault.NotCopying phase.Busy)
+chunk_refused : {K : Type 0} → (k : K) → RefusesCopy (busy_client k) (call.Chunk []) (fault.NotCopying phase.Busy)
 unfolding busy_client
-chunk_refused = (refl, λ e. cc)
+chunk_refused k = (refl, λ e. cc)
 
-second_request : stand_phase (Busy (segment_of select [])) ≡ phase.Busy
+second_request : stand_phase (Busy select start Awaited) ≡ phase.Busy
 second_request = refl
 
 not_ready : IsReady busy → ⊥
@@ -348,11 +325,10 @@ unfolding busy
 not_ready e = cc
 
 -- the end of a copy in before its copy_done is unexpected; after it, it goes on
-copy_too_early : hear (Busy (record (segment_of (Query []) []) { stage = Within (begun.CopyIn (record { binary = false; formats = [] })) })) (CommandComplete ok) ≡ Rejected
+copy_too_early : hear (Busy (Query []) (record start { opened = opened.CopyIn }) Awaited) (CommandComplete ok) ≡ None
 copy_too_early = refl
 
-copy_in_time : hear (Busy (record (segment_of (Query []) []) { stage = Within (begun.CopyIn (record { binary = false; formats = [] })); answer = Done })) (CommandComplete ok)
-    ≡ Leads (Busy (record (segment_of (Query []) []) { parts = part.CopyIn (record { binary = false; formats = [] }) ok ∷ []; answer = Done }))
+copy_in_time : hear (Busy (Query []) (record start { opened = opened.CopyIn }) Done) (CommandComplete ok) ≡ Some (Busy (Query []) start Done)
 copy_in_time = refl
 
 -- a query was answered with a CopyInResponse, and nothing was called for it
@@ -397,7 +373,7 @@ said_of_another (b ∷ c ∷ []) since e all = cc
 said_of_another (b ∷ c ∷ d ∷ bs) since e all = cc
 
 -- a group has no copy in
-group_refuses : hear (Busy (segment_of (Group (step.Parse [] [] [] ∷ [])) [])) (back.CopyIn (record { binary = false; formats = [] })) ≡ Rejected
+group_refuses : hear (Busy (Group (step.Parse [] [] [] ∷ [])) start Awaited) (back.CopyIn (record { binary = false; formats = [] })) ≡ None
 group_refuses = refl
 
 -- a call stands before the message that was not whole when it was made

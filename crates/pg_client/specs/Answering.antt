@@ -28,7 +28,7 @@ turns_in hs = turns_of (calls_in hs)
 
 -- The events of a history are its calls and the messages that the client has handled, each in their
 -- order. The requests among them are those of the turns.
-pub record KeepsOrder (h : History) : Type 0 where
+pub record KeepsOrder {G : Type 0} (h : History G) : Type 0 where
   pub calls : calls_in (happenings h) ≡ calls_of h.calls
   pub messages : messages_in (happenings h) ≡ h.heard
   pub requests : requests_in (happenings h) ≡ map (λ t. t.request) (turns_of (calls_of h.calls))

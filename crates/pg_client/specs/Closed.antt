@@ -29,17 +29,18 @@ abbrev pub IsError : BackMessage → Type 0
 IsError m = (fields : Fields) × (m ≡ ErrorResponse fields)
 
 -- The message, which may not come after these events, has none of the faults below that have a name
--- of their own, and so is Unexpected. It is no ErrorResponse that comes in the startup or while no
--- request is outstanding. At the beginning of the startup it asks neither for a password nor for
+-- of their own, and so is Unexpected. It is no ErrorResponse that comes in the startup, or later while
+-- no request is outstanding. At the beginning of the startup it asks neither for a password nor for
 -- another authentication.
 pub record IsOnlyUnexpected (hs : List Happening) (m : BackMessage) : Type 0 where
   pub no_error : IsError m → (IsStarting hs ⊎ IsReady hs) → ⊥
   pub no_question : (AsksPassword m ⊎ AsksOther m) → AwaitsAuthentication hs → ⊥
 
--- The fault that feed returns for this message, which may not come after these events. The client
--- has this password or none. StartupError: an ErrorResponse in the startup. ServerEnd: one while no
--- request is outstanding. PasswordWanted: a question for a password that the client hasn't.
--- UnsupportedAuth: another authentication is asked for. Unexpected: any other message, by its tag.
+-- The fault of this message, which may not come after these events: feed returns it, unless memory
+-- runs out first. The client has this password or none. StartupError: an ErrorResponse in the startup. ServerEnd: one later,
+-- while no request is outstanding. PasswordWanted and UnsupportedAuth: at the beginning of the
+-- startup, a question for a password that the client hasn't, or for another authentication.
+-- Unexpected: any other message, by its tag.
 abbrev pub IsFaultFor : Option (List ℕ) → List Happening → BackMessage → FeedFault → Type 0
 IsFaultFor password hs m (feeding.StartupError fields) = IsStarting hs × (m ≡ ErrorResponse fields)
 IsFaultFor password hs m (feeding.ServerEnd fields) = IsReady hs × (m ≡ ErrorResponse fields)
@@ -71,7 +72,7 @@ pub record IsRefusedAt (settings : Settings) (hs : List Happening) (bytes : List
   pub begins : bytes ≡ spelling backend message ++ more
   -- it isn't longer than the limit allows
   pub within : IsWithin backend settings.limit message
-  pub unexpected : Expected settings.password (hs ++ Came message ∷ []) → ⊥
+  pub not_expected : Expected settings.password (hs ++ Came message ∷ []) → ⊥
   pub fault : IsFaultFor settings.password hs message f
 
 -- The client keeps the bytes that are left after the last whole message, and they may still become

@@ -7,7 +7,9 @@ use Rattle.pg_client.specs.declared.fault.FeedFault.TheVariants as feeding
 use Rattle.pg_client.specs.Answering.{calls_of}
 use Rattle.pg_client.specs.Client.{ClientView}
 use Rattle.pg_client.specs.Closed.{cause_of}
+use Rattle.pg_client.specs.declared.settled.Settled.{Settled}
 use Rattle.pg_client.specs.History.{Calls, History, IsHistoryOf}
+use Rattle.pg_client.specs.Keeping.{collecting}
 use Rattle.pg_client.specs.Turns.{turns_of}
 
 -- The requests that these calls made, in order.
@@ -23,11 +25,11 @@ IsLeftBy (Err f) closed = closed ≡ cause_of f
 
 -- What a history becomes by a feed: the client after it has a history with the same calls and the
 -- same groups taken. If the client was open, the whole piece was fed.
-pub record IsFedOn (past : History) (piece : List ℕ) (result : Result Unit FeedFault)
+pub record IsFedOn (past : History Settled) (piece : List ℕ) (result : Result Unit FeedFault)
     (old new : ClientView) : Type 0 where
   -- the history of the client after the feed
-  pub history : History
-  pub is_its_own : IsHistoryOf history new
+  pub history : History Settled
+  pub is_its_own : IsHistoryOf collecting history new
   pub calls : history.calls ≡ past.calls
   pub given : history.given ≡ past.given
   -- a client that was closed before is fed nothing

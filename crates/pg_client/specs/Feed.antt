@@ -1,5 +1,5 @@
 -- What a client does with a piece of the server's bytes.
-use Rattle.std.specs.Prelude.{◌≡◌, ℕ, ◌<◌, List, ◌++◌, length, Option, Some, None, Result, Ok, Err}
+use Rattle.std.specs.Prelude.{◌≡◌, ℕ, ◌<◌, List, [], ◌∷◌, ◌++◌, length, Option, Some, None, Result, Ok, Err}
 use Rattle.pg_wire.specs.message.BackMessage.{BackMessage}
 use Rattle.pg_wire.specs.Backend.{backend}
 use Rattle.pg_wire.specs.Stream.{IsFaulty}
@@ -9,15 +9,16 @@ use Rattle.pg_client.specs.declared.phase.Cause.TheVariants as cause
 use Rattle.pg_client.specs.declared.fault.FeedFault.{FeedFault}
 use Rattle.pg_client.specs.declared.fault.FeedFault.TheVariants as feeding
 use Rattle.pg_client.specs.Session.{Happening}
-use Rattle.pg_client.specs.Client.{ClientView}
+use Rattle.pg_client.specs.Client.{View}
+use Rattle.pg_client.specs.Keeping.{Keeps}
 use Rattle.pg_client.specs.Closed.{cause_of, IsRefusedAt}
-use Rattle.pg_client.specs.History.{with_fed, IsHistoryOf, with_heard, happenings, History}
+use Rattle.pg_client.specs.History.{with_fed, IsHistoryBefore, IsHistoryOf, with_heard, happenings, History}
 
 -- What feed returns for a client that was open. The arguments are the settings, the events after
 -- the feed, the bytes left, the piece, the result, and why the client is closed then. Ok: it stays
 -- open. Wire: the bytes left are no message and can't become one. Memory: memory ran out; a piece
--- without bytes takes none. Any other fault but Closed, which doesn't come: the bytes left begin
--- with a message that may not come.
+-- without bytes takes none. Closed isn't returned then. Any other fault: the bytes left begin with a
+-- message that may not come.
 abbrev pub FeedAnswers : Settings → List Happening → List ℕ → List ℕ → Result Unit FeedFault
     → Option Cause → Type 0
 FeedAnswers settings hs rest piece (Ok x) closed = closed ≡ None
@@ -31,36 +32,42 @@ FeedAnswers settings hs rest piece (Err f) closed = IsRefusedAt settings hs rest
 
 -- A client with this history, to which the piece belongs already, handles some more messages, puts
 -- the added bytes out, and returns a result as FeedAnswers says.
-pub record Hears (h : History) (piece added : List ℕ) (result : Result Unit FeedFault)
-    (new : ClientView) : Type 0 where
+pub record Hears {K : Type 0} (way : Keeps K) (h : History way.Given) (piece added : List ℕ)
+    (result : Result Unit FeedFault) (new : View K) : Type 0 where
   -- the messages that it handles now
   pub more : List BackMessage
   -- the bytes left after these
   pub rest : List ℕ
-  pub history : IsHistoryOf (with_heard more rest added h) new
+  pub history : IsHistoryOf way (with_heard more rest added h) new
   pub answers : FeedAnswers new.settings (happenings (with_heard more rest added h)) rest piece
       result new.closed
 
--- What feed does to a client that is open: it takes in the whole piece, and appends to the output
--- what it has to send for the messages that it handles. The last two arguments are the output
--- before and after.
-pub record FeedsOpen (old : ClientView) (piece : List ℕ) (result : Result Unit FeedFault)
-    (new : ClientView) (before after : List ℕ) : Type 0 where
+-- What feed does to a client that is open: it takes in the whole piece, after the bytes that were
+-- still to be heard, and appends to the output what it has to send for the messages that it
+-- handles. The last two arguments are the output before and after.
+pub record FeedsOpen {K : Type 0} (way : Keeps K) (old : View K) (piece : List ℕ)
+    (result : Result Unit FeedFault) (new : View K) (before after : List ℕ) : Type 0 where
   pub added : List ℕ
   pub put : after ≡ before ++ added
   -- the same bytes are added whatever history the client has
-  pub hears : (h : History) → IsHistoryOf h old → Hears (with_fed piece h) piece added result new
+  pub hears : (unread : List ℕ) (h : History way.Given) → IsHistoryBefore way unread h old
+      → Hears way (with_fed (unread ++ piece) h) (unread ++ piece) added result new
 
 -- What feed does to a client that is closed for this reason, or open (None). A closed one returns
--- Closed, and nothing changes.
-abbrev pub FeedsByCause : Option Cause → ClientView → List ℕ → Result Unit FeedFault → ClientView
-    → List ℕ → List ℕ → Type 0
-FeedsByCause (Some c) old piece result new before after = (result ≡ Err feeding.Closed)
+-- Closed, and nothing changes. An open one that is fed no bytes returns Ok, and nothing changes, even
+-- where pushed bytes are still to be heard.
+abbrev pub FeedsByCause : {K : Type 0} → Keeps K → Option Cause → View K → List ℕ
+    → Result Unit FeedFault → View K → List ℕ → List ℕ → Type 0
+FeedsByCause way (Some c) old piece result new before after = (result ≡ Err feeding.Closed)
     × (new ≡ old) × (after ≡ before)
-FeedsByCause None old piece result new before after = FeedsOpen old piece result new before after
+FeedsByCause way None old [] result new before after = (result ≡ Ok tt) × (new ≡ old)
+    × (after ≡ before)
+FeedsByCause way None old (b ∷ bs) result new before after =
+    FeedsOpen way old (b ∷ bs) result new before after
 
 -- What feed does. The arguments are the client before, the piece, the result, the client after, and
 -- the output before and after.
-abbrev pub Feeds : ClientView → List ℕ → Result Unit FeedFault → ClientView → List ℕ → List ℕ
-    → Type 0
-Feeds old piece result new before after = FeedsByCause old.closed old piece result new before after
+abbrev pub Feeds : {K : Type 0} → Keeps K → View K → List ℕ → Result Unit FeedFault → View K
+    → List ℕ → List ℕ → Type 0
+Feeds way old piece result new before after =
+    FeedsByCause way old.closed old piece result new before after

@@ -2,31 +2,33 @@
 -- what a client went through, what each call does, and what holds of the client then.
 pub mod Session
 pub mod Client
+pub mod Past
+pub mod Keeping
 pub mod Sent
 pub mod Closed
 pub mod History
 pub mod Calls
 pub mod Feed
 pub mod Lost
+pub mod Lent
 pub mod Fault
 pub mod Facts
 pub mod Turns
 pub mod Spelled
 pub mod Answering
 pub mod Driving
-pub mod Early
-pub mod EarlyLent
 -- What `{:?}` writes of a client's settings.
 pub mod Shown
 -- How the client goes on from message to message. A history is stated in these words, and in those
--- of Segment; the law facts_of_a_run says what they mean in those above.
+-- of Place and Collected; the law facts_of_a_run says what they mean in those above.
 pub mod Startup
 pub mod Stand
 -- Words of private functions, which no public contract cites.
 pub mod Private
 -- What pg_response defines and the contracts here speak of. Who uses pg_client names it through
 -- these lines.
-pub use Rattle.pg_response.specs.Segment
 pub use Rattle.pg_response.specs.Place
+pub use Rattle.pg_response.specs.Collected
 -- Its types.
-pub use Rattle.pg_response.specs.declared.segment
+pub use Rattle.pg_response.specs.declared.place
+pub use Rattle.pg_response.specs.declared.collected

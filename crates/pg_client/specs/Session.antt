@@ -206,7 +206,7 @@ abbrev pub HasRequest : List Happening → Type 0
 HasRequest hs = requests_in hs ≡ [] → ⊥
 
 -- The session is where this call may be made. start: where it wasn't called before. request: where
--- no request is outstanding. copy_chunk, copy_done and copy_fail: while the server waits for the
+-- the startup is over and no request is outstanding. copy_chunk, copy_done and copy_fail: while the server waits for the
 -- data of a copy that a request began ("COPY Operations"). terminate: at any time after start.
 abbrev pub MayBeCalled : List Happening → Call → Type 0
 MayBeCalled before call.Start = IsStarted before → ⊥

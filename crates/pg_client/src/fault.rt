@@ -3,13 +3,11 @@
 ghost use Rattle.std.specs.Prelude.{◌≡◌};
 ghost use Rattle.pg_client.specs.Closed.{cause_of};
 ghost use Rattle.pg_client.specs.Fault.{call_code, feed_code};
-ghost use Rattle.pg_client.specs.Private.Feeding.{of_wire};
-ghost use Rattle.pg_client.specs.Private.Hearing.{of_read};
+ghost use Rattle.pg_client.specs.Private.Hearing.{of_wire};
 ghost use Rattle.pg_client.specs.declared.fault.CallFault.TheVariants.{Encode};
 ghost use Rattle.pg_client.specs.declared.fault.FeedFault.TheVariants as feeding;
 
 use crate::phase::{Cause, Phase};
-use pg_response::ReadFault;
 use pg_wire::{EncodeFault, Fields, WireFault};
 use std::alloc::AllocError;
 use thiserror::Error;
@@ -88,17 +86,6 @@ impl From<AllocError> for FeedFault {
 
     fn from(_e: AllocError) -> FeedFault {
         FeedFault::Memory
-    }
-}
-
-impl From<ReadFault> for FeedFault {
-    ghost from_gives = { λ f e. e ≡ of_read f };
-
-    fn from(fault: ReadFault) -> FeedFault {
-        match fault {
-            ReadFault::Unexpected(tag) => FeedFault::Unexpected(tag),
-            ReadFault::Memory => FeedFault::Memory,
-        }
     }
 }
 

@@ -41,46 +41,42 @@
 //! | File | Definitions in `specs/` | What it has |
 //! |---|---|---|
 //! | `call.rt`, `sending.rt`, `parameters.rt` | `Session` | calls and messages, the startup, where a call is allowed |
-//! | `client.rt`, `collecting.rt`, `settings.rt`, `phase.rt`, `settled.rt` | `Client` | what a contract sees of a client, and its phase |
-//! | `early_client.rt`, `early.rt`, `item.rt` | `Early` | what a contract sees of an early client, and which items it gives |
-//! | `early_client.rt`, `machine/lend.rt`, `next.rt` | `EarlyLent` | taking items one by one, with rows lent |
-//! | `machine.rt`, `machine/feed.rt`, `collector.rt` | | what both clients do |
-//! | `sending.rt`, `machine/feed.rt`, `fault.rt` | `Sent`, `Closed` | what calls send, what is sent for a password; why a client is closed |
-//! | `client.rt` | `History` | what a client went through, and how a call carries it on |
-//! | `client.rt`, `machine.rt`, `machine/feed.rt` | `Calls`, `Feed`, `Lost` | what each call does |
+//! | `connection.rt`, `settings.rt`, `phase.rt`, `settled.rt` | `Client` | what a contract sees of a client, and its phase |
+//! | `client.rt`, `item.rt`, `next.rt` | `Keeping` | the two clients: what each keeps of the messages until it is taken |
+//! | `connection.rt` | `Past`, `History`, `Calls`, `Lost` | what a client went through, how a call carries it on, and what each call does |
+//! | `connection/feed.rt`, `fault.rt` | `Feed`, `Sent`, `Closed` | what is done with the server's bytes; what is sent for a password; why a client is closed |
+//! | `connection/lend.rt` | `Lent` | taking items one by one, with rows lent |
 //! | `laws.rt` | `Facts`, `Turns`, `Spelled`, `Answering`, `Driving` | what a history means; what the author of a driver goes by |
 //! | `startup.rt` | `Startup` | how far the startup has come, and what one more message does there |
 //! | `stand.rt` | `Stand` | where a client stands, and what any message does to that |
+//! | `known.rt`, `keeper.rt`, `collecting.rt`, `queue.rt` | | what one message changes, and what is kept of it |
 //!
-//! `Startup`, `Stand`, and `Segment` of `pg_response`, are the code's own words, which the history cites and the laws read, and so is
-//! `specs/Private`. The others are what a reader has to believe.
+//! `Startup`, `Stand`, and `Place` and `Collected` of `pg_response`, are the code's own words, and so is `specs/Private`. A history has them under one
+//! name (`agrees`), and the law `facts_of_a_run` says what they mean. The others are what a reader has to believe.
 //!
 //! # How it works
 //!
-//! **Two clients, one machine.** `Machine<K>` has all that a client does by calls and by the server's bytes. It tells a *collector* `K`
-//! what came, and there are two. `Collecting` moves each message into the segment, and has a group once that is settled (`Client`). `Queue`
-//! counts on through the segment by its place alone, and has an item for each message (`EarlyClient`). So all that is proved of a client's
-//! history is proved once, and an early client is a client without what that collects (`StandsFor`).
+//! **One client, two keepers.** `Connection<K>` has all that a client does by calls and by the server's bytes. Its keeper `K` is told of each
+//! message that may come in a request's segment, and decides nothing. `Collecting` adds it to what was collected, and has a group once that is
+//! settled ([`Client`]). `Queue` has an item for each ([`EarlyClient`]). What a keeper has to do with what happened is its `way`.
 //!
-//! **One message.** `Kind::of` says what it is: an aside, a parameter, an error, ReadyForQuery, a key, a word of the authentication, or a
-//! message of a result. Each kind has its method of `Stand`. Between a request and its ReadyForQuery stands a `Segment` (`pg_response`), which
-//! reads messages of results, notes asides and errors, and is settled in the end. A row's bytes are copied once, out of the decoder, and moved
-//! from then on. Room for a settled group is wanted at its ReadyForQuery alone, before that is taken in.
+//! **One message.** `Kind::of` says what it is, and `Known` has a method for each kind. A message of a response asks the place of its request's
+//! segment (`Place` of `pg_response`) where it leads, before it is kept. A row's bytes are copied once, out of the decoder, and moved from then on.
 #![tactic(auto)]
 
 mod call;
 mod client;
 mod collecting;
-mod collector;
-mod early;
-mod early_client;
+mod connection;
 mod fault;
 mod item;
+mod keeper;
+mod known;
 pub mod laws;
-mod machine;
 mod next;
 mod parameters;
 mod phase;
+mod queue;
 mod sending;
 mod settings;
 mod settled;
@@ -88,11 +84,14 @@ mod stand;
 mod startup;
 
 pub use call::Call;
-pub use client::Client;
-pub use early_client::EarlyClient;
+pub use client::{Client, EarlyClient};
+pub use collecting::Collecting;
+pub use connection::Connection;
 pub use fault::{CallFault, FeedFault};
 pub use item::Item;
+pub use keeper::Keeper;
 pub use next::Next;
 pub use phase::{Cause, Phase};
+pub use queue::Queue;
 pub use settings::Settings;
 pub use settled::{Loss, Settled};

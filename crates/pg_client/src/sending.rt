@@ -8,10 +8,13 @@ ghost use Rattle.pg_wire.specs.message.First.TheVariants.{Startup};
 ghost use Rattle.pg_wire.specs.message.FrontMessage.TheVariants.{Password, Sync};
 ghost use Rattle.pg_wire.specs.declared.session.Request.TheVariants.{Group};
 ghost use Rattle.pg_client.specs.Sent.{first_fault, password_messages, startup_pairs};
-ghost use Rattle.pg_client.specs.Private.Sending.{password_text, Puts, SendsAll, SendsStart};
-ghost use Rattle.pg_client.specs.Private.Sending.{starved_after};
+ghost use Rattle.pg_client.specs.Private.Sending.{password_text, Puts, SendsAll, SendsAnswer};
+ghost use Rattle.pg_client.specs.Private.Sending.{SendsStart, starved_after};
+ghost use Rattle.pg_response.specs.Kind.{auth_message};
 
+use crate::fault::FeedFault;
 use crate::settings::Settings;
+use pg_response::Auth;
 use pg_wire::{EncodeFault, LONGEST, Request, Seq, Step, frontend, md5_answer};
 
 fn put_startup(settings: &Settings, out: &mut Vec<u8>) -> Result<(), EncodeFault>
@@ -68,8 +71,27 @@ pub fn put_start(settings: &Settings, out: &mut Vec<u8>) -> Result<(), EncodeFau
     }
 }
 
-/// Puts a password out, or its MD5 text for the user and this salt.
-pub fn put_password(
+/// Puts out what the server asks for in a message of the authentication. `start` has judged the password, so only memory may run out.
+pub fn put_answer(settings: &Settings, auth: &Auth, out: &mut Vec<u8>) -> Result<(), FeedFault>
+    ensures { SendsAnswer settings.now (auth_message auth.now) out.old.items result
+        out.new.items }
+{
+    let salt = match auth {
+        Auth::Cleartext => None,
+        Auth::Md5(salt) => Some(*salt),
+        _ => return Ok(()),
+    };
+    let Some(password) = &settings.password else {
+        return Err(FeedFault::PasswordWanted);
+    };
+    if put_password(&settings.user, password, salt, out).is_err() {
+        return Err(FeedFault::Memory);
+    }
+    Ok(())
+}
+
+// Puts a password out, or its MD5 text for the user and this salt.
+fn put_password(
     user: &Seq<u8>,
     password: &Seq<u8>,
     salt: Option<[u8; 4]>,

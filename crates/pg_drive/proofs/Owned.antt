@@ -1,6 +1,6 @@
 -- Events whose rows are owned.
 use Rattle.std.proofs.Common.{◌≡◌, Option, Ok, refl}
-use Rattle.pg_client.specs.Early.{RowValues}
+use Rattle.pg_client.specs.Collected.{RowValues}
 use Rattle.pg_drive.specs.declared.event.Event.{Event}
 use Rattle.pg_drive.specs.declared.event.Event.TheVariants as event
 use Rattle.pg_drive.specs.Lent.{Owns}

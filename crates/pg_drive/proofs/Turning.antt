@@ -7,7 +7,7 @@ use Rattle.pg_client.specs.declared.settled.Loss.{Loss}
 use Rattle.pg_drive.specs.declared.answer.DriveFault.{DriveFault}
 use Rattle.pg_drive.specs.declared.answer.Driven.{Driven}
 use Rattle.pg_drive.specs.declared.answer.Driven.TheVariants as driven
-use Rattle.pg_drive.specs.Drive.{Answers, ClientKind, Connection, Drives, IsSeen, LastTurn, Linked, TakesTurns, Turn, TurnsOn, client_kind, connected}
+use Rattle.pg_drive.specs.Drive.{Answers, ClientKind, LinkedClient, Drives, IsSeen, LastTurn, Linked, TakesTurns, Turn, TurnsOn, client_kind, connected}
 use Rattle.pg_wire.specs.Sending.{Sends}
 use Rattle.pg_client.specs.Client.{phase_of}
 use Rattle.pg_drive.specs.Private.Turning.{Receives, TakesTurn}
@@ -43,7 +43,7 @@ module _ {C L : Type 0} (kind : ClientKind C) (gives takes : L → List ℕ → 
   }
 
 module _ {L : Type 0} (gives takes : L → List ℕ → L → Type 0) (has_ended : L → Type 0) (receive_failures send_failures : L → ℕ) where
-  turn_seen : (began : Phase) (old : Connection L) (piece : List ℕ) (seen : Option Driven) (new : Connection L) → Turn client_kind gives takes has_ended receive_failures send_failures old piece new → IsSeen began new.client seen
+  turn_seen : (began : Phase) (old : LinkedClient L) (piece : List ℕ) (seen : Option Driven) (new : LinkedClient L) → Turn client_kind gives takes has_ended receive_failures send_failures old piece new → IsSeen began new.client seen
       → TakesTurn gives takes has_ended receive_failures send_failures began old (Ok seen) new
   turn_seen began old piece None new t s = (piece, (t, s))
   turn_seen began old piece (Some driven.Settled) new t s = (piece, t, s)
@@ -53,25 +53,25 @@ module _ {L : Type 0} (gives takes : L → List ℕ → L → Type 0) (has_ended
   turn_seen began old piece (Some (driven.Lost loss)) new t s = absurd s
 
   -- a turn, by what is seen after it
-  pub turn_sees : (began : Phase) (old : Connection L) (took : Option Loss) (seen : Option Driven) (new : Connection L) → took ≡ None → Receives client_kind gives takes has_ended receive_failures send_failures old (Ok took) new → IsSeen began new.client seen
+  pub turn_sees : (began : Phase) (old : LinkedClient L) (took : Option Loss) (seen : Option Driven) (new : LinkedClient L) → took ≡ None → Receives client_kind gives takes has_ended receive_failures send_failures old (Ok took) new → IsSeen began new.client seen
       → TakesTurn gives takes has_ended receive_failures send_failures began old (Ok seen) new
   turn_sees began old took seen new none r s =
       let t : Receives client_kind gives takes has_ended receive_failures send_failures old (Ok None) new = subst (λ (o : Option Loss). Receives client_kind gives takes has_ended receive_failures send_failures old (Ok o) new) none r in
       turn_seen began old t.0 seen new t.1 s
 
   -- a turn that found the end
-  pub turn_ends : (began : Phase) (old : Connection L) (took : Option Loss) (loss : Loss) (new : Connection L) → took ≡ Some loss → Receives client_kind gives takes has_ended receive_failures send_failures old (Ok took) new
+  pub turn_ends : (began : Phase) (old : LinkedClient L) (took : Option Loss) (loss : Loss) (new : LinkedClient L) → took ≡ Some loss → Receives client_kind gives takes has_ended receive_failures send_failures old (Ok took) new
       → TakesTurn gives takes has_ended receive_failures send_failures began old (Ok (Some (driven.Lost loss))) new
   turn_ends began old took loss new some r = subst (λ (o : Option Loss). Receives client_kind gives takes has_ended receive_failures send_failures old (Ok o) new) some r
 
   -- one turn more went on
-  pub went_more : (began : Phase) (start : Connection L) (count : ℕ) (mid : Connection L) (seen : Option Driven) (now : Connection L) → WentOn (TurnsOn gives takes has_ended receive_failures send_failures began) start count mid → seen ≡ None
+  pub went_more : (began : Phase) (start : LinkedClient L) (count : ℕ) (mid : LinkedClient L) (seen : Option Driven) (now : LinkedClient L) → WentOn (TurnsOn gives takes has_ended receive_failures send_failures began) start count mid → seen ≡ None
       → TakesTurn gives takes has_ended receive_failures send_failures began mid (Ok seen) now → WentOn (TurnsOn gives takes has_ended receive_failures send_failures began) start (count + 1) now
   went_more began start count mid seen now w none took =
       let t : TakesTurn gives takes has_ended receive_failures send_failures began mid (Ok None) now = subst (λ (o : Option Driven). TakesTurn gives takes has_ended receive_failures send_failures began mid (Ok o) now) none took in
       went_one_more (TurnsOn gives takes has_ended receive_failures send_failures began) start count mid t.0 now w t.1
 
-  answers : (began : Phase) (turns count : ℕ) (old : Connection L) (answer : Driven) (new : Connection L) → count < turns → LastTurn gives takes has_ended receive_failures send_failures began old (Ok answer) new
+  answers : (began : Phase) (turns count : ℕ) (old : LinkedClient L) (answer : Driven) (new : LinkedClient L) → count < turns → LastTurn gives takes has_ended receive_failures send_failures began old (Ok answer) new
       → Answers gives takes has_ended receive_failures send_failures began turns count old (Ok answer) new
   answers began turns count old driven.Settled new less t = (less, t)
   answers began turns count old driven.Ready new less t = (less, t)
@@ -80,13 +80,13 @@ module _ {L : Type 0} (gives takes : L → List ℕ → L → Type 0) (has_ended
   answers began turns count old (driven.Lost loss) new less t = (less, t)
 
   -- this was answered in one more turn
-  pub answers_in_turn : (began : Phase) (turns count : ℕ) (old : Connection L) (seen : Option Driven) (answer : Driven) (new : Connection L) → count < turns → seen ≡ Some answer
+  pub answers_in_turn : (began : Phase) (turns count : ℕ) (old : LinkedClient L) (seen : Option Driven) (answer : Driven) (new : LinkedClient L) → count < turns → seen ≡ Some answer
       → TakesTurn gives takes has_ended receive_failures send_failures began old (Ok seen) new → Answers gives takes has_ended receive_failures send_failures began turns count old (Ok answer) new
   answers_in_turn began turns count old seen answer new less e t =
       answers began turns count old answer new less (subst (λ (o : Option Driven). TakesTurn gives takes has_ended receive_failures send_failures began old (Ok o) new) e t)
 
   -- all was sent, so many turns went on, and this was answered then
-  pub drives_so : (began : Phase) (turns count : ℕ) (old : Connection L) (begun : L) (last : Connection L) (result : Result Driven DriveFault) (new : Connection L) → began ≡ phase_of old.client → Sends takes send_failures old.link old.out begun
+  pub drives_so : (began : Phase) (turns count : ℕ) (old : LinkedClient L) (begun : L) (last : LinkedClient L) (result : Result Driven DriveFault) (new : LinkedClient L) → began ≡ phase_of old.client → Sends takes send_failures old.link old.out begun
       → WentOn (TurnsOn gives takes has_ended receive_failures send_failures began) (connected begun old.client []) count last → Answers gives takes has_ended receive_failures send_failures began turns count last result new
       → Drives gives takes has_ended receive_failures send_failures turns old result new
   drives_so began turns count old begun last result new e sent w a =

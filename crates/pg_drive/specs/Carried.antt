@@ -7,17 +7,19 @@ use Rattle.pg_client.specs.declared.phase.Phase.{Phase}
 use Rattle.pg_client.specs.Client.{ClientView, phase_of}
 use Rattle.pg_client.specs.Driving.{IsLeftBy}
 use Rattle.pg_client.specs.History.{History, IsHistoryOf}
+use Rattle.pg_client.specs.Keeping.{collecting}
+use Rattle.pg_client.specs.declared.settled.Settled.{Settled}
 use Rattle.pg_drive.specs.declared.answer.DriveFault.{DriveFault}
 use Rattle.pg_drive.specs.declared.answer.DriveFault.TheVariants as fault
 use Rattle.pg_drive.specs.declared.answer.Driven.{Driven}
 use Rattle.pg_drive.specs.declared.answer.Driven.TheVariants as driven
-use Rattle.pg_drive.specs.Drive.{Answers, Connection, Drives}
+use Rattle.pg_drive.specs.Drive.{Answers, LinkedClient, Drives}
 
 -- What a history becomes as its client is driven: the client has a history with the same calls and
 -- the same groups taken, in which these bytes were fed after those before.
-pub record IsDrivenOn (past : History) (bytes : List ℕ) (new : ClientView) : Type 0 where
-  pub history : History
-  pub is_its_own : IsHistoryOf history new
+pub record IsDrivenOn (past : History Settled) (bytes : List ℕ) (new : ClientView) : Type 0 where
+  pub history : History Settled
+  pub is_its_own : IsHistoryOf collecting history new
   pub calls : history.calls ≡ past.calls
   pub given : history.given ≡ past.given
   pub fed : history.fed ≡ past.fed ++ bytes
@@ -35,8 +37,8 @@ module _ {L : Type 0} (gives takes : L → List ℕ → L → Type 0) (has_ended
     (receive_failures send_failures : L → ℕ) where
   -- The piece that was fed in the last turn: one, unless the turns were used, or receiving found
   -- the end or failed.
-  abbrev pub last_fed : (began : Phase) (turns count : ℕ) (old : Connection L)
-      (result : Result Driven DriveFault) (new : Connection L)
+  abbrev pub last_fed : (began : Phase) (turns count : ℕ) (old : LinkedClient L)
+      (result : Result Driven DriveFault) (new : LinkedClient L)
       → Answers gives takes has_ended receive_failures send_failures began turns count old result
       new
       → List (List ℕ)
@@ -51,8 +53,8 @@ module _ {L : Type 0} (gives takes : L → List ℕ → L → Type 0) (has_ended
       failed.piece ∷ []
 
   -- The pieces that were fed: those of the turns that went on, and that of the last one.
-  abbrev pub pieces_fed : (turns : ℕ) (old : Connection L) (result : Result Driven DriveFault)
-      (new : Connection L)
+  abbrev pub pieces_fed : (turns : ℕ) (old : LinkedClient L) (result : Result Driven DriveFault)
+      (new : LinkedClient L)
       → Drives gives takes has_ended receive_failures send_failures turns old result new
       → List (List ℕ)
   pieces_fed turns old result new (inl failed) = []

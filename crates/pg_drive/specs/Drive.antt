@@ -3,15 +3,14 @@ use Rattle.std.specs.Prelude.{◌≡◌, ◌≢◌, ℕ, ◌<◌, ◌≤◌, ◌
 use Rattle.std.specs.List.{FoldsTo}
 use Rattle.pg_wire.specs.Link.{HasRisen}
 pub use Rattle.pg_wire.specs.Link.{longest_piece}
-use Rattle.pg_client.specs.declared.phase.Cause.TheVariants as cause
 use Rattle.pg_client.specs.declared.phase.Phase.{Phase}
 use Rattle.pg_client.specs.declared.phase.Phase.TheVariants as phase
 use Rattle.pg_client.specs.declared.fault.FeedFault.{FeedFault}
 use Rattle.pg_client.specs.declared.settled.Loss.{Loss}
-use Rattle.pg_client.specs.Client.{ClientView, phase_of}
+use Rattle.pg_client.specs.Client.{ClientView, View, groups_waiting, phase_of}
 use Rattle.pg_client.specs.Feed.{Feeds}
-use Rattle.pg_client.specs.History.{Carries, with_handed_back}
-use Rattle.pg_client.specs.Lost.{HandsBack, first_cause}
+use Rattle.pg_client.specs.Keeping.{Keeps, collecting}
+use Rattle.pg_client.specs.Lost.{IsLost}
 use Rattle.pg_drive.specs.declared.answer.DriveFault.{DriveFault}
 use Rattle.pg_drive.specs.declared.answer.DriveFault.TheVariants as fault
 use Rattle.pg_drive.specs.declared.answer.Driven.{Driven}
@@ -128,19 +127,13 @@ module _ {C L : Type 0} (kind : ClientKind C) (gives takes : L → List ℕ → 
 
 -- ---- the client
 
--- The client's `lost` was called and returned this: the client is closed, with the cause Lost
--- unless it had one before, and handed back the request that isn't settled. Its settled groups
--- stay.
-pub record IsLost (old : ClientView) (loss : Loss) (new : ClientView) : Type 0 where
-  pub settings : new.settings ≡ old.settings
-  pub closed : new.closed ≡ Some (first_cause old.closed cause.Lost)
-  pub settled : new.settled ≡ old.settled
-  pub says : HandsBack old loss
-  pub history : Carries old new with_handed_back
-
 -- What a client does as it is driven.
+abbrev pub kind_of : {K : Type 0} → Keeps K → ClientKind (View K)
+kind_of way = record { feeds = Feeds way; is_lost = IsLost way }
+
+-- one of which settled groups are taken
 abbrev pub client_kind : ClientKind ClientView
-client_kind = record { feeds = Feeds; is_lost = IsLost }
+client_kind = kind_of collecting
 
 -- The startup has ended in this call: the client stood in phase Starting when the call began, and
 -- is Ready now.
@@ -150,7 +143,7 @@ HasStarted began client = (began ≡ phase.Starting) × (phase_of client ≡ pha
 -- After a piece there is nothing to return: no settled group waits, the startup hasn't ended in
 -- this call, and the server doesn't wait for a copy's data.
 pub record GoesOn (began : Phase) (client : ClientView) : Type 0 where
-  pub none_waits : client.settled ≡ []
+  pub none_waits : groups_waiting client ≡ []
   pub not_started : HasStarted began client → ⊥
   pub no_copy : phase_of client ≢ phase.CopyingIn
 
@@ -158,29 +151,29 @@ pub record GoesOn (began : Phase) (client : ClientView) : Type 0 where
 -- has ended in this call, the server waits for a copy's data; or that it goes on (None).
 abbrev pub IsSeen : Phase → ClientView → Option Driven → Type 0
 IsSeen began client None = GoesOn began client
-IsSeen began client (Some driven.Settled) = client.settled ≢ []
-IsSeen began client (Some driven.Ready) = (client.settled ≡ []) × HasStarted began client
-IsSeen began client (Some driven.CopyIn) = (client.settled ≡ [])
+IsSeen began client (Some driven.Settled) = groups_waiting client ≢ []
+IsSeen began client (Some driven.Ready) = (groups_waiting client ≡ []) × HasStarted began client
+IsSeen began client (Some driven.CopyIn) = (groups_waiting client ≡ [])
     × (phase_of client ≡ phase.CopyingIn)
 IsSeen began client (Some _) = ⊥
 
 -- ---- a client over a link
 
 -- What `drive` drives: a client over a link.
-abbrev pub Connection : Type 0 → Type 0
-Connection L = Linked ClientView L
+abbrev pub LinkedClient : Type 0 → Type 0
+LinkedClient L = Linked ClientView L
 
 module _ {L : Type 0} (gives takes : L → List ℕ → L → Type 0) (has_ended : L → Type 0)
     (receive_failures send_failures : L → ℕ) where
   -- A turn after which there is nothing to return. `began` is the client's phase when the call
   -- began.
-  abbrev pub TurnsOn : Phase → Connection L → List ℕ → Connection L → Type 0
+  abbrev pub TurnsOn : Phase → LinkedClient L → List ℕ → LinkedClient L → Type 0
   TurnsOn began old piece new =
       Turn client_kind gives takes has_ended receive_failures send_failures old piece new
       × GoesOn began new.client
 
   -- The last turn, by what was returned in it. TurnsUsed isn't returned in a turn.
-  abbrev pub LastTurn : Phase → Connection L → Result Driven DriveFault → Connection L → Type 0
+  abbrev pub LastTurn : Phase → LinkedClient L → Result Driven DriveFault → LinkedClient L → Type 0
   LastTurn began old (Ok driven.TurnsUsed) new = ⊥
   LastTurn began old (Ok (driven.Lost loss)) new =
       Ends client_kind gives takes has_ended receive_failures send_failures old loss new
@@ -192,13 +185,13 @@ module _ {L : Type 0} (gives takes : L → List ℕ → L → Type 0) (has_ended
 
   -- After so many turns with nothing to return, this was returned: TurnsUsed where as many were
   -- wanted, and else something in one more turn.
-  abbrev pub Answers : Phase → ℕ → ℕ → Connection L → Result Driven DriveFault → Connection L
+  abbrev pub Answers : Phase → ℕ → ℕ → LinkedClient L → Result Driven DriveFault → LinkedClient L
       → Type 0
   Answers began turns count old (Ok driven.TurnsUsed) new = (count ≡ turns) × (new ≡ old)
   Answers began turns count old result new = (count < turns) × LastTurn began old result new
 
   -- What `drive` does with so many turns.
-  abbrev pub Drives : ℕ → Connection L → Result Driven DriveFault → Connection L → Type 0
+  abbrev pub Drives : ℕ → LinkedClient L → Result Driven DriveFault → LinkedClient L → Type 0
   Drives turns old result new =
       FailsAtFirst client_kind gives takes has_ended receive_failures send_failures old result new
       ⊎ TakesTurns client_kind gives takes has_ended receive_failures send_failures

@@ -1,24 +1,21 @@
 -- What a session gives, one event at a time: it hears what has come, message by message, with the
 -- rows lent, and sends and receives where nothing of it is an event.
-use Rattle.std.specs.Prelude.{◌≡◌, ◌≢◌, ℕ, ◌<◌, ◌≤◌, ◌⊎◌, List, [], ◌++◌, length, Option, Some, None, Result, Ok, Err, IfErr, OnOk}
+use Rattle.std.specs.Prelude.{◌≡◌, ◌≢◌, ℕ, ◌<◌, ◌≤◌, ◌⊎◌, List, [], length, Option, Some, None, Result, Ok, Err}
 use Rattle.std.specs.List.{FoldsTo}
 use Rattle.pg_wire.specs.message.BackMessage.TheVariants.{DataRow}
 use Rattle.pg_wire.specs.Sending.{FailsToSend, Sends}
-use Rattle.pg_client.specs.declared.call.Call.TheVariants as call
 use Rattle.pg_client.specs.declared.fault.FeedFault.{FeedFault}
-use Rattle.pg_client.specs.declared.item.Item.{Item}
 use Rattle.pg_client.specs.declared.item.Item.TheVariants as item
 use Rattle.pg_client.specs.declared.next.Next.{Next}
 use Rattle.pg_client.specs.declared.next.Next.TheVariants as next
-use Rattle.pg_client.specs.declared.phase.Cause.TheVariants as cause
 use Rattle.pg_client.specs.declared.phase.Phase.{Phase}
 use Rattle.pg_client.specs.declared.phase.Phase.TheVariants as phase
 use Rattle.pg_client.specs.declared.settled.Loss.{Loss}
-use Rattle.pg_client.specs.Calls.{RefusesUnless}
-use Rattle.pg_client.specs.Client.{ClientView, IsOpenPhase}
-use Rattle.pg_client.specs.Early.{EarlyAccepts, EarlyView, RowValues, StandsFor}
-use Rattle.pg_client.specs.EarlyLent.{ComesBefore, IsEarlyHistoryBefore, LosesBefore, Pushes, RefusesPiece, TakesLent}
-use Rattle.pg_client.specs.History.{History}
+use Rattle.pg_client.specs.Client.{EarlyView, lent_row, phase_of}
+use Rattle.pg_client.specs.Lost.{IsLost}
+use Rattle.pg_client.specs.Keeping.{queueing}
+use Rattle.pg_client.specs.Lent.{Pushes, TakesLent}
+use Rattle.pg_client.specs.Collected.{RowValues}
 use Rattle.pg_drive.specs.declared.answer.DrivenEarly.{DrivenEarly}
 use Rattle.pg_drive.specs.declared.answer.DrivenEarly.TheVariants as driven
 use Rattle.pg_drive.specs.declared.event.Event.{Event}
@@ -26,75 +23,64 @@ use Rattle.pg_drive.specs.declared.event.Event.TheVariants as event
 use Rattle.pg_drive.specs.declared.event.SessionFault.{SessionFault}
 use Rattle.pg_drive.specs.declared.event.SessionFault.TheVariants as fault
 use Rattle.pg_drive.specs.Drive.{ClientKind, Ends, FailsToReceive, Refuses, Turn, connected}
-use Rattle.pg_drive.specs.Early.{DrivesEarly, EarlyConnection, IsEarlyLost, IsInPhase}
-use Rattle.pg_drive.specs.Session.{RefusesStart, StartsBy, TellsCame, TerminatesBy}
+use Rattle.pg_drive.specs.Early.{DrivesEarly, LinkedEarly}
+use Rattle.pg_drive.specs.Session.{StartsAs}
 
 -- ---- an early client that lends its rows
 
--- A piece was pushed, and `push` returned this, so that its bytes are still to be heard after those
--- that were. Nothing was put out.
-pub record PushesPiece (old : EarlyView) (piece : List ℕ) (result : Result Unit FeedFault)
-    (new : EarlyView) (before after : List ℕ) : Type 0 where
-  pub pushes : Pushes old piece result new
-  pub history : OnOk result ((unread : List ℕ) (h : History) (given : List Item)
-      → IsEarlyHistoryBefore unread h given old
-      → IsEarlyHistoryBefore (unread ++ piece) h given new)
-  pub refused : IfErr result (λ f. RefusesPiece old piece f new)
-  pub out : after ≡ before
-
--- The early client's `lost` was called and returned this, also where bytes are still to be heard.
-pub record IsLentLost (old : EarlyView) (loss : Loss) (new : EarlyView) : Type 0 where
-  pub lost : IsEarlyLost old loss new
-  pub before : LosesBefore old loss new
-
--- What an early client does as it is driven with its rows lent.
+-- What an early client does as it is driven with its rows lent: a piece is pushed, and nothing is put
+-- out.
 abbrev pub lending_kind : ClientKind EarlyView
-lending_kind = record { feeds = PushesPiece; is_lost = IsLentLost }
+lending_kind =
+    record {
+      feeds = λ old piece result new before after. Pushes old piece result new × (after ≡ before);
+      is_lost = IsLost queueing;
+    }
 
 -- ---- what has come
 
 -- The next item was heard, or a row that is lent, and nothing of the link was touched.
-pub record HearsNext {L : Type 0} (old : EarlyConnection L) (heard : Next)
-    (new : EarlyConnection L) : Type 0 where
+pub record HearsNext {L : Type 0} (old : LinkedEarly L) (heard : Next)
+    (new : LinkedEarly L) : Type 0 where
   pub takes : TakesLent old.client (Ok heard) new.client old.out new.out
   pub link : new.link ≡ old.link
 
 -- What had come was heard up to what the client rejected, which handed back what is lost then.
-pub record HearsFault {L : Type 0} (old : EarlyConnection L) (f : FeedFault) (loss : Loss)
-    (new : EarlyConnection L) : Type 0 where
+pub record HearsFault {L : Type 0} (old : LinkedEarly L) (f : FeedFault) (loss : Loss)
+    (new : LinkedEarly L) : Type 0 where
   -- the client before it handed that back
   pub client : EarlyView
   pub takes : TakesLent old.client (Err f) client old.out new.out
-  pub lost : IsLentLost client loss new.client
+  pub lost : IsLost queueing client loss new.client
   pub link : new.link ≡ old.link
 
 -- `takes` and `send_failures` are those of the link as a sink.
 module _ {L : Type 0} (takes : L → List ℕ → L → Type 0) (send_failures : L → ℕ) where
   -- All that had come was heard, and gave nothing. All that waited then was sent, and the client is
   -- in this phase.
-  pub record HearsAll (old : EarlyConnection L) (now : Phase) (new : EarlyConnection L)
+  pub record HearsAll (old : LinkedEarly L) (now : Phase) (new : LinkedEarly L)
       : Type 0 where
     -- what waited to be sent
     pub put : List ℕ
     pub heard : TakesLent old.client (Ok next.Nothing) new.client old.out put
     pub sent : Sends takes send_failures old.link put new.link
     pub none_left : new.out ≡ []
-    pub in_phase : IsInPhase new.client now
+    pub in_phase : phase_of new.client ≡ now
 
   -- All that had come was heard, and gave nothing, and then a call of `send` failed.
-  pub record FailsHeard (old : EarlyConnection L) (loss : Loss) (new : EarlyConnection L)
+  pub record FailsHeard (old : LinkedEarly L) (loss : Loss) (new : LinkedEarly L)
       : Type 0 where
     -- what waited to be sent, and the client before `lost` was called on it
     pub put : List ℕ
     pub client : EarlyView
     pub heard : TakesLent old.client (Ok next.Nothing) client old.out put
     pub sent : FailsToSend takes send_failures old.link put new.out new.link
-    pub lost : IsLentLost client loss new.client
+    pub lost : IsLost queueing client loss new.client
 
   -- What is found in what has come: a row, which is lent; a message; that the request is settled;
   -- or, where nothing of it is an event, that the server awaits the data of a copy, or nothing
   -- (None). All that waits is sent before these two.
-  abbrev pub Hears : EarlyConnection L → Result (Option Event) SessionFault → EarlyConnection L
+  abbrev pub Hears : LinkedEarly L → Result (Option Event) SessionFault → LinkedEarly L
       → Type 0
   Hears old (Ok None) new = (now : Phase) × (now ≢ phase.CopyingIn) × HearsAll old now new
   Hears old (Ok (Some event.CopyIn)) new = HearsAll old phase.CopyingIn new
@@ -121,37 +107,37 @@ module _ {L : Type 0} (gives takes : L → List ℕ → L → Type 0) (has_ended
     (receive_failures send_failures : L → ℕ) where
   -- A turn: nothing that had come was an event, all that waited was sent, and a piece was received
   -- and pushed.
-  pub record LentTurn (old : EarlyConnection L) (piece : List ℕ) (new : EarlyConnection L)
+  pub record LentTurn (old : LinkedEarly L) (piece : List ℕ) (new : LinkedEarly L)
       : Type 0 where
-    pub between : EarlyConnection L
+    pub between : LinkedEarly L
     pub heard : Hears takes send_failures old (Ok None) between
     pub turn : Turn lending_kind gives takes has_ended receive_failures send_failures between piece
         new
 
   -- Why no piece was pushed: the server's bytes have ended, or a call of `receive` failed; or the
   -- client rejected the piece, and handed back what is lost then.
-  abbrev pub PushesNone : EarlyConnection L → SessionFault → EarlyConnection L → Type 0
+  abbrev pub PushesNone : LinkedEarly L → SessionFault → LinkedEarly L → Type 0
   PushesNone old (fault.Lost loss) new =
       Ends lending_kind gives takes has_ended receive_failures send_failures old loss new
       ⊎ FailsToReceive lending_kind gives takes has_ended receive_failures send_failures old loss
       new
   PushesNone old (fault.Feed f loss) new = (client : EarlyView)
       × Refuses lending_kind gives takes has_ended receive_failures send_failures old f
-      (connected new.link client new.out) × IsLentLost client loss new.client
+      (connected new.link client new.out) × IsLost queueing client loss new.client
   PushesNone old _ new = ⊥
 
   -- The last turn, in which no piece was pushed.
-  pub record FailsTurn (old : EarlyConnection L) (f : SessionFault) (new : EarlyConnection L)
+  pub record FailsTurn (old : LinkedEarly L) (f : SessionFault) (new : LinkedEarly L)
       : Type 0 where
-    pub between : EarlyConnection L
+    pub between : LinkedEarly L
     pub heard : Hears takes send_failures old (Ok None) between
     pub failed : PushesNone between f new
 
   -- After so many turns this was returned: an event that was found in what had come; that the
   -- pieces are used, where nothing was found and as many were wanted; and else a fault, in what had
   -- come or in one more turn.
-  abbrev pub LentAnswers : ℕ → ℕ → EarlyConnection L → Result Event SessionFault
-      → EarlyConnection L → Type 0
+  abbrev pub LentAnswers : ℕ → ℕ → LinkedEarly L → Result Event SessionFault
+      → LinkedEarly L → Type 0
   LentAnswers most count old (Ok found) new = (count ≤ most)
       × Hears takes send_failures old (Ok (Some found)) new
   LentAnswers most count old (Err fault.PiecesUsed) new = (count ≡ most)
@@ -162,28 +148,20 @@ module _ {L : Type 0} (gives takes : L → List ℕ → L → Type 0) (has_ended
 
   -- What `next_lent` does, where at most so many pieces are received: these were, one after the
   -- other, each in a turn, and then this was returned.
-  pub record GivesLent (most : ℕ) (old : EarlyConnection L) (result : Result Event SessionFault)
-      (new : EarlyConnection L) : Type 0 where
+  pub record GivesLent (most : ℕ) (old : LinkedEarly L) (result : Result Event SessionFault)
+      (new : LinkedEarly L) : Type 0 where
     pub pieces : List (List ℕ)
-    pub last : EarlyConnection L
+    pub last : LinkedEarly L
     pub went_on : FoldsTo LentTurn old pieces last
     pub answered : LentAnswers most (length pieces) last result new
 
   -- What `next` does: what `next_lent` does, and its event is owned; a fault is returned as it is.
-  abbrev pub Gives : ℕ → EarlyConnection L → Result Event SessionFault → EarlyConnection L → Type 0
+  abbrev pub Gives : ℕ → LinkedEarly L → Result Event SessionFault → LinkedEarly L → Type 0
   Gives most old result new =
-      ((lent : Event) × GivesLent most old (Ok lent) new × Owns lent new.client.held result)
+      ((lent : Event) × GivesLent most old (Ok lent) new × Owns lent (lent_row new.client) result)
       ⊎ ((f : SessionFault) × (result ≡ Err f) × GivesLent most old (Err f) new)
 
 -- ---- the start
-
--- The startup packet waits to be sent. It was put out by this call, or the client stood in phase
--- Starting, and nothing has changed. The lists are the output before and after.
-abbrev pub Begins : EarlyView → EarlyView → List ℕ → List ℕ → Type 0
-Begins old new before after =
-    (EarlyAccepts (λ p. p ≡ phase.New) phase.Starting call.Start old new before after
-    × ComesBefore call.Start old new)
-    ⊎ (IsInPhase old phase.Starting × (new ≡ old) × (after ≡ before))
 
 -- What `start` returns for a result of `drive_early`: that the startup has ended; that the
 -- connection is lost; and else that the pieces are used. In a startup no item comes, and no copy
@@ -197,23 +175,7 @@ module _ {L : Type 0} (gives takes : L → List ℕ → L → Type 0) (has_ended
     (receive_failures send_failures : L → ℕ) where
   -- What `start` does, where at most so many pieces are received: it is rejected, or the startup
   -- packet waits, the client is driven as by `drive_early`, and this is returned.
-  abbrev pub Starts : ℕ → EarlyConnection L → Result Unit SessionFault → EarlyConnection L → Type 0
+  abbrev pub Starts : ℕ → LinkedEarly L → Result Unit SessionFault → LinkedEarly L → Type 0
   Starts most old result new =
-      RefusesStart (λ view f. (client : ClientView) → StandsFor view client
-      → RefusesUnless phase.New client call.Start f) old result new
-      ⊎ StartsBy Begins (DrivesEarly gives takes has_ended receive_failures send_failures most)
-      (TellsCame start_told IsLentLost) old result new
-
--- ---- the end
-
--- An early client accepts to terminate.
-abbrev pub AcceptsEnd : EarlyView → EarlyView → List ℕ → List ℕ → Type 0
-AcceptsEnd old new before after =
-    EarlyAccepts IsOpenPhase (phase.Closed cause.Terminated) call.Terminate old new before after
-    × ComesBefore call.Terminate old new
-
--- What `end` does that isn't rejected.
-abbrev pub Terminates : {L : Type 0} → (L → List ℕ → L → Type 0) → (L → ℕ) → EarlyConnection L
-    → Loss → EarlyConnection L → Type 0
-Terminates takes send_failures old loss new =
-    TerminatesBy AcceptsEnd IsLentLost takes send_failures old loss new
+      StartsAs queueing start_told
+      (DrivesEarly gives takes has_ended receive_failures send_failures most) old result new

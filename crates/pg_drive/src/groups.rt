@@ -1,17 +1,18 @@
 //! A client that is driven until a group is settled.
 
-ghost use Rattle.std.specs.Prelude.{◌≡◌, IfErr, OnErr, OnOk};
-ghost use Rattle.pg_client.specs.declared.call.Call.TheVariants as call;
-ghost use Rattle.pg_client.specs.Calls.{RefusesUnless};
-ghost use Rattle.pg_drive.specs.Drive.{Drives, IsLost, connected};
-ghost use Rattle.pg_drive.specs.Group.{AwaitsCopy, GivesGroup, GroupBegins};
-ghost use Rattle.pg_drive.specs.Group.{GroupStarts, GroupTells, group_start_told};
-ghost use Rattle.pg_drive.specs.Session.{Tells, TellsCame, TellsFault};
+ghost use Rattle.std.specs.Prelude.{◌≡◌};
+ghost use Rattle.pg_client.specs.Keeping.{collecting};
+ghost use Rattle.pg_client.specs.Lost.{IsLost};
+ghost use Rattle.pg_drive.specs.Drive.{Drives, connected};
+ghost use Rattle.pg_drive.specs.Group.{AwaitsCopy, GivesGroup, GroupStarts, GroupTells};
+ghost use Rattle.pg_drive.specs.Group.{group_start_told};
+ghost use Rattle.pg_drive.specs.Session.{Tells, TellsCame};
 
 use crate::answer::{DriveFault, Driven};
 use crate::driving::drive;
 use crate::event::{GroupEvent, SessionFault};
-use pg_client::{CallFault, Client, Loss, Phase};
+use crate::starting::{begin, lose, tell_fault};
+use pg_client::{Client, Phase};
 use pg_wire::{Sink, Source, send_out};
 
 /// Puts the startup packet out, unless it was before, and drives the client until the startup has ended.
@@ -31,19 +32,6 @@ pub(crate) fn start_whole<L: Source + Sink>(
     }
 }
 
-// Puts the startup packet out, unless it was before.
-fn begin(client: &mut Client, out: &mut Vec<u8>) -> Result<(), CallFault>
-    ensures begins { OnOk result
-        (GroupBegins client.old client.new out.old.items out.new.items) }
-    ensures refused { IfErr result (RefusesUnless Phase.New client.old call.Start) }
-    ensures err { OnErr result ((client.new ≡ client.old) × (out.new.items ≡ out.old.items)) }
-{
-    match client.phase() {
-        Phase::Starting => Ok(()),
-        _ => client.start(out),
-    }
-}
-
 // Drives the client until the startup has ended.
 fn drive_start<L: Source + Sink>(
     client: &mut Client,
@@ -52,7 +40,7 @@ fn drive_start<L: Source + Sink>(
     pieces: u32,
 ) -> Result<(), SessionFault>
     ensures { Tells (Drives L.gives L.takes L.has_ended L.Source.failures L.Sink.failures pieces)
-        (TellsCame group_start_told IsLost) (connected link.old client.old out.old.items) result
+        (TellsCame group_start_told (IsLost collecting)) (connected link.old client.old out.old.items) result
         (connected link.new client.new out.new.items) }
 {
     let came = drive(client, out, link, pieces);
@@ -61,7 +49,7 @@ fn drive_start<L: Source + Sink>(
 
 // What `start` returns for what driving came to.
 fn tell_start(client: &mut Client, came: Result<Driven, DriveFault>) -> Result<(), SessionFault>
-    ensures { TellsCame group_start_told IsLost came client.old result client.new }
+    ensures { TellsCame group_start_told (IsLost collecting) came client.old result client.new }
 {
     match came {
         Ok(driven) => group_start_told(driven),
@@ -78,26 +66,6 @@ fn group_start_told(driven: Driven) -> Result<(), SessionFault>
         Driven::Lost(loss) => Err(SessionFault::Lost(loss)),
         Driven::Settled | Driven::CopyIn | Driven::TurnsUsed => Err(SessionFault::PiecesUsed),
     }
-}
-
-// The fault of a session for this fault of driving.
-fn tell_fault(client: &mut Client, fault: DriveFault) -> SessionFault
-    ensures { TellsFault IsLost client.old fault result client.new }
-{
-    match fault {
-        DriveFault::Link(loss) => SessionFault::Lost(loss),
-        DriveFault::Feed(fault) => {
-            let loss = lose(client);
-            SessionFault::Feed { fault, loss }
-        }
-    }
-}
-
-// Calls `lost` on the client.
-fn lose(client: &mut Client) -> Loss
-    ensures { IsLost client.old result client.new }
-{
-    client.lost()
 }
 
 /// Gives the settled group that waits, or that the server awaits the data of a copy, and else drives the client to one of these.

@@ -1,14 +1,21 @@
 //! An early client that is driven event by event, with its rows lent.
 
 ghost use Rattle.std.specs.Prelude.{◌≡◌, [], length};
+ghost use Rattle.pg_client.specs.Keeping.{queueing};
+ghost use Rattle.pg_client.specs.Lost.{IsLost};
 ghost use Rattle.pg_drive.specs.Drive.{connected, longest_piece};
-ghost use Rattle.pg_drive.specs.Lent.{GivesLent, Hears, IsLentLost};
+ghost use Rattle.pg_drive.specs.Early.{DrivesEarly};
+ghost use Rattle.pg_drive.specs.Lent.{GivesLent, Hears, start_told, Starts};
 ghost use Rattle.pg_drive.specs.Private.LentTurning.{TakesLentTurn, TakesPiece, TellsNext, WaitsOn};
 ghost use Rattle.pg_drive.specs.Private.LentTurning.{event_of};
+ghost use Rattle.pg_drive.specs.Session.{Tells, TellsCame};
 
+use crate::answer::{DriveFault, DrivenEarly};
+use crate::early::drive_early;
 use crate::event::{Event, SessionFault};
 use crate::receiving::PIECE;
-use pg_client::{EarlyClient, Item, Loss, Next, Phase};
+use crate::starting::{begin, lose, tell_fault};
+use pg_client::{EarlyClient, Item, Next, Phase};
 use pg_wire::{Sink, Source, send_out};
 
 /// Gives the next event, and receives at most so many pieces where nothing that has come is one.
@@ -149,9 +156,60 @@ fn receive_pushed<L: Source + Sink>(
     }
 }
 
-/// Calls `lost` on the client.
-pub(crate) fn lose(client: &mut EarlyClient) -> Loss
-    ensures { IsLentLost client.old result client.new }
+/// Puts the startup packet out, unless it was before, and drives the client until the startup has ended.
+pub(crate) fn start_early<L: Source + Sink>(
+    client: &mut EarlyClient,
+    out: &mut Vec<u8>,
+    link: &mut L,
+    pieces: u32,
+) -> Result<(), SessionFault>
+    ensures { Starts L.gives L.takes L.has_ended L.Source.failures L.Sink.failures pieces
+        (connected link.old client.old out.old.items) result
+        (connected link.new client.new out.new.items) }
 {
-    client.lost()
+    match begin(client, out) {
+        Ok(()) => drive_start(client, out, link, pieces),
+        Err(refused) => Err(SessionFault::Call(refused)),
+    }
+}
+
+// Drives the client until the startup has ended.
+fn drive_start<L: Source + Sink>(
+    client: &mut EarlyClient,
+    out: &mut Vec<u8>,
+    link: &mut L,
+    pieces: u32,
+) -> Result<(), SessionFault>
+    ensures { Tells (DrivesEarly L.gives L.takes L.has_ended L.Source.failures L.Sink.failures
+        pieces) (TellsCame start_told (IsLost queueing)) (connected link.old client.old out.old.items)
+        result (connected link.new client.new out.new.items) }
+{
+    let came = drive_early(client, out, link, pieces);
+    tell_start(client, came)
+}
+
+// What `start` returns for what driving came to.
+fn tell_start(
+    client: &mut EarlyClient,
+    came: Result<DrivenEarly, DriveFault>,
+) -> Result<(), SessionFault>
+    ensures { TellsCame start_told (IsLost queueing) came client.old result client.new }
+{
+    match came {
+        Ok(driven) => start_told(driven),
+        Err(fault) => Err(tell_fault(client, fault)),
+    }
+}
+
+// What `start` returns for this result of driving.
+fn start_told(driven: DrivenEarly) -> Result<(), SessionFault>
+    ensures { result ≡ start_told driven }
+{
+    match driven {
+        DrivenEarly::Ready => Ok(()),
+        DrivenEarly::Lost(loss) => Err(SessionFault::Lost(loss)),
+        DrivenEarly::Item(_) | DrivenEarly::CopyIn | DrivenEarly::TurnsUsed => {
+            Err(SessionFault::PiecesUsed)
+        }
+    }
 }

@@ -39,7 +39,9 @@
 //!
 //! | File | Definitions in `specs/` | What it has |
 //! |---|---|---|
-//! | `session.rt`, `group_session.rt`, `event.rt`, `starting.rt`, `lent.rt`, `groups.rt` | `Session` | sessions, and what they give |
+//! | `session.rt`, `starting.rt`, `event.rt` | `Session` | sessions of either kind: the calls, the start and the end |
+//! | `message_session.rt`, `lent.rt` | `Lent` | a session that gives message by message |
+//! | `group_session.rt`, `groups.rt` | `Group` | a session that gives request by request |
 //! | `receiving.rt`, `driving.rt`, `answer.rt` | `Drive` | what a kind of client does as it is driven; one turn, turns one after the other, and what is returned after them |
 //! | `early.rt` | `Early` | what a look at an early client finds, and what is returned after its turns |
 //! | `laws.rt` | `Carried` | which pieces were fed, what a history of the client becomes by them, and how the client is left |
@@ -56,6 +58,7 @@ mod group_session;
 mod groups;
 pub mod laws;
 mod lent;
+mod message_session;
 mod receiving;
 mod session;
 mod starting;
@@ -64,5 +67,4 @@ pub use answer::{DriveFault, Driven, DrivenEarly};
 pub use driving::drive;
 pub use early::drive_early;
 pub use event::{Event, GroupEvent, SessionFault};
-pub use group_session::GroupSession;
-pub use session::{MOST_PIECES, Session};
+pub use session::{GroupSession, MOST_PIECES, Session, SessionOf};

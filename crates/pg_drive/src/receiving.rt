@@ -5,7 +5,7 @@ ghost use Rattle.pg_drive.specs.Drive.{ClientKind, connected, longest_piece};
 ghost use Rattle.pg_drive.specs.Private.Turning.{Receives};
 
 use crate::answer::DriveFault;
-use pg_client::{Client, EarlyClient, FeedFault, Loss};
+use pg_client::{Connection, FeedFault, Keeper, Loss};
 use pg_wire::{Sink, Source, send_out};
 
 // How many bytes are received at once.
@@ -25,31 +25,17 @@ pub(crate) trait Drivable {
         ensures { kind.is_lost self.old result self.new };
 }
 
-impl Drivable for Client {
-    ghost use Rattle.pg_drive.specs.Drive.{client_kind};
+impl<K: Keeper> Drivable for Connection<K> {
+    ghost use Rattle.pg_drive.specs.Drive.{kind_of};
 
-    ghost kind = { client_kind };
+    ghost kind = { kind_of K.way };
 
     fn feed(&mut self, piece: &[u8], out: &mut Vec<u8>) -> Result<(), FeedFault> {
-        Client::feed(self, piece, out)
+        Connection::feed(self, piece, out)
     }
 
     fn lost(&mut self) -> Loss {
-        Client::lost(self)
-    }
-}
-
-impl Drivable for EarlyClient {
-    ghost use Rattle.pg_drive.specs.Early.{early_kind};
-
-    ghost kind = { early_kind };
-
-    fn feed(&mut self, piece: &[u8], out: &mut Vec<u8>) -> Result<(), FeedFault> {
-        EarlyClient::feed(self, piece, out)
-    }
-
-    fn lost(&mut self) -> Loss {
-        EarlyClient::lost(self)
+        Connection::lost(self)
     }
 }
 

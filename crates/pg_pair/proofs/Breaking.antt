@@ -1,12 +1,15 @@
 -- A break keeps what is so of a pair.
-use Rattle.std.proofs.Common.{◌≡◌, true, false, Some, refl, sym, subst, ◌∙◌}
+use Rattle.pg_client.specs.Lost.{IsLost}
+use Rattle.pg_client.specs.Keeping.{collecting}
+use Rattle.pg_client.proofs.Histories.Unread.{carried}
+use Rattle.std.proofs.Common.{◌≡◌, true, false, Some, refl, sym, ap, subst, ◌∙◌}
 use Rattle.pg_client.specs.declared.settled.Loss.{Loss}
 use Rattle.pg_client.specs.Client.{ClientView}
 use Rattle.pg_client.specs.History.{with_handed_back}
 use Rattle.pg_backend.specs.Backend.{BackendState, lost_stage}
 use Rattle.pg_backend.specs.History as back
 use Rattle.pg_pair.specs.declared.carry.Way.TheVariants.{ToClient}
-use Rattle.pg_pair.specs.Breaking.{Breaks, broken, is_closed, LosesConnection, BreaksToClient}
+use Rattle.pg_pair.specs.Breaking.{Breaks, broken, is_closed, BreaksToClient}
 use Rattle.pg_pair.specs.Invariant.{Tied}
 use Rattle.pg_pair.specs.View.{PairView}
 
@@ -14,16 +17,16 @@ use Rattle.pg_pair.specs.View.{PairView}
 abbrev pub client_told : {C : Type 0} → PairView C → ClientView → Loss → PairView C
 client_told p c loss = record p { client = c; to_client = broken p.to_client; loss = Some loss }
 
-pub keeps_client_told : {C : Type 0} (p : PairView C) (c : ClientView) (loss : Loss) → LosesConnection p.client loss c → Tied p → Tied (client_told p c loss)
+pub keeps_client_told : {C : Type 0} (p : PairView C) (c : ClientView) (loss : Loss) → IsLost collecting p.client loss c → Tied p → Tied (client_told p c loss)
 keeps_client_told p c loss told t = record {
   client = record {
     history = with_handed_back t.client.history;
-    is_history = told.history t.client.history t.client.is_history;
+    is_history = carried collecting p.client c with_handed_back told.history t.client.history t.client.is_history;
     fed = t.client.fed;
     given = t.client.given;
     sent = t.client.sent;
     fed_before = t.client.fed_before;
-    taken = told.settled ∙ t.client.taken;
+    taken = ap (λ k. k.settled) told.keeper ∙ t.client.taken;
     within = t.client.within;
   };
   backend = t.backend;
@@ -53,7 +56,7 @@ keeps_backend_told p b e carries t =
       turns = t.turns;
     })
 
-pub breaks_client : {C : Type 0} (p : PairView C) (c : ClientView) (loss : Loss) → is_closed ToClient p ≡ false → LosesConnection p.client loss c → Breaks ToClient p (client_told p c loss)
+pub breaks_client : {C : Type 0} (p : PairView C) (c : ClientView) (loss : Loss) → is_closed ToClient p ≡ false → IsLost collecting p.client loss c → Breaks ToClient p (client_told p c loss)
 breaks_client p c loss going told = subst (λ b. BreaksToClient b p (client_told p c loss)) (sym going) (loss, told, refl)
 
 -- a closed client isn't told

@@ -1,7 +1,9 @@
 -- A call that the client accepts keeps what is so of a pair.
+use Rattle.pg_client.specs.Keeping.{collecting}
 use Rattle.std.proofs.Common.{◌≡◌, ℕ, List, [], ◌∷◌, ◌++◌, length, refl, ap, sym, subst, ◌∙◌}
 use Rattle.std.proofs.lemmas.List.{map-append, length-take-le}
-use Rattle.pg_client.specs.Client.{ClientView, phase_of}
+use Rattle.pg_client.specs.Client.{ClientView, groups_waiting, phase_of}
+use Rattle.pg_client.proofs.Histories.Unread.{carried}
 use Rattle.pg_client.specs.Sent.{sent_by}
 use Rattle.pg_client.specs.History.{Calls, with_call}
 use Rattle.pg_client.specs.Calls.{Accepts}
@@ -30,7 +32,7 @@ called p c new sent = record p { client = new; to_backend = record p.to_backend 
 
 -- Where the turns go on so, a call that was accepted keeps what is so.
 pub accepted : Known → {C : Type 0} (p : PairView C) (t : Tied p) (c : Call) (new : ClientView) (sent : List ℕ)
-    → IsAllowedIn c (phase_of p.client) → Accepts c p.client new p.to_backend.sent sent → GoesOn p t c → Tied (called p c new sent)
+    → IsAllowedIn c (phase_of p.client) → Accepts collecting c p.client new p.to_backend.sent sent → GoesOn p t c → Tied (called p c new sent)
 accepted k p t c new sent allowed accepts on =
     let put : List ℕ = sent_by p.client.settings c in
     let turns : more_turns p t c ≡ turns_made (more_calls p t c) = sym (turns_of_more k p t c) in
@@ -38,13 +40,13 @@ accepted k p t c new sent allowed accepts on =
     record {
       client = record {
         history = with_call p.client.settings c t.client.history;
-        is_history = accepts.history t.client.history t.client.is_history;
+        is_history = carried collecting p.client new (with_call p.client.settings c) accepts.history t.client.history t.client.is_history;
         fed = t.client.fed;
         given = t.client.given;
         sent = ap (λ l. l ++ put) t.client.sent ∙ sym accepts.put;
         fed_before = map-append (λ (x : Call × ℕ). x.1) t.client.history.calls ((c, length t.client.history.fed) ∷ [])
             ∙ ap (λ l. l ++ length t.client.history.fed ∷ []) t.client.fed_before ∙ ap (λ n. p.fed_before ++ n ∷ []) place;
-        taken = ap (λ x. x.settled) accepts.others ∙ t.client.taken;
+        taken = ap groups_waiting accepts.others ∙ t.client.taken;
         within = t.client.within;
       };
       backend = backend_stays p sent put accepts.put t.backend;
@@ -61,5 +63,5 @@ goes_on k p t (call.Fail reason) allowed = fail_goes_on k p t reason allowed
 goes_on k p t call.Terminate allowed = same_goes_on p t call.Terminate refl refl
 
 pub keeps_called : Known → {C : Type 0} (p : PairView C) (c : Call) (new : ClientView) (sent : List ℕ)
-    → IsAllowedIn c (phase_of p.client) → Accepts c p.client new p.to_backend.sent sent → Tied p → Tied (called p c new sent)
+    → IsAllowedIn c (phase_of p.client) → Accepts collecting c p.client new p.to_backend.sent sent → Tied p → Tied (called p c new sent)
 keeps_called k p c new sent allowed accepts t = accepted k p t c new sent allowed accepts (goes_on k p t c allowed)

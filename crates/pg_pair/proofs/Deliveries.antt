@@ -1,4 +1,5 @@
 -- What a delivery moves.
+use Rattle.pg_client.specs.Keeping.{collecting}
 use Rattle.std.proofs.Common.{◌≡◌, ◌≤◌, ◌+◌, ◌-◌, ℕ, min, Bool, true, false, ◌||◌, List, [], ◌∷◌, ◌++◌, Option, Some, None, Result, Ok, Err, length, take, drop, refl, ap, sym, subst, ◌∙◌, append_assoc, arith, length-drop, nat_lt, eq-eqb, ◌⊎◌, inl, inr}
 use Rattle.std.proofs.Math.Seq.{take-add}
 use Rattle.std.proofs.lemmas.Bool.{le-ltb}
@@ -73,9 +74,10 @@ nothing_put : (s : WayState) → s ≡ record s { sent = s.sent ++ [] }
 nothing_put s = ap (λ l. record s { sent = l }) (sym (append-nil s.sent))
 
 -- what a feed puts out
-put_by : (c : Option Cause) (old : ClientView) (piece : List ℕ) (result : Result Unit FeedFault) (new : ClientView) (before after : List ℕ) → FeedsByCause c old piece result new before after → (put : List ℕ) × (after ≡ before ++ put)
+put_by : (c : Option Cause) (old : ClientView) (piece : List ℕ) (result : Result Unit FeedFault) (new : ClientView) (before after : List ℕ) → FeedsByCause collecting c old piece result new before after → (put : List ℕ) × (after ≡ before ++ put)
 put_by (Some c) old piece result new before after h = ([], h.2 ∙ sym (append-nil before))
-put_by None old piece result new before after h = (h.added, h.put)
+put_by None old [] result new before after h = ([], h.2 ∙ sym (append-nil before))
+put_by None old (b ∷ bs) result new before after h = (h.added, h.put)
 
 took_none : {C : Type 0} (w : Way) (p : PairView C) (answer : Option Applied) → Took w p [] answer p
 took_none ToBackend p answer = record { count = 0; within = omega arith; all = λ e. refl; way = none_on p.to_backend; other = refl }

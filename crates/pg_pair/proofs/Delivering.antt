@@ -1,4 +1,5 @@
 -- A piece that is delivered: what arrives of it, and what it does to the receiving end.
+use Rattle.pg_client.specs.Keeping.{collecting}
 use Rattle.std.proofs.Common.{◌≡◌, ◌≤◌, ◌<◌, ◌+◌, ℕ, zero, suc, cond, true, false, Bool, List, [], ◌∷◌, ◌++◌, Option, Some, None, Result, Ok, Err, min, nat_eq, length, take, drop, refl, ap, sym, subst, ◌∙◌, arith, length-drop}
 use Rattle.std.proofs.lemmas.List.{length-take, length-take-le, take-take, take_all, drop_all}
 use Rattle.std.proofs.Math.Bridge.{le_prop}
@@ -6,13 +7,13 @@ use Rattle.std.proofs.Math.Logic.{∥∥₁_elim}
 use mathlib.Core.Bool.{Bool-set}
 use Rattle.pg_client.specs.declared.fault.FeedFault.{FeedFault}
 use Rattle.pg_client.specs.declared.phase.Cause.{Cause}
-use Rattle.pg_client.specs.segment.CopyAnswer.{CopyAnswer}
-use Rattle.pg_client.specs.segment.CopyAnswer.TheVariants as copy
-use Rattle.pg_client.specs.segment.begun.Open.TheVariants as begun
-use Rattle.pg_client.specs.Segment.{Stage, Within}
+use Rattle.pg_client.specs.declared.stand.CopyAnswer.{CopyAnswer}
+use Rattle.pg_client.specs.declared.stand.CopyAnswer.TheVariants as copy
+use Rattle.pg_client.specs.place.Open.{Open}
+use Rattle.pg_client.specs.place.Open.TheVariants as opened
 use Rattle.pg_client.specs.declared.stand.Stand.{Stand}
 use Rattle.pg_client.specs.declared.stand.Stand.TheVariants as stands
-use Rattle.pg_client.specs.Client.{ClientView, busy_phase_of, phase_of, phase_with, stand_phase}
+use Rattle.pg_client.specs.Client.{with_groups, groups_waiting, ClientView, busy_phase_of, phase_of, phase_with, stand_phase}
 use Rattle.pg_client.specs.Feed.{Feeds}
 use Rattle.pg_backend.specs.Backend.{BackendState}
 use Rattle.pg_pair.specs.declared.carry.CarryFault.{CarryFault}
@@ -122,12 +123,11 @@ pushed_in p count b h =
 stand_open : (s : Stand) → is_closed_client (stand_phase s) ≡ false
 stand_open stands.New = refl
 stand_open (stands.Starting w) = refl
-stand_open (stands.Idle asides) = refl
-stand_open (stands.Busy segment) = by segment.stage segment.answer
+stand_open stands.Idle = refl
+stand_open (stands.Busy request place answer) = by place.opened answer
   where
-    by : (s : Stage) (a : CopyAnswer) → is_closed_client (busy_phase_of s a) ≡ false
-    by (Within (begun.CopyIn head)) copy.Awaited = refl
-    by (Within (begun.CopyIn head)) _ = refl
+    by : (o : Open) (a : CopyAnswer) → is_closed_client (busy_phase_of o a) ≡ false
+    by opened.CopyIn copy.Awaited = refl
     by _ a = refl
 
 open_none : (c : Option Cause) (s : Stand) → is_closed_client (phase_with c s) ≡ false → c ≡ None
@@ -136,15 +136,15 @@ open_none (Some c) s h = absurd cc
 
 -- a client that isn't closed has no cause
 pub going_none : (c : ClientView) → is_closed_client (phase_of c) ≡ false → c.closed ≡ None
-going_none c h = open_none c.closed c.stand h
+going_none c h = open_none c.closed c.known.stand h
 
 -- the pair after the client was fed so many bytes, and has put out what was sent then
 abbrev pub fed_at : {C : Type 0} → PairView C → ℕ → ClientView → List ℕ → PairView C
 fed_at p count fed sent = record p {
-  client = record fed { settled = [] };
+  client = with_groups fed [];
   to_backend = record p.to_backend { sent = sent };
   to_client = record p.to_client { reached = p.to_client.reached + count };
-  settled = p.settled ++ fed.settled;
+  settled = p.settled ++ groups_waiting fed;
 }
 
 -- The client was fed so many of the bytes under way.
@@ -152,17 +152,17 @@ pub record IsFed {C : Type 0} (p : PairView C) (count : ℕ) (result : Result Un
   pub none : p.client.closed ≡ None
   pub some : 0 < count
   pub within : count ≤ length (waiting p.to_client)
-  pub feeds : Feeds p.client (take count (waiting p.to_client)) result fed p.to_backend.sent sent
+  pub feeds : Feeds collecting p.client (take count (waiting p.to_client)) result fed p.to_backend.sent sent
 
 -- it was, where the pair is seen so
 pub is_fed : {C : Type 0} (p q : PairView C) → p ≡ q → (count : ℕ) (bytes : List ℕ) (result : Result Unit FeedFault) (fed : ClientView) (sent : List ℕ)
     → is_closed ToClient q ≡ false → 0 < count → count ≤ length (waiting_at ToClient q) → bytes ≡ waiting p.to_client
-    → Feeds p.client (take count bytes) result fed p.to_backend.sent sent → IsFed p count result fed sent
+    → Feeds collecting p.client (take count bytes) result fed p.to_backend.sent sent → IsFed p count result fed sent
 is_fed {C} p q same count bytes result fed sent going some within is feeds = record {
   none = going_none p.client (subst (λ (x : PairView C). is_closed ToClient x ≡ false) (sym same) going);
   some = some;
   within = subst (λ (x : PairView C). count ≤ length (waiting_at ToClient x)) (sym same) within;
-  feeds = subst (λ l. Feeds p.client (take count l) result fed p.to_backend.sent sent) is feeds;
+  feeds = subst (λ l. Feeds collecting p.client (take count l) result fed p.to_backend.sent sent) is feeds;
 }
 
 pub fed_settles : Known → {C : Type 0} (p : PairView C) (count : ℕ) (result : Result Unit FeedFault) (fed : ClientView) (sent : List ℕ) → IsFed p count result fed sent → ∥ Tied p ∥₁ → SettlesOne p fed
@@ -175,7 +175,7 @@ fed_tied p count result fed sent h t =
     subst (λ n. Tied (fed_at p n fed sent)) (counted count (waiting p.to_client) h.within)
     (keeps_fed p (take count (waiting p.to_client)) result fed sent h.none (itself count (waiting p.to_client) h.within) (fits p.to_client count t.client.within h.within) h.feeds t)
 
-takes_fed : {C : Type 0} (p : PairView C) (bytes : List ℕ) (result : Result Unit FeedFault) (fed : ClientView) (sent : List ℕ) → 0 < length bytes → Feeds p.client bytes result fed p.to_backend.sent sent
+takes_fed : {C : Type 0} (p : PairView C) (bytes : List ℕ) (result : Result Unit FeedFault) (fed : ClientView) (sent : List ℕ) → 0 < length bytes → Feeds collecting p.client bytes result fed p.to_backend.sent sent
     → ArrivesAt ToClient p bytes (client_answer result) (fed_pair p bytes fed sent)
 takes_fed p [] result fed sent some h = absurd (omega arith)
 takes_fed p (x ∷ xs) result fed sent some h = (result, record { fed = fed; feeds = h; rest = refl }, refl)
@@ -189,11 +189,11 @@ fed_in p count result fed sent h =
     (takes_fed p (take count (waiting p.to_client)) result fed sent (omega (arith, n, some)) h.feeds)
 
 -- a client that answers no fault is open
-no_fault : {C : Type 0} (p : PairView C) (bytes : List ℕ) (result : Result Unit FeedFault) (fed : ClientView) (sent : List ℕ) → p.client.closed ≡ None → Feeds p.client bytes result fed p.to_backend.sent sent
+no_fault : {C : Type 0} (p : PairView C) (bytes : List ℕ) (result : Result Unit FeedFault) (fed : ClientView) (sent : List ℕ) → p.client.closed ≡ None → Feeds collecting p.client bytes result fed p.to_backend.sent sent
     → client_answer result ≡ None → Tied p → is_closed_client (phase_of fed) ≡ false
 no_fault p bytes (Ok x) fed sent none feeds answer t =
-    let closed : fed.closed ≡ None = (heard_more p t bytes (Ok x) fed sent none (fed_open p.client bytes (Ok x) fed p.to_backend.sent sent none feeds)).answers in
-    ap (λ c. is_closed_client (phase_with c fed.stand)) closed ∙ stand_open fed.stand
+    let closed : fed.closed ≡ None = (heard_more p t bytes (Ok x) fed sent (fed_open p.client bytes (Ok x) fed p.to_backend.sent sent none feeds)).answers in
+    ap (λ c. is_closed_client (phase_with c fed.known.stand)) closed ∙ stand_open fed.known.stand
 no_fault p bytes (Err f) fed sent none feeds answer t = absurd cc
 
 pub fed_going : {C : Type 0} (p : PairView C) (count : ℕ) (result : Result Unit FeedFault) (fed : ClientView) (sent : List ℕ) → IsFed p count result fed sent → ∥ Tied p ∥₁ → client_answer result ≡ None

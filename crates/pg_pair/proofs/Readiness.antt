@@ -15,7 +15,7 @@ use Rattle.pg_client.specs.declared.phase.Phase.TheVariants as phase
 use Rattle.pg_client.specs.declared.stand.Stand.{Stand}
 use Rattle.pg_client.specs.declared.call.Call.TheVariants as call
 use Rattle.pg_client.specs.Session.{Happening, Did, Came, IsTerminated, IsReady, whole_in}
-use Rattle.pg_client.specs.Client.{phase_of, phase_with}
+use Rattle.pg_client.specs.Client.{groups_waiting, phase_of, phase_with}
 use Rattle.pg_client.specs.History.{happenings}
 use Rattle.pg_client.specs.Facts.{IsPhase}
 use Rattle.pg_client.specs.Turns.{turns_of, calls_in, farewell}
@@ -64,13 +64,13 @@ pub client_idle : Known → {C : Type 0} (p : PairView C) (t : Tied p) → phase
 client_idle k p t ready =
     let hs = happenings t.client.history in
     let told = k.order t.client.history in
-    let none : p.client.closed ≡ None = not_closed p.client.closed p.client.stand ready in
+    let none : p.client.closed ≡ None = not_closed p.client.closed p.client.known.stand ready in
     let facts = k.facts (in_pair p t.client.history) p.client (tied_history p t) in
     let turns = k.answering (in_pair p t.client.history) p.client (tied_history p t) in
-    let idle : IsReady hs = subst (λ c. IsPhase hs c phase.Ready) none ((facts.phase phase.Ready).0 ready) in
-    let going : IsTerminated hs → ⊥ = λ over. let e : p.client.closed ≡ Some cause.Terminated = t.client.is_history.terminated.0 over in let f : None ≡ Some cause.Terminated = sym none ∙ e in absurd cc in
-    let given : length (p.settled ++ p.client.settled) ≡ length p.settled = ap length (ap (λ l. p.settled ++ l) t.client.taken ∙ append-nil p.settled) in
-    let all : length (p.settled ++ p.client.settled) ≡ length (turns_of (calls_in hs)) = turns.ready ready in
+    let idle : IsReady hs = subst (λ c. IsPhase hs c phase.Ready) none ((facts.facts.phase phase.Ready).0 ready) in
+    let going : IsTerminated hs → ⊥ = λ over. let e : p.client.closed ≡ Some cause.Terminated = t.client.is_history.agrees.terminated.0 over in let f : None ≡ Some cause.Terminated = sym none ∙ e in absurd cc in
+    let given : length (p.settled ++ groups_waiting p.client) ≡ length p.settled = ap length (ap (λ l. p.settled ++ l) t.client.taken ∙ append-nil p.settled) in
+    let all : length (p.settled ++ groups_waiting p.client) ≡ length (turns_of (calls_in hs)) = turns.ready ready in
     let made : length (turns_of (calls_in hs)) ≡ length (turns_made t.client.history.calls) = ap (λ cs. length (turns_of cs)) told.calls in
     record {
       stays = ap farewell (sym (told.calls)) ∙ farewell_said hs going;

@@ -13,6 +13,7 @@ use Rattle.pg_wire.specs.declared.session.Request.TheVariants.{Query}
 use Rattle.pg_wire.proofs.Rows.{salted}
 use Rattle.pg_client.specs.declared.phase.Cause.TheVariants as cause
 use Rattle.pg_client.specs.declared.stand.Stand.TheVariants as stands
+use Rattle.pg_client.specs.Collected.{nothing_collected}
 use Rattle.pg_client.specs.declared.settings.Settings.{Settings}
 use Rattle.pg_client.specs.declared.call.Call.TheVariants as call
 use Rattle.pg_client.specs.History.{Calls}
@@ -176,7 +177,7 @@ refused_took_the_first = (record { first = refl; all = λ e. absurd cc }, tt)
 -- a client and a backend as they are made, and a carrier that keeps nothing
 fresh : PairView (Unit {0})
 fresh = record {
-  client = record { settings = record { user = 117 ∷ []; database = None; pairs = []; password = None; limit = 64 }; kept = []; stand = stands.New; settled = []; status = None; parameters = []; key = None; closed = None };
+  client = record { settings = record { user = 117 ∷ []; database = None; pairs = []; password = None; limit = 64 }; kept = []; held = None; known = record { stand = stands.New; keeper = record { collected = nothing_collected; settled = [] }; status = None; parameters = []; key = None }; closed = None };
   backend = record { script = record { auth = Trust; pairs = []; key = None; answers = [] }; limit = 64; left = []; stage = stage.First (record { kept = []; ended = false; fault = None }); log = [] };
   carrier = tt;
   to_backend = record { sent = []; reached = 0; broken = false };

@@ -1,4 +1,5 @@
 -- What a client has settled is a beginning of what the backend has answered.
+use Rattle.pg_client.specs.Client.{groups_waiting}
 use Rattle.std.proofs.Common.{◌≡◌, ℕ, List, [], ◌∷◌, ◌++◌, map, drop, take, refl, ap, sym, subst, ◌∙◌, append_assoc, ◌⊎◌, inl, inr, length, suc, arith, ◌≤◌}
 use Rattle.std.specs.List.{flat_map, AllByRecursion}
 use Rattle.std.proofs.lemmas.List.{append-nil, take-append-drop, length-map}
@@ -145,7 +146,7 @@ none_heard (Came m ∷ hs) after e = absurd (after [] m hs refl).started
 pub tied_none : Known → {C : Type 0} (p : PairView C) (t : Tied p) → calls_of t.client.history.calls ≡ [] → Messages p t ≡ []
 tied_none k p t e =
     let told = k.order t.client.history in
-    let nothing : t.client.history.heard ≡ [] = sym (told.messages) ∙ none_heard (Happened p t) t.client.is_history.happened.expected.after (told.calls ∙ e) in
+    let nothing : t.client.history.heard ≡ [] = sym (told.messages) ∙ none_heard (Happened p t) t.client.is_history.expected.after (told.calls ∙ e) in
     ap (messages_after p.client.settings t.client.history.heard) e ∙ ap (λ ms. messages_after p.client.settings ms []) nothing
 
 -- the password that it has sent
@@ -251,7 +252,7 @@ one_unsettled k p t =
     let turns = k.answering (in_pair p t.client.history) p.client (tied_history p t) in
     let few : length (turns_in hs) ≤ suc (length (groups_in hs)) = (turns.in_turn hs [] (sym (append-nil hs))).one_at_most in
     let made : length (turns_in hs) ≡ length (turns_of (calls_of t.client.history.calls)) = ap (λ cs. length (turns_of cs)) ((k.order t.client.history).calls) in
-    let all : length (p.settled ++ p.client.settled) ≡ length (groups_in hs) = turns.settled_all in
-    let given : length (p.settled ++ p.client.settled) ≡ length p.settled = ap length (ap (λ l. p.settled ++ l) t.client.taken ∙ append-nil p.settled) in
+    let all : length (p.settled ++ groups_waiting p.client) ≡ length (groups_in hs) = turns.settled_all in
+    let given : length (p.settled ++ groups_waiting p.client) ≡ length p.settled = ap length (ap (λ l. p.settled ++ l) t.client.taken ∙ append-nil p.settled) in
     let handed : length p.handed ≡ length (turns_of (calls_of t.client.history.calls)) = ap length t.turns.handed ∙ length-map (turns_made t.client.history.calls) (λ (x : Turn). chunks_of x.copies) in
     omega arith

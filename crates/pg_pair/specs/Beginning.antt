@@ -4,6 +4,7 @@ use Rattle.pg_client.specs.declared.phase.Phase.TheVariants as phase
 use Rattle.pg_client.specs.declared.settings.Settings.{Settings}
 use Rattle.pg_client.specs.History.{blank, IsHistoryOf}
 use Rattle.pg_client.specs.Client as client
+use Rattle.pg_client.specs.Keeping.{collecting}
 use Rattle.pg_backend.specs.declared.script.Script.{Script}
 use Rattle.pg_backend.specs.declared.stage.BackStage.TheVariants as stage
 use Rattle.pg_wire.specs.Direction.{longest}
@@ -19,7 +20,7 @@ pub record IsBegun {C : Type 0} (settings : Settings) (script : Script) (carrier
     (p : PairView C) : Type 0 where
   pub client_settings : p.client.settings ≡ settings
   pub client_phase : client.phase_of p.client ≡ phase.New
-  pub client_history : IsHistoryOf blank p.client
+  pub client_history : IsHistoryOf collecting blank p.client
   pub rest : p ≡ record {
     client = p.client;
     backend = record {

@@ -1,12 +1,11 @@
 -- What a break of a way does to a pair.
 use Rattle.std.specs.Prelude.{◌≡◌, Bool, true, false, ◌||◌, Some}
-use Rattle.pg_client.specs.declared.phase.Cause.TheVariants as cause
 use Rattle.pg_client.specs.declared.phase.Phase.{Phase}
 use Rattle.pg_client.specs.declared.phase.Phase.TheVariants as phase
 use Rattle.pg_client.specs.declared.settled.Loss.{Loss}
-use Rattle.pg_client.specs.Client.{ClientView, phase_of}
-use Rattle.pg_client.specs.History.{Carries, with_handed_back}
-use Rattle.pg_client.specs.Lost.{first_cause, HandsBack}
+use Rattle.pg_client.specs.Client.{phase_of}
+use Rattle.pg_client.specs.Keeping.{collecting}
+use Rattle.pg_client.specs.Lost.{IsLost}
 use Rattle.pg_backend.specs.declared.phase.BackPhase.{BackPhase}
 use Rattle.pg_backend.specs.declared.phase.BackPhase.TheVariants as back
 use Rattle.pg_backend.specs.Backend.{lost_stage}
@@ -36,16 +35,6 @@ is_closed ToClient p = is_closed_client (phase_of p.client)
 abbrev pub is_shut : {C : Type 0} → Way → PairView C → Bool
 is_shut w p = (way_state w p).broken || is_closed w p
 
--- The client's `lost` was called and returned this: the client is closed, with the cause Lost
--- unless it had one before, and handed back the request that isn't settled. Its settled groups
--- stay.
-pub record LosesConnection (old : ClientView) (loss : Loss) (new : ClientView) : Type 0 where
-  pub settings : new.settings ≡ old.settings
-  pub closed : new.closed ≡ Some (first_cause old.closed cause.Lost)
-  pub settled : new.settled ≡ old.settled
-  pub says : HandsBack old loss
-  pub history : Carries old new with_handed_back
-
 -- this way, broken
 abbrev pub broken : WayState → WayState
 broken s = record s { broken = true }
@@ -54,7 +43,7 @@ broken s = record s { broken = true }
 -- that returned; a closed one (true) doesn't change.
 abbrev pub BreaksToClient : {C : Type 0} → Bool → PairView C → PairView C → Type 0
 BreaksToClient true p q = q ≡ record p { to_client = broken p.to_client }
-BreaksToClient false p q = (loss : Loss) × LosesConnection p.client loss q.client
+BreaksToClient false p q = (loss : Loss) × IsLost collecting p.client loss q.client
     × (q ≡ record p { client = q.client; to_client = broken p.to_client; loss = Some loss })
 
 -- A way breaks, and its receiving end is closed by `lost`, unless it was closed before.

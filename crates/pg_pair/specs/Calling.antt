@@ -3,6 +3,7 @@ use Rattle.std.specs.Prelude.{◌≡◌, ℕ, List, [], ◌∷◌, ◌++◌}
 use Rattle.pg_client.specs.declared.fault.CallFault.{CallFault}
 use Rattle.pg_client.specs.declared.phase.Phase.{Phase}
 use Rattle.pg_client.specs.declared.phase.Phase.TheVariants as phase
+use Rattle.pg_client.specs.Keeping.{collecting}
 use Rattle.pg_client.specs.Session.{request_made}
 use Rattle.pg_client.specs.Client.{ClientView, phase_of, IsOpenPhase}
 use Rattle.pg_client.specs.Calls.{Accepts, RefusesUnless, RefusesCopy, RefusesEnd}
@@ -48,7 +49,7 @@ handed_after _ handed = handed
 -- many bytes had reached the client (`fed_before`) and the request or the chunk (`handed`).
 pub record Accepted {C : Type 0} (c : Call) (p q : PairView C) : Type 0 where
   pub allowed : IsAllowedIn c (phase_of p.client)
-  pub accepts : Accepts c p.client q.client p.to_backend.sent q.to_backend.sent
+  pub accepts : Accepts collecting c p.client q.client p.to_backend.sent q.to_backend.sent
   pub rest : q ≡ record p {
     client = q.client;
     to_backend = record p.to_backend { sent = q.to_backend.sent };

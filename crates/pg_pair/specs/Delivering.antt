@@ -1,7 +1,8 @@
 -- What a delivery does to a pair: it goes in pieces, which a carrier carries.
 use Rattle.std.specs.Prelude.{◌≡◌, ℕ, zero, suc, ◌+◌, ◌-◌, ◌<◌, ◌⊎◌, Bool, true, false, List, [], ◌∷◌, ◌++◌, length, take, Option, Some, None, Result, Ok, Err}
 use Rattle.pg_client.specs.declared.fault.FeedFault.{FeedFault}
-use Rattle.pg_client.specs.Client.{ClientView}
+use Rattle.pg_client.specs.Client.{ClientView, groups_waiting, with_groups}
+use Rattle.pg_client.specs.Keeping.{collecting}
 use Rattle.pg_client.specs.Feed.{Feeds}
 use Rattle.pg_backend.specs.declared.fault.BackendFault.{BackendFault}
 use Rattle.pg_backend.specs.Backend.{BackendState, Stores}
@@ -34,12 +35,12 @@ reached_more s bytes = record s { reached = s.reached + length bytes }
 pub record Feeding {C : Type 0} (p : PairView C) (bytes : List ℕ)
     (result : Result Unit FeedFault) (q : PairView C) : Type 0 where
   pub fed : ClientView
-  pub feeds : Feeds p.client bytes result fed p.to_backend.sent q.to_backend.sent
+  pub feeds : Feeds collecting p.client bytes result fed p.to_backend.sent q.to_backend.sent
   pub rest : q ≡ record p {
-    client = record fed { settled = [] };
+    client = with_groups fed [];
     to_backend = record p.to_backend { sent = q.to_backend.sent };
     to_client = reached_more p.to_client bytes;
-    settled = p.settled ++ fed.settled;
+    settled = p.settled ++ groups_waiting fed;
   }
 
 -- The backend's `push` has stored the bytes. Nothing of them is handled before a step.

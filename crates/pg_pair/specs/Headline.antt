@@ -11,6 +11,7 @@ use Rattle.pg_client.specs.declared.settled.Settled.{Settled}
 use Rattle.pg_client.specs.declared.phase.Phase.TheVariants as client_phase
 use Rattle.pg_client.specs.History.{History, IsHistoryOf}
 use Rattle.pg_client.specs.Client as client
+use Rattle.pg_client.specs.Keeping.{collecting}
 use Rattle.pg_backend.specs.declared.script.Logged.{Logged}
 use Rattle.pg_backend.specs.declared.phase.BackPhase.TheVariants as backend_phase
 use Rattle.pg_backend.specs.Backend.{HasHandled, had_memory}
@@ -42,8 +43,8 @@ requests_logged ls = map (λ l. l.request) ls
 -- `fed_before` says. The log's requests are the first that these calls made, and `handed` has the
 -- chunks of each that they made.
 pub record MatchesCalls {C : Type 0} (p : PairView C) : Type 0 where
-  pub history : History
-  pub client_history : IsHistoryOf history p.client
+  pub history : History Settled
+  pub client_history : IsHistoryOf collecting history p.client
   pub fed : history.fed ≡ arrived p.to_client
   pub given : history.given ≡ p.settled
   pub sent : history.sent ≡ p.to_backend.sent

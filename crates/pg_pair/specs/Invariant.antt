@@ -1,7 +1,10 @@
 -- What is so of a pair at any time: of its client, of its backend, and of both together.
 use Rattle.std.specs.Prelude.{◌≡◌, ◌≤◌, false, List, [], length, map}
 use Rattle.pg_wire.specs.Direction.{longest}
+use Rattle.pg_client.specs.declared.settled.Settled.{Settled}
+use Rattle.pg_client.specs.Client.{groups_waiting}
 use Rattle.pg_client.specs.History.{History, IsHistoryOf}
+use Rattle.pg_client.specs.Keeping.{collecting}
 use Rattle.pg_backend.specs.Check.{IsChecked}
 use Rattle.pg_backend.specs.Backend.{was_lost}
 use Rattle.pg_backend.specs.History as back
@@ -19,13 +22,13 @@ IsWithin s = s.reached ≤ length s.sent
 -- `fed_before` says. All groups that it has settled are with the pair.
 abbrev pub ClientTied : {C : Type 0} → PairView C → Type 0
 ClientTied p = record {
-  history : History;
-  is_history : IsHistoryOf history p.client;
+  history : History Settled;
+  is_history : IsHistoryOf collecting history p.client;
   fed : history.fed ≡ arrived p.to_client;
   given : history.given ≡ p.settled;
   sent : history.sent ≡ p.to_backend.sent;
   fed_before : map (λ c. c.1) history.calls ≡ p.fed_before;
-  taken : p.client.settled ≡ [];
+  taken : groups_waiting p.client ≡ [];
   within : IsWithin p.to_client;
 }
 

@@ -1,7 +1,8 @@
 -- What a delivery moves, and what breaks a way: laws of what events do.
 use Rattle.std.specs.Prelude.{◌≡◌, ◌≤◌, ℕ, ◌+◌, min, ◌⊎◌, Bool, true, false, List, [], ◌++◌, length, take, None, Result, Ok, Err}
 use Rattle.pg_client.specs.declared.fault.FeedFault.{FeedFault}
-use Rattle.pg_client.specs.Client.{ClientView}
+use Rattle.pg_client.specs.Client.{ClientView, with_groups}
+use Rattle.pg_client.specs.Keeping.{collecting}
 use Rattle.pg_client.specs.Feed.{Feeds}
 use Rattle.pg_pair.specs.declared.carry.CarryFault.{CarryFault}
 use Rattle.pg_pair.specs.declared.carry.Way.{Way}
@@ -37,8 +38,8 @@ pub data IsFedOn (old : ClientView) (before : List ℕ)
   unfed : IsFedOn old before [] old before
   fed_on : (bytes : List ℕ) (client : ClientView) (sent piece : List ℕ)
       (result : Result Unit FeedFault) (fed : ClientView) (after : List ℕ)
-      → IsFedOn old before bytes client sent → Feeds client piece result fed sent after
-      → IsFedOn old before (bytes ++ piece) (record fed { settled = [] }) after
+      → IsFedOn old before bytes client sent → Feeds collecting client piece result fed sent after
+      → IsFedOn old before (bytes ++ piece) (with_groups fed []) after
 
 -- The client was fed these bytes and became `client`. What it put out as it was fed comes after
 -- what was sent to the backend; that way is otherwise as it was.

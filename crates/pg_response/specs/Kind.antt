@@ -1,8 +1,8 @@
 -- What kind of message it is.
 use Rattle.std.specs.Prelude.{◌≡◌, Bool, true, false, Some, None}
 use Rattle.pg_wire.specs.message.BackMessage.{BackMessage}
-use Rattle.pg_wire.specs.message.BackMessage.TheVariants.{AuthOk, AuthCleartext, AuthMd5, AuthOther, KeyData, ParameterStatus, Ready, ErrorResponse}
-use Rattle.pg_wire.specs.Segment.{error_of, aside_of, status_of}
+use Rattle.pg_wire.specs.message.BackMessage.TheVariants.{AuthOk, AuthCleartext, AuthMd5, AuthOther, KeyData, ParameterStatus, Ready}
+use Rattle.pg_wire.specs.Segment.{aside_of, status_of}
 use Rattle.pg_response.specs.declared.kind.Auth.{Auth}
 use Rattle.pg_response.specs.declared.kind.Auth.TheVariants as auth
 use Rattle.pg_response.specs.declared.kind.Kind.{Kind}
@@ -25,12 +25,11 @@ is_welcome (AuthOther code bytes) = true
 is_welcome (KeyData process secret) = true
 is_welcome _ = false
 
--- The message belongs to a result of a query or to the answer to a step, if it comes at its place:
--- it is neither an aside nor an ErrorResponse nor a ReadyForQuery nor a message of the startup.
-pub record IsResult (m : BackMessage) : Type 0 where
+-- The message belongs to a result of a query or to the answer to a step, or is an error, if it comes
+-- at its place: it is neither an aside nor a ReadyForQuery nor a message of the startup.
+pub record IsPart (m : BackMessage) : Type 0 where
   pub no_aside : aside_of m ≡ None
   pub no_end : status_of m ≡ None
-  pub no_error : error_of m ≡ None
   pub no_welcome : is_welcome m ≡ false
 
 -- Whether the message is a ParameterStatus.
@@ -43,8 +42,7 @@ is_parameter_status _ = false
 abbrev pub IsKind : BackMessage → Kind → Type 0
 IsKind m (kind.Aside a) = (aside_of m ≡ Some a) × (is_parameter_status m ≡ false)
 IsKind m (kind.Parameter name value) = m ≡ ParameterStatus name value
-IsKind m (kind.Error fields) = m ≡ ErrorResponse fields
 IsKind m (kind.Ready status) = m ≡ Ready status
 IsKind m (kind.Key process secret) = m ≡ KeyData process secret
 IsKind m (kind.Auth a) = m ≡ auth_message a
-IsKind m (kind.Result p) = (m ≡ p) × IsResult m
+IsKind m (kind.Part p) = (m ≡ p) × IsPart m

@@ -1,12 +1,6 @@
--- How far the segment of a request has come, and what one more message does there. Who uses
--- pg_client reads it there.
-pub mod Segment
--- Where one is in a segment, which alone decides what may come. It is passed on likewise, since an
--- early client stands at such a place.
+-- Where one is in the segment of a request, which alone decides what may come, and what was
+-- collected of it. Who uses pg_client reads them there.
 pub mod Place
--- What kind of message it is; what each call of a segment does. These are words of the client's
--- private functions.
+pub mod Collected
+-- What kind of message it is: words of the client's private functions.
 pub mod Kind
-pub mod SegmentCalls
--- Words of private functions.
-pub mod Private

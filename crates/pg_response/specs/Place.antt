@@ -1,215 +1,137 @@
--- The place in a segment, which alone decides what may come: it goes on from message to message
--- without what was collected.
-use Rattle.std.specs.Prelude.{◌≡◌, ℕ, ◌+◌, [], ◌∷◌, length, drop, min, nat_lt, nat_le, cond, Bool, true, false, Option, Some, None}
+-- Where one is in the segment of a request. A place goes on from message to message, by the mark of
+-- each, and alone decides what may come.
+use Rattle.std.specs.Prelude.{ℕ, ◌+◌, List, [], ◌∷◌, length, drop, nat_lt, nat_le, cond, Bool, true, false, Option, Some, None}
 use Rattle.std.specs.Option.{option_map}
 use Rattle.pg_wire.specs.message.BackMessage.{BackMessage}
-use Rattle.pg_wire.specs.message.BackMessage.TheVariants.{RowDescription, DataRow, CommandComplete, EmptyQuery, ParseComplete, BindComplete, CloseComplete, NoData, PortalSuspended, ParameterDescription, CopyData, CopyDone}
 use Rattle.pg_wire.specs.message.BackMessage.TheVariants as back
 use Rattle.pg_wire.specs.value.Target.TheVariants.{Statement, Portal}
 use Rattle.pg_wire.specs.declared.session.Step.{Step}
 use Rattle.pg_wire.specs.declared.session.Step.TheVariants as step
-use Rattle.pg_wire.specs.Segment.{Fields, error_of, Asked, Results, Steps, asked}
-use Rattle.pg_response.specs.declared.segment.CopyAnswer.{CopyAnswer}
-use Rattle.pg_response.specs.declared.segment.CopyAnswer.TheVariants.{Awaited, Done}
-use Rattle.pg_response.specs.declared.segment.begun.Open.{Open}
-use Rattle.pg_response.specs.declared.segment.begun.Open.TheVariants as begun
-use Rattle.pg_response.specs.declared.segment.pending.Pending.{Pending}
-use Rattle.pg_response.specs.declared.segment.pending.Pending.TheVariants as pending
-use Rattle.pg_response.specs.declared.segment.place.Place.{Place}
-use Rattle.pg_response.specs.Segment.{Stage, Within, Failed, SegmentView, next_reading, moved_to}
-use Rattle.pg_response.specs.SegmentCalls.{is_awaited}
+use Rattle.pg_wire.specs.Segment.{Asked, Results, Steps}
+use Rattle.pg_response.specs.declared.mark.Mark.{Mark}
+use Rattle.pg_response.specs.declared.mark.Mark.TheVariants as mark
+use Rattle.pg_response.specs.declared.place.Open.{Open}
+use Rattle.pg_response.specs.declared.place.Open.TheVariants as opened
+use Rattle.pg_response.specs.declared.place.Place.{Place}
 
--- ---- what is open after a message, if it may come
+-- the mark of a message: what it is, without what it carries
+abbrev pub mark_of : BackMessage → Mark
+mark_of (back.RowDescription columns) = mark.RowDescription
+mark_of (back.DataRow values) = mark.DataRow
+mark_of (back.CommandComplete tag) = mark.CommandComplete
+mark_of back.EmptyQuery = mark.EmptyQuery
+mark_of (back.CopyOut head) = mark.CopyOut
+mark_of (back.CopyIn head) = mark.CopyIn
+mark_of (back.CopyData bytes) = mark.CopyData
+mark_of back.CopyDone = mark.CopyDone
+mark_of (back.ParameterDescription types) = mark.ParameterDescription
+mark_of back.NoData = mark.NoData
+mark_of back.PortalSuspended = mark.PortalSuspended
+mark_of back.ParseComplete = mark.ParseComplete
+mark_of back.BindComplete = mark.BindComplete
+mark_of back.CloseComplete = mark.CloseComplete
+mark_of (back.ErrorResponse fields) = mark.Error
+mark_of _ = mark.Other
 
--- the first message of a result
-abbrev pub opens_result : BackMessage → Option Pending
-opens_result (RowDescription columns) = Some pending.Rows
-opens_result (CommandComplete tag) = Some pending.Nothing
-opens_result EmptyQuery = Some pending.Nothing
-opens_result (back.CopyOut head) = Some pending.CopyOut
-opens_result (back.CopyIn head) = Some pending.CopyIn
-opens_result _ = None
+-- ---- what is unfinished after a message, if it may come
 
--- What is open after the first message of the answer to a Parse: ParseComplete is the whole answer.
-abbrev pub ends_parse : BackMessage → Option Pending
-ends_parse ParseComplete = Some pending.Nothing
-ends_parse _ = None
+-- After one more message of what is unfinished. A row may follow rows, a chunk chunks. Nothing is
+-- unfinished after the last message of a result or an answer.
+abbrev pub follows : Open → Mark → Option Open
+follows opened.Rows mark.DataRow = Some opened.Rows
+follows opened.Rows mark.CommandComplete = Some opened.Nothing
+follows opened.CopyOut mark.CopyData = Some opened.CopyOut
+follows opened.CopyOut mark.CopyDone = Some opened.CopyOutEnded
+follows opened.CopyOutEnded mark.CommandComplete = Some opened.Nothing
+follows opened.CopyIn mark.CommandComplete = Some opened.Nothing
+follows opened.Described mark.RowDescription = Some opened.Nothing
+follows opened.Described mark.NoData = Some opened.Nothing
+follows opened.Executed mark.DataRow = Some opened.Executed
+follows opened.Executed mark.CommandComplete = Some opened.Nothing
+follows opened.Executed mark.EmptyQuery = Some opened.Nothing
+follows opened.Executed mark.PortalSuspended = Some opened.Nothing
+follows _ _ = None
 
--- What is open after the first message of the answer to a Bind: BindComplete is the whole answer.
-abbrev pub ends_bind : BackMessage → Option Pending
-ends_bind BindComplete = Some pending.Nothing
-ends_bind _ = None
+-- After the first message of a query's result ("Simple Query").
+abbrev pub begins_result : Mark → Option Open
+begins_result mark.RowDescription = Some opened.Rows
+begins_result mark.CommandComplete = Some opened.Nothing
+begins_result mark.EmptyQuery = Some opened.Nothing
+begins_result mark.CopyOut = Some opened.CopyOut
+begins_result mark.CopyIn = Some opened.CopyIn
+begins_result _ = None
 
--- What is open after the first message of the answer to a Close: CloseComplete is the whole answer.
-abbrev pub ends_close : BackMessage → Option Pending
-ends_close CloseComplete = Some pending.Nothing
-ends_close _ = None
+-- After the first message of the answer to a step ("Extended Query"). The columns of a portal come
+-- as those of a statement, and the rows of one as further rows do.
+abbrev pub begins_answer : Step → Mark → Option Open
+begins_answer (step.Parse name text types) mark.ParseComplete = Some opened.Nothing
+begins_answer (step.Bind portal statement formats values result_formats) mark.BindComplete =
+    Some opened.Nothing
+begins_answer (step.Close target name) mark.CloseComplete = Some opened.Nothing
+begins_answer (step.Describe Statement name) mark.ParameterDescription = Some opened.Described
+begins_answer (step.Describe Portal name) m = follows opened.Described m
+begins_answer (step.Execute portal max_rows) m = follows opened.Executed m
+begins_answer _ _ = None
 
--- the parameters of a described statement, before its columns
-abbrev pub opens_parameters : BackMessage → Option Pending
-opens_parameters (ParameterDescription types) = Some pending.Described
-opens_parameters _ = None
+-- After the first message of the next result, or of the answer to the next step.
+abbrev pub begins : Asked → Mark → Option Open
+begins Results m = begins_result m
+begins (Steps []) m = None
+begins (Steps (s ∷ ss)) m = begins_answer s m
 
--- the columns of a described statement or portal
-abbrev pub ends_description : BackMessage → Option Pending
-ends_description (RowDescription columns) = Some pending.Nothing
-ends_description NoData = Some pending.Nothing
-ends_description _ = None
+-- what is left to be answered after so many answers; of a query any number of results
+abbrev pub still_asked : Asked → ℕ → Asked
+still_asked Results n = Results
+still_asked (Steps steps) n = Steps (drop n steps)
 
--- a row of an executed portal, or its end
-abbrev pub runs : BackMessage → Option Pending
-runs (DataRow values) = Some pending.Executed
-runs (CommandComplete tag) = Some pending.Nothing
-runs EmptyQuery = Some pending.Nothing
-runs PortalSuspended = Some pending.Nothing
-runs _ = None
-
--- the first message of the answer to a step
-abbrev pub opens_answer : Step → BackMessage → Option Pending
-opens_answer (step.Parse name text types) m = ends_parse m
-opens_answer (step.Bind portal statement formats values result_formats) m = ends_bind m
-opens_answer (step.Describe Statement name) m = opens_parameters m
-opens_answer (step.Describe Portal name) m = ends_description m
-opens_answer (step.Execute portal max_rows) m = runs m
-opens_answer (step.Close target name) m = ends_close m
-
--- the first message of the next result, or of the answer to the next step
-abbrev pub opens : Asked → BackMessage → Option Pending
-opens Results m = opens_result m
-opens (Steps []) m = None
-opens (Steps (s ∷ ss)) m = opens_answer s m
-
--- a row of a result, or its end
-abbrev pub follows_rows : BackMessage → Option Pending
-follows_rows (DataRow values) = Some pending.Rows
-follows_rows (CommandComplete tag) = Some pending.Nothing
-follows_rows _ = None
-
--- a chunk that the server copies out, or the end of the data
-abbrev pub follows_copy_out : BackMessage → Option Pending
-follows_copy_out (CopyData bytes) = Some pending.CopyOut
-follows_copy_out CopyDone = Some pending.CopyOutEnded
-follows_copy_out _ = None
-
--- the end of a command
-abbrev pub completes : BackMessage → Option Pending
-completes (CommandComplete tag) = Some pending.Nothing
-completes _ = None
-
--- the end of a copy in, which comes after its copy_done
-abbrev pub follows_copy_in : CopyAnswer → BackMessage → Option Pending
-follows_copy_in Done m = completes m
-follows_copy_in _ m = None
-
--- one more message of what is open, with what is left to be answered
-abbrev pub follows : Asked → Pending → CopyAnswer → BackMessage → Option Pending
-follows still pending.Nothing answer m = opens still m
-follows still pending.Rows answer m = follows_rows m
-follows still pending.CopyOut answer m = follows_copy_out m
-follows still pending.CopyOutEnded answer m = completes m
-follows still pending.CopyIn answer m = follows_copy_in answer m
-follows still pending.Described answer m = ends_description m
-follows still pending.Executed answer m = runs m
+-- After one more message, by what was asked, how many answers are whole, and what is unfinished.
+abbrev pub next_open : Asked → ℕ → Open → Mark → Option Open
+next_open a n opened.Nothing m = begins (still_asked a n) m
+next_open a n o m = follows o m
 
 -- ---- places
 
 -- the place before the first message
 abbrev pub start : Place
-start = record { answers = 0; pending = pending.Nothing; failed = false; answer = Awaited }
-
--- what is left to be answered after so many steps
-abbrev pub still_asked : Asked → ℕ → Asked
-still_asked Results n = Results
-still_asked (Steps steps) n = Steps (drop n steps)
+start = record { answers = 0; opened = opened.Nothing; failed = false }
 
 -- how many steps are answered once one more is; the results of a query aren't counted
 abbrev pub one_more : Asked → ℕ → ℕ
 one_more Results n = n
 one_more (Steps steps) n = cond (nat_lt n (length steps)) (n + 1) n
 
--- the place where this is open now: where nothing is, one more is answered, and a copy in begins
--- anew
-abbrev pub led_to : Asked → Place → Pending → Place
-led_to a p pending.Nothing = record p { answers = one_more a p.answers; pending = pending.Nothing }
-led_to a p pending.CopyIn = record p { pending = pending.CopyIn; answer = Awaited }
-led_to a p o = record p { pending = o }
+-- the place where this is unfinished now: where nothing is, one more is answered
+abbrev pub led_to : Asked → Place → Open → Place
+led_to a p opened.Nothing = record p { answers = one_more a p.answers; opened = opened.Nothing }
+led_to a p o = record p { opened = o }
 
--- the place that an error leads to
-abbrev pub failed_at : Place → Place
-failed_at p = record p { pending = pending.Nothing; failed = true }
+-- Where a message with this mark leads, if it may come, which is neither an aside nor ReadyForQuery.
+-- After an error only further errors may come.
+abbrev pub goes : Asked → Place → Mark → Option Place
+goes a p mark.Error = Some (record p { opened = opened.Nothing; failed = true })
+goes a p m = cond p.failed None (option_map (led_to a p) (next_open a p.answers p.opened m))
 
--- whether the server waits for the data of a copy, by what is open
-abbrev pub awaits_data_of : Pending → CopyAnswer → Bool
-awaits_data_of pending.CopyIn answer = is_awaited answer
-awaits_data_of _ answer = false
+-- where any number of such messages lead
+abbrev pub goes_by : Asked → Option Place → List BackMessage → Option Place
+goes_by a p [] = p
+goes_by a None (m ∷ ms) = None
+goes_by a (Some p) (m ∷ ms) = goes_by a (goes a p (mark_of m)) ms
 
--- whether it waits for that at the place
-abbrev pub awaits_data_at : Place → Bool
-awaits_data_at p = awaits_data_of p.pending p.answer
-
--- the place after this was called for the open copy in
-abbrev pub told : Place → CopyAnswer → Place
-told p said = record p { answer = said }
-
--- what is open at the place once the message has come
-abbrev pub follows_at : Asked → Place → BackMessage → Option Pending
-follows_at a p m = follows (still_asked a p.answers) p.pending p.answer m
-
--- where a message leads, by whether it is an error: after one, only further errors may come
-abbrev pub goes_by : Asked → Place → Option Fields → BackMessage → Option Place
-goes_by a p (Some fields) m = Some (failed_at p)
-goes_by a p None m = cond p.failed None (option_map (led_to a p) (follows_at a p m))
-
--- where a message leads which is neither an aside nor its ReadyForQuery, if it may stand there
-abbrev pub goes : Asked → Place → BackMessage → Option Place
-goes a p m = goes_by a p (error_of m) m
+-- The place of a segment that consists of these messages, its asides left out. None: no answer to
+-- what was asked begins so.
+abbrev pub goes_all : Asked → List BackMessage → Option Place
+goes_all a ms = goes_by a (Some start) ms
 
 -- whether all that was asked is answered
 abbrev pub all_answered : Asked → ℕ → Bool
 all_answered Results n = true
 all_answered (Steps steps) n = nat_le (length steps) n
 
--- ReadyForQuery may come where nothing is open and nothing more has to be answered
-abbrev pub may_end_with : Asked → Pending → ℕ → Bool
-may_end_with a pending.Nothing n = all_answered a n
-may_end_with a _ n = false
+-- whether all is answered, where nothing is unfinished
+abbrev pub ends_with : Asked → Open → ℕ → Bool
+ends_with a opened.Nothing n = all_answered a n
+ends_with a _ n = false
 
 -- whether ReadyForQuery may come at the place: so, or after an error
-abbrev pub may_end_at_place : Asked → Place → Bool
-may_end_at_place a p = cond p.failed true (may_end_with a p.pending p.answers)
-
--- ---- the place of a segment
-
--- what is open, without what came of it
-abbrev pub pending_of : Open → Pending
-pending_of begun.Nothing = pending.Nothing
-pending_of (begun.Rows columns rows) = pending.Rows
-pending_of (begun.CopyOut head chunks) = pending.CopyOut
-pending_of (begun.CopyOutEnded head chunks) = pending.CopyOutEnded
-pending_of (begun.CopyIn head) = pending.CopyIn
-pending_of (begun.Described types) = pending.Described
-pending_of (begun.Executed rows) = pending.Executed
-
--- how many steps are answered by so many parts; the results of a query aren't counted
-abbrev pub answered : Asked → ℕ → ℕ
-answered Results n = 0
-answered (Steps steps) n = min n (length steps)
-
--- the place of a segment in this stage, with so many steps answered
-abbrev pub place_at : Stage → ℕ → CopyAnswer → Place
-place_at (Within o) n answer =
-    record { answers = n; pending = pending_of o; failed = false; answer = answer }
-place_at (Failed fields) n answer =
-    record { answers = n; pending = pending.Nothing; failed = true; answer = answer }
-
--- the place of a segment
-abbrev pub place_in : SegmentView → Place
-place_in segment =
-    place_at segment.stage (answered (asked segment.request) (length segment.parts)) segment.answer
-
--- A message leads the place of the segment to the place of where it leads the segment, and it may
--- stand at the one exactly where it may in the other.
-abbrev pub GoesAlong : SegmentView → BackMessage → Type 0
-GoesAlong segment m =
-    goes (asked segment.request) (place_in segment) m
-    ≡ option_map (λ r. place_in (moved_to segment m r)) (next_reading segment m)
+abbrev pub may_end : Asked → Place → Bool
+may_end a p = cond p.failed true (ends_with a p.opened p.answers)

@@ -2,7 +2,7 @@
 
 ghost use Rattle.pg_response.specs.Kind.{IsKind};
 
-use pg_wire::{Aside, BackMessage, Fields, Seq, Status};
+use pg_wire::{Aside, BackMessage, Seq, Status};
 
 /// What kind of message it is.
 #[derive(Debug, Drop)]
@@ -11,16 +11,14 @@ pub enum Kind {
     Aside(Aside),
     /// ParameterStatus.
     Parameter { name: Seq<u8>, value: Seq<u8> },
-    /// ErrorResponse.
-    Error(Fields),
     /// ReadyForQuery.
     Ready(Status),
     /// BackendKeyData.
     Key { process: i32, secret: i32 },
     /// A message of the authentication.
     Auth(Auth),
-    /// Any other message: one of a result, or of the answer to a step.
-    Result(BackMessage),
+    /// Any other message: one of a result, of the answer to a step, or an error.
+    Part(BackMessage),
 }
 
 /// What the server asks for, or says, in a message of the authentication.
@@ -49,7 +47,6 @@ impl Kind {
             BackMessage::KeyData { process, secret } => Kind::Key { process, secret },
             BackMessage::ParameterStatus { name, value } => Kind::Parameter { name, value },
             BackMessage::Ready(status) => Kind::Ready(status),
-            BackMessage::ErrorResponse(fields) => Kind::Error(fields),
             BackMessage::NoticeResponse(fields) => Kind::Aside(Aside::Notice(fields)),
             BackMessage::Notification {
                 process,
@@ -60,7 +57,7 @@ impl Kind {
                 channel,
                 payload,
             }),
-            other => Kind::Result(other),
+            other => Kind::Part(other),
         }
     }
 }

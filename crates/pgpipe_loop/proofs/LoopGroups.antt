@@ -8,6 +8,7 @@ use Rattle.pg_pair.specs.declared.carry.Way.{Way}
 use Rattle.pg_pair.specs.declared.carry.Way.TheVariants.{ToBackend, ToClient}
 use Rattle.pg_pair.specs.declared.event.Applied.{Applied}
 use Rattle.pg_pair.specs.declared.event.Applied.TheVariants as applied
+use Rattle.pg_client.specs.Client.{groups_waiting}
 use Rattle.pg_client.specs.declared.call.Call.{Call}
 use Rattle.pg_pair.specs.declared.event.Event.{Event}
 use Rattle.pg_pair.specs.declared.event.Event.TheVariants as event
@@ -69,7 +70,7 @@ module _ {C : Type 0} (carries : Carrying C) where
   takes_in_keeps : (w : Way) (p : PairView C) (bytes : List ℕ) (answer : Option Applied) (q : PairView C) → ArrivesAt w p bytes answer q → Keeps p q
   takes_in_keeps w p [] answer q h = same_keeps p q h.1
   takes_in_keeps ToBackend p (b ∷ bytes) answer q h = pushing_keeps p (b ∷ bytes) h.0 q h.1
-  takes_in_keeps ToClient p (b ∷ bytes) answer q h = let n = ap (λ (x : PairView C). length x.settled) h.1.rest in omega (arith, n, length-append p.settled h.1.fed.settled)
+  takes_in_keeps ToClient p (b ∷ bytes) answer q h = let n = ap (λ (x : PairView C). length x.settled) h.1.rest in omega (arith, n, length-append p.settled (groups_waiting h.1.fed))
 
   goes_keeps : (w : Way) (most : ℕ) (p : PairView C) (n : ℕ) (q : PairView C) → DeliversPieces carries w most p n q → Keeps p q
   goes_keeps w most p n q no_piece = omega arith

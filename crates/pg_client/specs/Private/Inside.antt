@@ -1,17 +1,14 @@
--- The fields of a machine.
-use Rattle.pg_client.specs.declared.machine.Machine.TheInside.{Inside}
-use Rattle.pg_client.specs.Private.Machine.{MachineView}
+-- The fields of a client.
+use Rattle.pg_client.specs.declared.connection.Connection.TheInside.{Inside}
+use Rattle.pg_client.specs.Client.{View}
 
 -- What a clause sees of them.
-abbrev pub machine_view : {K : Type 0} → Inside K → MachineView K
-machine_view m =
+abbrev pub view_of : {K : Type 0} → Inside K → View K
+view_of m =
     record {
       settings = m.settings;
       kept = m.decoder.stream.kept;
       held = m.decoder.held;
-      collector = m.collector;
-      status = m.status;
-      parameters = m.parameters;
-      key = m.key;
+      known = m.known;
       closed = m.closed;
     }

@@ -4,13 +4,17 @@ use Rattle.std.specs.Prelude.{◌≡◌, ℕ, List, ◌++◌, Bool, true, false,
 use Rattle.std.specs.List.{flat_map, AllByRecursion}
 use Rattle.pg_wire.specs.fault.EncodeFault.{EncodeFault}
 use Rattle.pg_wire.specs.fault.EncodeFault.TheVariants as encoding
+use Rattle.pg_wire.specs.message.BackMessage.{BackMessage}
 use Rattle.pg_wire.specs.message.FrontMessage.{FrontMessage}
 use Rattle.pg_wire.specs.Direction.{spelling, HasSpelling}
 use Rattle.pg_wire.specs.Frontend.{frontend}
 use Rattle.pg_wire.specs.Password.{md5_text}
 use Rattle.pg_client.specs.declared.settings.Settings.{Settings}
 use Rattle.pg_client.specs.declared.call.Call.TheVariants as call
-use Rattle.pg_client.specs.Sent.{call_fault, first_fault, sent_by, IsSpelled}
+use Rattle.pg_client.specs.declared.fault.FeedFault.{FeedFault}
+use Rattle.pg_client.specs.declared.fault.FeedFault.TheVariants as feeding
+use Rattle.pg_client.specs.Sent.{answer_to, call_fault, first_fault, sent_by, IsSpelled}
+use Rattle.pg_client.specs.Session.{can_answer}
 
 -- All of these messages are appended, or nothing is, and the fault says why: it is that of the
 -- first message that has one, or Memory where none has.
@@ -36,6 +40,21 @@ SendsStart settings before (Err f) after = (call_fault settings call.Start ≡ S
 abbrev pub password_text : List ℕ → List ℕ → Option (List ℕ) → List ℕ
 password_text user password None = password
 password_text user password (Some salt) = md5_text user password salt
+
+-- The bytes of what is sent for a message are appended.
+abbrev pub PutsAnswer : Settings → BackMessage → List ℕ → List ℕ → Type 0
+PutsAnswer settings m before after = AllByRecursion (HasSpelling frontend) (answer_to settings m)
+    × (after ≡ before ++ flat_map (spelling frontend) (answer_to settings m))
+
+-- What is sent for a message of the startup is appended, or nothing is: there is no password where one
+-- is asked for, or memory ran out.
+abbrev pub SendsAnswer : Settings → BackMessage → List ℕ → Result Unit FeedFault → List ℕ → Type 0
+SendsAnswer settings m before (Ok x) after = (can_answer settings.password m ≡ true)
+    × PutsAnswer settings m before after
+SendsAnswer settings m before (Err feeding.PasswordWanted) after =
+    (can_answer settings.password m ≡ false) × (after ≡ before)
+SendsAnswer settings m before (Err feeding.Memory) after = after ≡ before
+SendsAnswer settings m before (Err f) after = ⊥
 
 -- Some bytes are appended, or none.
 abbrev pub Lengthens : List ℕ → List ℕ → Type 0

@@ -4,7 +4,7 @@ use Rattle.pg_client.specs.declared.phase.Phase.{Phase}
 use Rattle.pg_client.specs.declared.settled.Loss.{Loss}
 use Rattle.pg_drive.specs.declared.answer.DriveFault.{DriveFault}
 use Rattle.pg_drive.specs.declared.answer.Driven.{Driven}
-use Rattle.pg_drive.specs.Drive.{ClientKind, Connection, Ends, Fails, LastTurn, Linked, Turn, TurnsOn}
+use Rattle.pg_drive.specs.Drive.{ClientKind, LinkedClient, Ends, Fails, LastTurn, Linked, Turn, TurnsOn}
 
 -- Receiving a piece, feeding it and sending what the client put out, by the result: all that is
 -- done (None), or the server's bytes have ended, or a fault is answered.
@@ -22,7 +22,7 @@ Receives kind gives takes has_ended receive_failures send_failures old (Err f) n
 -- A turn, by its result: it goes on (None), or this is returned.
 abbrev pub TakesTurn : {L : Type 0} (gives takes : L → List ℕ → L → Type 0)
     (has_ended : L → Type 0) (receive_failures send_failures : L → ℕ)
-    → Phase → Connection L → Result (Option Driven) DriveFault → Connection L → Type 0
+    → Phase → LinkedClient L → Result (Option Driven) DriveFault → LinkedClient L → Type 0
 TakesTurn gives takes has_ended receive_failures send_failures began old (Ok None) new =
     (piece : List ℕ)
     × TurnsOn gives takes has_ended receive_failures send_failures began old piece new

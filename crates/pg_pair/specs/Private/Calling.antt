@@ -4,6 +4,7 @@ use Rattle.std.specs.Vec.{vec_capacity, vec_len}
 use Rattle.std.specs.declared.vec.Vec.{Vec}
 use Rattle.pg_wire.specs.declared.session.Request.{Request}
 use Rattle.pg_client.specs.declared.fault.CallFault.{CallFault}
+use Rattle.pg_client.specs.Keeping.{collecting}
 use Rattle.pg_client.specs.Session.{request_made}
 use Rattle.pg_client.specs.Client.{ClientView, phase_of}
 use Rattle.pg_client.specs.Calls.{Accepts}
@@ -35,7 +36,7 @@ answer_with (Err f) k = Err (None, f)
 abbrev pub ClientAnswers : Call → ClientView → List ℕ
     → Result Kept (Option Request × CallFault) → ClientView → List ℕ → Type 0
 ClientAnswers c old before (Ok k) new after = IsAllowedIn c (phase_of old)
-    × Accepts c old new before after × (k ≡ kept_of c)
+    × Accepts collecting c old new before after × (k ≡ kept_of c)
 ClientAnswers c old before (Err refusal) new after = (refusal.0 ≡ request_made c)
     × RefusesCall old c refusal.1 × (new ≡ old) × (after ≡ before)
 

@@ -2,6 +2,7 @@
 
 ghost use Rattle.std.specs.Prelude.{◌≡◌, ◌≤◌, ◌<◌, ◌+◌, ◌++◌, [], None, false, length, take};
 ghost use Rattle.std.specs.Vec.{vec_capacity, vec_len};
+ghost use Rattle.pg_client.specs.Client.{groups_waiting, with_groups};
 ghost use Rattle.pg_pair.specs.Breaking.{is_closed, is_shut};
 ghost use Rattle.pg_pair.specs.Delivering.{ArrivesAt, DeliversUnless};
 ghost use Rattle.pg_pair.specs.Delivering.{client_answer, delivery_applied};
@@ -37,10 +38,11 @@ fn client_answer(fed: Result<(), FeedFault>) -> Option<Applied>
 
 // Takes what the client has settled, one group at most.
 fn take_group(client: &mut Client, settled: &mut Vec<Settled>)
-    requires one { length client.old.settled ≤ 1 }
-    requires room { vec_len settled.old + length client.old.settled ≤ vec_capacity settled.old }
-    ensures client { client.new ≡ record client.old { settled = [] } }
-    ensures settled { settled.new.items ≡ settled.old.items ++ client.old.settled }
+    requires one { length (groups_waiting client.old) ≤ 1 }
+    requires room { vec_len settled.old + length (groups_waiting client.old)
+        ≤ vec_capacity settled.old }
+    ensures client { client.new ≡ with_groups client.old [] }
+    ensures settled { settled.new.items ≡ settled.old.items ++ groups_waiting client.old }
     ensures capacity { vec_capacity settled.new ≡ vec_capacity settled.old }
 {
     if let Some(group) = client.take_settled() {

@@ -1,4 +1,4 @@
-use Rattle.pg_client.proofs.Beginnings.{expected_begins, expected_no_longer}
+use Rattle.pg_client.proofs.Events.Beginnings.{expected_begins, expected_no_longer}
 use Rattle.pg_client.proofs.laws.expected_begins.Goals as goal
 
 pub returns-clause-begins : goal.returns-clause-begins

@@ -1,4 +1,4 @@
-use Rattle.pg_client.proofs.Ordering.{keeps_order, one_more}
+use Rattle.pg_client.proofs.Turns.Ordering.{keeps_order, one_more}
 use Rattle.pg_client.proofs.laws.story_of_a_run.Goals as goal
 
 pub returns-clause-order : goal.returns-clause-order

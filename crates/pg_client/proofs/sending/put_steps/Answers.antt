@@ -1,5 +1,5 @@
 use Rattle.std.proofs.lemmas.Result.{err_from_is_err_and}
-use Rattle.pg_client.proofs.Encoded.{step_put, step_fault, sync_put}
+use Rattle.pg_client.proofs.Calling.Encoded.{step_put, step_fault, sync_put}
 use Rattle.pg_client.proofs.sending.put_steps.Goals as goal
 
 pub returns-in_err-starved : goal.returns-in_err-starved

@@ -15,7 +15,7 @@ returns-in-Ok-push g c =
         none_failed = c.in-Ok.ensures.counted;
         has_some = omega (arith, length-take count into, c.if-count-eq0.false, c.in-Ok.ensures.bound);
         within = omega (arith, length-take count into, c.in-Ok.ensures.bound, c.receive.auto.into, c.requires);
-        fed = record { pushes = c.in-Ok-push.ensures.pushes; history = c.in-Ok-push.ensures.history; refused = tt; out = refl };
+        fed = (c.in-Ok-push.ensures.pushes, refl);
         sent = sends_nothing g.L.Sink.takes g.L.Sink.failures c.receive.new.self;
         none_left = refl;
       },
@@ -32,7 +32,7 @@ returns-in-Err g c =
         none_failed = c.in-Ok.ensures.counted;
         has_some = omega (arith, length-take count into, c.if-count-eq0.false, c.in-Ok.ensures.bound);
         within = omega (arith, length-take count into, c.in-Ok.ensures.bound, c.receive.auto.into, c.requires);
-        fed = record { pushes = c.in-Err.ensures.pushes; history = tt; refused = c.in-Err.ensures.refused; out = refl };
+        fed = (c.in-Err.ensures.pushes, refl);
       },
       c.lose-loss.ensures,
     )

@@ -1,6 +1,4 @@
-use Rattle.std.proofs.Common.{refl, subst}
-use Rattle.pg_client.specs.declared.phase.Phase.{Phase}
-use Rattle.pg_drive.specs.Early.{IsInPhase}
+use Rattle.std.proofs.Common.{refl, sym, ◌∙◌}
 use Rattle.pg_drive.proofs.lent.wait.Goals as goal
 
 pub returns-in_default : goal.returns-in_default
@@ -8,8 +6,8 @@ returns-in_default g c = record { sent = c.in_default.ensures.sends; lost = c.lo
 
 pub returns-in-CopyingIn : goal.returns-in-CopyingIn
 returns-in-CopyingIn g c =
-    record { sent = c.in-Ok.ensures.sends.0; none_left = c.in-Ok.ensures.sends.1; client = refl; in_phase = subst (λ (p : Phase). IsInPhase c.args.client.now p) c.in-CopyingIn.is c.phase.ensures }
+    record { sent = c.in-Ok.ensures.sends.0; none_left = c.in-Ok.ensures.sends.1; client = refl; in_phase = sym c.phase.ensures ∙ c.in-CopyingIn.is }
 
 pub returns-in_default-phase : goal.returns-in_default-phase
 returns-in_default-phase g c =
-    (c.phase.result, c.in_default-phase.not-CopyingIn, record { sent = c.in-Ok.ensures.sends.0; none_left = c.in-Ok.ensures.sends.1; client = refl; in_phase = c.phase.ensures })
+    (c.phase.result, c.in_default-phase.not-CopyingIn, record { sent = c.in-Ok.ensures.sends.0; none_left = c.in-Ok.ensures.sends.1; client = refl; in_phase = sym c.phase.ensures })

@@ -1,16 +1,14 @@
-use Rattle.std.proofs.Common.{refl, inr, subst}
-use Rattle.pg_client.specs.declared.phase.Phase.{Phase}
-use Rattle.pg_drive.specs.Early.{IsInPhase}
+use Rattle.std.proofs.Common.{refl, sym, inr, ◌∙◌}
 use Rattle.pg_drive.proofs.Sessions.{begins_now}
 use Rattle.pg_drive.proofs.starting.begin.Goals as goal
 
 pub returns-in-Starting : goal.returns-in-Starting
-returns-in-Starting c = record {
-  begins = inr (subst (λ (p : Phase). IsInPhase c.args.client.now p) c.in-Starting.is c.phase.ensures, refl, refl);
+returns-in-Starting g c = record {
+  begins = inr (sym c.phase.ensures ∙ c.in-Starting.is, refl, refl);
   refused = tt;
   err = tt;
 }
 
 pub returns-in_default-clause-begins : goal.returns-in_default-clause-begins
-returns-in_default-clause-begins c =
-    begins_now c.start.result c.args.client.now c.start.new.self c.args.out.now.items c.start.new.out.items c.start.ensures.accepted c.start.ensures.unread
+returns-in_default-clause-begins g c =
+    begins_now g.K.Keeper.way c.start.result c.args.client.now c.start.new.self c.args.out.now.items c.start.new.out.items c.start.ensures.ok c.start.ensures.history

@@ -12,11 +12,11 @@ invariant_of-self g c = (∥∥₁_map c.self.invariant.0 (keeps_marked (view_of
 
 pub invariant_of-self-2 : goal.invariant_of-self-2
 invariant_of-self-2 g c =
-    (∥∥₁_map c.self.invariant.0 (keeps_client_told (view_of c.self.inside) c.lost.new.self c.lost.result (record { settings = c.lost.ensures.settings; closed = c.lost.ensures.closed; settled = c.lost.ensures.settled; says = c.lost.ensures.loss; history = c.lost.ensures.history })), c.self.invariant.1)
+    (∥∥₁_map c.self.invariant.0 (keeps_client_told (view_of c.self.inside) c.lost.new.self c.lost.result c.lost.ensures), c.self.invariant.1)
 
 pub returns : goal.returns
 returns g c =
     subst (λ (p : PairView g.row.C.Denot). Breaks ToClient p (client_told (view_of c.self.inside) c.lost.new.self c.lost.result)) c.self.view_is
     (breaks_client (view_of c.self.inside) c.lost.new.self c.lost.result
     (ap is_closed_client (sym c.phase.ensures) ∙ sym c.is_closed_client-was_closed.ensures ∙ c.if-was_closed.false)
-    (record { settings = c.lost.ensures.settings; closed = c.lost.ensures.closed; settled = c.lost.ensures.settled; says = c.lost.ensures.loss; history = c.lost.ensures.history }))
+    c.lost.ensures)

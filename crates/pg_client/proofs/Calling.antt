@@ -1,0 +1,3 @@
+-- Calls that send something.
+pub mod Encoded
+pub mod Accepting

@@ -1,0 +1,159 @@
+-- What a client finds first among the bytes that it keeps, and what that does to it.
+use Rattle.std.proofs.Common.{◌≡◌, ℕ, ◌<◌, List, length, Option, Some, None, Result, Ok, Err, refl, sym, ap, subst, ◌∙◌, inl, inr}
+use Rattle.std.specs.Prelude.{◌⊎◌}
+use Rattle.pg_wire.specs.declared.back.Cut.TheVariants as cut
+use Rattle.pg_wire.specs.declared.fault.WireFault.{WireFault}
+use Rattle.pg_wire.specs.declared.fault.WireFault.TheVariants as wire
+use Rattle.pg_wire.specs.lent.Lent.{Lent}
+use Rattle.pg_wire.specs.lent.Lent.TheVariants as lents
+use Rattle.pg_wire.specs.message.BackMessage.{BackMessage}
+use Rattle.pg_wire.specs.message.BackMessage.TheVariants as back
+use Rattle.pg_wire.specs.Backend.{backend}
+use Rattle.pg_wire.specs.BackDecoder.{as_next, BackState, TakesLent}
+use Rattle.pg_wire.specs.Decoder.{Takes}
+use Rattle.pg_wire.specs.Stream.{IsFaulty, IsWithin}
+use Rattle.pg_response.specs.Collected.{RowValues}
+use Rattle.pg_client.specs.declared.connection.feed.Heard.{Heard}
+use Rattle.pg_client.specs.declared.connection.feed.Heard.TheVariants as heard
+use Rattle.pg_client.specs.declared.fault.FeedFault.{FeedFault}
+use Rattle.pg_client.specs.declared.fault.FeedFault.TheVariants as feeding
+use Rattle.pg_client.specs.declared.known.Known.{Known}
+use Rattle.pg_client.specs.declared.phase.Cause.{Cause}
+use Rattle.pg_client.specs.declared.settings.Settings.{Settings}
+use Rattle.pg_client.specs.Client.{View}
+use Rattle.pg_client.specs.Closed.{cause_of}
+use Rattle.pg_client.specs.Keeping.{AgreesAs, Keeps}
+use Rattle.pg_client.specs.Private.Hearing.{Closes, Cuts, GoesOn, HearsMessage, HearsAll, HearsAlone, HearsNext, HearsOne, HearsRow, IsRefused, of_wire, Owns}
+use Rattle.pg_client.specs.Private.Sending.{PutsAnswer}
+use Rattle.pg_client.proofs.Hearing.Faults.{fault_named, IsNamed}
+use Rattle.pg_client.proofs.Hearing.Feeding.{goes_end, goes_fault, goes_next, shorter}
+use Rattle.pg_client.proofs.Hearing.Messages.{heard_alone, nothing_put}
+
+module _ {K : Type 0} (way : Keeps K) where
+  -- ---- why a message isn't heard
+
+  pub refuses : (v : View K) (m : BackMessage) (rest : List ℕ) (f : FeedFault) (known : Known K) (before after : List ℕ) → Cuts v m rest → HearsMessage way v.settings m v.known (Err f) known before after → IsRefused v f × (known ≡ v.known) × (after ≡ before)
+  refuses v m rest feeding.Memory known before after cuts h = ((m, rest, cuts), h.0, h.1)
+  refuses v m rest (feeding.Wire w) known before after cuts h = absurd (subst IsNamed (sym h.1) (fault_named v.known.stand m))
+  refuses v m rest feeding.Closed known before after cuts h = absurd (subst IsNamed (sym h.1) (fault_named v.known.stand m))
+  refuses v m rest (feeding.Unexpected t) known before after cuts h = ((m, rest, cuts, h.0, h.1), h.2, h.3)
+  refuses v m rest (feeding.UnsupportedAuth code) known before after cuts h = ((m, rest, cuts, h.0, h.1), h.2, h.3)
+  refuses v m rest feeding.PasswordWanted known before after cuts h = ((m, rest, cuts, h.0, h.1), h.2, h.3)
+  refuses v m rest (feeding.StartupError fields) known before after cuts h = ((m, rest, cuts, h.0, h.1), h.2, h.3)
+  refuses v m rest (feeding.ServerEnd fields) known before after cuts h = ((m, rest, cuts, h.0, h.1), h.2, h.3)
+
+  -- ---- what the decoder cuts off, by the fields of a value that was opened
+
+  module _ (v : View K) (d new : BackState) (kept : v.kept ≡ d.stream.kept) (limit : d.stream.limit ≡ v.settings.limit) where
+    cuts_off : (m : BackMessage) → Takes backend d.stream (Ok (Some m)) new.stream → Cuts v m new.stream.kept
+    cuts_off m t = record { within = subst (λ (n : ℕ). IsWithin backend n m) limit t.1; begins = kept ∙ t.2 }
+
+    pub other_cuts : (m : BackMessage) → TakesLent d (Ok (cut.Other m)) new → Cuts v m new.stream.kept
+    other_cuts m t = cuts_off m t.takes
+
+    owned_as : (lent : Option Lent) (m : BackMessage) → Owns lent (Ok (Some m)) → as_next (Ok cut.Held) lent ≡ Ok (Some m)
+    owned_as (Some (lents.Error fields)) m e = ap (λ (o : Option BackMessage). Ok o) (sym e)
+    owned_as (Some (lents.Notice fields)) m e = ap (λ (o : Option BackMessage). Ok o) (sym e)
+    owned_as (Some (lents.Row row)) m e = absurd cc
+    owned_as None m e = absurd cc
+
+    pub held_cuts : (m : BackMessage) → TakesLent d (Ok cut.Held) new → Owns new.held (Ok (Some m)) → Cuts v m new.stream.kept
+    held_cuts m t owns = cuts_off m (subst (λ (r : Result (Option BackMessage) WireFault). Takes backend d.stream r new.stream) (owned_as new.held m owns) t.takes)
+
+    faulty : (none : d.stream.fault ≡ None) (w : WireFault) → (d.stream.fault ≡ Some w) × (new.stream ≡ d.stream) ⊎ (d.stream.fault ≡ None) × (new.stream ≡ record d.stream { fault = Some w }) × IsFaulty backend d.stream.limit d.stream.kept w → IsFaulty backend v.settings.limit v.kept w
+    faulty none w (inl t) = absurd (let k : None ≡ Some w = sym none ∙ t.0 in cc)
+    faulty none w (inr t) = subst (λ (n : ℕ). IsFaulty backend n v.kept w) limit (subst (λ (bs : List ℕ). IsFaulty backend d.stream.limit bs w) (sym kept) t.2)
+
+    refused_wire : (w : WireFault) → d.stream.fault ≡ None → Takes backend d.stream (Err w) new.stream → IsRefused v (of_wire w)
+    refused_wire wire.Memory none t = (t.2.0, t.2.1, record { within = subst (λ (n : ℕ). IsWithin backend n t.2.0) limit t.2.2; begins = kept ∙ t.2.4 })
+    refused_wire (wire.UnknownTag x) none t = faulty none (wire.UnknownTag x) t
+    refused_wire (wire.ShortLength x) none t = faulty none (wire.ShortLength x) t
+    refused_wire (wire.LongLength x) none t = faulty none (wire.LongLength x) t
+    refused_wire (wire.BadBody x) none t = faulty none (wire.BadBody x) t
+    refused_wire (wire.BadFirst x) none t = faulty none (wire.BadFirst x) t
+
+    -- the bytes are no message
+    pub wire_closes : (old : View K) → v ≡ old → (w : WireFault) (f : FeedFault) (closed : Option Cause) → d.stream.fault ≡ None → TakesLent d (Err w) new → f ≡ of_wire w → closed ≡ cause_of f → Closes old f (record v { kept = new.stream.kept; held = new.held; closed = closed })
+    wire_closes old same w f closed none t is cause =
+        subst (λ (x : View K). Closes x f (record v { kept = new.stream.kept; held = new.held; closed = closed })) same
+        (record { refused = subst (IsRefused v) (sym is) (refused_wire w none t.takes); settings = refl; known = refl; closed = cause })
+
+  -- the message isn't heard
+  pub message_closes : (v old : View K) → v ≡ old → (m : BackMessage) (rest : List ℕ) (f g : FeedFault) (mid new : View K) (before after : List ℕ) → Cuts v m rest → mid.settings ≡ v.settings → HearsMessage way v.settings m v.known (Err f) mid.known before after → g ≡ f → new ≡ record mid { closed = cause_of f }
+      → Closes old g new × (after ≡ before)
+  message_closes v old same m rest f g mid new before after cuts settings h is closed =
+      let r = refuses v m rest f mid.known before after cuts h in (
+        subst (λ (x : FeedFault). Closes old x new) (sym is) (subst (λ (x : View K). Closes x f new) same
+            (record { refused = r.0; settings = ap (λ (x : View K). x.settings) closed ∙ settings; known = ap (λ (x : View K). x.known) closed ∙ r.1; closed = ap (λ (x : View K). x.closed) closed })),
+        r.2,
+      )
+
+  -- ---- the row that is lent, by the fields of a value that was opened
+
+  pub hears_row : (v old : View K) → v ≡ old → (lent values : RowValues) (known : Known K) → v.held ≡ Some (lents.Row lent) → values ≡ lent → ((password : Option (List ℕ)) → HearsOne way password (back.DataRow values) v.known known) → HearsRow way old (Ok tt) (record v { known = known })
+  hears_row v old same lent values known held is one =
+      subst (λ (x : View K). HearsRow way x (Ok tt) (record v { known = known })) same
+      (λ row e. (refl, subst (λ (r : RowValues). HearsOne way v.settings.password (back.DataRow r) v.known known) (is ∙ lent_is row (sym held ∙ e)) (one v.settings.password)))
+    where
+      lent_is : (row : RowValues) → Some (lents.Row lent) ≡ Some (lents.Row row) → lent ≡ row
+      lent_is row e = let k : lents.Row lent ≡ lents.Row row = cc in cc
+
+  -- what was found, by a test of it
+  pub as_found : (found x : Heard) → found ≡ x → (now mid : View K) (out end : List ℕ) → HearsNext way now (Ok found) mid out end → HearsNext way now (Ok x) mid out end
+  as_found found x is now mid out end h = subst (λ (f : Heard). HearsNext way now (Ok f) mid out end) is h
+
+module _ {K : Type 0} (way : Keeps K) (law : AgreesAs way) where
+  -- ---- from message to message
+
+  module _ (old now : View K) (start out : List ℕ) (g : GoesOn way old now start out) (found : Heard) (mid : View K) (end : List ℕ) (h : HearsNext way now (Ok found) mid out end) where
+    -- no message is whole any more
+    pub all_heard : found ≡ heard.Nothing → HearsAll way old (Ok tt) mid start end
+    all_heard is =
+        let x = as_found way found heard.Nothing is now mid out end h in
+        subst (HearsAll way old (Ok tt) mid start) (sym x.2) (goes_end way law old now mid start out g x.0 (x.1 ∙ ap (λ (o : Option Lent). record now { held = o }) (sym (ap (λ (v : View K). v.held) x.1))))
+
+    pub message_heard : found ≡ heard.Message → GoesOn way old mid start end × (length mid.kept < length now.kept) × (mid.closed ≡ now.closed)
+    message_heard is =
+        let x = as_found way found heard.Message is now mid out end h in (
+          goes_next way law old now mid start out end g x.0 x.2 (ap (λ (v : View K). v.settings) x.3) (ap (λ (v : View K). v.closed) x.3) x.5 x.6,
+          shorter x.0 now.kept mid.kept x.2.begins,
+          ap (λ (v : View K). v.closed) x.3,
+        )
+
+    module _ (is : found ≡ heard.Row) where
+      row_cut : HearsNext way now (Ok heard.Row) mid out end
+      row_cut = as_found way found heard.Row is now mid out end h
+
+      same_settings : mid.settings ≡ now.settings
+      same_settings = ap (λ (v : View K). v.settings) row_cut.1
+
+      same_known : mid.known ≡ now.known
+      same_known = ap (λ (v : View K). v.known) row_cut.1
+
+      lent : mid.held ≡ Some (lents.Row row_cut.0)
+      lent = ap (λ (v : View K). v.held) row_cut.1
+
+      pub row_heard : (new : View K) → HearsRow way mid (Ok tt) new → GoesOn way old new start end × (length new.kept < length now.kept) × (new.closed ≡ now.closed)
+      row_heard new hears =
+          let x = row_cut in
+          let r = hears x.0 lent in
+          let rest : new.kept ≡ mid.kept = ap (λ (v : View K). v.kept) r.0 in
+          let closed : new.closed ≡ now.closed = ap (λ (v : View K). v.closed) r.0 ∙ ap (λ (v : View K). v.closed) x.1 in (
+            goes_next way law old now new start out end g (back.DataRow x.0) (subst (Cuts now (back.DataRow x.0)) (sym rest) x.2) (ap (λ (v : View K). v.settings) r.0 ∙ same_settings) closed
+                (subst (λ (k : Known K). HearsOne way now.settings.password (back.DataRow x.0) k new.known) same_known (subst (λ (s : Settings). HearsOne way s.password (back.DataRow x.0) mid.known new.known) same_settings r.1))
+                (subst (PutsAnswer now.settings (back.DataRow x.0) out) (sym x.3) (nothing_put now.settings (back.DataRow x.0) out refl)),
+            subst (λ (bs : List ℕ). length bs < length now.kept) (sym rest) (shorter (back.DataRow x.0) now.kept mid.kept x.2.begins),
+            closed,
+          )
+
+      pub row_stops : (f : FeedFault) (new : View K) → HearsRow way mid (Err f) new → HearsAll way old (Err f) new start end × (new.settings ≡ old.settings)
+      row_stops f new hears =
+          let x = row_cut in
+          let r = hears x.0 lent in
+          let alone : HearsAlone way (back.DataRow x.0) now.known (Err f) now.known = subst (λ (k : Known K). HearsAlone way (back.DataRow x.0) k (Err f) k) same_known r.1 in
+          let c = message_closes way now now refl (back.DataRow x.0) mid.kept f f mid new out out x.2 same_settings (subst (λ (k : Known K). HearsMessage way now.settings (back.DataRow x.0) now.known (Err f) k out out) (sym same_known) (heard_alone way now.settings (back.DataRow x.0) now.known now.known (Err f) out refl alone)) refl r.0 in
+          (subst (HearsAll way old (Err f) new start) (sym x.3) (goes_fault way law old now new f start out g c.0), c.0.settings ∙ g.settings)
+
+  -- the bytes are no message, or one that isn't heard
+  pub all_stops : (old now new : View K) (f : FeedFault) (start out end : List ℕ) → GoesOn way old now start out → HearsNext way now (Err f) new out end → HearsAll way old (Err f) new start end
+  all_stops old now new f start out end g h = subst (HearsAll way old (Err f) new start) (sym h.1) (goes_fault way law old now new f start out g h.0)

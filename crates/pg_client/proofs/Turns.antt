@@ -1,0 +1,9 @@
+-- A client and a server take turns.
+pub mod TurnLaws
+pub mod Ordering
+pub mod Copying
+pub mod TakingTurns
+pub mod SettlingLast
+pub mod Driving
+pub mod SpelledTurns
+pub mod TurnRows

@@ -1,5 +1,0 @@
-use Rattle.pg_client.proofs.Collected.{feeds}
-use Rattle.pg_client.proofs.client.Client.feed.Goals as goal
-
-pub returns-clause-feeds : goal.returns-clause-feeds
-returns-clause-feeds c = feeds c.args.self.now c.self.inside.machine c.feed.new.self c.self.view_is c.args.piece.now c.feed.result c.args.out.now.items c.feed.new.out.items c.feed.ensures.feeds

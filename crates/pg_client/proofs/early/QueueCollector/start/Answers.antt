@@ -1,8 +1,0 @@
-use Rattle.std.proofs.Common.{refl}
-use Rattle.pg_client.proofs.early.QueueCollector.start.Goals as goal
-
-pub returns-clause-fits : goal.returns-clause-fits
-returns-clause-fits c = λ stand settled f. refl
-
-pub returns-clause-tells : goal.returns-clause-tells
-returns-clause-tells c = λ given hs t. t

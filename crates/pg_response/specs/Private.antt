@@ -1,2 +1,0 @@
--- Words of private functions.
-pub mod Collecting
