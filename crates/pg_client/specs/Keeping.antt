@@ -124,9 +124,9 @@ abbrev pub AgreesAs : {K : Type 0} → Keeps K → Type 0
 AgreesAs {K} way = (h : History way.Given) (client : View K)
     → way.agrees h client ↔ Agrees way.tells h client
 
--- Nothing is kept of calls, nor of the startup.
+-- What is so of each keeper: a client that has it agrees with a history as the code goes by, and
+-- nothing is kept of calls, nor of the startup.
 pub record IsSilent {K : Type 0} (way : Keeps K) : Type 0 where
-  -- what holds of a client is what its code goes by
   pub agrees_as : AgreesAs way
   pub started : (k : K) (given : List way.Given) → way.tells k New given []
       → way.tells k (Starting Fresh) given (Did call.Start ∷ [])

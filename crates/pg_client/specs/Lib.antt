@@ -19,11 +19,11 @@ pub mod Answering
 pub mod Driving
 -- What `{:?}` writes of a client's settings.
 pub mod Shown
--- How the client goes on from message to message. A history is stated in these words, and in those
--- of Place and Collected; the law facts_of_a_run says what they mean in those above.
+-- How the client goes on from message to message. A history has these words, and those of Place and
+-- Collected, under one name (agrees); the law facts_of_a_run says what they mean in those above.
 pub mod Startup
 pub mod Stand
--- Words of private functions, which no public contract cites.
+-- The code's own words, which of the public contracts only those of a keeper cite.
 pub mod Private
 -- What pg_response defines and the contracts here speak of. Who uses pg_client names it through
 -- these lines.

@@ -1,4 +1,4 @@
--- Words of private functions. No public contract cites them.
+-- The code's own words. Of the public contracts only those of a keeper cite them.
 pub mod Sending
 pub mod Hearing
 pub mod Calling

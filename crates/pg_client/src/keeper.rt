@@ -58,7 +58,8 @@ pub trait Keeper: Drop {
         ensures handed_back { IfErr result (λ r. r ≡ request) }
         ensures err { OnErr result (self.new ≡ self.old) };
 
-    /// Nothing is kept of calls, nor of the startup. It does nothing: its contract is the law.
+    /// What is so of each keeper: nothing is kept of calls, nor of the startup, and a client agrees with its history as the code goes by. It does
+    /// nothing: its contract is the law.
     fn silent()
         ensures { IsSilent way };
 }

@@ -159,7 +159,7 @@ come_of opened.CopyIn u = back.CopyIn u.head ∷ []
 come_of opened.Described u = back.ParameterDescription u.types ∷ []
 come_of opened.Executed u = map back.DataRow u.rows
 
--- What is asked may be answered by a part that begins so. Where nothing has come_of, nothing has
+-- What is asked may be answered by a part that begins so. Where no part has begun, nothing has
 -- come.
 abbrev pub Opens : Asked → Open → Unfinished → Type 0
 Opens a opened.Nothing u = u ≡ nothing_yet
