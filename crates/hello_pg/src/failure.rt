@@ -1,5 +1,8 @@
 //! How the program fails.
 
+ghost use Rattle.std.specs.Prelude.{◌≡◌};
+ghost use Rattle.hello_pg.specs.Status.{exit_status};
+
 use example_base::{EnvironmentFault, put_error};
 use pg_client::{CallFault, FeedFault, Loss};
 use pg_drive::SessionFault;
@@ -62,7 +65,9 @@ const LOST: &str = "the connection was lost";
 
 impl Failure {
     /// The program's exit status.
-    pub fn status(&self) -> u8 {
+    pub fn status(&self) -> u8
+        ensures { result ≡ exit_status self.now }
+    {
         match self {
             Failure::Refused => 1,
             Failure::Unreachable(_) | Failure::NoSession(_) | Failure::NotBegun(_) => 2,
