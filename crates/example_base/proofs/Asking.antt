@@ -8,11 +8,9 @@ use Rattle.pg_client.specs.declared.phase.Cause.{Cause}
 use Rattle.pg_client.specs.declared.phase.Phase.{Phase}
 use Rattle.pg_client.specs.declared.phase.Phase.TheVariants as phase
 use Rattle.pg_client.specs.declared.settled.Settled.{Settled}
-use Rattle.pg_client.specs.Calls.{Accepts}
-use Rattle.pg_client.specs.Client.{ClientView, groups_waiting, IsOpenPhase, phase_of, phase_with}
-use Rattle.pg_client.specs.History.{History, IsHistoryOf, with_call}
+use Rattle.pg_client.specs.Client.{Accepts, History, IsHistoryOf, with_call, IsLost}
+use Rattle.pg_client.specs.View.{ClientView, groups_waiting, IsOpenPhase, phase_of, phase_with}
 use Rattle.pg_client.specs.Keeping.{collecting}
-use Rattle.pg_client.specs.Lost.{IsLost}
 use Rattle.pg_client.proofs.Histories.Unread.{carried}
 use Rattle.pg_drive.specs.declared.answer.DriveFault.{DriveFault}
 use Rattle.pg_drive.specs.declared.answer.Driven.{Driven}

@@ -9,9 +9,9 @@ use Rattle.pg_client.specs.declared.call.Call.TheVariants as call
 use Rattle.pg_client.specs.declared.phase.Phase.TheVariants as phase
 use Rattle.pg_client.specs.declared.settled.Settled.{Settled}
 use Rattle.pg_client.specs.Answering.{AllSettled, KeepsOrder, TakesTurns}
-use Rattle.pg_client.specs.Client.{ClientView, groups_waiting, phase_of}
+use Rattle.pg_client.specs.View.{ClientView, groups_waiting, phase_of}
 use Rattle.pg_client.specs.Driving.{requests_by}
-use Rattle.pg_client.specs.History.{Calls, History, IsHistoryOf, happenings, with_call, with_given}
+use Rattle.pg_client.specs.Client.{History, IsHistoryOf, happenings, with_call, with_given}
 use Rattle.pg_client.specs.Turns.{turns_of}
 use Rattle.pg_client.specs.Keeping.{collecting}
 use Rattle.pg_client.proofs.Histories.Unread.{carried}
@@ -24,7 +24,7 @@ use Rattle.example_base.specs.Driver.{AwaitsRequest}
 pub record Laws : Type 0 where
   pub ready : (h : History Settled) (client : ClientView) → IsHistoryOf collecting h client → phase_of client ≡ phase.Ready → AllSettled (requests_by h.calls) (h.given ++ groups_waiting client)
   pub back : (h : History Settled) (client : ClientView) → IsHistoryOf collecting h client → client.closed ≡ None → requests_by h.calls ≢ [] → AllSettled (requests_by h.calls) (h.given ++ groups_waiting client) → phase_of client ≡ phase.Ready
-  pub asked : (calls : Calls) (r : Request) (place : ℕ) → requests_by (calls ++ (call.Request r, place) ∷ []) ≡ requests_by calls ++ r ∷ []
+  pub asked : (calls : List (Call × ℕ)) (r : Request) (place : ℕ) → requests_by (calls ++ (call.Request r, place) ∷ []) ≡ requests_by calls ++ r ∷ []
   pub order : (h : History Settled) → KeepsOrder h
   pub turns : (h : History Settled) (client : ClientView) → IsHistoryOf collecting h client → TakesTurns (happenings h) (h.given ++ groups_waiting client) client
 

@@ -7,9 +7,8 @@ use Rattle.pg_client.specs.declared.call.Call.TheVariants as call
 use Rattle.pg_client.specs.declared.fault.CallFault.{CallFault}
 use Rattle.pg_client.specs.declared.phase.Phase.TheVariants as phase
 use Rattle.pg_client.specs.declared.settled.Settled.{Settled}
-use Rattle.pg_client.specs.Calls.{Accepts, RefusesUnless}
-use Rattle.pg_client.specs.Client.{ClientView, groups_waiting, phase_of}
-use Rattle.pg_client.specs.History.{History, IsHistoryOf, with_call}
+use Rattle.pg_client.specs.Client.{Accepts, RefusesUnless, History, IsHistoryOf, with_call}
+use Rattle.pg_client.specs.View.{ClientView, groups_waiting, phase_of}
 use Rattle.pg_client.specs.Keeping.{collecting}
 use Rattle.pg_drive.specs.declared.event.GroupEvent.{GroupEvent}
 use Rattle.pg_drive.specs.declared.event.GroupEvent.TheVariants as event

@@ -2,9 +2,9 @@
 
 ghost use Rattle.std.specs.Prelude.{◌≡◌, IfOk, OnOk};
 ghost use Rattle.pg_client.specs.declared.phase.Phase.TheVariants as phase;
-ghost use Rattle.pg_client.specs.Client.{phase_of};
+ghost use Rattle.pg_client.specs.View.{phase_of};
 ghost use Rattle.pg_client.specs.declared.settled.Settled.{Settled};
-ghost use Rattle.pg_client.specs.History.{History, IsHistoryOf};
+ghost use Rattle.pg_client.specs.Client.{History, IsHistoryOf};
 ghost use Rattle.pg_client.specs.Keeping.{collecting};
 ghost use Rattle.pg_drive.specs.Drive.{connected};
 ghost use Rattle.pg_drive.specs.Group.{GroupStarts};

@@ -3,20 +3,16 @@ use Rattle.std.proofs.Common.{◌≡◌, ℕ, List, [], ◌∷◌, map, Bool, tr
 use Rattle.std.specs.Ordering.{is_eq, nat_cmp, eq_by_cmp}
 use Rattle.std.specs.Cmp.Lexicographic.{slice_cmp, nat_list_cmp_total, bytes_decides}
 use Rattle.std.specs.Map.{lookup, KeepsOthers}
+use Rattle.std.proofs.lemmas.Bool.{false_from_ne_true}
 use Rattle.std.proofs.lemmas.Cmp.{eq_by_cmp_equiv}
 use Rattle.std.proofs.lemmas.Map.Text.{is_eq-slice_cmp}
-use Rattle.pg_client.specs.Client.{value_of}
+use Rattle.pg_client.specs.View.{value_of}
 
 apart : (bs cs ks : List ℕ) → bytes_eq bs cs ≡ false → is_eq (slice_cmp nat_cmp bs ks) ≡ true → is_eq (slice_cmp nat_cmp cs ks) ≡ false
-apart bs cs ks other this = by (is_eq (slice_cmp nat_cmp cs ks)) refl
-  where
-    by : (b : Bool) → is_eq (slice_cmp nat_cmp cs ks) ≡ b → b ≡ false
-    by false e = refl
-    by true e =
-        let k : bs ≡ ks = (bytes_decides bs ks).0 (sym (is_eq-slice_cmp bs ks) ∙ this) in
-        let l : cs ≡ ks = (bytes_decides cs ks).0 (sym (is_eq-slice_cmp cs ks) ∙ e) in
-        let same : bytes_eq bs cs ≡ true = (bytes_decides bs cs).1 (k ∙ sym l) in
-        absurd cc
+apart bs cs ks other this = false_from_ne_true (is_eq (slice_cmp nat_cmp cs ks)) (λ e.
+    let k : bs ≡ ks = (bytes_decides bs ks).0 (sym (is_eq-slice_cmp bs ks) ∙ this) in
+    let l : cs ≡ ks = (bytes_decides cs ks).0 (sym (is_eq-slice_cmp cs ks) ∙ e) in
+    let same : bytes_eq bs cs ≡ true = (bytes_decides bs cs).1 (k ∙ sym l) in cc)
 
 module _ {K : Type 0} (items : K → List ℕ) where
   -- whether a key is this name

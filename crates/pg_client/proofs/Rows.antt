@@ -1,6 +1,6 @@
 -- Worked rows, by computation.
 use Rattle.std.proofs.Common.{◌≡◌, ℕ, List, [], ◌∷◌, ◌++◌, true, false, Some, None, refl, subst, inl, Err, length, map, ap, inr, arith, length-append}
-use Rattle.std.specs.Prelude.{pos, ℤ, codes, ◌⊎◌}
+use Rattle.std.specs.Prelude.{pos, ℤ, codes}
 use Rattle.std.specs.List.{flat_map, AllByRecursion}
 use Rattle.pg_wire.proofs.Rows.{salted}
 use Rattle.pg_wire.specs.message.BackMessage.{BackMessage}
@@ -27,13 +27,11 @@ use Rattle.pg_client.specs.declared.phase.Phase.TheVariants as phase
 use Rattle.pg_wire.specs.value.Status.{Status}
 use Rattle.pg_client.specs.declared.call.Call.{Call}
 use Rattle.pg_client.specs.declared.call.Call.TheVariants as call
-use Rattle.pg_client.specs.Session.{Happening, Did, Came, IsReady, IsCopyingIn, IsNoCopyIn, IsCalledForLastCopy, IsAfterItsCall, AsksPassword, Expected, IsStartup, key_data, groups_in}
-use Rattle.pg_client.specs.Client.{last_said, value_said, key_said, stand_phase, View}
+use Rattle.pg_client.specs.Session.{Happening, Did, Came, IsReady, IsCopyingIn, IsNoCopyIn, IsCalledForLastCopy, IsAfterItsCall, Expected, IsStartup, groups_in}
+use Rattle.pg_client.specs.View.{last_said, value_said, key_said, stand_phase, View}
 use Rattle.pg_client.specs.Sent.{sent_by, answer_to, call_fault, sent_in}
-use Rattle.pg_client.specs.Closed.{AsksOther, cause_of, IsFaultFor, AwaitsAuthentication}
-use Rattle.pg_client.specs.History.{merged, Calls, with_ends}
-use Rattle.pg_client.specs.Calls.{Cancels, RefusesCopy, RefusesUnless}
-use Rattle.pg_client.specs.Lost.{Loses}
+use Rattle.pg_client.specs.Closed.{cause_of, IsFaultFor, AwaitsAuthentication}
+use Rattle.pg_client.specs.Client.{merged, with_ends, Cancels, RefusesCopy, RefusesUnless, Loses}
 use Rattle.pg_client.specs.Facts.{FirstSettled}
 use Rattle.pg_client.specs.declared.stand.CopyAnswer.TheVariants.{Awaited, Done}
 use Rattle.pg_response.specs.declared.place.Open.TheVariants as opened
@@ -46,6 +44,7 @@ use Rattle.pg_client.specs.Private.Calling.{with_request}
 use Rattle.pg_client.proofs.Standing.Agreeing.{no_copy_in}
 use Rattle.pg_client.proofs.Events.Happening.{hears, did_start, expected_came, expected_did, expected_nothing}
 use Rattle.pg_client.proofs.Events.Passwords.{comes_first}
+use Rattle.pg_client.proofs.Hearing.Faults.{plain}
 
 ok : List ℕ
 ok = 79 ∷ 75 ∷ []
@@ -80,7 +79,7 @@ unfolding busy
 one_settled = (refl, command_fits, tt)
 
 -- the places of these calls and messages in the bytes, and their order
-session_calls : Calls
+session_calls : List (Call × ℕ)
 session_calls = (call.Start, 0) ∷ (call.Request select, 15) ∷ []
 
 session_heard : List BackMessage
@@ -116,12 +115,8 @@ ok_not_expected : Expected None (ready ++ Came (CommandComplete ok) ∷ []) → 
 unfolding ready
 ok_not_expected e = let k : CommandComplete ok ∷ [] ≡ [] = e.session.1 in cc
 
-not_fresh : AwaitsAuthentication ready → ⊥
-unfolding ready
-not_fresh f = let k : (AuthOk ∷ Ready status.Idle ∷ []) ∷ [] ≡ [] = f.0.1 in cc
-
 ok_is_unexpected : IsFaultFor None ready (CommandComplete ok) (feeding.Unexpected 67)
-ok_is_unexpected = (record { no_error = λ e s. (let k : CommandComplete ok ≡ ErrorResponse e.0 = e.1 in cc); no_question = λ q f. not_fresh f }, refl)
+ok_is_unexpected = plain None ready (CommandComplete ok) refl (λ f. refl)
 
 unexpected_closes : cause_of (feeding.Unexpected 67) ≡ Some cause.Unexpected
 unexpected_closes = refl
@@ -162,14 +157,10 @@ other_unsupported = (fresh, [], refl)
 password_wanted : IsFaultFor None started AuthCleartext feeding.PasswordWanted
 password_wanted = (fresh, refl, refl)
 
-asks_nothing : AsksPassword (Ready status.Idle) ⊎ AsksOther (Ready status.Idle) → ⊥
-asks_nothing (inl e) = cc
-asks_nothing (inr (code, bytes, e)) = cc
-
 early_unexpected : IsFaultFor None started (Ready status.Idle) (feeding.Unexpected 90)
-early_unexpected = (record { no_error = λ e s. (let k : Ready status.Idle ≡ ErrorResponse e.0 = e.1 in cc); no_question = λ q f. asks_nothing q }, refl)
+early_unexpected = plain None started (Ready status.Idle) refl (λ f. refl)
 
-no_startup : (body questions : List BackMessage) (st : Status) (keys : List (ℤ × ℤ)) → Ready status.Idle ∷ [] ≡ body ++ Ready st ∷ [] → without_asides body ≡ questions ++ AuthOk ∷ map key_data keys → ⊥
+no_startup : (body questions : List BackMessage) (st : Status) (keys : List (ℤ × ℤ)) → Ready status.Idle ∷ [] ≡ body ++ Ready st ∷ [] → without_asides body ≡ questions ++ AuthOk ∷ map (λ k. KeyData k.0 k.1) keys → ⊥
 no_startup [] [] st keys e r = cc
 no_startup [] (q ∷ qs) st keys e r = cc
 no_startup (b ∷ bs) questions st keys e r = omega (arith, ap length e, length-append bs (Ready st ∷ []))
@@ -215,7 +206,7 @@ asked_expected =
     expected_came (Some (97 ∷ [])) started AuthCleartext (Starting Asked) (expected_did (Some (97 ∷ [])) [] call.Start (Starting Fresh) (expected_nothing (Some (97 ∷ []))) begun) heard.0 heard.1 heard.2
 
 none_not_expected : Expected None (started ++ Came AuthCleartext ∷ []) → ⊥
-none_not_expected e = let k : false ≡ true = e.answerable.0 in cc
+none_not_expected e = let k : true ≡ false = (e.answerable refl).0 in cc
 
 second_not_expected : Expected (Some (97 ∷ [])) (started ++ Came AuthCleartext ∷ Came (AuthMd5 []) ∷ []) → ⊥
 second_not_expected e = let k : AuthCleartext ∷ [] ≡ [] = (comes_first (AuthMd5 []) refl (Some (97 ∷ [])) (started ++ Came AuthCleartext ∷ []) e).1 in cc

@@ -3,7 +3,4 @@ pub mod TurnLaws
 pub mod Ordering
 pub mod Copying
 pub mod TakingTurns
-pub mod SettlingLast
-pub mod Driving
-pub mod SpelledTurns
 pub mod TurnRows

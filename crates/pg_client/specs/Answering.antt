@@ -1,23 +1,24 @@
 -- A client and a server take turns: a request is made once all requests before it are answered.
-use Rattle.std.specs.Prelude.{◌≡◌, ℕ, suc, ◌≤◌, List, [], ◌∷◌, ◌++◌, length, map, take}
+use Rattle.std.specs.Prelude.{◌≡◌, ℕ, suc, ◌≤◌, List, [], ◌∷◌, ◌++◌, length, map, take, IsSome}
 use Rattle.std.specs.List.{AllByRecursion}
 use Rattle.pg_wire.specs.message.BackMessage.TheVariants as back
 use Rattle.pg_wire.specs.value.CopyHead.{CopyHead}
 use Rattle.pg_wire.specs.message.FrontMessage.{FrontMessage}
 use Rattle.pg_wire.specs.message.FrontMessage.TheVariants as front
 use Rattle.pg_wire.specs.declared.session.Request.{Request}
+use Rattle.pg_wire.specs.Segment.{aside_of}
 use Rattle.pg_client.specs.declared.phase.Phase.TheVariants as phase
 use Rattle.pg_client.specs.declared.settled.Settled.{Settled}
 use Rattle.pg_client.specs.declared.call.Call.{Call}
 use Rattle.pg_client.specs.declared.call.Call.TheVariants as call
-use Rattle.pg_client.specs.Session.{Happening, Did, Came, messages_in, requests_in, rest_in, IsAside, groups_in}
-use Rattle.pg_client.specs.Client.{ClientView, phase_of}
-use Rattle.pg_client.specs.History.{Calls, History, happenings}
+use Rattle.pg_client.specs.Session.{Happening, Did, Came, messages_in, requests_in, rest_in, groups_in}
+use Rattle.pg_client.specs.View.{ClientView, phase_of}
+use Rattle.pg_client.specs.Client.{History, happenings}
 use Rattle.pg_wire.specs.Turns.{Turn, AreCopies, copies_begun}
 use Rattle.pg_client.specs.Turns.{turns_of, calls_in}
 
 -- The calls, without how many bytes had been fed before each.
-abbrev pub calls_of : Calls → List Call
+abbrev pub calls_of : List (Call × ℕ) → List Call
 calls_of cs = map (λ c. c.0) cs
 
 -- The turns among these events: one for each request, with the copy messages that were sent for it.
@@ -70,7 +71,7 @@ copies_ended (_ ∷ ms) = copies_ended ms
 abbrev pub IsChunkOrAside : Happening → Type 0
 IsChunkOrAside (Did (call.Chunk bytes)) = Unit {0}
 IsChunkOrAside (Did _) = ⊥
-IsChunkOrAside (Came m) = IsAside m
+IsChunkOrAside (Came m) = IsSome (aside_of m)
 
 -- A CopyInResponse came, and since then only chunks were sent, and only asides came.
 pub record IsCopyingSince (hs : List Happening) : Type 0 where

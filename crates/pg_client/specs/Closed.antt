@@ -1,11 +1,11 @@
 -- Why a client is closed: what closes it, and which fault feed returns then.
-use Rattle.std.specs.Prelude.{◌≡◌, ℕ, ℤ, List, [], ◌∷◌, ◌++◌, Option, Some, None, ◌⊎◌}
+use Rattle.std.specs.Prelude.{◌≡◌, ℕ, List, [], ◌∷◌, ◌++◌, true, Option, Some, None}
 use Rattle.pg_wire.specs.declared.fault.WireFault.{WireFault}
 use Rattle.pg_wire.specs.message.BackMessage.{BackMessage}
 use Rattle.pg_wire.specs.message.BackMessage.TheVariants.{AuthOther, ErrorResponse}
 use Rattle.pg_wire.specs.Backend.{backend, tag}
 use Rattle.pg_wire.specs.Direction.{spelling}
-use Rattle.pg_wire.specs.Segment.{Fields, without_asides}
+use Rattle.pg_wire.specs.Segment.{without_asides}
 use Rattle.pg_wire.specs.Stream.{IsWithin, IsOpen, IsFaulty}
 use Rattle.pg_client.specs.declared.settings.Settings.{Settings}
 use Rattle.pg_client.specs.declared.phase.Cause.{Cause}
@@ -13,43 +13,34 @@ use Rattle.pg_client.specs.declared.phase.Cause.TheVariants as cause
 use Rattle.pg_client.specs.declared.fault.FeedFault.{FeedFault}
 use Rattle.pg_client.specs.declared.fault.FeedFault.TheVariants as feeding
 use Rattle.pg_client.specs.declared.call.Call.TheVariants as call
-use Rattle.pg_client.specs.Session.{Happening, Did, Came, rest_in, AsksPassword, Expected, IsStarting, IsReady}
+use Rattle.pg_client.specs.Session.{Happening, Did, Came, rest_in, asks_password, Expected, IsStarting, IsReady}
 
 -- The startup has begun, and nothing but asides has come ("Start-up").
 abbrev pub AwaitsAuthentication : List Happening → Type 0
 AwaitsAuthentication hs = IsStarting hs × (without_asides (rest_in hs) ≡ [])
 
--- The message asks for an authentication that the client doesn't have: it is neither
--- AuthenticationOk nor one of the two questions for a password ("Start-up").
-abbrev pub AsksOther : BackMessage → Type 0
-AsksOther m = (code : ℤ) × (bytes : List ℕ) × (m ≡ AuthOther code bytes)
-
--- The message is an ErrorResponse.
-abbrev pub IsError : BackMessage → Type 0
-IsError m = (fields : Fields) × (m ≡ ErrorResponse fields)
-
--- The message, which may not come after these events, has none of the faults below that have a name
--- of their own, and so is Unexpected. It is no ErrorResponse that comes in the startup, or later while
--- no request is outstanding. At the beginning of the startup it asks neither for a password nor for
--- another authentication.
-pub record IsOnlyUnexpected (hs : List Happening) (m : BackMessage) : Type 0 where
-  pub no_error : IsError m → (IsStarting hs ⊎ IsReady hs) → ⊥
-  pub no_question : (AsksPassword m ⊎ AsksOther m) → AwaitsAuthentication hs → ⊥
+-- The fault has a name of its own, and is that of this message, which may not come after these
+-- events. The client has this password or none. StartupError: an ErrorResponse in the startup.
+-- ServerEnd: one later, while no request is outstanding. PasswordWanted and UnsupportedAuth: at the
+-- beginning of the startup, a question for a password that the client hasn't, or for an
+-- authentication of another kind.
+abbrev pub IsNamedFault : Option (List ℕ) → List Happening → BackMessage → FeedFault → Type 0
+IsNamedFault password hs m (feeding.StartupError fields) =
+    IsStarting hs × (m ≡ ErrorResponse fields)
+IsNamedFault password hs m (feeding.ServerEnd fields) = IsReady hs × (m ≡ ErrorResponse fields)
+IsNamedFault password hs m feeding.PasswordWanted = AwaitsAuthentication hs
+    × (asks_password m ≡ true) × (password ≡ None)
+IsNamedFault password hs m (feeding.UnsupportedAuth code) = AwaitsAuthentication hs
+    × (bytes : List ℕ) × (m ≡ AuthOther code bytes)
+IsNamedFault _ _ _ _ = ⊥
 
 -- The fault of this message, which may not come after these events: feed returns it, unless memory
--- runs out first. The client has this password or none. StartupError: an ErrorResponse in the startup. ServerEnd: one later,
--- while no request is outstanding. PasswordWanted and UnsupportedAuth: at the beginning of the
--- startup, a question for a password that the client hasn't, or for another authentication.
--- Unexpected: any other message, by its tag.
+-- runs out first. It is the one with a name of its own, and Unexpected, with the message's tag, where
+-- there is none such.
 abbrev pub IsFaultFor : Option (List ℕ) → List Happening → BackMessage → FeedFault → Type 0
-IsFaultFor password hs m (feeding.StartupError fields) = IsStarting hs × (m ≡ ErrorResponse fields)
-IsFaultFor password hs m (feeding.ServerEnd fields) = IsReady hs × (m ≡ ErrorResponse fields)
-IsFaultFor password hs m feeding.PasswordWanted = AwaitsAuthentication hs × AsksPassword m
-    × (password ≡ None)
-IsFaultFor password hs m (feeding.UnsupportedAuth code) = AwaitsAuthentication hs × (bytes : List ℕ)
-    × (m ≡ AuthOther code bytes)
-IsFaultFor password hs m (feeding.Unexpected t) = IsOnlyUnexpected hs m × (t ≡ tag m)
-IsFaultFor password hs m _ = ⊥
+IsFaultFor password hs m (feeding.Unexpected t) = (t ≡ tag m)
+    × ((f : FeedFault) → IsNamedFault password hs m f → ⊥)
+IsFaultFor password hs m f = IsNamedFault password hs m f
 
 -- The cause with which this fault closes a client. None: the client was closed before, and keeps
 -- its cause.

@@ -1,19 +1,20 @@
 -- What the author of a driver goes by: the requests of its calls, and what a feed leaves.
 use Rattle.std.specs.Prelude.{◌≡◌, ℕ, List, ◌++◌, map, Option, None, Result, Ok, Err}
 use Rattle.pg_wire.specs.declared.session.Request.{Request}
+use Rattle.pg_client.specs.declared.call.Call.{Call}
 use Rattle.pg_client.specs.declared.phase.Cause.{Cause}
 use Rattle.pg_client.specs.declared.fault.FeedFault.{FeedFault}
 use Rattle.pg_client.specs.declared.fault.FeedFault.TheVariants as feeding
 use Rattle.pg_client.specs.Answering.{calls_of}
-use Rattle.pg_client.specs.Client.{ClientView}
+use Rattle.pg_client.specs.View.{ClientView}
 use Rattle.pg_client.specs.Closed.{cause_of}
 use Rattle.pg_client.specs.declared.settled.Settled.{Settled}
-use Rattle.pg_client.specs.History.{Calls, History, IsHistoryOf}
+use Rattle.pg_client.specs.Client.{History, IsHistoryOf}
 use Rattle.pg_client.specs.Keeping.{collecting}
 use Rattle.pg_client.specs.Turns.{turns_of}
 
 -- The requests that these calls made, in order.
-abbrev pub requests_by : Calls → List Request
+abbrev pub requests_by : List (Call × ℕ) → List Request
 requests_by calls = map (λ t. t.request) (turns_of (calls_of calls))
 
 -- How a client is left by a feed with this result, if it was open before: open after Ok, and else

@@ -10,8 +10,9 @@ use Rattle.pg_client.specs.declared.phase.Phase.TheVariants as phase
 use Rattle.pg_client.specs.declared.item.Item.{Item}
 use Rattle.pg_client.specs.declared.settled.Settled.{Settled}
 use Rattle.pg_client.specs.Session.{AreAllowed, Happening, requests_in, Expected, IsStarted, IsStarting, IsReady, IsCopyingIn, groups_in}
-use Rattle.pg_client.specs.Client.{ClientView, EarlyView, groups_waiting, items_waiting, KnowsLast, phase_of, View}
-use Rattle.pg_client.specs.History.{happenings, History}
+use Rattle.pg_client.specs.Closed.{Ends}
+use Rattle.pg_client.specs.View.{ClientView, EarlyView, groups_waiting, items_waiting, KnowsLast, phase_of, View}
+use Rattle.pg_client.specs.Client.{happenings, History}
 use Rattle.pg_client.specs.Sent.{sent_in}
 use Rattle.pg_client.specs.Keeping.{items_in}
 
@@ -25,8 +26,8 @@ FirstSettled _ _ _ = ⊥
 
 -- What each phase means, after these events. The client is closed for this reason, or open (None).
 -- New: it wasn't started. Starting: it was, and the startup's ReadyForQuery hasn't come. Ready: it
--- has, and no request is outstanding. CopyingIn: the server waits for the data of a copy. Busy: none of these.
--- Closed: with the cause for which it is closed.
+-- has, and no request is outstanding. CopyingIn: the server waits for the data of a copy. Busy: none
+-- of these. Closed: with the cause for which it is closed.
 abbrev pub IsPhase : List Happening → Option Cause → Phase → Type 0
 IsPhase hs (Some c) p = p ≡ phase.Closed c
 IsPhase hs None phase.New = IsStarted hs → ⊥
@@ -46,6 +47,8 @@ pub record Facts {K G : Type 0} (h : History G) (client : View K) : Type 0 where
   pub phase : (p : Phase) → (phase_of client ≡ p) ↔ IsPhase (happenings h) client.closed p
   -- what it has put out is what its calls and the questions for a password send
   pub sent : h.sent ≡ sent_in client.settings (happenings h)
+  -- why no message was handled after these
+  pub ends : Ends client.settings (happenings h) h.rest client.kept client.closed
   -- its status, its key and its values of parameters are the last that came
   pub knows : KnowsLast h.heard client.known.status client.known.parameters client.known.key
 

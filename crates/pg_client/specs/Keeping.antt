@@ -20,21 +20,12 @@ use Rattle.pg_client.specs.declared.stand.Stand.{Stand}
 use Rattle.pg_client.specs.declared.stand.Stand.TheVariants.{New, Starting, Idle, Busy}
 use Rattle.pg_client.specs.declared.startup.Welcome.{Welcome}
 use Rattle.pg_client.specs.declared.startup.Welcome.TheVariants.{Fresh}
-use Rattle.pg_client.specs.Session.{Happening, Did, Came, groups_in, request_made, requests_in, rest_in, whole_in}
-use Rattle.pg_client.specs.Client.{View}
-use Rattle.pg_client.specs.Past.{History}
+use Rattle.pg_client.specs.Session.{Happening, Did, Came, groups_in, requests_in, rest_in, whole_in}
+use Rattle.pg_client.specs.View.{View}
+use Rattle.pg_client.specs.Client.{History, Keeps}
 use Rattle.pg_client.specs.Stand.{Stands}
-use Rattle.pg_client.specs.Private.Agreeing.{Agrees, Told}
-pub use Rattle.pg_client.specs.Client.{CollectingView}
-
--- What a kind of keeper has to do with what happened.
-pub record Keeps (K : Type 0) : Type 1 where
-  -- what is taken from a client that has it
-  pub Given : Type 0
-  -- it has kept what a client has to that stands there after these events, but for what was given
-  pub tells : Told K Given
-  -- what holds between a client that has it and a history of that client
-  pub agrees : History Given → View K → Type 0
+use Rattle.pg_client.specs.Private.Agreeing.{Agrees}
+pub use Rattle.pg_client.specs.View.{CollectingView}
 
 -- ---- until it is settled
 
@@ -67,7 +58,7 @@ CollectsAt Idle requests groups rest settled c = EachSettled requests groups set
 CollectsAt _ requests groups rest settled c = (settled ≡ []) × (c ≡ nothing_collected)
 
 -- What has come of these events is settled, and was given or waits, or was collected.
-abbrev pub collects : Told CollectingView Settled
+abbrev pub collects : CollectingView → Stand → List Settled → List Happening → Type 0
 collects k stand given hs =
     CollectsAt stand (requests_in hs) (groups_in hs) (rest_in hs) (given ++ k.settled) k.collected
 
@@ -109,7 +100,7 @@ abbrev pub items_in : List Happening → List Item
 items_in hs = items_after_startup (requests_in hs) (whole_in hs) (rest_in hs)
 
 -- The items that were given and those that wait are all that there are of these events.
-abbrev pub queues : Told (List Item) Item
+abbrev pub queues : List Item → Stand → List Item → List Happening → Type 0
 queues waiting stand given hs = given ++ waiting ≡ items_in hs
 
 -- A client that has an item for each message.
@@ -135,7 +126,8 @@ pub record IsSilent {K : Type 0} (way : Keeps K) : Type 0 where
       → way.tells k (Busy r start Awaited) given (hs ++ Did (call.Request r) ∷ [])
   -- any other call, where the client stays, but for what was called for a copy
   pub called : (k : K) (given : List way.Given) (hs : List Happening) (c : Call)
-      → request_made c ≡ None → (was stand : Stand) → Stands hs was → way.tells k stand given hs
+      → requests_in (Did c ∷ []) ≡ [] → (was stand : Stand) → Stands hs was
+      → way.tells k stand given hs
       → way.tells k stand given (hs ++ Did c ∷ [])
   pub answered : (k : K) (given : List way.Given) (hs : List Happening) (r : Request)
       (place : Place) (was is : CopyAnswer) → way.tells k (Busy r place was) given hs

@@ -12,9 +12,8 @@ use Rattle.pg_client.specs.declared.next.Next.{Next}
 use Rattle.pg_client.specs.declared.next.Next.TheVariants as next
 use Rattle.pg_client.specs.declared.phase.Cause.{Cause}
 use Rattle.pg_client.specs.declared.phase.Cause.TheVariants as cause
-use Rattle.pg_client.specs.Client.{EarlyView, items_waiting, lent_row, with_items}
-use Rattle.pg_client.specs.Feed.{Hears}
-use Rattle.pg_client.specs.History.{Carries, History, IsHistoryBefore, with_fed, with_given, with_heard}
+use Rattle.pg_client.specs.View.{EarlyView, items_waiting, lent_row, with_items}
+use Rattle.pg_client.specs.Client.{Hears, Carries, History, IsHistoryBefore, with_fed, with_given, with_heard}
 use Rattle.pg_client.specs.Keeping.{queueing}
 
 -- ---- push

@@ -1,15 +1,11 @@
 -- What a reader must believe: a client's calls and the messages that came, which of these may come,
 -- what a client went through, what each call does, and what holds of the client then.
 pub mod Session
-pub mod Client
-pub mod Past
-pub mod Keeping
+pub mod View
 pub mod Sent
 pub mod Closed
-pub mod History
-pub mod Calls
-pub mod Feed
-pub mod Lost
+pub mod Client
+pub mod Keeping
 pub mod Lent
 pub mod Fault
 pub mod Facts

@@ -17,7 +17,7 @@ use Rattle.pg_client.specs.declared.settings.Settings.{Settings}
 use Rattle.pg_client.specs.declared.call.Call.{Call}
 use Rattle.pg_client.specs.declared.call.Call.TheVariants as call
 use Rattle.pg_client.specs.Session.{Happening, Did, Came}
-use Rattle.pg_client.specs.Client.{option_or}
+use Rattle.pg_client.specs.View.{option_or}
 
 -- The parameters of the StartupMessage ("Message Formats"): the user, the database if one is named,
 -- and the further pairs of the settings.

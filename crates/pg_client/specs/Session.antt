@@ -21,24 +21,16 @@ pub data Happening : Type 0 where
   Did : Call → Happening
   Came : BackMessage → Happening
 
--- The message of an event; None where the event is a call.
-abbrev pub message_of : Happening → Option BackMessage
-message_of (Came m) = Some m
-message_of (Did c) = None
-
 -- The messages that came from the server, in order.
 abbrev pub messages_in : List Happening → List BackMessage
-messages_in hs = filter_map message_of hs
-
--- The request that a call makes; None for a call that makes none.
-abbrev pub request_made : Call → Option Request
-request_made (call.Request r) = Some r
-request_made _ = None
+messages_in [] = []
+messages_in (Came m ∷ hs) = m ∷ messages_in hs
+messages_in (Did c ∷ hs) = messages_in hs
 
 -- The request that was made by an event; None for a message, and for a call that makes none.
 abbrev pub request_of : Happening → Option Request
-request_of (Did c) = request_made c
-request_of (Came m) = None
+request_of (Did (call.Request r)) = Some r
+request_of _ = None
 
 -- The requests that the client made, in order.
 abbrev pub requests_in : List Happening → List Request
@@ -60,27 +52,18 @@ rest_in hs = (segments (messages_in hs)).rest
 
 -- ---- the startup ("Start-up")
 
--- Whether the message asks for a password: AuthenticationCleartextPassword or
--- AuthenticationMD5Password ("Start-up").
-abbrev pub is_question : BackMessage → Bool
-is_question AuthCleartext = true
-is_question (AuthMd5 salt) = true
-is_question _ = false
-
--- The message asks for a password, as it is or as an MD5 text ("Start-up").
-abbrev pub AsksPassword : BackMessage → Type 0
-AsksPassword m = is_question m ≡ true
+-- Whether the message asks for a password, as it is or as an MD5 text: AuthenticationCleartextPassword
+-- or AuthenticationMD5Password ("Start-up").
+abbrev pub asks_password : BackMessage → Bool
+asks_password AuthCleartext = true
+asks_password (AuthMd5 salt) = true
+asks_password _ = false
 
 -- There is no message, or a single one, which asks for a password.
 abbrev pub AtMostOneQuestion : List BackMessage → Type 0
 AtMostOneQuestion [] = Unit {0}
-AtMostOneQuestion (m ∷ []) = AsksPassword m
+AtMostOneQuestion (m ∷ []) = asks_password m ≡ true
 AtMostOneQuestion (m ∷ n ∷ ms) = ⊥
-
--- The BackendKeyData with this key: the process id and the secret key with which a request can be
--- cancelled ("Canceling Requests in Progress").
-abbrev pub key_data : ℤ × ℤ → BackMessage
-key_data key = KeyData key.0 key.1
 
 -- These messages are the whole segment of a startup ("Start-up"). Asides left out, it is perhaps a
 -- question for a password, then AuthenticationOk, then any number of BackendKeyData, and a
@@ -91,12 +74,9 @@ pub record IsStartup (segment : List BackMessage) : Type 0 where
   pub closed : segment ≡ body ++ Ready status ∷ []
   pub questions : List BackMessage
   pub one_question : AtMostOneQuestion questions
+  -- each a process id and a secret key
   pub keys : List (ℤ × ℤ)
-  pub reads : without_asides body ≡ questions ++ AuthOk ∷ map key_data keys
-
--- These messages begin the segment of a startup: with some more they are a whole one.
-abbrev pub BeginsStartup : List BackMessage → Type 0
-BeginsStartup messages = (more : List BackMessage) × IsStartup (messages ++ more)
+  pub reads : without_asides body ≡ questions ++ AuthOk ∷ map (λ k. KeyData k.0 k.1) keys
 
 -- ---- what may come
 
@@ -113,9 +93,10 @@ FitAll (r ∷ rs) (s ∷ ss) rest = ((outcome : Outcome) × Fits r s outcome) ×
 
 -- A server may send this in a session with these requests: a startup, and then an answer to each
 -- request. The arguments are the requests, the whole segments, and the messages of the segment that
--- isn't whole. Until a segment is whole, these messages begin a startup ("Message Flow").
+-- isn't whole. Until a segment is whole, these messages begin a startup: with some more they are one
+-- ("Message Flow").
 abbrev pub IsSession : List Request → List (List BackMessage) → List BackMessage → Type 0
-IsSession requests [] rest = BeginsStartup rest
+IsSession requests [] rest = (more : List BackMessage) × IsStartup (rest ++ more)
 IsSession requests (s ∷ ss) rest = IsStartup s × FitAll requests ss rest
 
 -- The event is anything but a CopyInResponse that came.
@@ -137,11 +118,6 @@ abbrev pub EndInCopyIn : List BackMessage → Type 0
 EndInCopyIn messages = (before : List BackMessage) × (head : CopyHead)
     × (without_asides messages ≡ before ++ back.CopyIn head ∷ [])
 
--- The message is one that a server may send at any time: a NoticeResponse, a ParameterStatus or a
--- NotificationResponse ("Asynchronous Operations").
-abbrev pub IsAside : BackMessage → Type 0
-IsAside m = IsSome (aside_of m)
-
 -- The client was started: the call of start is among these events.
 abbrev pub IsStarted : List Happening → Type 0
 IsStarted [] = ⊥
@@ -153,19 +129,12 @@ IsStarted (_ ∷ hs) = IsStarted hs
 pub record IsAfterItsCall (before : List Happening) (m : BackMessage) : Type 0 where
   -- any message needs start
   pub started : IsStarted before
-  -- an aside needs no more; any other is of the startup's segment, or of that of a request which
-  -- was made
-  pub asked_for : IsAside m ⊎ (length (whole_in before) ≤ length (requests_in before))
+  -- an aside, which a server may send at any time, needs no more; any other is of the startup's
+  -- segment, or of that of a request which was made
+  pub asked_for : IsSome (aside_of m) ⊎ (length (whole_in before) ≤ length (requests_in before))
   -- a CommandComplete that ends a copy from the client needs copy_done for that copy
   pub copy_ended : (tag : List ℕ) → m ≡ CommandComplete tag → EndInCopyIn (rest_in before)
       → IsCalledForLastCopy call.Done before
-
--- Whether a client can answer the message. The first argument is its password, or None. A question
--- for a password needs one, and any other message needs nothing.
-abbrev pub can_answer : Option (List ℕ) → BackMessage → Bool
-can_answer None AuthCleartext = false
-can_answer None (AuthMd5 salt) = false
-can_answer _ _ = true
 
 -- The server's messages may come in this order among the calls of a client that has this password
 -- or none.
@@ -176,7 +145,8 @@ pub record Expected (password : Option (List ℕ)) (hs : List Happening) : Type 
   pub after : (before : List Happening) (m : BackMessage) (later : List Happening)
       → hs ≡ before ++ Came m ∷ later → IsAfterItsCall before m
   -- no password is asked for where the client has none
-  pub answerable : AllByRecursion (λ m. can_answer password m ≡ true) (messages_in hs)
+  pub answerable : password ≡ None
+      → AllByRecursion (λ m. asks_password m ≡ false) (messages_in hs)
 
 -- ---- where a session stands, and which calls are allowed there
 
@@ -206,8 +176,9 @@ abbrev pub HasRequest : List Happening → Type 0
 HasRequest hs = requests_in hs ≡ [] → ⊥
 
 -- The session is where this call may be made. start: where it wasn't called before. request: where
--- the startup is over and no request is outstanding. copy_chunk, copy_done and copy_fail: while the server waits for the
--- data of a copy that a request began ("COPY Operations"). terminate: at any time after start.
+-- the startup is over and no request is outstanding. copy_chunk, copy_done and copy_fail: while the
+-- server waits for the data of a copy that a request began ("COPY Operations"). terminate: at any
+-- time after start.
 abbrev pub MayBeCalled : List Happening → Call → Type 0
 MayBeCalled before call.Start = IsStarted before → ⊥
 MayBeCalled before (call.Request r) = IsStarted before × IsReady before

@@ -2,7 +2,7 @@
 -- to that. Where it stands is a Stand: New before start, Starting in the startup, Idle between two
 -- requests (and before the first, and after the last), and Busy in the segment of a request, at a
 -- place of that.
-use Rattle.std.specs.Prelude.{◌≡◌, ℕ, List, [], ◌∷◌, ◌++◌, Bool, true, false, cond, Option, Some, None}
+use Rattle.std.specs.Prelude.{◌≡◌, ℕ, List, [], ◌∷◌, ◌++◌, Bool, true, false, cond, not, Option, Some, None}
 use Rattle.std.specs.Option.{option_map}
 use Rattle.pg_wire.specs.message.BackMessage.{BackMessage}
 use Rattle.pg_wire.specs.message.BackMessage.TheVariants.{AuthCleartext, AuthMd5, AuthOther, ErrorResponse}
@@ -27,7 +27,7 @@ use Rattle.pg_client.specs.declared.stand.Stand.TheVariants.{New, Starting, Idle
 use Rattle.pg_client.specs.declared.startup.Welcome.{Welcome}
 use Rattle.pg_client.specs.declared.startup.Welcome.TheVariants.{Fresh, Admitted}
 use Rattle.pg_client.specs.declared.call.Call.TheVariants as call
-use Rattle.pg_client.specs.Session.{Happening, Did, Came, can_answer, requests_in, whole_in, rest_in, IsStarted, IsStartup}
+use Rattle.pg_client.specs.Session.{Happening, Did, Came, asks_password, requests_in, whole_in, rest_in, IsStarted, IsStartup}
 use Rattle.pg_client.specs.Startup.{greet, greet_all}
 
 -- ---- where one message leads
@@ -93,8 +93,14 @@ hear_by stand None None m = hear_other stand m
 abbrev pub hear : Stand → BackMessage → Option Stand
 hear stand m = hear_by stand (aside_of m) (status_of m) m
 
--- The same of a client that has this password or none: a question for a password may not come where
--- it has none.
+-- Whether a client that has this password or none can answer the message: a question for a password
+-- needs one, and any other message needs nothing.
+abbrev pub can_answer : Option (List ℕ) → BackMessage → Bool
+can_answer (Some password) m = true
+can_answer None m = not (asks_password m)
+
+-- Where a message leads a client that has this password or none: a question for a password may not
+-- come where it has none.
 abbrev pub hear_with : Option (List ℕ) → Stand → BackMessage → Option Stand
 hear_with password stand m = cond (can_answer password m) (hear stand m) None
 

@@ -1,8 +1,8 @@
 //! The two clients.
 
 ghost use Rattle.std.specs.Prelude.{◌≡◌, ◌≢◌, ◌∷◌, ◌↔◌, [], IfNone, IfSome, IsTrue};
-ghost use Rattle.pg_client.specs.History.{Carries, with_given};
-ghost use Rattle.pg_client.specs.Client.{groups_waiting, with_groups};
+ghost use Rattle.pg_client.specs.Client.{Carries, with_given};
+ghost use Rattle.pg_client.specs.View.{groups_waiting, with_groups};
 ghost use Rattle.pg_client.specs.Keeping.{collecting};
 
 use crate::collecting::Collecting;

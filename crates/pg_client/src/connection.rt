@@ -6,10 +6,9 @@ mod lend;
 ghost use Rattle.std.specs.Prelude.{◌≡◌, IfErr, OnErr, OnOk, option_copied};
 ghost use Rattle.pg_wire.specs.Direction.{IsLimit};
 ghost use Rattle.pg_client.specs.declared.call.Call.TheVariants as call;
-ghost use Rattle.pg_client.specs.Client.{IsOpenPhase, phase_of, value_of};
-ghost use Rattle.pg_client.specs.History.{blank, IsHistoryOf};
-ghost use Rattle.pg_client.specs.Calls.{Accepts, Cancels, RefusesCopy, RefusesEnd, RefusesUnless};
-ghost use Rattle.pg_client.specs.Lost.{IsLost};
+ghost use Rattle.pg_client.specs.View.{IsOpenPhase, phase_of, value_of};
+ghost use Rattle.pg_client.specs.Client.{blank, IsHistoryOf, IsLost};
+ghost use Rattle.pg_client.specs.Client.{Accepts, Cancels, RefusesCopy, RefusesEnd, RefusesUnless};
 
 use crate::fault::CallFault;
 use crate::keeper::Keeper;
@@ -39,7 +38,7 @@ pub struct Connection<K: Keeper> {
 
 impl<K: Keeper> Model for Connection<K> {
     ghost use Rattle.std.specs.Prelude.{◌≡◌, None};
-    ghost use Rattle.pg_client.specs.Client.{View};
+    ghost use Rattle.pg_client.specs.View.{View};
 
     ghost Value = { View K };
 

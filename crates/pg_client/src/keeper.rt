@@ -4,7 +4,8 @@ ghost use Rattle.std.specs.Prelude.{◌≡◌, [], IfErr, OnErr, OnOk, Some};
 ghost use Rattle.pg_wire.specs.Segment.{aside_of};
 ghost use Rattle.pg_wire.specs.message.BackMessage.TheVariants.{ParameterStatus};
 ghost use Rattle.pg_client.specs.declared.stand.Stand.TheVariants.{New};
-ghost use Rattle.pg_client.specs.Keeping.{IsSilent, Keeps};
+ghost use Rattle.pg_client.specs.Keeping.{IsSilent};
+ghost use Rattle.pg_client.specs.Client.{Keeps};
 ghost use Rattle.pg_client.specs.Private.Hearing.{KeepsAside, KeepsPart, KeepsEnd, SetsParameter};
 
 use crate::parameters::Parameters;

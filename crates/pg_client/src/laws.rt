@@ -8,12 +8,10 @@ ghost use Rattle.pg_client.specs.declared.phase.Phase.TheVariants as phase;
 ghost use Rattle.pg_client.specs.declared.call.Call.{Call};
 ghost use Rattle.pg_client.specs.declared.call.Call.TheVariants as call;
 ghost use Rattle.pg_client.specs.Session.{Happening, Came, Expected, requests_in};
-ghost use Rattle.pg_client.specs.Client.{ClientView, EarlyView, groups_waiting, loss_at, phase_of};
+ghost use Rattle.pg_client.specs.View.{ClientView, EarlyView, groups_waiting, loss_at, phase_of};
 ghost use Rattle.pg_client.specs.Keeping.{collecting, queueing};
 ghost use Rattle.pg_client.specs.declared.settled.Settled.{Settled};
-ghost use Rattle.pg_client.specs.History.{Calls, happenings, History, IsHistoryOf};
-ghost use Rattle.pg_client.specs.Feed.{Feeds};
-ghost use Rattle.pg_client.specs.Lost.{Loses};
+ghost use Rattle.pg_client.specs.Client.{happenings, History, IsHistoryOf, Feeds, Loses};
 ghost use Rattle.pg_client.specs.Facts.{ClientFacts, EarlyFacts};
 ghost use Rattle.pg_client.specs.declared.item.Item.{Item};
 ghost use Rattle.pg_client.specs.Turns.{InTurns, turns_of};
@@ -52,7 +50,7 @@ pub fn turns_of_a_run()
 /// one.
 pub fn story_of_a_run()
     ensures order { (h : History Settled) → KeepsOrder h }
-    ensures one_more { (cs : Calls) (c : Call) (place : ℕ)
+    ensures one_more { (cs : List (Call × ℕ)) (c : Call) (place : ℕ)
         → turns_of (calls_of (cs ++ (c, place) ∷ [])) ≡ turns_with (turns_of (calls_of cs)) c }
 {}
 
@@ -101,7 +99,7 @@ pub fn requests_of_the_calls()
         → client.closed ≡ None → requests_by h.calls ≢ []
         → AllSettled (requests_by h.calls) (h.given ++ groups_waiting client)
         → phase_of client ≡ phase.Ready }
-    ensures asked { (calls : Calls) (r : Request) (place : ℕ)
+    ensures asked { (calls : List (Call × ℕ)) (r : Request) (place : ℕ)
         → requests_by (calls ++ (call.Request r, place) ∷ []) ≡ requests_by calls ++ r ∷ [] }
 {}
 

@@ -32,19 +32,20 @@
 //! For every list of calls and every stream of bytes, however it is cut: the client takes in the longest beginning of the stream that the
 //! protocol allows, and names the fault of what comes next; each settled group is the request that was made, with the outcome that the
 //! grammar gives for its messages; phase, status and parameters are functions of what came; and at most one request is in doubt. Contracts
-//! say this of a *history*, which is all that a client was called with, was fed and gave (`History`, `IsHistoryOf` in
-//! `specs/History.antt`): `new` begins with a blank one, and each call says what it appends (`Carries`; of `feed`, `Hears`). No code stores a
-//! history. [`laws::facts_of_a_run`] reads it in the protocol's words, and `driver.rt` of `example_base` shows how a driver's author uses it.
+//! say this of a *history*, which is all that a client was called with, was fed and gave (`History`, `IsHistoryOf`): `new` begins with a blank
+//! one, and each call says what it appends (`Carries`; of `feed`, `Hears`). No code stores a history. `specs/Client.antt` says it all on one
+//! page, to be read from top to bottom. [`laws::facts_of_a_run`] reads a history in the protocol's words, and `driver.rt` of `example_base` shows how
+//! a driver's author uses it.
 //!
 //! # Files
 //!
 //! | File | Definitions in `specs/` | What it has |
 //! |---|---|---|
 //! | `call.rt`, `sending.rt`, `parameters.rt` | `Session` | calls and messages, the startup, where a call is allowed |
-//! | `connection.rt`, `settings.rt`, `phase.rt`, `settled.rt` | `Client` | what a contract sees of a client, and its phase |
+//! | `connection.rt`, `settings.rt`, `phase.rt`, `settled.rt` | `View` | what a contract sees of a client, and its phase |
 //! | `client.rt`, `item.rt`, `next.rt` | `Keeping` | the two clients: what each keeps of the messages until it is taken |
-//! | `connection.rt` | `Past`, `History`, `Calls`, `Lost` | what a client went through, how a call carries it on, and what each call does |
-//! | `connection/feed.rt`, `fault.rt` | `Feed`, `Sent`, `Closed` | what is done with the server's bytes; what is sent for a password; why a client is closed |
+//! | `connection.rt`, `connection/feed.rt` | `Client` | what a client went through; what each call, `feed` and `lost` do |
+//! | `fault.rt` | `Sent`, `Closed` | what is sent for a call and for a password; why a client is closed |
 //! | `connection/lend.rt` | `Lent` | taking items one by one, with rows lent |
 //! | `laws.rt` | `Facts`, `Turns`, `Spelled`, `Answering`, `Driving` | what a history means; what the author of a driver goes by |
 //! | `startup.rt` | `Startup` | how far the startup has come, and what one more message does there |

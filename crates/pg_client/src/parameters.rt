@@ -2,7 +2,7 @@
 
 ghost use Rattle.std.specs.Prelude.{◌≡◌, [], ℕ, List, bytes_eq, cond, OnErr, OnOk, option_copied};
 ghost use Rattle.std.specs.Prelude.{Some};
-ghost use Rattle.pg_client.specs.Client.{value_of};
+ghost use Rattle.pg_client.specs.View.{value_of};
 
 use pg_wire::Seq;
 use std::alloc::{AllocError, Global};

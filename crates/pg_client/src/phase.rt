@@ -1,7 +1,7 @@
 //! Where a client stands, as its caller sees it.
 
 ghost use Rattle.std.specs.Prelude.{◌↔◌, IsTrue};
-ghost use Rattle.pg_client.specs.Client.{IsOpenPhase};
+ghost use Rattle.pg_client.specs.View.{IsOpenPhase};
 
 /// Why a client is closed: the first of these that came.
 #[derive(Clone, Copy, Debug, PartialEq, Eq)]

@@ -1,7 +1,7 @@
 //! Where a client stands.
 
 ghost use Rattle.std.specs.Prelude.{◌≡◌};
-ghost use Rattle.pg_client.specs.Client.{loss_at, stand_phase};
+ghost use Rattle.pg_client.specs.View.{loss_at, stand_phase};
 ghost use Rattle.pg_client.specs.Private.Calling.{with_answer, with_request};
 ghost use Rattle.pg_client.specs.Private.Hearing.{led_to, tag_of_aside};
 ghost use Rattle.pg_client.specs.Stand.{answer_after, fault_at, is_too_early, leads, may_end_at};

@@ -7,14 +7,12 @@ use Rattle.pg_client.specs.declared.phase.Cause.{Cause}
 use Rattle.pg_client.specs.declared.phase.Cause.TheVariants as cause
 use Rattle.pg_client.specs.declared.phase.Phase.{Phase}
 use Rattle.pg_client.specs.declared.settled.Loss.{Loss}
-use Rattle.pg_client.specs.Client.{ClientView, phase_of}
+use Rattle.pg_client.specs.View.{ClientView, phase_of}
 use Rattle.pg_client.specs.Driving.{IsFedOn}
-use Rattle.pg_client.specs.Feed.{Feeds}
+use Rattle.pg_client.specs.Client.{Feeds, History, IsHistoryOf, with_handed_back, first_cause, IsLost}
 use Rattle.pg_client.specs.Keeping.{collecting}
 use Rattle.pg_client.specs.declared.settled.Settled.{Settled}
 use Rattle.pg_client.proofs.Histories.Unread.{carried}
-use Rattle.pg_client.specs.History.{History, IsHistoryOf, with_handed_back}
-use Rattle.pg_client.specs.Lost.{first_cause, IsLost}
 use Rattle.pg_drive.specs.declared.answer.DriveFault.{DriveFault}
 use Rattle.pg_drive.specs.declared.answer.DriveFault.TheVariants as fault
 use Rattle.pg_drive.specs.declared.answer.Driven.{Driven}

@@ -2,7 +2,7 @@
 use Rattle.std.proofs.Common.{◌≡◌, ℕ, ◌+◌, ◌<◌, ◌≤◌, List, [], Option, Some, None, Result, Ok, Err, refl, inr, subst}
 use Rattle.pg_client.specs.declared.phase.Phase.{Phase}
 use Rattle.pg_client.specs.declared.settled.Loss.{Loss}
-use Rattle.pg_client.specs.Client.{EarlyView, phase_of}
+use Rattle.pg_client.specs.View.{EarlyView, phase_of}
 use Rattle.pg_drive.specs.declared.answer.DriveFault.{DriveFault}
 use Rattle.pg_drive.specs.declared.answer.DrivenEarly.{DrivenEarly}
 use Rattle.pg_drive.specs.declared.answer.DrivenEarly.TheVariants as driven

@@ -2,7 +2,7 @@
 use Rattle.std.proofs.Common.{◌≡◌, ℕ, List, [], Result, sym, inl, inr, subst, ◌∙◌}
 use Rattle.pg_client.specs.declared.phase.Phase.{Phase}
 use Rattle.pg_client.specs.declared.phase.Phase.TheVariants as phase
-use Rattle.pg_client.specs.Client.{ClientView, groups_waiting, phase_of}
+use Rattle.pg_client.specs.View.{ClientView, groups_waiting, phase_of}
 use Rattle.pg_drive.specs.declared.event.GroupEvent.{GroupEvent}
 use Rattle.pg_drive.specs.declared.event.SessionFault.{SessionFault}
 use Rattle.pg_drive.specs.Drive.{LinkedClient, Drives, connected}

@@ -3,7 +3,7 @@ use Rattle.std.proofs.Common.{◌≡◌, ℕ, ◌+◌, ◌<◌, ◌≤◌, List,
 use Rattle.pg_client.specs.declared.item.Item.TheVariants as item
 use Rattle.pg_client.specs.declared.next.Next.{Next}
 use Rattle.pg_client.specs.declared.next.Next.TheVariants as next
-use Rattle.pg_client.specs.Client.{EarlyView}
+use Rattle.pg_client.specs.View.{EarlyView}
 use Rattle.pg_client.specs.Lent.{TakesLent}
 use Rattle.pg_drive.specs.declared.event.Event.{Event}
 use Rattle.pg_drive.specs.declared.event.Event.TheVariants as event

@@ -4,9 +4,8 @@ use Rattle.std.specs.Prelude.{OnOk}
 use Rattle.pg_client.specs.declared.call.Call.TheVariants as call
 use Rattle.pg_client.specs.declared.fault.CallFault.{CallFault}
 use Rattle.pg_client.specs.declared.phase.Phase.TheVariants as phase
-use Rattle.pg_client.specs.Calls.{Accepts}
-use Rattle.pg_client.specs.Client.{View, phase_of}
-use Rattle.pg_client.specs.Keeping.{Keeps}
+use Rattle.pg_client.specs.Client.{Accepts, Keeps}
+use Rattle.pg_client.specs.View.{View, phase_of}
 use Rattle.pg_drive.specs.Drive.{connected}
 use Rattle.pg_drive.specs.Session.{Begins}
 

@@ -9,7 +9,7 @@ use Rattle.pg_drive.specs.declared.answer.Driven.{Driven}
 use Rattle.pg_drive.specs.declared.answer.Driven.TheVariants as driven
 use Rattle.pg_drive.specs.Drive.{Answers, ClientKind, LinkedClient, Drives, IsSeen, LastTurn, Linked, TakesTurns, Turn, TurnsOn, client_kind, connected}
 use Rattle.pg_wire.specs.Sending.{Sends}
-use Rattle.pg_client.specs.Client.{phase_of}
+use Rattle.pg_client.specs.View.{phase_of}
 use Rattle.pg_drive.specs.Private.Turning.{Receives, TakesTurn}
 
 module _ {S : Type 0} (goes_on : S → List ℕ → S → Type 0) where

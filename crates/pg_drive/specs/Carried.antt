@@ -4,9 +4,9 @@ use mathlib.Core.Logic.{inl, inr}
 use Rattle.pg_client.specs.declared.phase.Cause.{Cause}
 use Rattle.pg_client.specs.declared.phase.Cause.TheVariants as cause
 use Rattle.pg_client.specs.declared.phase.Phase.{Phase}
-use Rattle.pg_client.specs.Client.{ClientView, phase_of}
+use Rattle.pg_client.specs.View.{ClientView, phase_of}
 use Rattle.pg_client.specs.Driving.{IsLeftBy}
-use Rattle.pg_client.specs.History.{History, IsHistoryOf}
+use Rattle.pg_client.specs.Client.{History, IsHistoryOf}
 use Rattle.pg_client.specs.Keeping.{collecting}
 use Rattle.pg_client.specs.declared.settled.Settled.{Settled}
 use Rattle.pg_drive.specs.declared.answer.DriveFault.{DriveFault}

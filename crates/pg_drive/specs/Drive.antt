@@ -7,10 +7,9 @@ use Rattle.pg_client.specs.declared.phase.Phase.{Phase}
 use Rattle.pg_client.specs.declared.phase.Phase.TheVariants as phase
 use Rattle.pg_client.specs.declared.fault.FeedFault.{FeedFault}
 use Rattle.pg_client.specs.declared.settled.Loss.{Loss}
-use Rattle.pg_client.specs.Client.{ClientView, View, groups_waiting, phase_of}
-use Rattle.pg_client.specs.Feed.{Feeds}
-use Rattle.pg_client.specs.Keeping.{Keeps, collecting}
-use Rattle.pg_client.specs.Lost.{IsLost}
+use Rattle.pg_client.specs.View.{ClientView, View, groups_waiting, phase_of}
+use Rattle.pg_client.specs.Client.{Feeds, Keeps, IsLost}
+use Rattle.pg_client.specs.Keeping.{collecting}
 use Rattle.pg_drive.specs.declared.answer.DriveFault.{DriveFault}
 use Rattle.pg_drive.specs.declared.answer.DriveFault.TheVariants as fault
 use Rattle.pg_drive.specs.declared.answer.Driven.{Driven}

@@ -3,9 +3,8 @@ use Rattle.std.specs.Prelude.{◌≡◌, ◌≢◌, ℕ, ◌⊎◌, List, [], �
 use Rattle.pg_wire.specs.Sending.{FailsToSend, Sends}
 use Rattle.pg_client.specs.declared.phase.Phase.TheVariants as phase
 use Rattle.pg_client.specs.declared.settled.Settled.{Settled}
-use Rattle.pg_client.specs.Client.{ClientView, groups_waiting, phase_of, with_groups}
-use Rattle.pg_client.specs.History.{Carries, with_given}
-use Rattle.pg_client.specs.Lost.{IsLost}
+use Rattle.pg_client.specs.View.{ClientView, groups_waiting, phase_of, with_groups}
+use Rattle.pg_client.specs.Client.{Carries, with_given, IsLost}
 use Rattle.pg_client.specs.Keeping.{collecting}
 use Rattle.pg_drive.specs.declared.answer.DriveFault.{DriveFault}
 use Rattle.pg_drive.specs.declared.answer.Driven.{Driven}

@@ -8,10 +8,8 @@ use Rattle.pg_client.specs.declared.fault.CallFault.{CallFault}
 use Rattle.pg_client.specs.declared.phase.Cause.TheVariants as cause
 use Rattle.pg_client.specs.declared.phase.Phase.TheVariants as phase
 use Rattle.pg_client.specs.declared.settled.Loss.{Loss}
-use Rattle.pg_client.specs.Calls.{Accepts, RefusesUnless}
-use Rattle.pg_client.specs.Client.{IsOpenPhase, View, phase_of}
-use Rattle.pg_client.specs.Lost.{IsLost}
-use Rattle.pg_client.specs.Keeping.{Keeps}
+use Rattle.pg_client.specs.Client.{Accepts, RefusesUnless, IsLost, Keeps}
+use Rattle.pg_client.specs.View.{IsOpenPhase, View, phase_of}
 use Rattle.pg_drive.specs.declared.answer.DriveFault.{DriveFault}
 use Rattle.pg_drive.specs.declared.answer.DriveFault.TheVariants as drive
 use Rattle.pg_drive.specs.declared.event.SessionFault.{SessionFault}

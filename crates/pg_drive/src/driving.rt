@@ -1,7 +1,7 @@
 //! A client, driven over a link.
 
 ghost use Rattle.std.specs.Prelude.{◌≡◌, length};
-ghost use Rattle.pg_client.specs.Client.{phase_of};
+ghost use Rattle.pg_client.specs.View.{phase_of};
 ghost use Rattle.pg_drive.specs.Drive.{Drives, IsSeen, connected, longest_piece};
 ghost use Rattle.pg_drive.specs.Private.Turning.{TakesTurn};
 

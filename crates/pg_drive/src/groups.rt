@@ -2,7 +2,7 @@
 
 ghost use Rattle.std.specs.Prelude.{◌≡◌};
 ghost use Rattle.pg_client.specs.Keeping.{collecting};
-ghost use Rattle.pg_client.specs.Lost.{IsLost};
+ghost use Rattle.pg_client.specs.Client.{IsLost};
 ghost use Rattle.pg_drive.specs.Drive.{Drives, connected};
 ghost use Rattle.pg_drive.specs.Group.{AwaitsCopy, GivesGroup, GroupStarts, GroupTells};
 ghost use Rattle.pg_drive.specs.Group.{group_start_told};

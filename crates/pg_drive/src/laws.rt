@@ -3,7 +3,7 @@
 ghost use Rattle.std.specs.Prelude.{◌≡◌, ℕ, None, Result};
 ghost use Rattle.std.specs.List.{concat};
 ghost use Rattle.pg_client.specs.declared.settled.Settled.{Settled};
-ghost use Rattle.pg_client.specs.History.{History, IsHistoryOf};
+ghost use Rattle.pg_client.specs.Client.{History, IsHistoryOf};
 ghost use Rattle.pg_client.specs.Keeping.{collecting};
 ghost use Rattle.pg_drive.specs.Carried.{IsDrivenOn, IsLeftDriven, pieces_fed};
 ghost use Rattle.pg_drive.specs.Drive.{LinkedClient, Drives};

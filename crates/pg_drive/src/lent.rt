@@ -2,7 +2,7 @@
 
 ghost use Rattle.std.specs.Prelude.{◌≡◌, [], length};
 ghost use Rattle.pg_client.specs.Keeping.{queueing};
-ghost use Rattle.pg_client.specs.Lost.{IsLost};
+ghost use Rattle.pg_client.specs.Client.{IsLost};
 ghost use Rattle.pg_drive.specs.Drive.{connected, longest_piece};
 ghost use Rattle.pg_drive.specs.Early.{DrivesEarly};
 ghost use Rattle.pg_drive.specs.Lent.{GivesLent, Hears, start_told, Starts};

@@ -1,7 +1,7 @@
 //! What a session gives message by message.
 
 ghost use Rattle.std.specs.Prelude.{◌≡◌};
-ghost use Rattle.pg_client.specs.Client.{lent_row};
+ghost use Rattle.pg_client.specs.View.{lent_row};
 ghost use Rattle.pg_drive.specs.Drive.{connected};
 ghost use Rattle.pg_drive.specs.Lent.{Gives, GivesLent, Hears, Owns, Starts};
 

@@ -3,10 +3,9 @@
 ghost use Rattle.std.specs.Prelude.{◌≡◌, ◌≢◌, [], IfErr, IfOk, OnErr, OnOk};
 ghost use Rattle.pg_wire.specs.Direction.{IsLimit};
 ghost use Rattle.pg_client.specs.declared.call.Call.TheVariants as call;
-ghost use Rattle.pg_client.specs.Calls.{Accepts, RefusesCopy, RefusesEnd, RefusesUnless};
-ghost use Rattle.pg_client.specs.Client.{phase_of};
-ghost use Rattle.pg_client.specs.History.{IsHistoryOf, blank};
-ghost use Rattle.pg_client.specs.Lost.{IsLost};
+ghost use Rattle.pg_client.specs.Client.{IsHistoryOf, blank, IsLost};
+ghost use Rattle.pg_client.specs.Client.{Accepts, RefusesCopy, RefusesEnd, RefusesUnless};
+ghost use Rattle.pg_client.specs.View.{phase_of};
 ghost use Rattle.pg_drive.specs.Drive.{connected};
 ghost use Rattle.pg_drive.specs.Session.{Terminates};
 

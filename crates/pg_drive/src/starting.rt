@@ -2,8 +2,7 @@
 
 ghost use Rattle.std.specs.Prelude.{◌≡◌, IfErr, OnErr, OnOk};
 ghost use Rattle.pg_client.specs.declared.call.Call.TheVariants as call;
-ghost use Rattle.pg_client.specs.Calls.{RefusesUnless};
-ghost use Rattle.pg_client.specs.Lost.{IsLost};
+ghost use Rattle.pg_client.specs.Client.{RefusesUnless, IsLost};
 ghost use Rattle.pg_drive.specs.Session.{Begins, TellsFault};
 
 use crate::answer::DriveFault;

@@ -1,15 +1,14 @@
 -- Bytes that reach an end keep what is so of a pair.
+use Rattle.pg_client.specs.Closed.{Ends}
 use Rattle.pg_client.specs.declared.settled.Settled.{Settled}
-use Rattle.pg_client.specs.Keeping.{collecting}
+use Rattle.pg_client.specs.Keeping.{collecting, CollectsAt}
 use Rattle.std.proofs.Common.{◌≡◌, ◌≤◌, ◌+◌, ℕ, List, [], ◌∷◌, ◌++◌, Option, None, Result, Ok, length, take, refl, ap, sym, subst, ◌∙◌}
 use Rattle.std.proofs.lemmas.List.{append-nil}
 use Rattle.std.proofs.Math.Seq.{take-add}
 use Rattle.pg_client.specs.declared.fault.FeedFault.{FeedFault}
-use Rattle.pg_client.specs.Client.{with_groups, groups_waiting, ClientView}
-use Rattle.pg_client.specs.History.{happenings, History, IsHistoryOf, with_fed, with_heard}
+use Rattle.pg_client.specs.View.{with_groups, groups_waiting, ClientView}
+use Rattle.pg_client.specs.Client.{happenings, History, IsHistoryOf, with_fed, with_heard, Feeds, FeedsByCause, Hears}
 use Rattle.pg_client.specs.declared.phase.Cause.{Cause}
-use Rattle.pg_client.specs.Feed.{Feeds, FeedsByCause, Hears}
-use Rattle.pg_client.specs.Keeping.{CollectsAt}
 use Rattle.pg_client.specs.Session.{groups_in, requests_in, rest_in}
 use Rattle.pg_client.proofs.Hearing.Feeding.{nothing_heard}
 use Rattle.pg_client.proofs.Histories.Seen.{seen}
@@ -77,7 +76,7 @@ fed_open old bytes result fed before after none feeds = by bytes (subst (λ (c :
       hears = λ h r.
           subst (λ (x : Result Unit FeedFault). Hears collecting (with_fed [] h) [] [] x fed) (sym f.0)
           (subst (λ (v : ClientView). Hears collecting (with_fed [] h) [] [] (Ok tt) v) (sym f.1)
-          (record { more = []; rest = h.rest; history = subst (λ (x : History Settled). IsHistoryOf collecting x old) (same h) r; answers = none }));
+          (record { more = []; rest = h.rest; history = subst (λ (x : History Settled). IsHistoryOf collecting x old) (same h) r; answers = ((subst (λ (c : Option Cause). Ends old.settings (happenings h) h.rest old.kept c) none r.agrees.ends).is_open, none) }));
     }
     by (b ∷ bs) f = record { added = f.added; put = f.put; hears = λ h r. f.hears [] h (none_unread collecting h old r) }
 

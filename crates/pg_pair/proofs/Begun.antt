@@ -5,8 +5,8 @@ use Rattle.pg_wire.specs.Direction.{longest}
 use Rattle.pg_client.specs.declared.stand.Stand.{Stand}
 use Rattle.pg_client.specs.declared.stand.Stand.TheVariants as stands
 use Rattle.pg_client.specs.declared.settled.Settled.{Settled}
-use Rattle.pg_client.specs.Client.{groups_waiting, ClientView}
-use Rattle.pg_client.specs.History.{blank, IsHistoryOf}
+use Rattle.pg_client.specs.View.{groups_waiting, ClientView}
+use Rattle.pg_client.specs.Client.{blank, IsHistoryOf}
 use Rattle.pg_client.specs.Stand.{Stands}
 use Rattle.pg_client.specs.Collected.{CollectedView}
 use Rattle.pg_backend.specs.Backend.{BackendState, was_lost}

@@ -1,11 +1,10 @@
 -- A break keeps what is so of a pair.
-use Rattle.pg_client.specs.Lost.{IsLost}
+use Rattle.pg_client.specs.Client.{IsLost, with_handed_back}
 use Rattle.pg_client.specs.Keeping.{collecting}
 use Rattle.pg_client.proofs.Histories.Unread.{carried}
 use Rattle.std.proofs.Common.{◌≡◌, true, false, Some, refl, sym, ap, subst, ◌∙◌}
 use Rattle.pg_client.specs.declared.settled.Loss.{Loss}
-use Rattle.pg_client.specs.Client.{ClientView}
-use Rattle.pg_client.specs.History.{with_handed_back}
+use Rattle.pg_client.specs.View.{ClientView}
 use Rattle.pg_backend.specs.Backend.{BackendState, lost_stage}
 use Rattle.pg_backend.specs.History as back
 use Rattle.pg_pair.specs.declared.carry.Way.TheVariants.{ToClient}

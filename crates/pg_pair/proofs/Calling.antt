@@ -2,11 +2,10 @@
 use Rattle.pg_client.specs.Keeping.{collecting}
 use Rattle.std.proofs.Common.{◌≡◌, ℕ, List, [], ◌∷◌, ◌++◌, length, refl, ap, sym, subst, ◌∙◌}
 use Rattle.std.proofs.lemmas.List.{map-append, length-take-le}
-use Rattle.pg_client.specs.Client.{ClientView, groups_waiting, phase_of}
+use Rattle.pg_client.specs.View.{ClientView, groups_waiting, phase_of}
 use Rattle.pg_client.proofs.Histories.Unread.{carried}
 use Rattle.pg_client.specs.Sent.{sent_by}
-use Rattle.pg_client.specs.History.{Calls, with_call}
-use Rattle.pg_client.specs.Calls.{Accepts}
+use Rattle.pg_client.specs.Client.{with_call, Accepts}
 use Rattle.pg_wire.specs.Turns.{Turn}
 use Rattle.pg_client.specs.declared.call.Call.{Call}
 use Rattle.pg_client.specs.declared.call.Call.TheVariants as call
@@ -20,7 +19,7 @@ use Rattle.pg_pair.proofs.CopyCalls.{chunk_goes_on, done_goes_on, fail_goes_on}
 use Rattle.pg_pair.proofs.Ends.{backend_stays}
 
 -- the calls with one more
-abbrev pub more_calls : {C : Type 0} (p : PairView C) → Tied p → Call → Calls
+abbrev pub more_calls : {C : Type 0} (p : PairView C) → Tied p → Call → List (Call × ℕ)
 more_calls p t c = t.client.history.calls ++ (c, length t.client.history.fed) ∷ []
 
 turns_of_more : Known → {C : Type 0} (p : PairView C) (t : Tied p) (c : Call) → turns_made (more_calls p t c) ≡ more_turns p t c

@@ -4,8 +4,8 @@ use Rattle.pg_wire.specs.message.FrontMessage.TheVariants as front
 use Rattle.pg_wire.specs.Segment.{segments}
 use Rattle.pg_client.specs.declared.phase.Phase.TheVariants as phase
 use Rattle.pg_client.specs.Session.{rest_in}
-use Rattle.pg_client.specs.Client.{phase_of}
-use Rattle.pg_client.specs.History.{happenings}
+use Rattle.pg_client.specs.View.{phase_of}
+use Rattle.pg_client.specs.Client.{happenings}
 use Rattle.pg_client.specs.Turns.{turns_of}
 use Rattle.pg_wire.specs.Turns.{copies_begun}
 use Rattle.pg_client.specs.Answering.{calls_of, turns_in, last_copies, copies_ended}

@@ -5,9 +5,8 @@ use Rattle.std.proofs.Common.{◌≡◌, ◌≤◌, ◌+◌, suc, ℕ, List, [],
 use Rattle.std.proofs.lemmas.List.{append-nil, length-map}
 use Rattle.pg_client.specs.declared.fault.FeedFault.{FeedFault}
 use Rattle.pg_client.specs.Session.{groups_in}
-use Rattle.pg_client.specs.Client.{groups_waiting, ClientView}
-use Rattle.pg_client.specs.History.{happenings, History, with_fed, with_heard}
-use Rattle.pg_client.specs.Feed.{Feeds}
+use Rattle.pg_client.specs.View.{groups_waiting, ClientView}
+use Rattle.pg_client.specs.Client.{happenings, History, with_fed, with_heard, Feeds}
 use Rattle.pg_client.specs.Turns.{turns_of}
 use Rattle.pg_client.specs.Answering.{calls_of, turns_in}
 use Rattle.pg_wire.specs.Turns.{Turn, chunks_of}

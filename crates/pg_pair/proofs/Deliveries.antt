@@ -6,8 +6,8 @@ use Rattle.std.proofs.lemmas.Bool.{le-ltb}
 use Rattle.std.proofs.lemmas.List.{append-nil, drop-drop, length-take, take-take, take_all}
 use Rattle.pg_client.specs.declared.fault.FeedFault.{FeedFault}
 use Rattle.pg_client.specs.declared.phase.Cause.{Cause}
-use Rattle.pg_client.specs.Client.{ClientView}
-use Rattle.pg_client.specs.Feed.{FeedsByCause}
+use Rattle.pg_client.specs.View.{ClientView}
+use Rattle.pg_client.specs.Client.{FeedsByCause}
 use Rattle.pg_pair.specs.declared.carry.CarryFault.{CarryFault}
 use Rattle.pg_pair.specs.declared.carry.Way.{Way}
 use Rattle.pg_pair.specs.declared.carry.Way.TheVariants.{ToBackend, ToClient}

@@ -13,8 +13,8 @@ use Rattle.pg_client.specs.place.Open.{Open}
 use Rattle.pg_client.specs.place.Open.TheVariants as opened
 use Rattle.pg_client.specs.declared.stand.Stand.{Stand}
 use Rattle.pg_client.specs.declared.stand.Stand.TheVariants as stands
-use Rattle.pg_client.specs.Client.{with_groups, groups_waiting, ClientView, busy_phase_of, phase_of, phase_with, stand_phase}
-use Rattle.pg_client.specs.Feed.{Feeds}
+use Rattle.pg_client.specs.View.{with_groups, groups_waiting, ClientView, busy_phase_of, phase_of, phase_with, stand_phase}
+use Rattle.pg_client.specs.Client.{Feeds}
 use Rattle.pg_backend.specs.Backend.{BackendState}
 use Rattle.pg_pair.specs.declared.carry.CarryFault.{CarryFault}
 use Rattle.pg_pair.specs.declared.carry.Way.TheVariants.{ToBackend, ToClient}
@@ -192,7 +192,7 @@ fed_in p count result fed sent h =
 no_fault : {C : Type 0} (p : PairView C) (bytes : List ℕ) (result : Result Unit FeedFault) (fed : ClientView) (sent : List ℕ) → p.client.closed ≡ None → Feeds collecting p.client bytes result fed p.to_backend.sent sent
     → client_answer result ≡ None → Tied p → is_closed_client (phase_of fed) ≡ false
 no_fault p bytes (Ok x) fed sent none feeds answer t =
-    let closed : fed.closed ≡ None = (heard_more p t bytes (Ok x) fed sent (fed_open p.client bytes (Ok x) fed p.to_backend.sent sent none feeds)).answers in
+    let closed : fed.closed ≡ None = (heard_more p t bytes (Ok x) fed sent (fed_open p.client bytes (Ok x) fed p.to_backend.sent sent none feeds)).answers.1 in
     ap (λ c. is_closed_client (phase_with c fed.known.stand)) closed ∙ stand_open fed.known.stand
 no_fault p bytes (Err f) fed sent none feeds answer t = absurd cc
 

@@ -2,7 +2,7 @@
 use Rattle.pg_client.specs.Keeping.{collecting}
 use Rattle.std.proofs.Common.{ℕ, List, subst}
 use Rattle.pg_client.specs.declared.settled.Settled.{Settled}
-use Rattle.pg_client.specs.History.{History, IsHistoryOf}
+use Rattle.pg_client.specs.Client.{History, IsHistoryOf}
 use Rattle.pg_backend.specs.History as back
 use Rattle.pg_pair.specs.Invariant.{Tied}
 use Rattle.pg_pair.specs.View.{arrived, PairView}

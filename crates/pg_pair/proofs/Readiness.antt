@@ -15,8 +15,8 @@ use Rattle.pg_client.specs.declared.phase.Phase.TheVariants as phase
 use Rattle.pg_client.specs.declared.stand.Stand.{Stand}
 use Rattle.pg_client.specs.declared.call.Call.TheVariants as call
 use Rattle.pg_client.specs.Session.{Happening, Did, Came, IsTerminated, IsReady, whole_in}
-use Rattle.pg_client.specs.Client.{groups_waiting, phase_of, phase_with}
-use Rattle.pg_client.specs.History.{happenings}
+use Rattle.pg_client.specs.View.{groups_waiting, phase_of, phase_with}
+use Rattle.pg_client.specs.Client.{happenings}
 use Rattle.pg_client.specs.Facts.{IsPhase}
 use Rattle.pg_client.specs.Turns.{turns_of, calls_in, farewell}
 use Rattle.pg_client.specs.Answering.{calls_of}

@@ -11,12 +11,12 @@ use Rattle.pg_wire.specs.declared.session.Part.TheVariants as part
 use Rattle.pg_wire.specs.declared.session.Request.{Request}
 use Rattle.pg_wire.specs.declared.session.Request.TheVariants.{Query}
 use Rattle.pg_wire.proofs.Rows.{salted}
+use Rattle.pg_client.specs.declared.call.Call.{Call}
 use Rattle.pg_client.specs.declared.phase.Cause.TheVariants as cause
 use Rattle.pg_client.specs.declared.stand.Stand.TheVariants as stands
 use Rattle.pg_client.specs.Collected.{nothing_collected}
 use Rattle.pg_client.specs.declared.settings.Settings.{Settings}
 use Rattle.pg_client.specs.declared.call.Call.TheVariants as call
-use Rattle.pg_client.specs.History.{Calls}
 use Rattle.pg_client.specs.Turns.{messages_after}
 use Rattle.pg_backend.specs.declared.script.Answer.{Answer}
 use Rattle.pg_backend.specs.declared.script.Auth.TheVariants.{Trust, Cleartext, Md5}
@@ -134,7 +134,7 @@ query_settled = refl
 
 -- ---- a copy
 
-calls : Calls
+calls : List (Call × ℕ)
 calls = (call.Start, 0) ∷ (call.Request select, 15) ∷ (call.Chunk (49 ∷ []), 40) ∷ (call.Chunk (50 ∷ []), 40) ∷ (call.Done, 40) ∷ (call.Terminate, 60) ∷ []
 
 -- the chunks that were handed over for the one request

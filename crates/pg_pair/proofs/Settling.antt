@@ -1,5 +1,5 @@
 -- What a client has settled is a beginning of what the backend has answered.
-use Rattle.pg_client.specs.Client.{groups_waiting}
+use Rattle.pg_client.specs.View.{groups_waiting}
 use Rattle.std.proofs.Common.{◌≡◌, ℕ, List, [], ◌∷◌, ◌++◌, map, drop, take, refl, ap, sym, subst, ◌∙◌, append_assoc, ◌⊎◌, inl, inr, length, suc, arith, ◌≤◌}
 use Rattle.std.specs.List.{flat_map, AllByRecursion}
 use Rattle.std.proofs.lemmas.List.{append-nil, take-append-drop, length-map}
@@ -19,7 +19,7 @@ use Rattle.pg_client.specs.declared.settled.Settled.{Settled}
 use Rattle.pg_client.specs.declared.call.Call.{Call}
 use Rattle.pg_client.specs.declared.call.Call.TheVariants as call
 use Rattle.pg_client.specs.Session.{Happening, Did, Came, messages_in, requests_in, IsAfterItsCall, groups_in}
-use Rattle.pg_client.specs.History.{Calls, happenings}
+use Rattle.pg_client.specs.Client.{happenings}
 use Rattle.pg_client.specs.Facts.{FirstSettled}
 use Rattle.pg_client.specs.Turns.{turns_of, calls_in, passwords, first_answer, messages_after, greeting, farewell}
 use Rattle.pg_client.specs.Answering.{calls_of, turns_in}
@@ -69,11 +69,11 @@ without_first (x ∷ xs) ys y h = begins_tail x y xs ys h
 -- ---- what a client sends
 
 -- the messages after the password: those of its turns, and maybe a Terminate
-abbrev pub turns_sent : Calls → List FrontMessage
+abbrev pub turns_sent : List (Call × ℕ) → List FrontMessage
 turns_sent cs = flat_map turn_messages (turns_made cs) ++ farewell (calls_of cs)
 
 -- all messages after the startup packet, by what was heard
-abbrev pub all_messages : Settings → List BackMessage → Calls → List FrontMessage
+abbrev pub all_messages : Settings → List BackMessage → List (Call × ℕ) → List FrontMessage
 all_messages settings heard cs = passwords settings heard ++ turns_sent cs
 
 one_farewell : (cs : List Call) → (farewell cs ≡ []) ⊎ (farewell cs ≡ front.Terminate ∷ [])

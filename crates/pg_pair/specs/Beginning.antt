@@ -2,8 +2,8 @@
 use Rattle.std.specs.Prelude.{◌≡◌, false, [], None}
 use Rattle.pg_client.specs.declared.phase.Phase.TheVariants as phase
 use Rattle.pg_client.specs.declared.settings.Settings.{Settings}
-use Rattle.pg_client.specs.History.{blank, IsHistoryOf}
-use Rattle.pg_client.specs.Client as client
+use Rattle.pg_client.specs.Client.{blank, IsHistoryOf}
+use Rattle.pg_client.specs.View as client
 use Rattle.pg_client.specs.Keeping.{collecting}
 use Rattle.pg_backend.specs.declared.script.Script.{Script}
 use Rattle.pg_backend.specs.declared.stage.BackStage.TheVariants as stage

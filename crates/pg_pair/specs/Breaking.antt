@@ -3,9 +3,9 @@ use Rattle.std.specs.Prelude.{◌≡◌, Bool, true, false, ◌||◌, Some}
 use Rattle.pg_client.specs.declared.phase.Phase.{Phase}
 use Rattle.pg_client.specs.declared.phase.Phase.TheVariants as phase
 use Rattle.pg_client.specs.declared.settled.Loss.{Loss}
-use Rattle.pg_client.specs.Client.{phase_of}
+use Rattle.pg_client.specs.View.{phase_of}
 use Rattle.pg_client.specs.Keeping.{collecting}
-use Rattle.pg_client.specs.Lost.{IsLost}
+use Rattle.pg_client.specs.Client.{IsLost}
 use Rattle.pg_backend.specs.declared.phase.BackPhase.{BackPhase}
 use Rattle.pg_backend.specs.declared.phase.BackPhase.TheVariants as back
 use Rattle.pg_backend.specs.Backend.{lost_stage}

@@ -4,9 +4,9 @@ use Rattle.pg_client.specs.declared.fault.CallFault.{CallFault}
 use Rattle.pg_client.specs.declared.phase.Phase.{Phase}
 use Rattle.pg_client.specs.declared.phase.Phase.TheVariants as phase
 use Rattle.pg_client.specs.Keeping.{collecting}
-use Rattle.pg_client.specs.Session.{request_made}
-use Rattle.pg_client.specs.Client.{ClientView, phase_of, IsOpenPhase}
-use Rattle.pg_client.specs.Calls.{Accepts, RefusesUnless, RefusesCopy, RefusesEnd}
+use Rattle.pg_client.specs.Session.{Did, request_of}
+use Rattle.pg_client.specs.View.{ClientView, phase_of, IsOpenPhase}
+use Rattle.pg_client.specs.Client.{Accepts, RefusesUnless, RefusesCopy, RefusesEnd}
 use Rattle.pg_pair.specs.declared.event.Applied.{Applied}
 use Rattle.pg_pair.specs.declared.event.Applied.TheVariants as applied
 use Rattle.pg_client.specs.declared.call.Call.{Call}
@@ -62,5 +62,5 @@ pub record Accepted {C : Type 0} (c : Call) (p q : PairView C) : Type 0 where
 abbrev pub CallsClient : {C : Type 0} → Call → PairView C → Applied → PairView C → Type 0
 CallsClient c p applied.Done q = Accepted c p q
 CallsClient c p (applied.Refused request f) q =
-    (request ≡ request_made c) × RefusesCall p.client c f × (q ≡ p)
+    (request ≡ request_of (Did c)) × RefusesCall p.client c f × (q ≡ p)
 CallsClient c p _ q = ⊥

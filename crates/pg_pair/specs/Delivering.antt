@@ -1,9 +1,9 @@
 -- What a delivery does to a pair: it goes in pieces, which a carrier carries.
 use Rattle.std.specs.Prelude.{◌≡◌, ℕ, zero, suc, ◌+◌, ◌-◌, ◌<◌, ◌⊎◌, Bool, true, false, List, [], ◌∷◌, ◌++◌, length, take, Option, Some, None, Result, Ok, Err}
 use Rattle.pg_client.specs.declared.fault.FeedFault.{FeedFault}
-use Rattle.pg_client.specs.Client.{ClientView, groups_waiting, with_groups}
+use Rattle.pg_client.specs.View.{ClientView, groups_waiting, with_groups}
 use Rattle.pg_client.specs.Keeping.{collecting}
-use Rattle.pg_client.specs.Feed.{Feeds}
+use Rattle.pg_client.specs.Client.{Feeds}
 use Rattle.pg_backend.specs.declared.fault.BackendFault.{BackendFault}
 use Rattle.pg_backend.specs.Backend.{BackendState, Stores}
 use Rattle.pg_backend.specs.History as back

@@ -9,8 +9,8 @@ use Rattle.pg_wire.specs.First.{packet}
 use Rattle.pg_wire.specs.Frontend.{frontend}
 use Rattle.pg_client.specs.declared.settled.Settled.{Settled}
 use Rattle.pg_client.specs.declared.phase.Phase.TheVariants as client_phase
-use Rattle.pg_client.specs.History.{History, IsHistoryOf}
-use Rattle.pg_client.specs.Client as client
+use Rattle.pg_client.specs.Client.{History, IsHistoryOf}
+use Rattle.pg_client.specs.View as client
 use Rattle.pg_client.specs.Keeping.{collecting}
 use Rattle.pg_backend.specs.declared.script.Logged.{Logged}
 use Rattle.pg_backend.specs.declared.phase.BackPhase.TheVariants as backend_phase

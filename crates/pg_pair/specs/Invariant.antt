@@ -2,8 +2,8 @@
 use Rattle.std.specs.Prelude.{◌≡◌, ◌≤◌, false, List, [], length, map}
 use Rattle.pg_wire.specs.Direction.{longest}
 use Rattle.pg_client.specs.declared.settled.Settled.{Settled}
-use Rattle.pg_client.specs.Client.{groups_waiting}
-use Rattle.pg_client.specs.History.{History, IsHistoryOf}
+use Rattle.pg_client.specs.View.{groups_waiting}
+use Rattle.pg_client.specs.Client.{History, IsHistoryOf}
 use Rattle.pg_client.specs.Keeping.{collecting}
 use Rattle.pg_backend.specs.Check.{IsChecked}
 use Rattle.pg_backend.specs.Backend.{was_lost}

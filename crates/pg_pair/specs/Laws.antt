@@ -1,9 +1,9 @@
 -- What a delivery moves, and what breaks a way: laws of what events do.
 use Rattle.std.specs.Prelude.{◌≡◌, ◌≤◌, ℕ, ◌+◌, min, ◌⊎◌, Bool, true, false, List, [], ◌++◌, length, take, None, Result, Ok, Err}
 use Rattle.pg_client.specs.declared.fault.FeedFault.{FeedFault}
-use Rattle.pg_client.specs.Client.{ClientView, with_groups}
+use Rattle.pg_client.specs.View.{ClientView, with_groups}
 use Rattle.pg_client.specs.Keeping.{collecting}
-use Rattle.pg_client.specs.Feed.{Feeds}
+use Rattle.pg_client.specs.Client.{Feeds}
 use Rattle.pg_pair.specs.declared.carry.CarryFault.{CarryFault}
 use Rattle.pg_pair.specs.declared.carry.Way.{Way}
 use Rattle.pg_pair.specs.declared.carry.Way.TheVariants.{ToBackend, ToClient}

@@ -2,7 +2,7 @@
 use Rattle.std.specs.Prelude.{◌≡◌, ℕ, Bool, List, take, drop, Option}
 use Rattle.pg_client.specs.declared.settled.Settled.{Settled}
 use Rattle.pg_client.specs.declared.settled.Loss.{Loss}
-use Rattle.pg_client.specs.Client.{ClientView}
+use Rattle.pg_client.specs.View.{ClientView}
 use Rattle.pg_backend.specs.Backend.{BackendState}
 use Rattle.pg_pair.specs.declared.carry.Way.{Way}
 use Rattle.pg_pair.specs.declared.carry.Way.TheVariants.{ToBackend, ToClient}

@@ -1,11 +1,10 @@
 -- What was collected goes on with each message that may come: it stays the parts of which the messages consist.
-use Rattle.std.proofs.Common.{arith, ◌≡◌, ℕ, zero, suc, ◌+◌, ◌<◌, length, drop, List, [], ◌∷◌, ◌++◌, map, Option, Some, None, Bool, true, false, cond, refl, sym, ap, subst, ◌∙◌, append_assoc, inl, inr}
+use Rattle.std.proofs.Common.{arith, ◌≡◌, ℕ, ◌+◌, ◌<◌, length, drop, List, [], ◌∷◌, ◌++◌, map, Option, Some, None, Bool, true, false, cond, refl, sym, ap, subst, ◌∙◌, append_assoc, inl, inr}
 use Rattle.std.specs.Prelude.{nat_le}
 use Rattle.std.specs.List.{flat_map}
 use Rattle.std.specs.Option.{option_map}
-use Rattle.std.proofs.Math.Dec.{leb-suc-zero, leb-suc-suc}
-use Rattle.std.proofs.lemmas.Bool.{cond_below}
-use Rattle.std.proofs.lemmas.List.{append-nil, map-append}
+use Rattle.std.proofs.lemmas.Bool.{cond_below, leb-true}
+use Rattle.std.proofs.lemmas.List.{append-nil, drop-drop, drop_all, flat_map_more, length-drop, map-append}
 use Rattle.pg_wire.specs.message.BackMessage.{BackMessage}
 use Rattle.pg_wire.specs.message.BackMessage.TheVariants.{RowDescription, DataRow, CommandComplete, EmptyQuery, ParseComplete, BindComplete, CloseComplete, NoData, PortalSuspended, ParameterDescription, ErrorResponse, CopyData, CopyDone}
 use Rattle.pg_wire.specs.message.BackMessage.TheVariants as back
@@ -22,18 +21,9 @@ use Rattle.pg_response.specs.declared.place.Open.{Open}
 use Rattle.pg_response.specs.declared.place.Open.TheVariants as opened
 use Rattle.pg_response.specs.declared.place.Place.{Place}
 use Rattle.pg_response.specs.Place.{mark_of, follows, begins, begins_result, begins_answer, still_asked, next_open, start, one_more, led_to, goes, goes_by, goes_all, all_answered, ends_with, may_end}
-use Rattle.pg_response.specs.Collected.{begins_rows, come_of, closed_with, collect, CollectedView, failed_with, Holds, HoldsBy, HoldsError, HoldsParts, nothing_collected, nothing_yet, Opens, whole_part, with_columns}
+use Rattle.pg_response.specs.Collected.{come_of, collect, CollectedView, failed_with, Holds, HoldsBy, HoldsError, HoldsParts, nothing_collected, nothing_yet, Opens}
 
 -- ---- how many are answered
-
-next_step : (steps : List Step) (n : ℕ) (s : Step) (ss : List Step) → drop n steps ≡ s ∷ ss → (n < length steps) × (drop (n + 1) steps ≡ ss)
-next_step [] zero s ss e = absurd cc
-next_step [] (suc n) s ss e = absurd cc
-next_step (x ∷ xs) zero s ss e = (let k : x ∷ xs ≡ s ∷ ss = e in (omega arith, cc))
-next_step (x ∷ xs) (suc n) s ss e =
-    let r = next_step xs n s ss e in
-    let more : suc n + 1 ≡ suc (n + 1) = omega arith in
-    (omega (arith, r.0), ap (λ (k : ℕ). drop k (x ∷ xs)) more ∙ r.1)
 
 -- an answer more leaves one less to be answered
 pub counted : (a : Asked) (n : ℕ) (rest : Asked) (p : Part) (next : Asked) → still_asked a n ≡ rest → Answers rest (p ∷ []) next → still_asked a (one_more a n) ≡ next
@@ -43,18 +33,14 @@ counted (Steps steps) n Results p next e h = absurd cc
 counted (Steps steps) n (Steps []) p next e h = absurd h
 counted (Steps steps) n (Steps (s ∷ ss)) p next e h =
     let same : drop n steps ≡ s ∷ ss = (let k : Steps (drop n steps) ≡ Steps (s ∷ ss) = e in cc) in
-    let r = next_step steps n s ss same in
-    ap (λ (k : ℕ). Steps (drop k steps)) (sym (cond_below n (length steps) (n + 1) n r.0)) ∙ (ap Steps r.1 ∙ sym h.1)
+    let more : n < length steps = omega (arith, ap length same, length-drop n steps) in
+    ap (λ (k : ℕ). Steps (drop k steps)) (sym (cond_below n (length steps) (n + 1) n more)) ∙ ap Steps (sym (drop-drop 1 n steps) ∙ ap (drop 1) same) ∙ sym h.1
 
 pub Answers-more : (a : Asked) (parts : List Part) (rest : Asked) (p : Part) (next : Asked) → Answers a parts rest → Answers rest (p ∷ []) next → Answers a (parts ++ p ∷ []) next
 Answers-more a [] rest p next h k = subst (λ (x : Asked). Answers x (p ∷ []) next) h k
 Answers-more Results (q ∷ qs) rest p next h k = (h.0, Answers-more Results qs rest p next h.1 k)
 Answers-more (Steps []) (q ∷ qs) rest p next h k = absurd h
 Answers-more (Steps (s ∷ ss)) (q ∷ qs) rest p next h k = (h.0, Answers-more (Steps ss) qs rest p next h.1 k)
-
-flat_map-more : (parts : List Part) (p : Part) → flat_map messages_of (parts ++ p ∷ []) ≡ flat_map messages_of parts ++ messages_of p
-flat_map-more [] p = append-nil (messages_of p)
-flat_map-more (q ∷ qs) p = ap (λ (ms : List BackMessage). messages_of q ++ ms) (flat_map-more qs p) ∙ sym (append_assoc (messages_of q) (flat_map messages_of qs) (messages_of p))
 
 -- ---- one message
 
@@ -90,40 +76,26 @@ module _ (a : Asked) (ms : List BackMessage) (n : ℕ) (c : CollectedView) (rest
     still = counted a n rest p next still h;
     opens = refl;
     no_error = none;
-    messages = ap (λ (x : List BackMessage). x ++ m ∷ []) e ∙ (append_assoc so_far front (m ∷ []) ∙ (ap (λ (x : List BackMessage). so_far ++ x) (sym is) ∙ (sym (flat_map-more c.parts p) ∙ sym (append-nil (flat_map messages_of (c.parts ++ p ∷ []))))));
+    messages = ap (λ (x : List BackMessage). x ++ m ∷ []) e ∙ (append_assoc so_far front (m ∷ []) ∙ (ap (λ (x : List BackMessage). so_far ++ x) (sym is) ∙ (flat_map_more messages_of [] c.parts p ∙ sym (append-nil (flat_map messages_of (c.parts ++ p ∷ []))))));
   }
 
-  rows_then : (u : Unfinished) → rest ≡ Results → ms ≡ so_far ++ come_of opened.Rows u → (m : BackMessage) → Then a ms n c opened.Rows m u (follows opened.Rows (mark_of m))
-  rows_then u is e (DataRow values) = grows opened.Rows (DataRow values) (come_of opened.Rows u) (record u { rows = u.rows ++ values ∷ [] }) e is (ap (λ (x : List BackMessage). RowDescription u.columns ∷ x) (map-append DataRow u.rows (values ∷ [])))
-  rows_then u is e (CommandComplete tag) = closes (CommandComplete tag) (come_of opened.Rows u) (part.Rows u.columns u.rows tag) Results e (subst (λ (x : Asked). Answers x (part.Rows u.columns u.rows tag ∷ []) Results) (sym is) (refl, refl)) refl
-  rows_then u is e _ = tt
-
-  copy_out_then : (u : Unfinished) → rest ≡ Results → ms ≡ so_far ++ come_of opened.CopyOut u → (m : BackMessage) → Then a ms n c opened.CopyOut m u (follows opened.CopyOut (mark_of m))
-  copy_out_then u is e (CopyData bytes) = grows opened.CopyOut (CopyData bytes) (come_of opened.CopyOut u) (record u { chunks = u.chunks ++ bytes ∷ [] }) e is (ap (λ (x : List BackMessage). back.CopyOut u.head ∷ x) (map-append CopyData u.chunks (bytes ∷ [])))
-  copy_out_then u is e CopyDone = grows opened.CopyOutEnded CopyDone (come_of opened.CopyOut u) u e is refl
-  copy_out_then u is e _ = tt
-
-  copy_out_ended_then : (u : Unfinished) → rest ≡ Results → ms ≡ so_far ++ come_of opened.CopyOutEnded u → (m : BackMessage) → Then a ms n c opened.CopyOutEnded m u (follows opened.CopyOutEnded (mark_of m))
-  copy_out_ended_then u is e (CommandComplete tag) =
-      closes (CommandComplete tag) (come_of opened.CopyOutEnded u) (part.CopyOut u.head u.chunks tag) Results e (subst (λ (x : Asked). Answers x (part.CopyOut u.head u.chunks tag ∷ []) Results) (sym is) (refl, refl))
+  -- a message that what is unfinished may go on with
+  follows_then : (o : Open) (u : Unfinished) → Opens rest o u → ms ≡ so_far ++ come_of o u → (m : BackMessage) → Then a ms n c o m u (follows o (mark_of m))
+  follows_then opened.Rows u is e (DataRow values) = grows opened.Rows (DataRow values) (come_of opened.Rows u) (record u { rows = u.rows ++ values ∷ [] }) e is (ap (λ (x : List BackMessage). RowDescription u.columns ∷ x) (map-append DataRow u.rows (values ∷ [])))
+  follows_then opened.Rows u is e (CommandComplete tag) = closes (CommandComplete tag) (come_of opened.Rows u) (part.Rows u.columns u.rows tag) Results e (rw is (refl, refl)) refl
+  follows_then opened.CopyOut u is e (CopyData bytes) = grows opened.CopyOut (CopyData bytes) (come_of opened.CopyOut u) (record u { chunks = u.chunks ++ bytes ∷ [] }) e is (ap (λ (x : List BackMessage). back.CopyOut u.head ∷ x) (map-append CopyData u.chunks (bytes ∷ [])))
+  follows_then opened.CopyOut u is e CopyDone = grows opened.CopyOutEnded CopyDone (come_of opened.CopyOut u) u e is refl
+  follows_then opened.CopyOutEnded u is e (CommandComplete tag) =
+      closes (CommandComplete tag) (come_of opened.CopyOutEnded u) (part.CopyOut u.head u.chunks tag) Results e (rw is (refl, refl))
       (ap (λ (x : List BackMessage). back.CopyOut u.head ∷ x) (sym (append_assoc (map CopyData u.chunks) (CopyDone ∷ []) (CommandComplete tag ∷ []))))
-  copy_out_ended_then u is e _ = tt
-
-  copy_in_then : (u : Unfinished) → rest ≡ Results → ms ≡ so_far ++ come_of opened.CopyIn u → (m : BackMessage) → Then a ms n c opened.CopyIn m u (follows opened.CopyIn (mark_of m))
-  copy_in_then u is e (CommandComplete tag) = closes (CommandComplete tag) (come_of opened.CopyIn u) (part.CopyIn u.head tag) Results e (subst (λ (x : Asked). Answers x (part.CopyIn u.head tag ∷ []) Results) (sym is) (refl, refl)) refl
-  copy_in_then u is e _ = tt
-
-  described_then : (u : Unfinished) → (h : Opens rest opened.Described u) → ms ≡ so_far ++ come_of opened.Described u → (m : BackMessage) → Then a ms n c opened.Described m u (follows opened.Described (mark_of m))
-  described_then u h e (RowDescription columns) = closes (RowDescription columns) (come_of opened.Described u) (part.Described (Some u.types) (Some columns)) (Steps h.1) e (subst (λ (x : Asked). Answers x (part.Described (Some u.types) (Some columns) ∷ []) (Steps h.1)) (sym h.2) (refl, refl)) refl
-  described_then u h e NoData = closes NoData (come_of opened.Described u) (part.Described (Some u.types) None) (Steps h.1) e (subst (λ (x : Asked). Answers x (part.Described (Some u.types) None ∷ []) (Steps h.1)) (sym h.2) (refl, refl)) refl
-  described_then u h e _ = tt
-
-  executed_then : (u : Unfinished) → (h : Opens rest opened.Executed u) → ms ≡ so_far ++ come_of opened.Executed u → (m : BackMessage) → Then a ms n c opened.Executed m u (follows opened.Executed (mark_of m))
-  executed_then u h e (DataRow values) = grows opened.Executed (DataRow values) (come_of opened.Executed u) (record u { rows = u.rows ++ values ∷ [] }) e h (map-append DataRow u.rows (values ∷ []))
-  executed_then u h e (CommandComplete tag) = closes (CommandComplete tag) (come_of opened.Executed u) (part.Executed u.rows (ends.Complete tag)) (Steps h.2) e (subst (λ (x : Asked). Answers x (part.Executed u.rows (ends.Complete tag) ∷ []) (Steps h.2)) (sym h.3) (refl, refl)) refl
-  executed_then u h e EmptyQuery = closes EmptyQuery (come_of opened.Executed u) (part.Executed u.rows ends.Empty) (Steps h.2) e (subst (λ (x : Asked). Answers x (part.Executed u.rows ends.Empty ∷ []) (Steps h.2)) (sym h.3) (refl, refl)) refl
-  executed_then u h e PortalSuspended = closes PortalSuspended (come_of opened.Executed u) (part.Executed u.rows ends.Suspended) (Steps h.2) e (subst (λ (x : Asked). Answers x (part.Executed u.rows ends.Suspended ∷ []) (Steps h.2)) (sym h.3) (refl, refl)) refl
-  executed_then u h e _ = tt
+  follows_then opened.CopyIn u is e (CommandComplete tag) = closes (CommandComplete tag) (come_of opened.CopyIn u) (part.CopyIn u.head tag) Results e (rw is (refl, refl)) refl
+  follows_then opened.Described u h e (RowDescription columns) = closes (RowDescription columns) (come_of opened.Described u) (part.Described (Some u.types) (Some columns)) (Steps h.1) e (rw h.2 (refl, refl)) refl
+  follows_then opened.Described u h e NoData = closes NoData (come_of opened.Described u) (part.Described (Some u.types) None) (Steps h.1) e (rw h.2 (refl, refl)) refl
+  follows_then opened.Executed u h e (DataRow values) = grows opened.Executed (DataRow values) (come_of opened.Executed u) (record u { rows = u.rows ++ values ∷ [] }) e h (map-append DataRow u.rows (values ∷ []))
+  follows_then opened.Executed u h e (CommandComplete tag) = closes (CommandComplete tag) (come_of opened.Executed u) (part.Executed u.rows (ends.Complete tag)) (Steps h.2) e (rw h.3 (refl, refl)) refl
+  follows_then opened.Executed u h e EmptyQuery = closes EmptyQuery (come_of opened.Executed u) (part.Executed u.rows ends.Empty) (Steps h.2) e (rw h.3 (refl, refl)) refl
+  follows_then opened.Executed u h e PortalSuspended = closes PortalSuspended (come_of opened.Executed u) (part.Executed u.rows ends.Suspended) (Steps h.2) e (rw h.3 (refl, refl)) refl
+  follows_then _ u h e _ = tt
 
 -- the first message of a result
 module _ (ms : List BackMessage) (n : ℕ) (c : CollectedView) (answered : Answers Results c.parts Results) (none : c.error ≡ None) (e : ms ≡ flat_map messages_of c.parts ++ []) where
@@ -137,45 +109,19 @@ module _ (ms : List BackMessage) (n : ℕ) (c : CollectedView) (answered : Answe
 
 -- the first message of the answer to a step
 module _ (steps : List Step) (ms : List BackMessage) (n : ℕ) (c : CollectedView) (none : c.error ≡ None) (e : ms ≡ flat_map messages_of c.parts ++ []) where
-  abbrev StepThen : Step → List Step → Type 0
-  StepThen s ss = (answered : Answers (Steps steps) c.parts (Steps (s ∷ ss))) (still : Steps (drop n steps) ≡ Steps (s ∷ ss)) (m : BackMessage)
+  step_then : (s : Step) (ss : List Step) (answered : Answers (Steps steps) c.parts (Steps (s ∷ ss))) (still : Steps (drop n steps) ≡ Steps (s ∷ ss)) (m : BackMessage)
       → Then (Steps steps) ms n c opened.Nothing m nothing_yet (begins_answer s (mark_of m))
-
-  step_then : (s : Step) (ss : List Step) → StepThen s ss
-  step_then (step.Parse name text types) ss answered still m = by m
-    where
-      by : (x : BackMessage) → Then (Steps steps) ms n c opened.Nothing x nothing_yet (begins_answer (step.Parse name text types) (mark_of x))
-      by ParseComplete = closes (Steps steps) ms n c _ answered still none ParseComplete [] part.Parsed (Steps ss) e (refl, refl) refl
-      by _ = tt
-  step_then (step.Bind portal statement formats values result_formats) ss answered still m = by m
-    where
-      by : (x : BackMessage) → Then (Steps steps) ms n c opened.Nothing x nothing_yet (begins_answer (step.Bind portal statement formats values result_formats) (mark_of x))
-      by BindComplete = closes (Steps steps) ms n c _ answered still none BindComplete [] part.Bound (Steps ss) e (refl, refl) refl
-      by _ = tt
-  step_then (step.Close target name) ss answered still m = by m
-    where
-      by : (x : BackMessage) → Then (Steps steps) ms n c opened.Nothing x nothing_yet (begins_answer (step.Close target name) (mark_of x))
-      by CloseComplete = closes (Steps steps) ms n c _ answered still none CloseComplete [] part.Shut (Steps ss) e (refl, refl) refl
-      by _ = tt
-  step_then (step.Describe Statement name) ss answered still m = by m
-    where
-      by : (x : BackMessage) → Then (Steps steps) ms n c opened.Nothing x nothing_yet (begins_answer (step.Describe Statement name) (mark_of x))
-      by (ParameterDescription types) = grows (Steps steps) ms n c _ answered still none opened.Described (ParameterDescription types) [] (record nothing_yet { types = types }) e (name, ss, refl) refl
-      by _ = tt
-  step_then (step.Describe Portal name) ss answered still m = by m
-    where
-      by : (x : BackMessage) → Then (Steps steps) ms n c opened.Nothing x nothing_yet (begins_answer (step.Describe Portal name) (mark_of x))
-      by (RowDescription columns) = closes (Steps steps) ms n c _ answered still none (RowDescription columns) [] (part.Described None (Some columns)) (Steps ss) e (refl, refl) refl
-      by NoData = closes (Steps steps) ms n c _ answered still none NoData [] (part.Described None None) (Steps ss) e (refl, refl) refl
-      by _ = tt
-  step_then (step.Execute portal max_rows) ss answered still m = by m
-    where
-      by : (x : BackMessage) → Then (Steps steps) ms n c opened.Nothing x nothing_yet (begins_answer (step.Execute portal max_rows) (mark_of x))
-      by (DataRow values) = grows (Steps steps) ms n c _ answered still none opened.Executed (DataRow values) [] (record nothing_yet { rows = values ∷ [] }) e (portal, max_rows, ss, refl) refl
-      by (CommandComplete tag) = closes (Steps steps) ms n c _ answered still none (CommandComplete tag) [] (part.Executed [] (ends.Complete tag)) (Steps ss) e (refl, refl) refl
-      by EmptyQuery = closes (Steps steps) ms n c _ answered still none EmptyQuery [] (part.Executed [] ends.Empty) (Steps ss) e (refl, refl) refl
-      by PortalSuspended = closes (Steps steps) ms n c _ answered still none PortalSuspended [] (part.Executed [] ends.Suspended) (Steps ss) e (refl, refl) refl
-      by _ = tt
+  step_then (step.Parse name text types) ss answered still ParseComplete = closes (Steps steps) ms n c _ answered still none ParseComplete [] part.Parsed (Steps ss) e (refl, refl) refl
+  step_then (step.Bind portal statement formats values result_formats) ss answered still BindComplete = closes (Steps steps) ms n c _ answered still none BindComplete [] part.Bound (Steps ss) e (refl, refl) refl
+  step_then (step.Close target name) ss answered still CloseComplete = closes (Steps steps) ms n c _ answered still none CloseComplete [] part.Shut (Steps ss) e (refl, refl) refl
+  step_then (step.Describe Statement name) ss answered still (ParameterDescription types) = grows (Steps steps) ms n c _ answered still none opened.Described (ParameterDescription types) [] (record nothing_yet { types = types }) e (name, ss, refl) refl
+  step_then (step.Describe Portal name) ss answered still (RowDescription columns) = closes (Steps steps) ms n c _ answered still none (RowDescription columns) [] (part.Described None (Some columns)) (Steps ss) e (refl, refl) refl
+  step_then (step.Describe Portal name) ss answered still NoData = closes (Steps steps) ms n c _ answered still none NoData [] (part.Described None None) (Steps ss) e (refl, refl) refl
+  step_then (step.Execute portal max_rows) ss answered still (DataRow values) = grows (Steps steps) ms n c _ answered still none opened.Executed (DataRow values) [] (record nothing_yet { rows = values ∷ [] }) e (portal, max_rows, ss, refl) refl
+  step_then (step.Execute portal max_rows) ss answered still (CommandComplete tag) = closes (Steps steps) ms n c _ answered still none (CommandComplete tag) [] (part.Executed [] (ends.Complete tag)) (Steps ss) e (refl, refl) refl
+  step_then (step.Execute portal max_rows) ss answered still EmptyQuery = closes (Steps steps) ms n c _ answered still none EmptyQuery [] (part.Executed [] ends.Empty) (Steps ss) e (refl, refl) refl
+  step_then (step.Execute portal max_rows) ss answered still PortalSuspended = closes (Steps steps) ms n c _ answered still none PortalSuspended [] (part.Executed [] ends.Suspended) (Steps ss) e (refl, refl) refl
+  step_then _ ss answered still _ = tt
 
 -- nothing is unfinished
 first_then : (a : Asked) (ms : List BackMessage) (n : ℕ) (c : CollectedView) (rest : Asked) (answered : Answers a c.parts rest) (still : still_asked a n ≡ rest) (none : c.error ≡ None) → ms ≡ flat_map messages_of c.parts ++ [] → (m : BackMessage)
@@ -191,26 +137,20 @@ any_then : (a : Asked) (ms : List BackMessage) (n : ℕ) (o : Open) (c : Collect
 any_then a ms n opened.Nothing c h m =
     let empty : c.unfinished ≡ nothing_yet = h.opens in
     let e : ms ≡ flat_map messages_of c.parts ++ [] = h.messages in
-    subst (λ (u : Unfinished). Then a ms n c opened.Nothing m u (begins (still_asked a n) (mark_of m))) (sym empty)
-    (subst (λ (l : Asked). Then a ms n c opened.Nothing m nothing_yet (begins l (mark_of m))) (sym h.still) (first_then a ms n c h.rest h.answered h.still h.no_error e m))
-any_then a ms n opened.Rows c h m = rows_then a ms n c h.rest h.answered h.still h.no_error c.unfinished h.opens h.messages m
-any_then a ms n opened.CopyOut c h m = copy_out_then a ms n c h.rest h.answered h.still h.no_error c.unfinished h.opens h.messages m
-any_then a ms n opened.CopyOutEnded c h m = copy_out_ended_then a ms n c h.rest h.answered h.still h.no_error c.unfinished h.opens h.messages m
-any_then a ms n opened.CopyIn c h m = copy_in_then a ms n c h.rest h.answered h.still h.no_error c.unfinished h.opens h.messages m
-any_then a ms n opened.Described c h m = described_then a ms n c h.rest h.answered h.still h.no_error c.unfinished h.opens h.messages m
-any_then a ms n opened.Executed c h m = executed_then a ms n c h.rest h.answered h.still h.no_error c.unfinished h.opens h.messages m
+    rw (empty, h.still) (first_then a ms n c h.rest h.answered h.still h.no_error e m)
+any_then a ms n o c h m = follows_then a ms n c h.rest h.answered h.still h.no_error o c.unfinished h.opens h.messages m
 
 -- ---- an error
 
 -- a part that isn't whole can be cut off
 begun_cut : (a : Asked) (o : Open) (u : Unfinished) → Opens a o u → IsCutOff a (come_of o u)
 begun_cut a opened.Nothing u h = inl refl
-begun_cut a opened.Rows u h = subst (λ (x : Asked). IsCutOff x (come_of opened.Rows u)) (sym h) (inr (part.Rows u.columns u.rows [], CommandComplete [], [], Results, (refl, refl), refl))
-begun_cut a opened.CopyOut u h = subst (λ (x : Asked). IsCutOff x (come_of opened.CopyOut u)) (sym h) (inr (part.CopyOut u.head u.chunks [], CopyDone, CommandComplete [] ∷ [], Results, (refl, refl), refl))
-begun_cut a opened.CopyOutEnded u h = subst (λ (x : Asked). IsCutOff x (come_of opened.CopyOutEnded u)) (sym h) (inr (part.CopyOut u.head u.chunks [], CommandComplete [], [], Results, (refl, refl), ap (λ (ms : List BackMessage). back.CopyOut u.head ∷ ms) (sym (append_assoc (map CopyData u.chunks) (CopyDone ∷ []) (CommandComplete [] ∷ [])))))
-begun_cut a opened.CopyIn u h = subst (λ (x : Asked). IsCutOff x (come_of opened.CopyIn u)) (sym h) (inr (part.CopyIn u.head [], CommandComplete [], [], Results, (refl, refl), refl))
-begun_cut a opened.Described u h = subst (λ (x : Asked). IsCutOff x (come_of opened.Described u)) (sym h.2) (inr (part.Described (Some u.types) None, NoData, [], Steps h.1, (refl, refl), refl))
-begun_cut a opened.Executed u h = subst (λ (x : Asked). IsCutOff x (come_of opened.Executed u)) (sym h.3) (inr (part.Executed u.rows ends.Empty, EmptyQuery, [], Steps h.2, (refl, refl), refl))
+begun_cut a opened.Rows u h = rw h (inr (part.Rows u.columns u.rows [], CommandComplete [], [], Results, (refl, refl), refl))
+begun_cut a opened.CopyOut u h = rw h (inr (part.CopyOut u.head u.chunks [], CopyDone, CommandComplete [] ∷ [], Results, (refl, refl), refl))
+begun_cut a opened.CopyOutEnded u h = rw h (inr (part.CopyOut u.head u.chunks [], CommandComplete [], [], Results, (refl, refl), ap (λ (ms : List BackMessage). back.CopyOut u.head ∷ ms) (sym (append_assoc (map CopyData u.chunks) (CopyDone ∷ []) (CommandComplete [] ∷ [])))))
+begun_cut a opened.CopyIn u h = rw h (inr (part.CopyIn u.head [], CommandComplete [], [], Results, (refl, refl), refl))
+begun_cut a opened.Described u h = rw h.2 (inr (part.Described (Some u.types) None, NoData, [], Steps h.1, (refl, refl), refl))
+begun_cut a opened.Executed u h = rw h.3 (inr (part.Executed u.rows ends.Empty, EmptyQuery, [], Steps h.2, (refl, refl), refl))
 
 -- the place that an error leads to
 abbrev pub failed_at : Place → Place
@@ -246,22 +186,16 @@ module _ (a : Asked) (ms : List BackMessage) (c : CollectedView) (fields : Field
       })
 
   pub holds_error : Holds a ms p c → Failed
-  holds_error h = by p.failed h
-    where
-      by : (failed : Bool) → HoldsBy failed a ms p c → Failed
-      by true k = later_error k
-      by false k = first_error k
+  holds_error h = (elim p.failed as (λ b. HoldsBy b a ms p c → Failed) [ true ↦ later_error | false ↦ first_error ]) h
 
 -- ---- any message that may come
 
 error_is : (m : BackMessage) (fields : Fields) → error_of m ≡ Some fields → m ≡ ErrorResponse fields
-error_is (ErrorResponse f) fields e = ap ErrorResponse (let k : Some f ≡ Some fields = e in cc)
-error_is _ fields e = absurd cc
+error_is m fields e = grind arith
 
 -- a message that is no error goes on from a place without one
 goes_plain : (a : Asked) (p : Place) (m : BackMessage) → error_of m ≡ None → goes a p (mark_of m) ≡ cond p.failed None (option_map (led_to a p) (next_open a p.answers p.opened (mark_of m)))
-goes_plain a p (ErrorResponse fields) plain = absurd cc
-goes_plain a p _ plain = refl
+goes_plain a p m plain = grind arith
 
 module _ (a : Asked) (ms : List BackMessage) (c : CollectedView) (m : BackMessage) where
   -- no place that a message of a part leads to has failed
@@ -300,11 +234,7 @@ module _ (a : Asked) (ms : List BackMessage) (c : CollectedView) (m : BackMessag
 
 -- whichever asides came
 pub with_asides : (a : Asked) (ms : List BackMessage) (p : Place) (c : CollectedView) (asides : List Aside) → Holds a ms p c → Holds a ms p (record c { asides = asides })
-with_asides a ms p c asides h = by p.failed h
-  where
-    by : (failed : Bool) → HoldsBy failed a ms p c → HoldsBy failed a ms p (record c { asides = asides })
-    by true k = record { none_open = k.none_open; fields = k.fields; error = k.error; reads = k.reads }
-    by false k = record { rest = k.rest; answered = k.answered; still = k.still; opens = k.opens; no_error = k.no_error; messages = k.messages }
+with_asides a ms p c asides h = (elim p.failed as (λ b. HoldsBy b a ms p c → HoldsBy b a ms p (record c { asides = asides })) [ true ↦ λ k. search | false ↦ λ k. search ]) h
 
 -- ---- all messages so far
 
@@ -316,67 +246,42 @@ still_start (Steps steps) = refl
 pub holds_start : (a : Asked) → Holds a [] start nothing_collected
 holds_start a = record { rest = a; answered = refl; still = still_start a; opens = refl; no_error = refl; messages = refl }
 
+-- from nowhere on leads nowhere
+goes_by-none : (a : Asked) (ms : List BackMessage) → goes_by a None ms ≡ None
+goes_by-none a [] = refl
+goes_by-none a (m ∷ ms) = refl
+
 pub goes_by-append : (a : Asked) (p : Option Place) (xs ys : List BackMessage) → goes_by a p (xs ++ ys) ≡ goes_by a (goes_by a p xs) ys
 goes_by-append a p [] ys = refl
-goes_by-append a None (x ∷ xs) ys = sym (none_stays ys)
-  where
-    none_stays : (zs : List BackMessage) → goes_by a None zs ≡ None
-    none_stays [] = refl
-    none_stays (z ∷ zs) = refl
+goes_by-append a None (x ∷ xs) ys = sym (goes_by-none a ys)
 goes_by-append a (Some p) (x ∷ xs) ys = goes_by-append a (goes a p (mark_of x)) xs ys
 
-leads_nowhere : (a : Asked) (q : Place) (ms : List BackMessage) → goes_by a None ms ≡ Some q → ⊥
-leads_nowhere a q [] e = cc
-leads_nowhere a q (m ∷ ms) e = cc
+-- what leads to a place comes from one
+pub some_before : (a : Asked) (q : Option Place) (ms : List BackMessage) (p : Place) → goes_by a q ms ≡ Some p → (r : Place) × (q ≡ Some r)
+some_before a None ms p e = (let k : None ≡ Some p = sym (goes_by-none a ms) ∙ e in absurd cc)
+some_before a (Some r) ms p e = (r, refl)
 
 -- whatever leads to a place, something was collected of it
 holds_from : (a : Asked) (before : List BackMessage) (p q : Place) (c : CollectedView) (ms : List BackMessage) → Holds a before p c → goes_by a (Some p) ms ≡ Some q → (d : CollectedView) × Holds a (before ++ ms) q d
 holds_from a before p q c [] h e =
     let same : p ≡ q = (let k : Some p ≡ Some q = e in cc) in
     (c, subst (λ (x : Place). Holds a (before ++ []) x c) same (subst (λ (x : List BackMessage). Holds a x p c) (sym (append-nil before)) h))
-holds_from a before p q c (m ∷ ms) h e = by (λ r d there k. holds_from a (before ++ m ∷ []) r q d ms there k) (goes a p (mark_of m)) refl e
-  where
-    by : ((r : Place) (d : CollectedView) → Holds a (before ++ m ∷ []) r d → goes_by a (Some r) ms ≡ Some q → (x : CollectedView) × Holds a ((before ++ m ∷ []) ++ ms) q x)
-        → (o : Option Place) → goes a p (mark_of m) ≡ o → goes_by a o ms ≡ Some q → (d : CollectedView) × Holds a (before ++ m ∷ ms) q d
-    by more None is k = absurd (leads_nowhere a q ms k)
-    by more (Some r) is k =
-        let next = more r (collect a p.opened c m) (holds_next a before c m p r h is) k in
-        (next.0, subst (λ (x : List BackMessage). Holds a x q next.0) (append_assoc before (m ∷ []) ms) next.1)
+holds_from a before p q c (m ∷ ms) h e =
+    let r = some_before a (goes a p (mark_of m)) ms q e in
+    let next = holds_from a (before ++ m ∷ []) r.0 q (collect a p.opened c m) ms (holds_next a before c m p r.0 h r.1) (ap (λ (o : Option Place). goes_by a o ms) (sym r.1) ∙ e) in
+    (next.0, subst (λ (x : List BackMessage). Holds a x q next.0) (append_assoc before (m ∷ []) ms) next.1)
 
 pub holds_after : (a : Asked) (ms : List BackMessage) (q : Place) → goes_all a ms ≡ Some q → (d : CollectedView) × Holds a ms q d
 holds_after a ms q e = holds_from a [] start q nothing_collected ms (holds_start a) e
 
 -- no message adds an aside
 pub collect_asides : (a : Asked) (o : Open) (c : CollectedView) (m : BackMessage) → (collect a o c m).asides ≡ c.asides
-collect_asides a o c (DataRow values) = refl
-collect_asides a o c (CopyData bytes) = refl
-collect_asides a o c CopyDone = refl
-collect_asides a o c (back.CopyOut head) = refl
-collect_asides a o c (back.CopyIn head) = refl
-collect_asides a o c (ParameterDescription types) = refl
-collect_asides a o c (RowDescription columns) = by (begins_rows a o)
-  where
-    by : (b : Bool) → (with_columns b o c columns).asides ≡ c.asides
-    by true = refl
-    by false = refl
-collect_asides a o c (ErrorResponse fields) = by c.error
-  where
-    by : (e : Option Fields) → (failed_with c e fields).asides ≡ c.asides
-    by None = refl
-    by (Some first) = refl
-collect_asides a o c m = by (whole_part a o c.unfinished m)
-  where
-    by : (p : Option Part) → (closed_with c p).asides ≡ c.asides
-    by None = refl
-    by (Some p) = refl
+collect_asides a o c m = grind arith
 
 -- ---- the end
 
 none_left : (steps : List Step) (n : ℕ) → nat_le (length steps) n ≡ true → IsDone (Steps (drop n steps))
-none_left [] zero e = tt
-none_left [] (suc n) e = tt
-none_left (s ∷ ss) zero e = absurd (let k = leb-suc-zero (length ss) in cc)
-none_left (s ∷ ss) (suc n) e = none_left ss n (sym (leb-suc-suc (length ss) n) ∙ e)
+none_left steps n e = rw (drop_all n steps (leb-true (length steps) n e)) tt
 
 done : (a : Asked) (n : ℕ) → all_answered a n ≡ true → IsDone (still_asked a n)
 done Results n e = tt

@@ -1,5 +1,4 @@
 pub mod Copies
-pub mod Going
 pub mod Holding
 pub mod Lists
 pub mod Marks

@@ -1,52 +1,39 @@
--- Lists with a last element, and messages without their asides.
-use Rattle.std.proofs.Common.{◌≡◌, List, [], ◌∷◌, ◌++◌, Option, Some, None, refl, ap, ◌∙◌}
-use Rattle.std.specs.Prelude.{cond, is_none}
+-- Lists that are appended to, and messages without their asides.
+use Rattle.std.proofs.Common.{◌≡◌, ◌≤◌, List, ◌∷◌, [], ◌++◌, length, drop, Option, refl, sym, ap, ◌∙◌, arith, length-append}
+use Rattle.std.specs.Prelude.{cond, is_none, take}
+use Rattle.std.specs.List.{AllByRecursion}
+use Rattle.std.proofs.lemmas.List.{take-append-drop, take-append-le, take_at}
+use Rattle.std.proofs.lemmas.List.Elements.{filter-append}
 use Rattle.pg_wire.specs.message.BackMessage.{BackMessage}
 use Rattle.pg_wire.specs.declared.session.Aside.{Aside}
-use Rattle.pg_wire.specs.Segment.{aside_of, asides_of, without_asides}
+use Rattle.pg_wire.specs.Segment.{aside_of, without_asides}
+-- two lists with a last element are equal only where both parts are
+pub use Rattle.std.proofs.lemmas.List.{same_from_push as snoc_front}
+
+-- of two beginnings of one list the shorter is a beginning of the longer
+pub prefix_of : {A : Type 0} (xs ys zs ws : List A) → xs ++ ys ≡ zs ++ ws → length zs ≤ length xs → (us : List A) × (xs ≡ zs ++ us)
+prefix_of {A = A} xs ys zs ws e le =
+    let front : take (length zs) xs ≡ zs = sym (take-append-le (length zs) xs ys le) ∙ ap (take (length zs)) e ∙ take_at zs ws (length zs) refl in
+    (drop (length zs) xs, sym (take-append-drop (length zs) xs) ∙ ap (λ (us : List A). us ++ drop (length zs) xs) front)
 
 -- what stands before a last element, or at most there, is a beginning of what stands before the last
 pub front_splits : {A : Type 0} (xs : List A) (x : A) (ys : List A) (n : A) (others : List A) → xs ++ x ∷ [] ≡ ys ++ n ∷ others → (zs : List A) × (xs ≡ ys ++ zs)
-front_splits xs x [] n others e = (xs, refl)
-front_splits [] x (y ∷ []) n others e = absurd cc
-front_splits [] x (y ∷ y2 ∷ ys) n others e = absurd cc
-front_splits {A = A} (a ∷ xs) x (y ∷ ys) n others e =
-    let tail : xs ++ x ∷ [] ≡ ys ++ n ∷ others = cc in
-    let r = front_splits xs x ys n others tail in
-    let head : a ≡ y = cc in
-    (r.0, ap (λ (z : A). z ∷ xs) head ∙ ap (λ (zs : List A). y ∷ zs) r.1)
+front_splits xs x ys n others e = prefix_of xs (x ∷ []) ys (n ∷ others) e (omega (arith, ap length e, length-append xs (x ∷ []), length-append ys (n ∷ others)))
 
--- two lists with a last element are equal only where both parts are
-pub snoc_front : {A : Type 0} (xs ys : List A) (x y : A) → xs ++ x ∷ [] ≡ ys ++ y ∷ [] → (xs ≡ ys) × (x ≡ y)
-snoc_front [] [] x y e = (refl, cc)
-snoc_front [] (b ∷ []) x y e = absurd cc
-snoc_front [] (b ∷ c ∷ ys) x y e = absurd cc
-snoc_front (a ∷ []) [] x y e = absurd cc
-snoc_front (a ∷ c ∷ xs) [] x y e = absurd cc
-snoc_front {A = A} (a ∷ xs) (b ∷ ys) x y e =
-    let tail : xs ++ x ∷ [] ≡ ys ++ y ∷ [] = cc in
-    let head : a ≡ b = cc in
-    let r = snoc_front xs ys x y tail in
-    (ap (λ (z : A). z ∷ xs) head ∙ ap (λ (zs : List A). b ∷ zs) r.0, r.1)
+-- a property of all elements of two lists is one of all elements of both together
+pub all_both : {A : Type 0} (P : A → Type 0) (xs ys : List A) → AllByRecursion P xs → AllByRecursion P ys → AllByRecursion P (xs ++ ys)
+all_both P [] ys h k = k
+all_both P (x ∷ xs) ys h k = (h.0, all_both P xs ys h.1 k)
+
+pub all_weaker : {A : Type 0} (P Q : A → Type 0) → ((x : A) → P x → Q x) → (xs : List A) → AllByRecursion P xs → AllByRecursion Q xs
+all_weaker P Q weaker [] h = tt
+all_weaker P Q weaker (x ∷ xs) h = (weaker x h.0, all_weaker P Q weaker xs h.1)
 
 -- ---- asides
-
-pub asides_of-append : (xs ys : List BackMessage) → asides_of (xs ++ ys) ≡ asides_of xs ++ asides_of ys
-asides_of-append [] ys = refl
-asides_of-append (x ∷ xs) ys = by (aside_of x) refl (asides_of-append xs ys)
-  where
-    by : (o : Option Aside) → aside_of x ≡ o → asides_of (xs ++ ys) ≡ asides_of xs ++ asides_of ys → asides_of (x ∷ (xs ++ ys)) ≡ asides_of (x ∷ xs) ++ asides_of ys
-    by None e same = rw e same
-    by (Some a) e same = rw e (ap (λ (others : List Aside). a ∷ others) same)
 
 -- the message before the others, unless it is an aside
 abbrev pub kept_with : Option Aside → BackMessage → List BackMessage → List BackMessage
 kept_with o m others = cond (is_none o) (m ∷ others) others
 
-kept_with-append : (o : Option Aside) (m : BackMessage) (xs ys : List BackMessage) → kept_with o m (xs ++ ys) ≡ kept_with o m xs ++ ys
-kept_with-append None m xs ys = refl
-kept_with-append (Some a) m xs ys = refl
-
 pub without_asides-append : (xs ys : List BackMessage) → without_asides (xs ++ ys) ≡ without_asides xs ++ without_asides ys
-without_asides-append [] ys = refl
-without_asides-append (x ∷ xs) ys = ap (kept_with (aside_of x) x) (without_asides-append xs ys) ∙ kept_with-append (aside_of x) x (without_asides xs) (without_asides ys)
+without_asides-append xs ys = filter-append (λ m. is_none (aside_of m)) xs ys

@@ -8,7 +8,7 @@ use Rattle.pg_pair.specs.declared.carry.Way.{Way}
 use Rattle.pg_pair.specs.declared.carry.Way.TheVariants.{ToBackend, ToClient}
 use Rattle.pg_pair.specs.declared.event.Applied.{Applied}
 use Rattle.pg_pair.specs.declared.event.Applied.TheVariants as applied
-use Rattle.pg_client.specs.Client.{groups_waiting}
+use Rattle.pg_client.specs.View.{groups_waiting}
 use Rattle.pg_client.specs.declared.call.Call.{Call}
 use Rattle.pg_pair.specs.declared.event.Event.{Event}
 use Rattle.pg_pair.specs.declared.event.Event.TheVariants as event

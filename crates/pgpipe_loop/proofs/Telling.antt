@@ -3,7 +3,7 @@ use Rattle.std.proofs.Common.{◌≡◌, Bool, true, false, ℕ, List, [], ◌�
 use Rattle.std.specs.Prelude.{cond, is_some}
 use Rattle.std.proofs.lemmas.Grind.{flat_map-append}
 use Rattle.pg_client.specs.declared.settled.Loss.{Loss}
-use Rattle.pg_client.specs.Client as client
+use Rattle.pg_client.specs.View as client
 use Rattle.pg_backend.specs.Backend as backend
 use Rattle.pg_copy.specs.Row.{Row}
 use Rattle.pg_pair.specs.declared.event.Applied.{Applied}

@@ -3,7 +3,7 @@ use Rattle.std.specs.Prelude.{◌≡◌, ℕ, zero, suc, ◌-◌, ◌^◌, nat_e
 use Rattle.std.specs.List.{flat_map}
 use Rattle.pg_copy.specs.Row.{Row}
 use Rattle.pg_client.specs.declared.settled.Loss.{Loss}
-use Rattle.pg_client.specs.Client as client
+use Rattle.pg_client.specs.View as client
 use Rattle.pg_backend.specs.Backend as backend
 use Rattle.pg_pair.specs.Carrying.{Carrying}
 use Rattle.pg_pair.specs.declared.event.Applied.{Applied}

@@ -5,7 +5,7 @@
 ghost use Rattle.std.specs.Prelude.{◌≡◌, ◌≤◌, ◌+◌, IfNone, IfSome, false, length, map, take, true};
 ghost use Rattle.pg_backend.specs.Backend.{had_memory};
 ghost use Rattle.pg_backend.specs.Check.{IsChecked};
-ghost use Rattle.pg_client.specs.Client.{phase_of};
+ghost use Rattle.pg_client.specs.View.{phase_of};
 ghost use Rattle.pg_client.specs.declared.phase.Phase.TheVariants.{Ready};
 ghost use Rattle.pg_pair.specs.Event.{Ran};
 ghost use Rattle.pg_pair.specs.Beginning.{IsBegun};

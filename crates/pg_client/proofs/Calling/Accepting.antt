@@ -1,14 +1,14 @@
 -- A call that is accepted goes to the end of the history.
-use Rattle.std.proofs.Common.{◌≡◌, ℕ, List, [], ◌∷◌, ◌++◌, length, Bool, true, false, Option, Some, None, refl, sym, ap, subst, ◌∙◌, append_assoc, arith, length-append}
+use Rattle.std.proofs.Common.{◌≡◌, ℕ, List, [], ◌∷◌, ◌++◌, length, true, false, Option, Some, None, refl, sym, ap, subst, ◌∙◌, append_assoc, arith, length-append}
 use Rattle.std.specs.Prelude.{◌↔◌}
-use Rattle.std.specs.List.{flat_map, AllByRecursion}
+use Rattle.std.specs.List.{flat_map}
 use Rattle.std.proofs.lemmas.List.{append-nil, append_cancel_left}
 use Rattle.pg_wire.specs.declared.session.Request.{Request}
 use Rattle.pg_wire.specs.Backend.{backend}
 use Rattle.pg_wire.specs.Direction.{spelling}
 use Rattle.pg_response.specs.declared.place.Open.{Open}
-use Rattle.pg_response.specs.declared.place.Open.TheVariants as opened
-use Rattle.pg_response.proofs.Lists.{front_splits}
+use Rattle.std.proofs.lemmas.Bool.{false_from_ne_true}
+use Rattle.pg_response.proofs.Lists.{all_both, front_splits}
 use Rattle.pg_client.specs.declared.phase.Cause.{Cause}
 use Rattle.pg_client.specs.declared.phase.Cause.TheVariants as cause
 use Rattle.pg_client.specs.declared.phase.Phase.{Phase}
@@ -21,14 +21,13 @@ use Rattle.pg_client.specs.declared.startup.Welcome.TheVariants.{Fresh}
 use Rattle.pg_client.specs.declared.settings.Settings.{Settings}
 use Rattle.pg_client.specs.declared.call.Call.{Call}
 use Rattle.pg_client.specs.declared.call.Call.TheVariants as call
-use Rattle.pg_client.specs.Session.{requests_in, Happening, Did, Came, Expected, HasRequest, IsCopyingIn, IsStarted, IsTerminated, MayBeCalled, IsAllowed, AreAllowed, request_made}
-use Rattle.pg_client.specs.Client.{View, phase_of, phase_with, stand_phase, busy_phase_of, IsOpenPhase}
+use Rattle.pg_client.specs.Session.{requests_in, Happening, Did, Came, HasRequest, IsCopyingIn, IsStarted, IsTerminated, MayBeCalled, IsAllowed, AreAllowed}
+use Rattle.pg_client.specs.View.{View, phase_of, phase_with, stand_phase, busy_phase_of, IsOpenPhase}
 use Rattle.pg_client.specs.Sent.{sent_at, sent_in, sent_by, IsSpelled, IsSpelledAt}
 use Rattle.pg_client.specs.Closed.{Ends}
-use Rattle.pg_client.specs.History.{with_ends, happenings, with_call, Carries, History}
-use Rattle.pg_client.specs.Private.Agreeing.{Agrees, shown}
-use Rattle.pg_client.specs.Keeping.{IsSilent, Keeps}
-use Rattle.pg_client.specs.Calls.{Accepts}
+use Rattle.pg_client.specs.Client.{with_ends, happenings, with_call, Carries, History, Keeps, Accepts}
+use Rattle.pg_client.specs.Private.Agreeing.{Agrees}
+use Rattle.pg_client.specs.Keeping.{IsSilent}
 use Rattle.pg_client.specs.Stand.{copy_answer_after, Stands}
 use Rattle.pg_client.specs.Private.Calling.{with_answer, with_request}
 use Rattle.pg_client.proofs.Standing.Agreeing.{answer_is_said}
@@ -50,29 +49,21 @@ pub sent_more : (settings : Settings) (hs : List Happening) (h : Happening) → 
 sent_more settings [] h = append-nil (sent_at settings h)
 sent_more settings (x ∷ xs) h = ap (λ (bs : List ℕ). sent_at settings x ++ bs) (sent_more settings xs h) ∙ sym (append_assoc (sent_at settings x) (sent_in settings xs) (sent_at settings h))
 
-pub spelled_more : (settings : Settings) (hs : List Happening) (h : Happening) → AllByRecursion (IsSpelledAt settings) hs → IsSpelledAt settings h → AllByRecursion (IsSpelledAt settings) (hs ++ h ∷ [])
-spelled_more settings [] h all one = (one, tt)
-spelled_more settings (x ∷ xs) h all one = (all.0, spelled_more settings xs h all.1 one)
-
 pub not_terminated_more : (hs : List Happening) (h : Happening) → (IsTerminated hs → ⊥) → (IsTerminated (h ∷ []) → ⊥) → IsTerminated (hs ++ h ∷ []) → ⊥
 not_terminated_more [] h none one t = one t
 not_terminated_more (Did call.Terminate ∷ hs) h none one t = none tt
 not_terminated_more (Did _ ∷ hs) h none one t = not_terminated_more hs h none one t
 not_terminated_more (Came x ∷ hs) h none one t = not_terminated_more hs h none one t
 
-terminated_last : (hs : List Happening) → IsTerminated (hs ++ Did call.Terminate ∷ [])
-terminated_last [] = tt
-terminated_last (Did call.Terminate ∷ hs) = tt
-terminated_last (Did _ ∷ hs) = terminated_last hs
-terminated_last (Came x ∷ hs) = terminated_last hs
+pub terminated_within : (before later : List Happening) → IsTerminated (before ++ Did call.Terminate ∷ later)
+terminated_within [] later = tt
+terminated_within (Did call.Terminate ∷ hs) later = tt
+terminated_within (Did _ ∷ hs) later = terminated_within hs later
+terminated_within (Came x ∷ hs) later = terminated_within hs later
 
 terminated_by : (hs : List Happening) (c : Call) → (IsTerminated hs → ⊥) → IsTerminated (hs ++ Did c ∷ []) ↔ (closing c ≡ Some cause.Terminated)
-terminated_by hs call.Terminate none = (λ t. refl, λ e. terminated_last hs)
-terminated_by hs call.Start none = (λ t. absurd (not_terminated_more hs (Did call.Start) none (λ k. k) t), λ e. cc)
-terminated_by hs (call.Request r) none = (λ t. absurd (not_terminated_more hs (Did (call.Request r)) none (λ k. k) t), λ e. cc)
-terminated_by hs (call.Chunk b) none = (λ t. absurd (not_terminated_more hs (Did (call.Chunk b)) none (λ k. k) t), λ e. cc)
-terminated_by hs call.Done none = (λ t. absurd (not_terminated_more hs (Did call.Done) none (λ k. k) t), λ e. cc)
-terminated_by hs (call.Fail b) none = (λ t. absurd (not_terminated_more hs (Did (call.Fail b)) none (λ k. k) t), λ e. cc)
+terminated_by hs call.Terminate none = (λ t. refl, λ e. terminated_within hs [])
+terminated_by hs c none = (λ t. absurd (not_terminated_more hs (Did c) none (λ k. k) t), λ e. cc)
 
 -- the calls stay allowed after a message, and after one more that is
 abbrev Next : List Happening → Happening → Type 0
@@ -96,23 +87,10 @@ ends_open : (settings : Settings) (hs : List Happening) (rest kept : List ℕ) (
 ends_open settings hs rest kept call.Terminate h = (h, (hs, refl))
 ends_open settings hs rest kept _ h = h
 
--- an open client has handed nothing back
-pub not_handed_back : (b : Bool) → (b ≡ true → ⊥) → b ≡ false
-not_handed_back false h = refl
-not_handed_back true h = absurd (h refl)
-
 -- where the phase is that of an open client, it is open
 pub phase_open : (closed : Option Cause) (stand : Stand) → ((c : Cause) → phase_with closed stand ≡ phase.Closed c → ⊥) → closed ≡ None
 phase_open None stand h = refl
 phase_open (Some c) stand h = absurd (h c refl)
-
--- where a request is the last one, one was made
-last_asked : (requests earlier : List Request) (request : Request) → requests ≡ earlier ++ request ∷ [] → requests ≡ [] → ⊥
-last_asked requests earlier request e none = by earlier (sym none ∙ e)
-  where
-    by : (rs : List Request) → [] ≡ rs ++ request ∷ [] → ⊥
-    by [] k = cc
-    by (r ∷ rs) k = cc
 
 module _ {K : Type 0} (way : Keeps K) (silent : IsSilent way) where
   -- the call may be made wherever the client stands so, and it stands there then; nothing of it is kept
@@ -140,26 +118,26 @@ module _ {K : Type 0} (way : Keeps K) (silent : IsSilent way) where
       let now = follows.stands hs there in
       let not_yet : IsTerminated hs → ⊥ = (λ t. let e : old.closed ≡ Some cause.Terminated = r.terminated.0 t in absurd cc) in
       let kept : way.tells old.known.keeper old.known.stand h.given hs = subst (λ (s : Stand). way.tells old.known.keeper s h.given hs) (sym here) r.led.kept in
-      let lasting : h.handed_back ≡ false = not_handed_back h.handed_back (λ yes. r.lost yes none) in
+      let lasting : h.handed_back ≡ false = false_from_ne_true h.handed_back (λ yes. r.lost yes none) in
       record {
         stream = r.stream;
         places = places_more h.calls c (length h.fed) r.places;
         ordered = ordered_more h.calls c (length h.fed) r.ordered r.places;
         happened = record {
-          allowed = subst AreAllowed (sym line) (allowed_more hs (Did c) r.happened.allowed (record { in_place = follows.in_place hs (answer_is_said hs r.happened.expected.after r.happened.allowed) there; not_terminated = not_yet }));
-          expected = subst (Expected old.settings.password) (sym line) (expected_did old.settings.password hs c stand r.happened.expected now);
-          sent_is = ap (λ (bs : List ℕ). bs ++ sent_by old.settings c) r.happened.sent_is ∙ (sym (sent_more old.settings hs (Did c)) ∙ ap (sent_in old.settings) (sym line));
-          spelled = subst (AllByRecursion (IsSpelledAt old.settings)) (sym line) (spelled_more old.settings hs (Did c) r.happened.spelled spelled);
+          allowed = rw line (allowed_more hs (Did c) r.happened.allowed (record { in_place = follows.in_place hs (answer_is_said hs r.happened.expected.after r.happened.allowed) there; not_terminated = not_yet }));
+          expected = rw line (expected_did old.settings.password hs c stand r.happened.expected now);
+          sent_is = rw line (ap (λ (bs : List ℕ). bs ++ sent_by old.settings c) r.happened.sent_is ∙ sym (sent_more old.settings hs (Did c)));
+          spelled = rw line (all_both (IsSpelledAt old.settings) hs (Did c ∷ []) r.happened.spelled (spelled, tt));
         };
         led = record {
           was = stand;
-          stands = subst (λ (x : List Happening). Stands x stand) (sym line) now;
-          now = ap (λ (b : Bool). shown b stand) (sym lasting);
-          kept = subst (way.tells old.known.keeper stand h.given) (sym line) (follows.keeps old.known.keeper h.given hs there kept);
+          stands = rw line now;
+          now = rw lasting refl;
+          kept = rw line (follows.keeps old.known.keeper h.given hs there kept);
           knows = r.led.knows;
         };
-        ends = subst (λ (x : List Happening). Ends old.settings x h.rest old.kept (closing c)) (sym line) (ends_open old.settings hs h.rest old.kept c (subst (Ends old.settings hs h.rest old.kept) none r.ends));
-        terminated = subst (λ (x : List Happening). IsTerminated x ↔ (closing c ≡ Some cause.Terminated)) (sym line) (terminated_by hs c not_yet);
+        ends = rw line (ends_open old.settings hs h.rest old.kept c (subst (Ends old.settings hs h.rest old.kept) none r.ends));
+        terminated = rw line (terminated_by hs c not_yet);
         lost = λ yes. absurd (let k : true ≡ false = sym yes ∙ lasting in cc);
       }
 
@@ -172,77 +150,58 @@ module _ {K : Type 0} (way : Keeps K) (silent : IsSilent way) where
 
   -- ---- where each call may be made
 
-  never_phase : (o : Open) (a : CopyAnswer) (p : Phase) → (p ≡ phase.Busy → ⊥) → (p ≡ phase.CopyingIn → ⊥) → busy_phase_of o a ≡ p → ⊥
-  never_phase opened.CopyIn Awaited p b c k = c (sym k)
-  never_phase _ _ p b c k = b (sym k)
-
   start_follows : (stand : Stand) → stand_phase stand ≡ phase.New → Follows stand call.Start (Starting Fresh)
   start_follows New e = record {
     stands = λ hs h. did_start hs h;
     in_place = λ hs same h started. subst IsStarted h started;
     keeps = λ k given hs h t. subst (λ (x : List Happening). way.tells k (Starting Fresh) given (x ++ Did call.Start ∷ [])) (sym h) (silent.started k given (subst (way.tells k New given) h t));
   }
-  start_follows (Starting w) e = absurd cc
-  start_follows Idle e = absurd cc
-  start_follows (Busy request place answer) e = absurd (never_phase place.opened answer phase.New (λ x. cc) (λ x. cc) e)
+  start_follows _ e = absurd (grind arith)
 
   ask_follows : (stand : Stand) (request : Request) → stand_phase stand ≡ phase.Ready → Follows stand (call.Request request) (with_request stand request)
-  ask_follows New request e = absurd cc
-  ask_follows (Starting w) request e = absurd cc
   ask_follows Idle request e = record {
     stands = λ hs h. did_ask hs request h;
     in_place = λ hs same h. (h.0, (stand_facts hs Idle h).ready.0 refl);
     keeps = λ k given hs h t. silent.asked k given hs request h t;
   }
-  ask_follows (Busy r place answer) request e = absurd (never_phase place.opened answer phase.Ready (λ x. cc) (λ x. cc) e)
+  ask_follows _ request e = absurd (grind arith)
 
   awaited_one : (o : Open) (a : CopyAnswer) → busy_phase_of o a ≡ phase.CopyingIn → a ≡ Awaited
-  awaited_one opened.CopyIn Awaited k = refl
-  awaited_one _ _ k = absurd cc
+  awaited_one o a k = grind arith
 
   -- a call for the copy from the client that is open
-  copy_follows : (stand : Stand) (c : Call) (said : CopyAnswer) → stand_phase stand ≡ phase.CopyingIn → requests_in (Did c ∷ []) ≡ [] → request_made c ≡ None → ((hs : List Happening) → HasRequest hs × IsCopyingIn hs → MayBeCalled hs c) → ((x : CopyAnswer) → x ≡ Awaited → said ≡ copy_answer_after x (Did c)) → Follows stand c (with_answer stand said)
-  copy_follows New c said e none makes may is = absurd cc
-  copy_follows (Starting w) c said e none makes may is = absurd cc
-  copy_follows Idle c said e none makes may is = absurd cc
-  copy_follows (Busy request place answer) c said e none makes may is = record {
+  copy_follows : (stand : Stand) (c : Call) (said : CopyAnswer) → stand_phase stand ≡ phase.CopyingIn → requests_in (Did c ∷ []) ≡ [] → ((hs : List Happening) → HasRequest hs × IsCopyingIn hs → MayBeCalled hs c) → ((x : CopyAnswer) → x ≡ Awaited → said ≡ copy_answer_after x (Did c)) → Follows stand c (with_answer stand said)
+  copy_follows (Busy request place answer) c said e none may is = record {
     stands = λ hs h. did_copy hs c request place answer said none (λ x same. is x (same ∙ awaited_one place.opened answer e)) h;
-    in_place = λ hs same h. may hs (last_asked (requests_in hs) h.1.earlier request h.1.last, copying_in hs same ((stand_facts hs (Busy request place answer) h).copying.0 e));
-    keeps = λ k given hs h t. silent.called k given hs c makes (Busy request place answer) (Busy request place said) h (silent.answered k given hs request place answer said t);
+    in_place = λ hs same h. may hs (λ nothing. omega (arith, ap length nothing, ap length h.1.last, length-append h.1.earlier (request ∷ [])), copying_in hs same ((stand_facts hs (Busy request place answer) h).copying.0 e));
+    keeps = λ k given hs h t. silent.called k given hs c none (Busy request place answer) (Busy request place said) h (silent.answered k given hs request place answer said t);
   }
+  copy_follows _ c said e none may is = absurd cc
 
   -- a chunk leaves all as it is
   chunk_follows : (stand : Stand) (bytes : List ℕ) → stand_phase stand ≡ phase.CopyingIn → Follows stand (call.Chunk bytes) stand
-  chunk_follows New bytes e = absurd cc
-  chunk_follows (Starting w) bytes e = absurd cc
-  chunk_follows Idle bytes e = absurd cc
-  chunk_follows (Busy request place answer) bytes e = copy_follows (Busy request place answer) (call.Chunk bytes) answer e refl refl (λ hs h. h) (λ x is. awaited_one place.opened answer e ∙ sym is)
+  chunk_follows (Busy request place answer) bytes e = copy_follows (Busy request place answer) (call.Chunk bytes) answer e refl (λ hs h. h) (λ x is. awaited_one place.opened answer e ∙ sym is)
+  chunk_follows _ bytes e = absurd cc
 
   terminate_follows : (stand : Stand) → IsOpenPhase (stand_phase stand) → Follows stand call.Terminate stand
   terminate_follows New o = absurd o
-  terminate_follows (Starting w) o = record { stands = λ hs h. did_terminate hs (Starting w) h.0 h; in_place = λ hs same h. h.0; keeps = λ k given hs h t. silent.called k given hs call.Terminate refl (Starting w) (Starting w) h t }
-  terminate_follows Idle o = record { stands = λ hs h. did_terminate hs Idle h.0 h; in_place = λ hs same h. h.0; keeps = λ k given hs h t. silent.called k given hs call.Terminate refl Idle Idle h t }
-  terminate_follows (Busy r p a) o = record { stands = λ hs h. did_terminate hs (Busy r p a) h.0 h; in_place = λ hs same h. h.0; keeps = λ k given hs h t. silent.called k given hs call.Terminate refl (Busy r p a) (Busy r p a) h t }
+  terminate_follows stand o = record { stands = λ hs h. did_terminate hs stand h.0 h; in_place = λ hs same h. h.0; keeps = λ k given hs h t. silent.called k given hs call.Terminate refl stand stand h t }
 
   -- ---- the calls, by the fields of a value that was opened
-
-  -- the phase of an open client is that of where it stands
-  pub at_stand : (v : View K) (p : Phase) → phase_of v ≡ p → ((c : Cause) → p ≡ phase.Closed c → ⊥) → (v.closed ≡ None) × (stand_phase v.known.stand ≡ p)
-  at_stand v p e open_phase =
-      let none : v.closed ≡ None = phase_open v.closed v.known.stand (λ c k. open_phase c (sym e ∙ k)) in
-      (none, subst (λ (o : Option Cause). phase_with o v.known.stand ≡ p) none e)
 
   module _ (v old : View K) (before after : List ℕ) (same : v ≡ old) where
     -- by where the value that was opened stands
     accepted : (c : Call) (p : Phase) (stand : Stand) → closing c ≡ None → ((c : Cause) → p ≡ phase.Closed c → ⊥) → phase_of old ≡ p → (stand_phase v.known.stand ≡ p → Follows v.known.stand c stand)
         → IsSpelled v.settings c → after ≡ before ++ sent_by v.settings c → Accepts way c old (called v stand v.closed) before after
     accepted c p stand goes_on is_open e follows spelled put =
-        let at = at_stand v p (ap phase_of same ∙ e) is_open in
+        -- the phase of an open client is that of where it stands
+        let none : v.closed ≡ None = phase_open v.closed v.known.stand (λ c k. is_open c (sym (ap phase_of same ∙ e) ∙ k)) in
+        let there : stand_phase v.known.stand ≡ p = subst (λ (o : Option Cause). phase_with o v.known.stand ≡ p) none (ap phase_of same ∙ e) in
         subst (λ (x : View K). Accepts way c x (called v stand v.closed) before after) same (record {
           settings = refl;
           others = refl;
           put = put;
-          history = subst (λ (o : Option Cause). Carries way v (called v stand o) (with_call v.settings c)) (goes_on ∙ sym at.0) (call_carries v stand c at.0 (follows at.1) spelled);
+          history = subst (λ (o : Option Cause). Carries way v (called v stand o) (with_call v.settings c)) (goes_on ∙ sym none) (call_carries v stand c none (follows there) spelled);
         })
 
     pub start_accepted : phase_of old ≡ phase.New → IsSpelled v.settings call.Start → after ≡ before ++ sent_by v.settings call.Start → Accepts way call.Start old (called v (Starting Fresh) v.closed) before after
@@ -255,10 +214,10 @@ module _ {K : Type 0} (way : Keeps K) (silent : IsSilent way) where
     chunk_accepted bytes e = accepted (call.Chunk bytes) phase.CopyingIn v.known.stand refl (λ c k. cc) e (λ there. chunk_follows v.known.stand bytes there)
 
     pub copy_done_accepted : phase_of old ≡ phase.CopyingIn → IsSpelled v.settings call.Done → after ≡ before ++ sent_by v.settings call.Done → Accepts way call.Done old (called v (with_answer v.known.stand Done) v.closed) before after
-    copy_done_accepted e = accepted call.Done phase.CopyingIn (with_answer v.known.stand Done) refl (λ c k. cc) e (λ there. copy_follows v.known.stand call.Done Done there refl refl (λ hs h. h) (λ x is. refl))
+    copy_done_accepted e = accepted call.Done phase.CopyingIn (with_answer v.known.stand Done) refl (λ c k. cc) e (λ there. copy_follows v.known.stand call.Done Done there refl (λ hs h. h) (λ x is. refl))
 
     pub copy_fail_accepted : (reason : List ℕ) → phase_of old ≡ phase.CopyingIn → IsSpelled v.settings (call.Fail reason) → after ≡ before ++ sent_by v.settings (call.Fail reason) → Accepts way (call.Fail reason) old (called v (with_answer v.known.stand Refused) v.closed) before after
-    copy_fail_accepted reason e = accepted (call.Fail reason) phase.CopyingIn (with_answer v.known.stand Refused) refl (λ c k. cc) e (λ there. copy_follows v.known.stand (call.Fail reason) Refused there refl refl (λ hs h. h) (λ x is. refl))
+    copy_fail_accepted reason e = accepted (call.Fail reason) phase.CopyingIn (with_answer v.known.stand Refused) refl (λ c k. cc) e (λ there. copy_follows v.known.stand (call.Fail reason) Refused there refl (λ hs h. h) (λ x is. refl))
 
     pub terminate_accepted : IsOpenPhase (phase_of old) → IsSpelled v.settings call.Terminate → after ≡ before ++ sent_by v.settings call.Terminate → Accepts way call.Terminate old (record v { closed = Some cause.Terminated }) before after
     terminate_accepted o spelled put =

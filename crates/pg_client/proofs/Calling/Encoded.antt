@@ -1,7 +1,7 @@
 -- What an encoder put out is what its call sends.
-use Rattle.std.proofs.Common.{◌≡◌, ℕ, zero, suc, ◌+◌, ◌≤◌, ◌<◌, Bool, true, false, List, [], ◌∷◌, ◌++◌, length, take, drop, get_or, map, Option, Some, None, Result, Ok, Err, refl, sym, ap, subst, ◌∙◌, append_assoc, arith}
+use Rattle.std.proofs.Common.{◌≡◌, ℕ, ◌+◌, ◌≤◌, ◌<◌, Bool, true, false, List, [], ◌∷◌, ◌++◌, length, take, drop, get_or, map, Option, Some, None, Result, Ok, Err, refl, sym, ap, subst, ◌∙◌, append_assoc, arith}
 use Rattle.std.specs.List.{flat_map, AllByRecursion}
-use Rattle.std.proofs.lemmas.List.{append-nil, map-append}
+use Rattle.std.proofs.lemmas.List.{append-nil, drop_more, map-append, map_more, take-append-drop, take_all}
 use Rattle.std.proofs.lemmas.Grind.{flat_map-append}
 use Rattle.pg_wire.specs.fault.EncodeFault.{EncodeFault}
 use Rattle.pg_wire.specs.fault.EncodeFault.TheVariants as encoding
@@ -12,7 +12,8 @@ use Rattle.pg_wire.specs.Frontend.{frontend}
 use Rattle.pg_wire.specs.Segment.{step_message}
 use Rattle.pg_wire.specs.message.FrontMessage.TheVariants.{Sync}
 use Rattle.pg_wire.specs.declared.session.Step.{Step}
-use Rattle.pg_client.specs.Client.{option_or}
+use Rattle.pg_response.proofs.Lists.{all_both}
+use Rattle.pg_client.specs.View.{option_or}
 use Rattle.pg_client.specs.Sent.{first_fault}
 use Rattle.pg_client.specs.Private.Sending.{Puts, ArePut, Lengthens, starved_after}
 
@@ -29,24 +30,8 @@ encoded m before after e = record {
 
 -- ---- a group's messages
 
-split_at_item : {A : Type 0} (xs : List A) (i : ℕ) (x : A) → i < length xs → x ≡ get_or xs i x → xs ≡ take i xs ++ x ∷ drop (suc i) xs
-split_at_item [] i x lt e = absurd (omega (arith, lt))
-split_at_item {A = A} (y ∷ ys) zero x lt e = ap (λ (z : A). z ∷ ys) (sym e)
-split_at_item {A = A} (y ∷ ys) (suc i) x lt e = ap (λ (zs : List A). y ∷ zs) (split_at_item ys i x (omega (arith, lt)) e)
-
-take_all : {A : Type 0} (i : ℕ) (xs : List A) → length xs ≤ i → take i xs ≡ xs
-take_all zero [] le = refl
-take_all (suc i) [] le = refl
-take_all zero (x ∷ xs) le = absurd (omega (arith, le))
-take_all {A = A} (suc i) (x ∷ xs) le = ap (λ (ys : List A). x ∷ ys) (take_all i xs (omega (arith, le)))
-
-all_spelled : (ms : List FrontMessage) (m : FrontMessage) → AllByRecursion (HasSpelling frontend) ms → HasSpelling frontend m → AllByRecursion (HasSpelling frontend) (ms ++ m ∷ [])
-all_spelled [] m all one = (one, tt)
-all_spelled (x ∷ xs) m all one = (all.0, all_spelled xs m all.1 one)
-
 both_none : (o p : Option EncodeFault) → option_or o p ≡ None → (o ≡ None) × (p ≡ None)
-both_none None p e = (refl, e)
-both_none (Some f) p e = absurd cc
+both_none o p e = grind arith
 
 first_none : (ms : List FrontMessage) (m : FrontMessage) → first_fault ms ≡ None → encode_fault frontend m ≡ None → first_fault (ms ++ m ∷ []) ≡ None
 first_none [] m e one = ap (λ (o : Option EncodeFault). option_or o None) one
@@ -89,7 +74,7 @@ module _ (ms : List FrontMessage) (before now : List ℕ) where
       where
         by : (b : Bool) → ArePut ms before b now → ArePut (ms ++ m ∷ []) before b after
         by false h = (
-          all_spelled ms m h.0 (record { of_type = e.0; no_fault = e.1 }),
+          all_both (HasSpelling frontend) ms (m ∷ []) h.0 (record { of_type = e.0; no_fault = e.1 }, tt),
           e.2 ∙ ap (λ (bs : List ℕ). bs ++ spelling frontend m) h.1 ∙ append_assoc before (flat_map (spelling frontend) ms) (spelling frontend m)
               ∙ ap (λ (bs : List ℕ). before ++ bs) (sym (flat_map-append (spelling frontend) ms (m ∷ []) ∙ ap (λ (bs : List ℕ). flat_map (spelling frontend) ms ++ bs) (append-nil (spelling frontend m)))),
         )
@@ -106,27 +91,21 @@ module _ (ms : List FrontMessage) (before now : List ℕ) where
 
 -- ---- a group's messages, step by step
 
-take_next : {A : Type 0} (xs : List A) (i : ℕ) (x : A) → i < length xs → x ≡ get_or xs i x → take (suc i) xs ≡ take i xs ++ x ∷ []
-take_next [] i x lt e = absurd (omega (arith, lt))
-take_next {A = A} (y ∷ ys) zero x lt e = ap (λ (z : A). z ∷ []) (sym e)
-take_next {A = A} (y ∷ ys) (suc i) x lt e = ap (λ (zs : List A). y ∷ zs) (take_next ys i x (omega (arith, lt)) e)
-
 module _ (steps : List Step) (i : ℕ) (s : Step) (before now after : List ℕ) (starved : Bool) (so_far : ArePut (map step_message (take i steps)) before starved now) where
   pub step_put : (next : Bool) (r : Result Unit EncodeFault) → i < length steps → s ≡ get_or steps i s → Encodes frontend (step_message s) now r after → Ok next ≡ starved_after starved r → ArePut (map step_message (take (i + 1) steps)) before next after
   step_put next r lt is e said =
-      let one_more : i + 1 ≡ suc i = omega arith in
-      let cut : map step_message (take (i + 1) steps) ≡ map step_message (take i steps) ++ step_message s ∷ [] =
-      ap (λ (n : ℕ). map step_message (take n steps)) one_more ∙ ap (map step_message) (take_next steps i s lt is) ∙ map-append step_message (take i steps) (s ∷ []) in
+      let cut : map step_message (take (i + 1) steps) ≡ map step_message (take i steps) ++ step_message s ∷ [] = map_more step_message steps i s lt ∙ ap (λ (x : Step). map step_message (take i steps) ++ step_message x ∷ []) (sym is) in
       subst (λ (ms : List FrontMessage). ArePut ms before next after) (sym cut) (puts_more (map step_message (take i steps)) before now (step_message s) after starved next r so_far e said)
 
   pub step_fault : (f : EncodeFault) (r : Result Unit EncodeFault) → i < length steps → s ≡ get_or steps i s → Encodes frontend (step_message s) now r after → Err f ≡ starved_after starved r → Puts (map step_message steps ++ Sync ∷ []) before (Err f) after
   step_fault f r lt is e said =
-      let cut : map step_message steps ++ Sync ∷ [] ≡ map step_message (take i steps) ++ step_message s ∷ (map step_message (drop (suc i) steps) ++ Sync ∷ []) =
-      ap (λ (ss : List Step). map step_message ss ++ Sync ∷ []) (split_at_item steps i s lt is)
-      ∙ ap (λ (ms : List FrontMessage). ms ++ Sync ∷ []) (map-append step_message (take i steps) (s ∷ drop (suc i) steps))
-      ∙ append_assoc (map step_message (take i steps)) (step_message s ∷ map step_message (drop (suc i) steps)) (Sync ∷ []) in
+      let split : steps ≡ take i steps ++ s ∷ drop (i + 1) steps = sym (take-append-drop i steps) ∙ ap (λ (ss : List Step). take i steps ++ ss) (drop_more steps i s lt ∙ ap (λ (x : Step). x ∷ drop (i + 1) steps) (sym is)) in
+      let cut : map step_message steps ++ Sync ∷ [] ≡ map step_message (take i steps) ++ step_message s ∷ (map step_message (drop (i + 1) steps) ++ Sync ∷ []) =
+      ap (λ (ss : List Step). map step_message ss ++ Sync ∷ []) split
+      ∙ ap (λ (ms : List FrontMessage). ms ++ Sync ∷ []) (map-append step_message (take i steps) (s ∷ drop (i + 1) steps))
+      ∙ append_assoc (map step_message (take i steps)) (step_message s ∷ map step_message (drop (i + 1) steps)) (Sync ∷ []) in
       subst (λ (ms : List FrontMessage). Puts ms before (Err f) after) (sym cut)
-      (puts_none (map step_message (take i steps)) before now (step_message s) after (map step_message (drop (suc i) steps) ++ Sync ∷ []) starved f r so_far e said)
+      (puts_none (map step_message (take i steps)) before now (step_message s) after (map step_message (drop (i + 1) steps) ++ Sync ∷ []) starved f r so_far e said)
 
 pub sync_put : (steps : List Step) (i : ℕ) (before now after : List ℕ) (starved : Bool) → ArePut (map step_message (take i steps)) before starved now → (next : Bool) (r : Result Unit EncodeFault) → length steps ≤ i → Encodes frontend Sync now r after → Ok next ≡ starved_after starved r → next ≡ true → Puts (map step_message steps ++ Sync ∷ []) before (Err encoding.Memory) after
 sync_put steps i before now after starved so_far next r le e said is =

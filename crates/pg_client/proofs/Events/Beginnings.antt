@@ -1,5 +1,5 @@
 -- What is expected is so at each time before.
-use Rattle.std.proofs.Common.{◌≡◌, ℕ, suc, ◌≤◌, ◌<◌, true, List, [], ◌∷◌, ◌++◌, length, Option, Some, None, refl, sym, ap, subst, ◌∙◌, append_assoc, inl, inr, arith, length-append}
+use Rattle.std.proofs.Common.{◌≡◌, ℕ, suc, ◌≤◌, ◌<◌, List, [], ◌∷◌, ◌++◌, length, Option, Some, None, refl, sym, ap, subst, ◌∙◌, append_assoc, inl, inr, arith, length-append, false}
 use Rattle.std.specs.Prelude.{IsSome, ◌⊎◌}
 use Rattle.std.specs.List.{AllByRecursion}
 use Rattle.std.proofs.Math.Nat.{eq-or-lt_of_le}
@@ -12,7 +12,8 @@ use Rattle.pg_wire.specs.declared.session.Request.{Request}
 use Rattle.pg_wire.specs.Segment.{aside_of, without_asides, Fits, Begins, Segments, segments, status_of}
 use Rattle.pg_client.specs.declared.call.Call.{Call}
 use Rattle.pg_client.specs.declared.call.Call.TheVariants as call
-use Rattle.pg_client.specs.Session.{Happening, Did, Came, messages_in, requests_in, whole_in, rest_in, IsStartup, BeginsStartup, FitAll, IsSession, IsAside, IsAfterItsCall, can_answer, Expected, AreAllowed}
+use Rattle.pg_client.specs.Session.{Happening, Did, Came, messages_in, requests_in, whole_in, rest_in, IsStartup, FitAll, IsSession, IsAfterItsCall, asks_password, Expected, AreAllowed}
+use Rattle.pg_client.proofs.Events.Greeting.{BeginsStartup}
 use Rattle.pg_client.proofs.Events.Happening.{all_front, requests_in-more}
 use Rattle.pg_client.proofs.Events.OneMessage.{put_after, segments-more}
 use Rattle.pg_response.proofs.Lists.{kept_with, without_asides-append}
@@ -57,19 +58,19 @@ one_request : (c : Call) → length (requests_in (Did c ∷ [])) ≤ 1
 one_request (call.Request r) = omega arith
 one_request _ = omega arith
 
-pub kept_aside : (rest : List BackMessage) (m : BackMessage) → IsAside m → without_asides (rest ++ m ∷ []) ≡ without_asides rest
+pub kept_aside : (rest : List BackMessage) (m : BackMessage) → IsSome (aside_of m) → without_asides (rest ++ m ∷ []) ≡ without_asides rest
 kept_aside rest m aside = without_asides-append rest (m ∷ []) ∙ ap (λ (ms : List BackMessage). without_asides rest ++ ms) (left_out (aside_of m) aside) ∙ append-nil (without_asides rest)
   where
     left_out : (o : Option Aside) → IsSome o → kept_with o m [] ≡ []
     left_out None some = absurd cc
     left_out (Some a) some = refl
 
-aside_no_status : (m : BackMessage) (status : Status) → status_of m ≡ Some status → IsAside m → ⊥
+aside_no_status : (m : BackMessage) (status : Status) → status_of m ≡ Some status → IsSome (aside_of m) → ⊥
 aside_no_status (Ready s) status e aside = absurd (let k : IsSome {T = Aside} None = aside in cc)
 aside_no_status _ status e aside = absurd cc
 
 -- one more message, which is an aside or was asked for
-came_asked : (requests : List Request) (whole : List (List BackMessage)) (rest : List BackMessage) (m : BackMessage) (p : Option Status) → status_of m ≡ p → IsAside m ⊎ (length whole ≤ length requests) → AskedFor requests whole rest → AskedFor requests (put_after p m whole rest).whole (put_after p m whole rest).rest
+came_asked : (requests : List Request) (whole : List (List BackMessage)) (rest : List BackMessage) (m : BackMessage) (p : Option Status) → status_of m ≡ p → IsSome (aside_of m) ⊎ (length whole ≤ length requests) → AskedFor requests whole rest → AskedFor requests (put_after p m whole rest).whole (put_after p m whole rest).rest
 came_asked requests whole rest m (Some status) k (inl aside) a = absurd (aside_no_status m status k aside)
 came_asked requests whole rest m (Some status) k (inr le) a = by_length (eq-or-lt_of_le le)
   where
@@ -190,7 +191,7 @@ one_before password hs h e =
     record {
       session = session_before hs h all e.session;
       after = all;
-      answerable = all_front (λ m. can_answer password m ≡ true) (messages_in hs) (messages_in (h ∷ [])) (subst (AllByRecursion (λ m. can_answer password m ≡ true)) (messages_in-append hs (h ∷ [])) e.answerable);
+      answerable = λ none. all_front (λ m. asks_password m ≡ false) (messages_in hs) (messages_in (h ∷ [])) (subst (AllByRecursion (λ m. asks_password m ≡ false)) (messages_in-append hs (h ∷ [])) (e.answerable none));
     }
 
 pub expected_begins : (password : Option (List ℕ)) (hs more : List Happening) → Expected password (hs ++ more) → Expected password hs

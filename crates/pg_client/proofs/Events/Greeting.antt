@@ -1,5 +1,5 @@
 -- The startup is admitted exactly if its messages are those of one, and read so far exactly if they begin one.
-use Rattle.std.proofs.Common.{◌≡◌, List, [], ◌∷◌, ◌++◌, map, Option, Some, None, refl, sym, ap, subst, ◌∙◌, append_assoc}
+use Rattle.std.proofs.Common.{◌≡◌, List, [], ◌∷◌, ◌++◌, map, Option, Some, None, refl, sym, ap, subst, ◌∙◌, append_assoc, true}
 use Rattle.std.specs.Prelude.{ℤ}
 use Rattle.std.proofs.lemmas.List.{append-nil, map-append}
 use Rattle.pg_wire.specs.message.BackMessage.{BackMessage}
@@ -9,7 +9,7 @@ use Rattle.pg_wire.specs.value.Status.TheVariants as statuses
 use Rattle.pg_wire.specs.Segment.{without_asides}
 use Rattle.pg_client.specs.declared.startup.Welcome.{Welcome}
 use Rattle.pg_client.specs.declared.startup.Welcome.TheVariants.{Fresh, Asked, Admitted}
-use Rattle.pg_client.specs.Session.{AsksPassword, AtMostOneQuestion, key_data, IsStartup, BeginsStartup}
+use Rattle.pg_client.specs.Session.{asks_password, AtMostOneQuestion, IsStartup}
 use Rattle.pg_client.specs.Startup.{greet_fresh, greet_asked, greet_admitted, greet, greet_from, greet_all}
 use Rattle.pg_response.proofs.Lists.{front_splits, snoc_front, without_asides-append}
 
@@ -17,8 +17,8 @@ use Rattle.pg_response.proofs.Lists.{front_splits, snoc_front, without_asides-ap
 abbrev pub Greeted : List BackMessage → Option Welcome → Type 0
 Greeted core None = Unit {0}
 Greeted core (Some Fresh) = core ≡ []
-Greeted core (Some Asked) = (question : BackMessage) × AsksPassword question × (core ≡ question ∷ [])
-Greeted core (Some Admitted) = (questions : List BackMessage) × AtMostOneQuestion questions × (keys : List (ℤ × ℤ)) × (core ≡ questions ++ AuthOk ∷ map key_data keys)
+Greeted core (Some Asked) = (question : BackMessage) × (asks_password question ≡ true) × (core ≡ question ∷ [])
+Greeted core (Some Admitted) = (questions : List BackMessage) × AtMostOneQuestion questions × (keys : List (ℤ × ℤ)) × (core ≡ questions ++ AuthOk ∷ map (λ k. KeyData k.0 k.1) keys)
 
 from_fresh : (core : List BackMessage) (m : BackMessage) → core ≡ [] → Greeted (core ++ m ∷ []) (greet_fresh m)
 from_fresh core AuthOk h = ([], tt, [], ap (λ (c : List BackMessage). c ++ AuthOk ∷ []) h)
@@ -32,7 +32,7 @@ from_asked core _ h = tt
 
 from_admitted : (core : List BackMessage) (m : BackMessage) → Greeted core (Some Admitted) → Greeted (core ++ m ∷ []) (greet_admitted m)
 from_admitted core (KeyData process secret) h =
-    (h.0, h.1, h.2 ++ (process, secret) ∷ [], rw (h.3, map-append key_data h.2 ((process, secret) ∷ [])) (append_assoc h.0 (AuthOk ∷ map key_data h.2) (KeyData process secret ∷ [])))
+    (h.0, h.1, h.2 ++ (process, secret) ∷ [], rw (h.3, map-append (λ k. KeyData k.0 k.1) h.2 ((process, secret) ∷ [])) (append_assoc h.0 (AuthOk ∷ map (λ k. KeyData k.0 k.1) h.2) (KeyData process secret ∷ [])))
 from_admitted core _ h = tt
 
 one_more : (core : List BackMessage) (w : Welcome) (m : BackMessage) → Greeted core (Some w) → Greeted (core ++ m ∷ []) (greet w m)
@@ -59,11 +59,11 @@ greet_from-append w [] ys = refl
 greet_from-append None (x ∷ xs) ys = sym (none_stays ys)
 greet_from-append (Some w) (x ∷ xs) ys = greet_from-append (greet w x) xs ys
 
-keys_greeted : (keys : List (ℤ × ℤ)) → greet_from (Some Admitted) (map key_data keys) ≡ Some Admitted
+keys_greeted : (keys : List (ℤ × ℤ)) → greet_from (Some Admitted) (map (λ k. KeyData k.0 k.1) keys) ≡ Some Admitted
 keys_greeted [] = refl
 keys_greeted (k ∷ ks) = keys_greeted ks
 
-pub question_greeted : (m : BackMessage) → AsksPassword m → greet_fresh m ≡ Some Asked
+pub question_greeted : (m : BackMessage) → asks_password m ≡ true → greet_fresh m ≡ Some Asked
 question_greeted AuthCleartext q = refl
 question_greeted (AuthMd5 salt) q = refl
 question_greeted _ q = absurd cc
@@ -74,7 +74,7 @@ questions_greeted (m ∷ []) more q = ap (λ (w : Option Welcome). greet_from w 
 questions_greeted (m ∷ n ∷ ms) more q = absurd q
 
 whole_greeted : (segment : List BackMessage) (h : IsStartup segment) → greet_all (without_asides h.body) ≡ Some Admitted
-whole_greeted segment h = ap greet_all h.reads ∙ questions_greeted h.questions (map key_data h.keys) h.one_question ∙ keys_greeted h.keys
+whole_greeted segment h = ap greet_all h.reads ∙ questions_greeted h.questions (map (λ k. KeyData k.0 k.1) h.keys) h.one_question ∙ keys_greeted h.keys
 
 pub startup_admitted : (body : List BackMessage) (status : Status) → IsStartup (body ++ Ready status ∷ []) → greet_all (without_asides body) ≡ Some Admitted
 startup_admitted body status h =
@@ -85,6 +85,10 @@ pub admitted_startup : (body : List BackMessage) (status : Status) → greet_all
 admitted_startup body status e =
     let g : Greeted (without_asides body) (Some Admitted) = subst (Greeted (without_asides body)) e (greet_sound (without_asides body)) in
     record { body = body; status = status; closed = refl; questions = g.0; one_question = g.1; keys = g.2; reads = g.3 }
+
+-- these messages begin the segment of a startup
+abbrev pub BeginsStartup : List BackMessage → Type 0
+BeginsStartup messages = (more : List BackMessage) × IsStartup (messages ++ more)
 
 -- AuthenticationOk may follow
 admitted_next : (ms : List BackMessage) (w : Welcome) → greet_all (without_asides ms) ≡ Some w → greet w AuthOk ≡ Some Admitted → BeginsStartup ms

@@ -1,5 +1,5 @@
 -- One more happening: where the client stands, and what is expected.
-use Rattle.std.proofs.Common.{◌≡◌, ℕ, Bool, true, false, cond, List, [], ◌∷◌, ◌++◌, Option, Some, None, refl, sym, ap, subst, ◌∙◌, append_assoc}
+use Rattle.std.proofs.Common.{◌≡◌, ℕ, Bool, true, false, cond, List, not, [], ◌∷◌, ◌++◌, Option, Some, None, refl, sym, ap, subst, ◌∙◌, append_assoc}
 use Rattle.std.specs.List.{AllByRecursion}
 use Rattle.std.proofs.lemmas.List.{append-nil, append_cancel_left}
 use Rattle.pg_wire.specs.message.BackMessage.{BackMessage}
@@ -16,10 +16,10 @@ use Rattle.pg_client.specs.declared.stand.CopyAnswer.TheVariants.{Awaited}
 use Rattle.pg_client.specs.declared.startup.Welcome.TheVariants.{Fresh}
 use Rattle.pg_client.specs.declared.stand.Stand.{Stand}
 use Rattle.pg_client.specs.declared.stand.Stand.TheVariants.{New, Starting, Idle, Busy}
-use Rattle.pg_client.specs.Stand.{copy_answer_after, copy_answer_from, copy_answer, hear, hear_by, hear_with, StandsBy, Stands}
+use Rattle.pg_client.specs.Stand.{copy_answer_after, copy_answer_from, copy_answer, can_answer, hear, hear_by, hear_with, StandsBy, Stands}
 use Rattle.pg_client.specs.declared.call.Call.{Call}
 use Rattle.pg_client.specs.declared.call.Call.TheVariants as call
-use Rattle.pg_client.specs.Session.{Happening, Did, Came, requests_in, messages_in, whole_in, rest_in, IsStarted, FitAll, IsSession, IsAfterItsCall, can_answer, Expected}
+use Rattle.pg_client.specs.Session.{Happening, Did, Came, requests_in, messages_in, whole_in, rest_in, IsStarted, FitAll, IsSession, IsAfterItsCall, asks_password, Expected}
 use Rattle.pg_client.proofs.Events.Greeting.{greeted_begins}
 use Rattle.pg_client.proofs.Standing.Said.{AnswerIsSaid, after_its_call, may_stand}
 use Rattle.pg_client.proofs.Events.OneMessage.{put_after, segments-more, all_fit, fit_and_begin, StandsThen, Verdict, hear_verdict}
@@ -83,6 +83,23 @@ stands_came hs m stand s h =
     (subst (λ (x : Segments). StandsBy (requests_in hs) x.whole x.rest (copy_answer (hs ++ Came m ∷ [])) stand) (sym (segments-came hs m))
     (subst (λ (said : CopyAnswer). StandsBy (requests_in hs) (put_after (status_of m) m (whole_in hs) (rest_in hs)).whole (put_after (status_of m) m (whole_in hs) (rest_in hs)).rest said stand) (sym (copy_answer_from-more Awaited hs (Came m))) h)))
 
+-- a message that can't be answered asks a client for the password that it hasn't
+is_asked : (password : Option (List ℕ)) (m : BackMessage) → can_answer password m ≡ false → (password ≡ None) × (asks_password m ≡ true)
+is_asked (Some p) m e = cc
+is_asked None m e = (refl, by (asks_password m) e)
+  where
+    by : (b : Bool) → not b ≡ false → b ≡ true
+    by true e = refl
+    by false e = cc
+
+not_asked : (password : Option (List ℕ)) (m : BackMessage) → can_answer password m ≡ true → password ≡ None → asks_password m ≡ false
+not_asked (Some p) m e none = cc
+not_asked None m e none = by (asks_password m) e
+  where
+    by : (b : Bool) → not b ≡ true → b ≡ false
+    by false e = refl
+    by true e = cc
+
 module _ (password : Option (List ℕ)) (hs : List Happening) (m : BackMessage) where
   -- what the client makes of the message, after all that happened
   abbrev pub Hears : Option Stand → Type 0
@@ -121,8 +138,9 @@ module _ (password : Option (List ℕ)) (hs : List Happening) (m : BackMessage) 
   -- what a client without a password is asked isn't expected
   unanswerable : can_answer password m ≡ false → Expected password (hs ++ Came m ∷ []) → ⊥
   unanswerable none expected =
-      let yes : can_answer password m ≡ true = all_last (λ n. can_answer password n ≡ true) (messages_in hs) m (subst (AllByRecursion (λ n. can_answer password n ≡ true)) (messages_in-came hs m) expected.answerable) in
-      let e : false ≡ true = sym none ∙ yes in cc
+      let asked = is_asked password m none in
+      let no : asks_password m ≡ false = all_last (λ n. asks_password n ≡ false) (messages_in hs) m (subst (AllByRecursion (λ n. asks_password n ≡ false)) (messages_in-came hs m) (expected.answerable asked.0)) in
+      let e : false ≡ true = sym no ∙ asked.1 in cc
 
   pub hears : (stand : Stand) → AnswerIsSaid hs → Stands hs stand → Hears (hear_with password stand m)
   hears stand same h = by (can_answer password m) refl
@@ -177,7 +195,7 @@ unfolding After
 expected_came password hs m stand e h k answerable = record {
   session = stands_session (hs ++ Came m ∷ []) stand h;
   after = after_more hs (Came m) e.after k;
-  answerable = subst (AllByRecursion (λ n. can_answer password n ≡ true)) (sym (messages_in-came hs m)) (all_more (λ n. can_answer password n ≡ true) (messages_in hs) m e.answerable answerable);
+  answerable = λ none. subst (AllByRecursion (λ n. asks_password n ≡ false)) (sym (messages_in-came hs m)) (all_more (λ n. asks_password n ≡ false) (messages_in hs) m (e.answerable none) (not_asked password m answerable none));
 }
 
 pub expected_did : (password : Option (List ℕ)) (hs : List Happening) (c : Call) (stand : Stand) → Expected password hs → Stands (hs ++ Did c ∷ []) stand → Expected password (hs ++ Did c ∷ [])
@@ -185,11 +203,11 @@ unfolding After
 expected_did password hs c stand e h = record {
   session = stands_session (hs ++ Did c ∷ []) stand h;
   after = after_more hs (Did c) e.after tt;
-  answerable = subst (AllByRecursion (λ n. can_answer password n ≡ true)) (sym (messages_in-did hs c)) e.answerable;
+  answerable = λ none. subst (AllByRecursion (λ n. asks_password n ≡ false)) (sym (messages_in-did hs c)) (e.answerable none);
 }
 
 pub expected_nothing : (password : Option (List ℕ)) → Expected password []
-expected_nothing password = record { session = greeted_begins [] Fresh refl; after = λ before m later e. absurd (nothing m later before e); answerable = tt }
+expected_nothing password = record { session = greeted_begins [] Fresh refl; after = λ before m later e. absurd (nothing m later before e); answerable = λ none. tt }
   where
     nothing : (m : BackMessage) (later : List Happening) (before : List Happening) → [] ≡ before ++ Came m ∷ later → ⊥
     nothing m later [] e = cc

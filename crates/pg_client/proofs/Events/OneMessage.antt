@@ -28,9 +28,9 @@ use Rattle.pg_client.specs.declared.stand.Stand.{Stand}
 use Rattle.pg_client.specs.declared.stand.Stand.TheVariants.{New, Starting, Idle, Busy}
 use Rattle.pg_client.specs.Startup.{greet, greet_from, greet_all}
 use Rattle.pg_client.specs.Stand.{answer_after, copy_answer_after, EachFits, ends_at, hear_by, is_too_early, starting_at, StandsStarting, StandsIdle, StandsBusy, StandsBy}
-use Rattle.pg_client.specs.Session.{Came, IsStartup, BeginsStartup, FitAll, IsSession, IsAside}
+use Rattle.pg_client.specs.Session.{Came, IsStartup, FitAll, IsSession}
 use Rattle.pg_client.proofs.Standing.Said.{MayStand}
-use Rattle.pg_client.proofs.Events.Greeting.{greet_from-append, startup_admitted, admitted_startup, begins_greeted}
+use Rattle.pg_client.proofs.Events.Greeting.{BeginsStartup, greet_from-append, startup_admitted, admitted_startup, begins_greeted}
 
 -- ---- one more message at the end of the segments
 
@@ -220,7 +220,7 @@ module _ (requests : List Request) (whole : List (List BackMessage)) (rest : Lis
   idle_other : (p : Option Status) → StandsIdle requests whole rest → aside_of m ≡ None → Verdict p None
   idle_other p h e session may = go may.asked_for
     where
-      go : IsAside m ⊎ (length whole ≤ length requests) → ⊥
+      go : IsSome (aside_of m) ⊎ (length whole ≤ length requests) → ⊥
       go (inl some) = absurd (let k : IsSome (aside_of m) = some in let f : IsSome {T = Aside} None = subst (λ (o : Option Aside). IsSome o) e k in cc)
       go (inr le) = absurd (omega (arith, EachFits-length requests h.answered.groups h.answered.fit, ap length h.answered.cut, le))
 

@@ -1,5 +1,5 @@
 -- A password is asked for once at most, before the first request, so its answer stands between the startup packet and the turns.
-use Rattle.std.proofs.Common.{◌≡◌, ℕ, ◌≤◌, List, [], ◌∷◌, ◌++◌, length, map, Option, Some, None, refl, sym, ap, subst, ◌∙◌, append_assoc, inl, inr, arith, length-append}
+use Rattle.std.proofs.Common.{◌≡◌, ℕ, ◌≤◌, List, [], ◌∷◌, ◌++◌, length, map, Option, Some, None, refl, sym, ap, subst, ◌∙◌, append_assoc, inl, inr, arith, length-append, true}
 use Rattle.std.specs.Prelude.{◌⊎◌}
 use Rattle.std.specs.List.{flat_map}
 use Rattle.std.proofs.lemmas.Grind.{flat_map-append}
@@ -24,12 +24,11 @@ use Rattle.pg_response.specs.declared.place.Place.{Place}
 use Rattle.pg_response.specs.Place.{goes, goes_by, mark_of, goes_all, start}
 use Rattle.pg_client.specs.declared.call.Call.{Call}
 use Rattle.pg_client.specs.declared.call.Call.TheVariants as call
-use Rattle.pg_client.specs.Session.{Happening, Did, Came, messages_in, requests_in, whole_in, rest_in, AsksPassword, BeginsStartup, FitAll, IsSession, IsStarted, IsTerminated, AreAllowed, Expected}
-use Rattle.pg_client.specs.Client.{View}
-use Rattle.pg_client.specs.Keeping.{Keeps}
+use Rattle.pg_client.specs.Session.{Happening, Did, Came, messages_in, requests_in, whole_in, rest_in, asks_password, FitAll, IsSession, IsStarted, IsTerminated, AreAllowed, Expected}
+use Rattle.pg_client.specs.View.{View}
+use Rattle.pg_client.specs.Client.{Keeps, happenings, History}
 use Rattle.pg_client.specs.Sent.{password_messages, md5_messages, answer_to, sent_by, sent_in}
 use Rattle.pg_client.specs.Closed.{Ends}
-use Rattle.pg_client.specs.History.{happenings, History}
 use Rattle.pg_client.specs.Private.Agreeing.{Agrees}
 use Rattle.pg_wire.specs.Turns.{Turn, turn_messages}
 use Rattle.pg_client.specs.Turns.{turns_of, calls_in, passwords, first_answer, greeting, farewell, InTurns}
@@ -41,28 +40,28 @@ use Rattle.pg_response.proofs.Lists.{kept_with, front_splits, without_asides-app
 use Rattle.pg_response.proofs.Marks.{goes_nowhere}
 use Rattle.pg_response.proofs.Segments.{begins_go}
 use Rattle.pg_client.proofs.Calling.Accepting.{sent_more}
-use Rattle.pg_client.proofs.Events.Greeting.{Greeted, greet_sound, greet_from-append, begins_greeted}
+use Rattle.pg_client.proofs.Events.Greeting.{BeginsStartup, Greeted, greet_sound, greet_from-append, begins_greeted}
 use Rattle.pg_client.proofs.Turns.Ordering.{messages_in-append, calls_in-append}
 use Rattle.pg_client.proofs.Turns.TurnLaws.{IsOrderly, orderly_from, after_first, sent_first, first_greets, turns_after, requests_of}
 
 -- ---- a question goes on with no request's segment
 
-is_other : (m : BackMessage) → AsksPassword m → mark_of m ≡ mark.Other
+is_other : (m : BackMessage) → asks_password m ≡ true → mark_of m ≡ mark.Other
 is_other AuthCleartext q = refl
 is_other (AuthMd5 salt) q = refl
 is_other _ q = absurd cc
 
-no_status : (m : BackMessage) → AsksPassword m → status_of m ≡ None
+no_status : (m : BackMessage) → asks_password m ≡ true → status_of m ≡ None
 no_status AuthCleartext q = refl
 no_status (AuthMd5 salt) q = refl
 no_status _ q = absurd cc
 
-no_aside : (m : BackMessage) → AsksPassword m → aside_of m ≡ None
+no_aside : (m : BackMessage) → asks_password m ≡ true → aside_of m ≡ None
 no_aside AuthCleartext q = refl
 no_aside (AuthMd5 salt) q = refl
 no_aside _ q = absurd cc
 
-module _ (m : BackMessage) (q : AsksPassword m) where
+module _ (m : BackMessage) (q : asks_password m ≡ true) where
   leads_nowhere : (a : What) (p : Option Place) (r : Place) → goes_by a p (m ∷ []) ≡ Some r → ⊥
   leads_nowhere a None r e = cc
   leads_nowhere a (Some p) r e = (let k : None ≡ Some r = sym (goes_nowhere a p) ∙ (sym (ap (goes a p) (is_other m q)) ∙ e) in cc)
@@ -89,13 +88,13 @@ module _ (m : BackMessage) (q : AsksPassword m) where
   only_asides core (Some Fresh) e g some = g
   only_asides core (Some Asked) e g some = absurd (some (asked_once m q))
     where
-      asked_once : (n : BackMessage) → AsksPassword n → greet Asked n ≡ None
+      asked_once : (n : BackMessage) → asks_password n ≡ true → greet Asked n ≡ None
       asked_once AuthCleartext k = refl
       asked_once (AuthMd5 salt) k = refl
       asked_once _ k = absurd cc
   only_asides core (Some Admitted) e g some = absurd (some (admitted m q))
     where
-      admitted : (n : BackMessage) → AsksPassword n → greet Admitted n ≡ None
+      admitted : (n : BackMessage) → asks_password n ≡ true → greet Admitted n ≡ None
       admitted AuthCleartext k = refl
       admitted (AuthMd5 salt) k = refl
       admitted _ k = absurd cc
@@ -118,7 +117,7 @@ module _ (m : BackMessage) (q : AsksPassword m) where
 
 -- ---- what is answered
 
-answers_or_asks : (settings : Settings) (m : BackMessage) → (answer_to settings m ≡ []) ⊎ AsksPassword m
+answers_or_asks : (settings : Settings) (m : BackMessage) → (answer_to settings m ≡ []) ⊎ (asks_password m ≡ true)
 answers_or_asks settings AuthCleartext = inr refl
 answers_or_asks settings (AuthMd5 salt) = inr refl
 answers_or_asks settings _ = inl refl
@@ -178,7 +177,7 @@ module _ (settings : Settings) (hs : List Happening) (expected : Expected settin
   pub one_password : length (passwords settings (messages_in hs)) ≤ 1
   one_password = along (λ x. length (passwords settings (messages_in x)) ≤ 1) hs (omega arith) step
     where
-      came : (before : List Happening) (m : BackMessage) → (answer_to settings m ≡ []) ⊎ AsksPassword m → Expected settings.password (before ++ Came m ∷ []) → length (passwords settings (messages_in before)) ≤ 1 → length (passwords settings (messages_in (before ++ Came m ∷ []))) ≤ 1
+      came : (before : List Happening) (m : BackMessage) → (answer_to settings m ≡ []) ⊎ (asks_password m ≡ true) → Expected settings.password (before ++ Came m ∷ []) → length (passwords settings (messages_in before)) ≤ 1 → length (passwords settings (messages_in (before ++ Came m ∷ []))) ≤ 1
       came before m (inl none) now le =
           omega (arith, le, ap length (passwords-append settings before (Came m)), length-append (passwords settings (messages_in before)) (answer_to settings m ++ []), length-append (answer_to settings m) [], ap length none)
       came before m (inr q) now le =
@@ -191,7 +190,7 @@ module _ (settings : Settings) (hs : List Happening) (expected : Expected settin
   pub answers_first : passwords settings (messages_in hs) ≡ first_answer settings (without_asides (messages_in hs))
   answers_first = along (λ x. passwords settings (messages_in x) ≡ first_answer settings (without_asides (messages_in x))) hs refl step
     where
-      came : (before : List Happening) (m : BackMessage) → (answer_to settings m ≡ []) ⊎ AsksPassword m → Expected settings.password (before ++ Came m ∷ [])
+      came : (before : List Happening) (m : BackMessage) → (answer_to settings m ≡ []) ⊎ (asks_password m ≡ true) → Expected settings.password (before ++ Came m ∷ [])
           → passwords settings (messages_in before) ≡ first_answer settings (without_asides (messages_in before))
           → passwords settings (messages_in before) ++ (answer_to settings m ++ []) ≡ first_answer settings (without_asides (messages_in before ++ m ∷ []))
       came before m (inl none) now e =
@@ -295,14 +294,14 @@ module _ (settings : Settings) (hs : List Happening) (allowed : AreAllowed hs) (
   allowed_then : (before later : List Happening) → hs ≡ before ++ later → AreAllowed before
   allowed_then before later e = allowed_begins before later (subst AreAllowed e allowed)
 
-  asked_first : (before : List Happening) (m : BackMessage) (later : List Happening) → hs ≡ before ++ Came m ∷ later → AsksPassword m → after_first (calls_in before) ≡ []
+  asked_first : (before : List Happening) (m : BackMessage) (later : List Happening) → hs ≡ before ++ Came m ∷ later → asks_password m ≡ true → after_first (calls_in before) ≡ []
   asked_first before m later e q =
       let all = allowed_then before (Came m ∷ later) e in
       let first = comes_first m q settings.password before (expected_then settings hs expected before m later e) in
       let none : requests_in before ≡ [] = no_more (requests_in before) (omega (arith, are_answered before all, ap length first.0)) in
       no_call (calls_in before) (orderly_from [] before all (λ s. s) refl) (no_turns (calls_in before) (requests_of before ∙ none)) (λ t. open_then before m later e (end_terminates before t))
 
-  in_its_place : (before : List Happening) (m : BackMessage) (later : List Happening) → hs ≡ before ++ Came m ∷ later → (answer_to settings m ≡ []) ⊎ AsksPassword m → (answer_to settings m ≡ []) ⊎ (after_first (calls_in before) ≡ [])
+  in_its_place : (before : List Happening) (m : BackMessage) (later : List Happening) → hs ≡ before ++ Came m ∷ later → (answer_to settings m ≡ []) ⊎ (asks_password m ≡ true) → (answer_to settings m ≡ []) ⊎ (after_first (calls_in before) ≡ [])
   in_its_place before m later e (inl none) = inl none
   in_its_place before m later e (inr q) = inr (asked_first before m later e q)
 

@@ -1,12 +1,11 @@
 -- From message to message: what a client that is fed a piece has gone through.
-use Rattle.std.proofs.Common.{◌≡◌, ℕ, ◌+◌, ◌≤◌, ◌<◌, List, [], ◌∷◌, ◌++◌, length, Bool, true, false, Option, Some, None, Result, Ok, Err, refl, sym, ap, subst, ◌∙◌, append_assoc, arith, length-append, inl, inr, is_some}
-use Rattle.std.specs.Prelude.{◌⊎◌, is_err}
+use Rattle.std.proofs.Common.{◌≡◌, ℕ, ◌+◌, ◌≤◌, ◌<◌, List, [], ◌∷◌, ◌++◌, length, Bool, true, false, Option, Some, None, Result, Ok, Err, refl, sym, ap, subst, ◌∙◌, append_assoc, arith, length-append, is_some}
+use Rattle.std.specs.Prelude.{is_err}
 use Rattle.std.specs.List.{flat_map, AllByRecursion}
 use Rattle.std.proofs.lemmas.Grind.{flat_map-append}
 use Rattle.std.proofs.lemmas.List.{append-nil}
-use Rattle.std.proofs.lemmas.Bool.{cases_lt}
+use Rattle.std.proofs.lemmas.Bool.{false_from_ne_true}
 use Rattle.pg_wire.specs.declared.fault.WireFault.{WireFault}
-use Rattle.pg_wire.specs.declared.fault.WireFault.TheVariants as wire
 use Rattle.pg_wire.specs.lent.Lent.{Lent}
 use Rattle.pg_wire.specs.message.BackMessage.{BackMessage}
 use Rattle.pg_wire.specs.Backend.{backend}
@@ -14,32 +13,29 @@ use Rattle.pg_wire.specs.Direction.{spelling, HasSpelling}
 use Rattle.pg_wire.specs.Frontend.{frontend}
 use Rattle.pg_wire.specs.Segment.{status_of}
 use Rattle.pg_wire.specs.Decoder.{DecoderState, Pushes}
-use Rattle.pg_wire.specs.Stream.{IsStream, IsWithin, IsOpen, IsFaulty}
+use Rattle.pg_wire.specs.Stream.{IsWithin, IsOpen}
+use Rattle.pg_response.proofs.Lists.{all_both, all_weaker, prefix_of}
 use Rattle.pg_client.specs.declared.fault.FeedFault.{FeedFault}
 use Rattle.pg_client.specs.declared.fault.FeedFault.TheVariants as feeding
 use Rattle.pg_client.specs.declared.phase.Cause.{Cause}
 use Rattle.pg_client.specs.declared.phase.Cause.TheVariants as cause
-use Rattle.pg_client.specs.declared.known.Known.{Known}
-use Rattle.pg_client.specs.declared.settings.Settings.{Settings}
 use Rattle.pg_client.specs.declared.stand.Stand.{Stand}
-use Rattle.pg_client.specs.Session.{Happening, Came, Expected, IsTerminated, AreAllowed}
-use Rattle.pg_client.specs.Client.{View, key_said, last_from, option_or, value_said}
-use Rattle.pg_client.specs.Closed.{cause_of, Ends, IsFaultFor, IsKept, IsRefusedAt}
-use Rattle.pg_client.specs.Feed.{FeedAnswers, Feeds, FeedsByCause, FeedsOpen, Hears}
-use Rattle.pg_client.specs.History.{Calls, happenings, History, IsHistoryBefore, merged, with_ends, with_fed, with_heard}
-use Rattle.pg_client.specs.Private.Agreeing.{Agrees, IsLedBy, MayHappen, shown}
-use Rattle.pg_client.specs.Client.{KnowsLast}
-use Rattle.pg_client.specs.Keeping.{AgreesAs, Keeps}
-use Rattle.pg_client.specs.Sent.{answer_to, IsSpelledAt, sent_in}
+use Rattle.pg_client.specs.Session.{Came}
+use Rattle.pg_client.specs.View.{View, key_said, last_from, option_or, value_said}
+use Rattle.pg_client.specs.Closed.{cause_of, Ends, IsKept, IsRefusedAt}
+use Rattle.pg_client.specs.Client.{FeedAnswers, Feeds, FeedsByCause, FeedsOpen, Hears, happenings, History, IsHistoryBefore, merged, with_ends, with_fed, with_heard, Keeps}
+use Rattle.pg_client.specs.Private.Agreeing.{Agrees, shown}
+use Rattle.pg_client.specs.Keeping.{AgreesAs}
+use Rattle.pg_client.specs.Sent.{answer_to, IsSpelledAt}
 use Rattle.pg_client.specs.Stand.{fault_at, hear_with, Stands}
 use Rattle.pg_client.specs.Private.Hearing.{Closes, Cuts, GoesOn, HearsAll, HearsOne, IsHearing}
 use Rattle.pg_client.specs.Private.Sending.{PutsAnswer}
-use Rattle.pg_client.proofs.Calling.Accepting.{allowed_more, not_handed_back, not_terminated_more, sent_more, spelled_more}
+use Rattle.pg_client.proofs.Calling.Accepting.{allowed_more, not_terminated_more, sent_more}
 use Rattle.pg_client.proofs.Standing.Agreeing.{answer_is_said}
 use Rattle.pg_client.proofs.Hearing.Faults.{fault_for, fault_named, IsNamed}
 use Rattle.pg_client.proofs.Events.Happening.{expected_came, hears, Hears as Judges, rejected_unexpected}
 use Rattle.pg_client.proofs.Histories.Seen.{agreeing, seen}
-use Rattle.pg_client.proofs.Histories.Merging.{MadeBefore, merged-came, with_ends-more}
+use Rattle.pg_client.proofs.Histories.Merging.{merged-came, with_ends-more}
 
 -- ---- one more message
 
@@ -47,65 +43,16 @@ last_from-more : {A : Type 0} (says : BackMessage → Option A) (o : Option A) (
 last_from-more says o [] m = refl
 last_from-more says o (x ∷ xs) m = last_from-more says (option_or (says x) o) xs m
 
-made_before_all : (cs : Calls) (before end : ℕ) → before < end → AllByRecursion (λ c. c.1 ≤ before) cs → MadeBefore end cs
-made_before_all [] before end lt h = tt
-made_before_all (x ∷ xs) before end lt h = (omega (arith, h.0, lt), made_before_all xs before end lt h.1)
-
-each_more : (limit : ℕ) (ms : List BackMessage) (m : BackMessage) → AllByRecursion (IsWithin backend limit) ms → IsWithin backend limit m → AllByRecursion (IsWithin backend limit) (ms ++ m ∷ [])
-each_more limit [] m all one = (one, tt)
-each_more limit (x ∷ xs) m all one = (all.0, each_more limit xs m all.1 one)
-
--- ---- the end of a piece
-
-places_more : (cs : Calls) (m n : ℕ) → m ≤ n → AllByRecursion (λ c. c.1 ≤ m) cs → AllByRecursion (λ c. c.1 ≤ n) cs
-places_more [] m n le h = tt
-places_more (x ∷ xs) m n le h = (omega (arith, le, h.0), places_more xs m n le h.1)
-
-abbrev pub NamedEnds : Settings → List Happening → List ℕ → List ℕ → Option Cause → Type 0
-NamedEnds settings hs rest kept None = ⊥
-NamedEnds settings hs rest kept (Some c) = (c ≡ cause.Terminated → ⊥) × Ends settings hs rest kept (Some c)
-
-named_ends : (settings : Settings) (hs : List Happening) (rest kept : List ℕ) (f : FeedFault) → IsNamed f → IsRefusedAt settings hs rest f → NamedEnds settings hs rest kept (cause_of f)
-named_ends settings hs rest kept (feeding.Unexpected t) n h = (λ e. cc, (feeding.Unexpected t, refl, h))
-named_ends settings hs rest kept (feeding.UnsupportedAuth c) n h = (λ e. cc, (feeding.UnsupportedAuth c, refl, h))
-named_ends settings hs rest kept feeding.PasswordWanted n h = (λ e. cc, (feeding.PasswordWanted, refl, h))
-named_ends settings hs rest kept (feeding.StartupError fields) n h = (λ e. cc, (feeding.StartupError fields, refl, h))
-named_ends settings hs rest kept (feeding.ServerEnd fields) n h = (λ e. cc, (feeding.ServerEnd fields, refl, h))
-named_ends settings hs rest kept _ n h = absurd n
-
-named_answers : (settings : Settings) (hs : List Happening) (rest piece : List ℕ) (f : FeedFault) (closed : Option Cause) → IsNamed f → IsRefusedAt settings hs rest f → closed ≡ cause_of f → FeedAnswers settings hs rest piece (Err f) closed
-named_answers settings hs rest piece (feeding.Unexpected t) closed n h e = (h, e)
-named_answers settings hs rest piece (feeding.UnsupportedAuth c) closed n h e = (h, e)
-named_answers settings hs rest piece feeding.PasswordWanted closed n h e = (h, e)
-named_answers settings hs rest piece (feeding.StartupError fields) closed n h e = (h, e)
-named_answers settings hs rest piece (feeding.ServerEnd fields) closed n h e = (h, e)
-named_answers settings hs rest piece _ closed n h e = absurd n
-
 pub some_bytes : (m : BackMessage) → 0 < length (spelling backend m)
 some_bytes m = omega arith
 
 pub shorter : (m : BackMessage) (kept left : List ℕ) → kept ≡ spelling backend m ++ left → length left < length kept
 shorter m kept left e = omega (arith, ap length e, length-append (spelling backend m) left, some_bytes m)
 
-pub prefix_of : (xs ys zs ws : List ℕ) → xs ++ ys ≡ zs ++ ws → length zs ≤ length xs → (us : List ℕ) × (xs ≡ zs ++ us)
-prefix_of xs ys [] ws e le = (xs, refl)
-prefix_of [] ys (z ∷ zs) ws e le = absurd (omega (arith, le))
-prefix_of (x ∷ xs) ys (z ∷ zs) ws e le =
-    let tail : xs ++ ys ≡ zs ++ ws = cc in
-    let head : x ≡ z = cc in
-    let r = prefix_of xs ys zs ws tail (omega (arith, le)) in
-    (r.0, ap (λ (y : ℕ). y ∷ xs) head ∙ ap (λ (us : List ℕ). z ∷ us) r.1)
-
 not_before : (limit : ℕ) (rest piece : List ℕ) (m : BackMessage) (more : List ℕ) → IsOpen backend limit rest → IsWithin backend limit m → rest ++ piece ≡ spelling backend m ++ more → length rest < length (spelling backend m)
-not_before limit rest piece m more open_rest within e = by (cases_lt (length rest) (length (spelling backend m)))
-  where
-    by : (length rest < length (spelling backend m)) ⊎ (length (spelling backend m) ≤ length rest) → length rest < length (spelling backend m)
-    by (inl lt) = lt
-    by (inr le) = (let u = prefix_of rest piece (spelling backend m) more e le in absurd (open_rest.no_message m u.0 within u.1))
-
-ended_kept : (settings : Settings) (hs : List Happening) (rest kept : List ℕ) (closed : Option Cause) → closed ≡ None → Ends settings hs rest kept closed → IsKept settings.limit rest kept
-ended_kept settings hs rest kept None none h = h
-ended_kept settings hs rest kept (Some c) none h = absurd cc
+not_before limit rest piece m more open_rest within e =
+    let whole : length (spelling backend m) ≤ length rest → ⊥ = (λ le. let u = prefix_of rest piece (spelling backend m) more e le in open_rest.no_message m u.0 within u.1) in
+    grind (arith, whole)
 
 module _ {K : Type 0} (way : Keeps K) (law : AgreesAs way) where
   -- ---- one more message
@@ -115,7 +62,7 @@ module _ {K : Type 0} (way : Keeps K) (law : AgreesAs way) where
     pub came : merged past.calls (with_ends 0 (past.heard ++ m ∷ [])) ≡ happenings past ++ Came m ∷ []
     came = ap (merged past.calls) (with_ends-more 0 past.heard m)
         ∙ merged-came past.calls m (0 + length (flat_map (spelling backend) past.heard) + length (spelling backend m)) (with_ends 0 past.heard)
-        (made_before_all past.calls before (0 + length (flat_map (spelling backend) past.heard) + length (spelling backend m)) (omega (arith, r.late m more cuts.within cuts.begins)) r.places)
+        (all_weaker (λ c. c.1 ≤ before) (λ c. c.1 < 0 + length (flat_map (spelling backend) past.heard) + length (spelling backend m)) (λ c le. omega (arith, le, r.late m more cuts.within cuts.begins)) past.calls r.places)
 
     pub heard_bytes : flat_map (spelling backend) (past.heard ++ m ∷ []) ≡ flat_map (spelling backend) past.heard ++ spelling backend m
     heard_bytes = flat_map-append (spelling backend) past.heard (m ∷ []) ∙ ap (λ (bs : List ℕ). flat_map (spelling backend) past.heard ++ bs) (append-nil (spelling backend m))
@@ -136,34 +83,29 @@ module _ {K : Type 0} (way : Keeps K) (law : AgreesAs way) where
     heard_one new settings kept is_open one spelled =
         let hs = happenings past in
         let j = subst (Judges client.settings.password hs m) one.led judged in
-        let at : (l : ℕ) → l ≡ client.settings.limit → IsStream backend l past.fed (past.heard ++ m ∷ []) more = (λ l e. record {
-          whole = r.stream.whole ∙ (ap (λ (bs : List ℕ). flat_map (spelling backend) past.heard ++ bs) cuts.begins ∙ (sym (append_assoc (flat_map (spelling backend) past.heard) (spelling backend m) more) ∙ ap (λ (bs : List ℕ). bs ++ more) (sym heard_bytes)));
-          each = each_more l past.heard m (subst (λ (x : ℕ). AllByRecursion (IsWithin backend x) past.heard) (sym e) r.stream.each) (subst (λ (x : ℕ). IsWithin backend x m) (sym e) cuts.within);
-        }) in
         record {
-          stream = subst (λ (bs : List ℕ). IsStream backend new.settings.limit past.fed (past.heard ++ m ∷ []) bs) (sym kept) (at new.settings.limit (ap (λ (x : Settings). x.limit) settings));
+          stream = rw (settings, kept) (record {
+            whole = r.stream.whole ∙ ap (λ (bs : List ℕ). flat_map (spelling backend) past.heard ++ bs) cuts.begins ∙ sym (append_assoc (flat_map (spelling backend) past.heard) (spelling backend m) more) ∙ ap (λ (bs : List ℕ). bs ++ more) (sym heard_bytes);
+            each = all_both (IsWithin backend client.settings.limit) past.heard (m ∷ []) r.stream.each (cuts.within, tt);
+          });
           places = r.places;
           ordered = r.ordered;
           happened = record {
-            allowed = subst AreAllowed (sym came) (allowed_more hs (Came m) r.happened.allowed tt);
-            expected = subst (λ (x : Settings). Expected x.password (merged past.calls (with_ends 0 (past.heard ++ m ∷ [])))) (sym settings)
-                (subst (Expected client.settings.password) (sym came) (expected_came client.settings.password hs m new.known.stand r.happened.expected j.0 j.1 j.2));
-            sent_is = ap (λ (bs : List ℕ). bs ++ flat_map (spelling frontend) (answer_to client.settings m)) r.happened.sent_is
-                ∙ (sym (sent_more client.settings hs (Came m)) ∙ (ap (sent_in client.settings) (sym came) ∙ ap (λ (x : Settings). sent_in x (merged past.calls (with_ends 0 (past.heard ++ m ∷ [])))) (sym settings)));
-            spelled = subst (λ (x : Settings). AllByRecursion (IsSpelledAt x) (merged past.calls (with_ends 0 (past.heard ++ m ∷ [])))) (sym settings)
-                (subst (AllByRecursion (IsSpelledAt client.settings)) (sym came) (spelled_more client.settings hs (Came m) r.happened.spelled spelled));
+            allowed = rw came (allowed_more hs (Came m) r.happened.allowed tt);
+            expected = rw (settings, came) (expected_came client.settings.password hs m new.known.stand r.happened.expected j.0 j.1 j.2);
+            sent_is = rw (settings, came) (ap (λ (bs : List ℕ). bs ++ flat_map (spelling frontend) (answer_to client.settings m)) r.happened.sent_is ∙ sym (sent_more client.settings hs (Came m)));
+            spelled = rw (settings, came) (all_both (IsSpelledAt client.settings) hs (Came m ∷ []) r.happened.spelled (spelled, tt));
           };
           within = r.within;
           late = λ n others w e. omega (arith, r.late m more cuts.within cuts.begins, ap length heard_bytes, length-append (flat_map (spelling backend) past.heard) (spelling backend m));
           is_open = is_open;
           not_handed_back = r.not_handed_back;
-          not_terminated = subst (λ (x : List Happening). IsTerminated x → ⊥) (sym came) (not_terminated_more hs (Came m) r.not_terminated (λ t. t));
+          not_terminated = rw came (not_terminated_more hs (Came m) r.not_terminated (λ t. t));
           led = record {
             was = new.known.stand;
-            stands = subst (λ (x : List Happening). Stands x new.known.stand) (sym came) j.0;
-            now = ap (λ (b : Bool). shown b new.known.stand) (sym r.not_handed_back);
-            kept = subst (way.tells new.known.keeper new.known.stand past.given) (sym came)
-                (one.keeps past.given hs (subst (Stands hs) (sym here) r.led.stands) (subst (λ (s : Stand). way.tells client.known.keeper s past.given hs) (sym here) r.led.kept));
+            stands = rw came j.0;
+            now = rw r.not_handed_back refl;
+            kept = rw came (one.keeps past.given hs (subst (Stands hs) (sym here) r.led.stands) (subst (λ (s : Stand). way.tells client.known.keeper s past.given hs) (sym here) r.led.kept));
             knows = record {
               status = one.status ∙ (ap (option_or (status_of m)) r.led.knows.status ∙ sym (last_from-more status_of None past.heard m));
               parameters = λ name. one.parameters name ∙ (ap (option_or (value_said name m)) (r.led.knows.parameters name) ∙ sym (last_from-more (value_said name) None past.heard m));
@@ -175,40 +117,22 @@ module _ {K : Type 0} (way : Keeps K) (law : AgreesAs way) where
   -- ---- the end of a piece
 
   module _ (before : ℕ) (past : History way.Given) (client : View K) (r : IsHearing way before past client) where
-    pub all_heard : (new : View K) → new ≡ record client { held = new.held } → IsOpen backend client.settings.limit client.kept → Agrees way.tells (record past { rest = client.kept }) new
-    all_heard new same open_rest = subst (Agrees way.tells (record past { rest = client.kept })) (sym same) (record {
-      stream = r.stream;
-      places = places_more past.calls before (length past.fed) r.within r.places;
+    -- a client that stays open, or is closed for a cause of its own, knows what it knew
+    stopped : (new : View K) (o : Option Cause) → new.settings ≡ client.settings → new.known ≡ client.known → new.closed ≡ o → (o ≡ Some cause.Terminated → ⊥) → Ends client.settings (happenings past) client.kept new.kept o → Agrees way.tells (record past { rest = client.kept }) new
+    stopped new o settings known closed other ends = record {
+      stream = rw settings r.stream;
+      places = all_weaker (λ c. c.1 ≤ before) (λ c. c.1 ≤ length past.fed) (λ c le. omega (arith, le, r.within)) past.calls r.places;
       ordered = r.ordered;
-      happened = r.happened;
-      led = record { was = r.led.was; stands = r.led.stands; now = r.led.now; kept = r.led.kept; knows = r.led.knows };
-      ends = subst (Ends client.settings (happenings past) client.kept client.kept) (sym r.is_open) (record { kept_is = refl; is_open = open_rest });
-      terminated = (λ t. absurd (r.not_terminated t), λ e. absurd (let k : None ≡ Some cause.Terminated = sym r.is_open ∙ e in cc));
+      happened = rw settings r.happened;
+      led = record { was = r.led.was; stands = r.led.stands; now = rw known r.led.now; kept = rw known r.led.kept; knows = rw known r.led.knows };
+      ends = rw (settings, closed) ends;
+      terminated = (λ t. absurd (r.not_terminated t), λ e. absurd (other (sym closed ∙ e)));
       lost = λ yes. absurd (let k : true ≡ false = sym yes ∙ r.not_handed_back in cc);
-    })
+    }
 
-    -- a client that is closed for a cause of its own knows what it knew
-    closed_history : (new : View K) (c : Cause) → new.settings ≡ client.settings → new.known ≡ client.known → new.closed ≡ Some c → (c ≡ cause.Terminated → ⊥) → Ends client.settings (happenings past) client.kept new.kept (Some c) → Agrees way.tells (record past { rest = client.kept }) new
-    closed_history new c settings known is other ends =
-        let at : (x : Settings) → x ≡ client.settings → IsStream backend x.limit past.fed past.heard client.kept × MayHappen x (happenings past) past.sent × Ends x (happenings past) client.kept new.kept (Some c) =
-        (λ x e. subst (λ (y : Settings). IsStream backend y.limit past.fed past.heard client.kept × MayHappen y (happenings past) past.sent × Ends y (happenings past) client.kept new.kept (Some c)) (sym e) (r.stream, r.happened, ends)) in
-        let same = at new.settings settings in
-        record {
-          stream = same.0;
-          places = places_more past.calls before (length past.fed) r.within r.places;
-          ordered = r.ordered;
-          happened = same.1;
-          led = record {
-            was = r.led.was;
-            stands = r.led.stands;
-            now = ap (λ (k : Known K). k.stand) known ∙ r.led.now;
-            kept = subst (λ (k : Known K). way.tells k.keeper r.led.was past.given (happenings past)) (sym known) r.led.kept;
-            knows = subst (λ (k : Known K). KnowsLast past.heard k.status k.parameters k.key) (sym known) r.led.knows;
-          };
-          ends = subst (Ends new.settings (happenings past) client.kept new.kept) (sym is) same.2;
-          terminated = (λ t. absurd (r.not_terminated t), λ e. absurd (other (let k : Some c ≡ Some cause.Terminated = sym is ∙ e in cc)));
-          lost = λ yes. absurd (let k : true ≡ false = sym yes ∙ r.not_handed_back in cc);
-        }
+    pub all_heard : (new : View K) → new ≡ record client { held = new.held } → IsOpen backend client.settings.limit client.kept → Agrees way.tells (record past { rest = client.kept }) new
+    all_heard new same open_rest =
+        stopped new None (ap (λ (v : View K). v.settings) same) (ap (λ (v : View K). v.known) same) (ap (λ (v : View K). v.closed) same ∙ r.is_open) (λ e. cc) (record { kept_is = ap (λ (v : View K). v.kept) same; is_open = open_rest })
 
     -- ---- a fault
 
@@ -216,46 +140,32 @@ module _ {K : Type 0} (way : Keeps K) (law : AgreesAs way) where
       abbrev ClosesSo : FeedFault → View K → Type 0
       ClosesSo f new = Agrees way.tells (record past { rest = client.kept }) new × FeedAnswers new.settings (happenings past) client.kept piece (Err f) new.closed
 
-      named_closes : (f : FeedFault) (new : View K) → IsNamed f → IsRefusedAt client.settings (happenings past) client.kept f → Closes client f new → ClosesSo f new
-      named_closes f new n refused h = (
-        by (cause_of f) refl (named_ends client.settings (happenings past) client.kept new.kept f n refused),
-        named_answers new.settings (happenings past) client.kept piece f new.closed n (subst (λ (x : Settings). IsRefusedAt x (happenings past) client.kept f) (sym h.settings) refused) h.closed,
-      )
-        where
-          by : (o : Option Cause) → cause_of f ≡ o → NamedEnds client.settings (happenings past) client.kept new.kept o → Agrees way.tells (record past { rest = client.kept }) new
-          by None is k = absurd k
-          by (Some c) is k = closed_history new c h.settings h.known (h.closed ∙ is) k.0 k.1
-
       -- a whole message that isn't heard ends in the piece
       some_piece : (m : BackMessage) (rest : List ℕ) → Cuts client m rest → 0 < length piece
       some_piece m rest cuts =
           omega (arith, of_piece, ap length r.stream.whole, length-append (flat_map (spelling backend) past.heard) client.kept, ap length cuts.begins, length-append (spelling backend m) rest, r.late m rest cuts.within cuts.begins)
 
-      refused_at : (f : FeedFault) (m : BackMessage) (rest : List ℕ) → Cuts client m rest → hear_with client.settings.password client.known.stand m ≡ None → f ≡ fault_at client.known.stand m → IsNamed f × IsRefusedAt client.settings (happenings past) client.kept f
+      refused_at : (f : FeedFault) (m : BackMessage) (rest : List ℕ) → Cuts client m rest → hear_with client.settings.password client.known.stand m ≡ None → f ≡ fault_at client.known.stand m → IsRefusedAt client.settings (happenings past) client.kept f
       refused_at f m rest cuts none is =
           let hs = happenings past in
-          let there = subst (Stands hs) (sym (r.led.now ∙ ap (λ (b : Bool). shown b r.led.was) r.not_handed_back)) r.led.stands in (
-            subst IsNamed (sym is) (fault_named client.known.stand m),
-            record {
-              message = m;
-              more = rest;
-              begins = cuts.begins;
-              within = cuts.within;
-              not_expected = rejected_unexpected client.settings.password hs m client.known.stand (answer_is_said hs r.happened.expected.after r.happened.allowed) there none;
-              fault = subst (IsFaultFor client.settings.password hs m) (sym is) (fault_for client.settings.password hs client.known.stand m there none);
-            },
-          )
+          let there = subst (Stands hs) (sym (r.led.now ∙ ap (λ (b : Bool). shown b r.led.was) r.not_handed_back)) r.led.stands in
+          record {
+            message = m;
+            more = rest;
+            begins = cuts.begins;
+            within = cuts.within;
+            not_expected = rejected_unexpected client.settings.password hs m client.known.stand (answer_is_said hs r.happened.expected.after r.happened.allowed) there none;
+            fault = rw is (fault_for client.settings.password hs client.known.stand m there none);
+          }
 
       pub fault_closes : (f : FeedFault) (new : View K) → Closes client f new → ClosesSo f new
-      fault_closes (feeding.Wire w) new h = (
-        closed_history new cause.Wire h.settings h.known h.closed (λ e. cc) (w, h.refused),
-        (subst (λ (x : Settings). IsFaulty backend x.limit client.kept w) (sym h.settings) h.refused, h.closed),
-      )
-      fault_closes feeding.Memory new h =
-          (closed_history new cause.Memory h.settings h.known h.closed (λ e. cc) tt, (some_piece h.refused.0 h.refused.1 h.refused.2, h.closed))
+      fault_closes (feeding.Wire w) new h = (stopped new (Some cause.Wire) h.settings h.known h.closed (λ e. cc) (w, h.refused), (rw h.settings h.refused, h.closed))
+      fault_closes feeding.Memory new h = (stopped new (Some cause.Memory) h.settings h.known h.closed (λ e. cc) tt, (some_piece h.refused.0 h.refused.1 h.refused.2, h.closed))
+      fault_closes feeding.Closed new h = absurd (subst IsNamed (sym h.refused.4) (fault_named client.known.stand h.refused.0))
+      -- any other has a name of its own
       fault_closes f new h =
-          let k = refused_at f h.refused.0 h.refused.1 h.refused.2 h.refused.3 h.refused.4 in
-          named_closes f new k.0 k.1 h
+          let refused = refused_at f h.refused.0 h.refused.1 h.refused.2 h.refused.3 h.refused.4 in
+          (stopped new (cause_of f) h.settings h.known h.closed (λ e. cc) (f, refl, refused), (rw h.settings refused, h.closed))
 
   -- ---- from message to message
 
@@ -271,18 +181,7 @@ module _ {K : Type 0} (way : Keeps K) (law : AgreesAs way) where
 
   -- the rest of a history that goes on is what the client keeps
   at_rest : (before : ℕ) (past : History way.Given) (client : View K) (rest : List ℕ) → IsHearing way before past client → IsHearing way before (record past { rest = rest }) client
-  at_rest before past client rest r = record {
-    stream = r.stream;
-    places = r.places;
-    ordered = r.ordered;
-    happened = r.happened;
-    within = r.within;
-    late = r.late;
-    is_open = r.is_open;
-    not_handed_back = r.not_handed_back;
-    not_terminated = r.not_terminated;
-    led = record { was = r.led.was; stands = r.led.stands; now = r.led.now; kept = r.led.kept; knows = r.led.knows };
-  }
+  at_rest before past client rest r = search
 
   pub goes_from : (old : View K) (start : List ℕ) → GoesOn way old old start start
   goes_from old start = record {
@@ -314,7 +213,7 @@ module _ {K : Type 0} (way : Keeps K) (law : AgreesAs way) where
     put = g.put;
     hears = λ before past piece of_piece r.
         let k = g.history before past r in
-        record { more = k.0; rest = now.kept; history = seen way law (with_heard k.0 now.kept g.added past) new (all_heard before (with_heard k.0 now.kept g.added past) now k.1 new same open_rest); answers = ap (λ (v : View K). v.closed) same ∙ k.1.is_open };
+        record { more = k.0; rest = now.kept; history = seen way law (with_heard k.0 now.kept g.added past) new (all_heard before (with_heard k.0 now.kept g.added past) now k.1 new same open_rest); answers = subst (λ (v : View K). IsOpen backend v.settings.limit now.kept × (v.closed ≡ None)) (sym same) (open_rest, k.1.is_open) };
   }
 
   -- a message was refused
@@ -332,26 +231,14 @@ module _ {K : Type 0} (way : Keeps K) (law : AgreesAs way) where
 
   module _ (h : History way.Given) (old : View K) (none : old.closed ≡ None) (r : Agrees way.tells h old) (piece : List ℕ) where
     kept_open : IsKept old.settings.limit h.rest old.kept
-    kept_open = ended_kept old.settings (happenings h) h.rest old.kept old.closed none r.ends
+    kept_open = subst (Ends old.settings (happenings h) h.rest old.kept) none r.ends
 
     nothing_back : h.handed_back ≡ false
-    nothing_back = not_handed_back h.handed_back (λ yes. r.lost yes none)
-
-    stream_more : IsStream backend old.settings.limit (h.fed ++ piece) h.heard (h.rest ++ piece)
-    stream_more = record { whole = ap (λ (bs : List ℕ). bs ++ piece) r.stream.whole ∙ append_assoc (flat_map (spelling backend) h.heard) h.rest piece; each = r.stream.each }
-
-    led_more : (client : View K) → client.known ≡ old.known → IsLedBy way.tells (with_fed piece h) client
-    led_more client same = record {
-      was = r.led.was;
-      stands = r.led.stands;
-      now = ap (λ (k : Known K). k.stand) same ∙ r.led.now;
-      kept = subst (λ (k : Known K). way.tells k.keeper r.led.was h.given (happenings h)) (sym same) r.led.kept;
-      knows = subst (λ (k : Known K). KnowsLast h.heard k.status k.parameters k.key) (sym same) r.led.knows;
-    }
+    nothing_back = false_from_ne_true h.handed_back (λ yes. r.lost yes none)
 
     pub hearing : IsHearing way (length h.fed) (with_fed piece h) (record old { kept = old.kept ++ piece })
     hearing = record {
-      stream = subst (λ (bs : List ℕ). IsStream backend old.settings.limit (h.fed ++ piece) h.heard (bs ++ piece)) (sym kept_open.kept_is) stream_more;
+      stream = record { whole = rw kept_open.kept_is (ap (λ (bs : List ℕ). bs ++ piece) r.stream.whole ∙ append_assoc (flat_map (spelling backend) h.heard) h.rest piece); each = r.stream.each };
       places = r.places;
       ordered = r.ordered;
       happened = r.happened;
@@ -362,24 +249,16 @@ module _ {K : Type 0} (way : Keeps K) (law : AgreesAs way) where
       is_open = none;
       not_handed_back = nothing_back;
       not_terminated = (λ t. let e : old.closed ≡ Some cause.Terminated = r.terminated.0 t in cc);
-      led = led_more (record old { kept = old.kept ++ piece }) refl;
+      led = search;
     }
 
     -- memory ran out before a message was heard
     pub starved : (new : View K) → new.settings ≡ old.settings → new.known ≡ old.known → new.closed ≡ Some cause.Memory → 0 < length piece → Hears way (with_fed piece h) piece [] (Err feeding.Memory) new
     starved new settings known closed some = record {
       more = [];
-      rest = h.rest ++ piece;
-      history = seen way law (with_heard [] (h.rest ++ piece) [] (with_fed piece h)) new (subst (λ (x : History way.Given). Agrees way.tells x new) (nothing_heard (with_fed piece h) (h.rest ++ piece)) (record {
-        stream = subst (λ (x : Settings). IsStream backend x.limit (h.fed ++ piece) h.heard (h.rest ++ piece)) (sym settings) stream_more;
-        places = places_more h.calls (length h.fed) (length (h.fed ++ piece)) (omega (arith, length-append h.fed piece)) r.places;
-        ordered = r.ordered;
-        happened = subst (λ (x : Settings). MayHappen x (happenings h) h.sent) (sym settings) r.happened;
-        led = led_more new known;
-        ends = subst (Ends new.settings (happenings h) (h.rest ++ piece) new.kept) (sym closed) tt;
-        terminated = (λ t. absurd (let e : old.closed ≡ Some cause.Terminated = r.terminated.0 t in cc), λ e. absurd (let k : Some cause.Memory ≡ Some cause.Terminated = sym closed ∙ e in cc));
-        lost = λ yes. absurd (let k : true ≡ false = sym yes ∙ nothing_back in cc);
-      }));
+      rest = old.kept ++ piece;
+      history = seen way law (with_heard [] (old.kept ++ piece) [] (with_fed piece h)) new
+          (subst (λ (x : History way.Given). Agrees way.tells x new) (nothing_heard (with_fed piece h) (old.kept ++ piece)) (stopped (length h.fed) (with_fed piece h) (record old { kept = old.kept ++ piece }) hearing new (Some cause.Memory) settings known closed (λ e. cc) tt));
       answers = (some, closed);
     }
 
@@ -389,16 +268,7 @@ module _ {K : Type 0} (way : Keeps K) (law : AgreesAs way) where
 
   -- what it lends doesn't matter
   lends : (h : History way.Given) (v : View K) (held : Option Lent) → Agrees way.tells h v → Agrees way.tells h (record v { held = held })
-  lends h v held r = record {
-    stream = r.stream;
-    places = r.places;
-    ordered = r.ordered;
-    happened = r.happened;
-    led = record { was = r.led.was; stands = r.led.stands; now = r.led.now; kept = r.led.kept; knows = r.led.knows };
-    ends = r.ends;
-    terminated = r.terminated;
-    lost = r.lost;
-  }
+  lends h v held r = search
 
   -- a piece is kept, and still to be heard
   abbrev pub keeping : View K → List ℕ → View K
@@ -456,16 +326,12 @@ module _ {K : Type 0} (way : Keeps K) (law : AgreesAs way) (v old : View K) (sam
       (subst (λ (o : Option Lent). HearsAll way (record v { kept = v.kept ++ piece; held = o }) result new before after) lends_none (subst (λ (bs : List ℕ). HearsAll way (record v { kept = bs; held = held }) result new before after) is all)))
 
 pub none_by_test : (o : Option Cause) → is_some o ≡ false → o ≡ None
-none_by_test None e = refl
-none_by_test (Some c) e = absurd cc
+none_by_test o e = grind arith
 
 -- ---- what pushing the piece did
 
 pub push_refused : (old : DecoderState) (piece : List ℕ) (r : Result Unit WireFault) (new : DecoderState) → is_err r ≡ true → Pushes old piece r new → new.kept ≡ old.kept
-push_refused old piece (Ok x) new e h = absurd cc
-push_refused old piece (Err wire.Memory) new e h = ap (λ (d : DecoderState). d.kept) h.2
-push_refused old piece (Err f) new e h = ap (λ (d : DecoderState). d.kept) h.1
+push_refused old piece r new e h = grind arith
 
 pub pushed : (old : DecoderState) (piece : List ℕ) (r : Result Unit WireFault) (new : DecoderState) → is_err r ≡ false → Pushes old piece r new → new.kept ≡ old.kept ++ piece
-pushed old piece (Ok x) new e h = ap (λ (d : DecoderState). d.kept) h.1
-pushed old piece (Err f) new e h = absurd cc
+pushed old piece r new e h = grind arith

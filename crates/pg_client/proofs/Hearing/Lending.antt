@@ -1,5 +1,5 @@
 -- Taking items one by one: what of the bytes was heard up to one, and what is still to be heard.
-use Rattle.std.proofs.Common.{◌≡◌, ℕ, ◌<◌, List, [], ◌∷◌, ◌++◌, length, Bool, true, false, Option, Some, None, Result, Ok, Err, refl, sym, ap, subst, ◌∙◌, append_assoc, arith, length-append}
+use Rattle.std.proofs.Common.{◌≡◌, ℕ, ◌+◌, ◌≤◌, ◌<◌, List, [], ◌∷◌, ◌++◌, length, Bool, true, Option, Some, None, Result, Ok, Err, refl, sym, ap, subst, ◌∙◌, append_assoc, arith, length-append}
 use Rattle.std.specs.Prelude.{cond, is_err}
 use Rattle.std.specs.List.{flat_map}
 use Rattle.std.proofs.lemmas.List.{append-nil, append_cancel_left}
@@ -15,9 +15,9 @@ use Rattle.pg_wire.specs.Decoder.{DecoderState}
 use Rattle.pg_wire.specs.Decoder.{Pushes as DecoderPushes}
 use Rattle.pg_wire.specs.Direction.{spelling}
 use Rattle.pg_wire.specs.Frontend.{frontend}
-use Rattle.pg_wire.specs.Stream.{IsOpen}
+use Rattle.pg_wire.specs.Stream.{IsOpen, IsStream, IsWithin}
 use Rattle.pg_wire.proofs.Rests.{short_open}
-use Rattle.pg_response.specs.Collected.{RowValues}
+use Rattle.pg_response.proofs.Lists.{prefix_of}
 use Rattle.pg_client.specs.declared.connection.feed.Heard.TheVariants as heard
 use Rattle.pg_client.specs.declared.fault.FeedFault.{FeedFault}
 use Rattle.pg_client.specs.declared.fault.FeedFault.TheVariants as feeding
@@ -28,19 +28,18 @@ use Rattle.pg_client.specs.declared.next.Next.TheVariants as next
 use Rattle.pg_client.specs.declared.phase.Cause.{Cause}
 use Rattle.pg_client.specs.declared.phase.Cause.TheVariants as cause
 use Rattle.pg_client.specs.declared.stand.Stand.{Stand}
-use Rattle.pg_client.specs.Client.{EarlyView, View, items_waiting, lent_row, row_at, with_items}
+use Rattle.pg_client.specs.View.{EarlyView, View, items_waiting, lent_row, row_at, with_items}
 use Rattle.pg_client.specs.Closed.{cause_of}
-use Rattle.pg_client.specs.History.{Carries, History, IsHistoryBefore, happenings, with_fed, with_given, with_heard}
-use Rattle.pg_client.specs.Keeping.{AgreesAs, Keeps, items_in, queueing}
-use Rattle.pg_client.specs.Feed.{Hears}
+use Rattle.pg_client.specs.Client.{Carries, History, IsHistoryBefore, happenings, with_fed, with_given, with_heard, Keeps, Hears}
+use Rattle.pg_client.specs.Keeping.{AgreesAs, items_in, queueing}
 use Rattle.pg_client.specs.Lent.{HearsRest, HearsSome, HearsUpTo, Pushes, PushesBy}
-use Rattle.pg_client.specs.Session.{Happening, Came, can_answer}
+use Rattle.pg_client.specs.Session.{Happening, Came}
 use Rattle.pg_client.specs.Sent.{answer_to}
-use Rattle.pg_client.specs.Stand.{hear, Stands}
+use Rattle.pg_client.specs.Stand.{can_answer, hear, Stands}
 use Rattle.pg_client.specs.Private.Hearing.{Cuts, GoesOn, HearsAll, HearsNext, HearsOne, IsHearing, IsRefused, PassesRow}
 use Rattle.pg_client.specs.Private.Sending.{PutsAnswer}
 use Rattle.pg_client.proofs.Hearing.Faults.{fault_named, IsNamed}
-use Rattle.pg_client.proofs.Hearing.Feeding.{all_heard, came, goes_end, goes_fault, heard_bytes, heard_one, heard_twice, hears_rest, here, prefix_of, some_bytes, starves, to_hear}
+use Rattle.pg_client.proofs.Hearing.Feeding.{all_heard, came, goes_end, goes_fault, heard_bytes, heard_one, heard_twice, hears_rest, here, some_bytes, starves, to_hear}
 use Rattle.pg_client.proofs.Histories.Lifetime.{taken}
 use Rattle.pg_client.proofs.Histories.Seen.{seen}
 use Rattle.pg_client.proofs.Hearing.Messages.{rejected_with, row_fault}
@@ -73,18 +72,12 @@ module _ {K : Type 0} (way : Keeps K) (law : AgreesAs way) where
       }
     where
       up_to : (taken : List ℕ) → flat_map (spelling backend) (h.heard ++ more) ≡ h.fed ++ taken → IsHearing way (length h.fed) (with_heard more [] added (with_fed taken h)) (record now { kept = [] })
-      up_to taken e = record {
-        stream = record { whole = sym e ∙ sym (append-nil (flat_map (spelling backend) (h.heard ++ more))); each = r.stream.each };
-        places = r.places;
-        ordered = r.ordered;
-        happened = r.happened;
-        within = omega (arith, length-append h.fed taken);
-        late = λ m after within begins. absurd (omega (arith, ap length begins, length-append (spelling backend m) after, some_bytes m));
-        is_open = r.is_open;
-        not_handed_back = r.not_handed_back;
-        not_terminated = r.not_terminated;
-        led = record { was = r.led.was; stands = r.led.stands; now = r.led.now; kept = r.led.kept; knows = r.led.knows };
-      }
+      up_to taken e =
+          let stream : IsStream backend now.settings.limit (h.fed ++ taken) (h.heard ++ more) [] = record { whole = sym e ∙ sym (append-nil (flat_map (spelling backend) (h.heard ++ more))); each = r.stream.each } in
+          let within : length h.fed ≤ length (h.fed ++ taken) = omega (arith, length-append h.fed taken) in
+          let late : (m : BackMessage) (after : List ℕ) → IsWithin backend now.settings.limit m → [] ≡ spelling backend m ++ after → length h.fed < length (flat_map (spelling backend) (h.heard ++ more)) + length (spelling backend m) =
+          (λ m after within begins. absurd (omega (arith, ap length begins, length-append (spelling backend m) after, some_bytes m))) in
+          search (stream, within, late)
 
 -- ---- past one message
 
@@ -105,8 +98,7 @@ pub record GoesPast (m : BackMessage) (old now : EarlyView) (start out : List �
   pub history : (before : ℕ) (past : History Item) → IsHearing queueing before past old → HearsPast m before past added now
 
 answered : (b : Bool) (o : Option Stand) (s : Stand) → cond b o None ≡ Some s → o ≡ Some s
-answered true o s e = e
-answered false o s e = absurd cc
+answered b o s e = grind arith
 
 -- what waits then are the items of the message
 waits_now : (given was now before after items : List Item) → was ≡ [] → given ++ was ≡ before → given ++ now ≡ after → after ≡ before ++ items → now ≡ items
@@ -175,20 +167,9 @@ all_rest old r new before after none empty all unread h b = record { added = all
 lends_none : (new : EarlyView) (c : Cause) → new.closed ≡ Some c → lent_row new ≡ None
 lends_none new c is = ap (λ (o : Option Cause). row_at o new.held) is
 
-named_cause : (f : FeedFault) → IsNamed f → (c : Cause) × (cause_of f ≡ Some c)
-named_cause (feeding.Wire f) n = absurd n
-named_cause (feeding.Unexpected t) n = (cause.Unexpected, refl)
-named_cause (feeding.UnsupportedAuth code) n = (cause.UnsupportedAuth, refl)
-named_cause feeding.PasswordWanted n = (cause.PasswordWanted, refl)
-named_cause (feeding.StartupError fields) n = (cause.StartupError, refl)
-named_cause (feeding.ServerEnd fields) n = (cause.ServerEnd, refl)
-named_cause feeding.Memory n = absurd n
-named_cause feeding.Closed n = absurd n
-
 has_cause : {K : Type 0} (old : View K) (f : FeedFault) → IsRefused old f → (c : Cause) × (cause_of f ≡ Some c)
-has_cause old (feeding.Wire f) h = (cause.Wire, refl)
-has_cause old feeding.Memory h = (cause.Memory, refl)
-has_cause old f h = named_cause f (subst IsNamed (sym h.4) (fault_named old.known.stand h.0))
+has_cause old feeding.Closed h = absurd (subst IsNamed (sym h.4) (fault_named old.known.stand h.0))
+has_cause old f h = (_, refl)
 
 -- ---- what is found
 
@@ -202,9 +183,8 @@ module _ (old now : EarlyView) (start out : List ℕ) (none : old.closed ≡ Non
   -- a message that isn't a row has an item
   pub up_item : (mid new : EarlyView) (t : Item) (end : List ℕ) → HearsNext queueing now (Ok heard.Message) mid out end → items_waiting mid ≡ t ∷ items_waiting new → new ≡ with_items mid (items_waiting new) → HearsUpTo old (Ok (next.Item t)) new start end
   up_item mid new t end (m, no_row, cuts, same, lends, one, put) waits is =
-      let settings : mid.settings ≡ now.settings = ap (λ (v : EarlyView). v.settings) same in
       let closed : mid.closed ≡ now.closed = ap (λ (v : EarlyView). v.closed) same in
-      let past = goes_past m old now mid start out end g empty cuts settings closed one put in
+      let past = goes_past m old now mid start out end g empty cuts (ap (λ (v : EarlyView). v.settings) same) closed one put in
       (ap lent_row is ∙ (ap (λ (o : Option Cause). row_at o mid.held) (closed ∙ is_open) ∙ lends), λ unread h r. let given = gives m old mid new t start end none past waits is unread h r in (λ row e. no_row row (given.1 row e), given.2))
 
   -- a message was refused
@@ -218,41 +198,34 @@ module _ (old now : EarlyView) (start out : List ℕ) (none : old.closed ≡ Non
   pub up_row : (v mid : EarlyView) (passed : Known (List Item)) (end : List ℕ) → HearsNext queueing now (Ok heard.Row) mid out end → v ≡ mid → PassesRow v.known (Ok tt) passed → HearsUpTo old (Ok next.Held) (record v { known = passed }) start end
   up_row v mid passed end (row, same, cuts, put) view passed_it =
       let new : EarlyView = record v { known = passed } in
-      let is : new ≡ record mid { known = passed } = ap (λ (x : EarlyView). record x { known = passed }) view in
-      let passes : PassesRow mid.known (Ok tt) passed = subst (λ (x : EarlyView). PassesRow x.known (Ok tt) passed) view passed_it in
-      let known : mid.known ≡ now.known = ap (λ (x : EarlyView). x.known) same in
+      let at : v ≡ record now { kept = mid.kept; held = Some (lents.Row row) } = view ∙ same in
+      let closed : new.closed ≡ now.closed = ap (λ (x : EarlyView). x.closed) at in
+      let passes : PassesRow now.known (Ok tt) passed = subst (λ (x : EarlyView). PassesRow x.known (Ok tt) passed) at passed_it in
+      let waiting : items_waiting new ≡ [] = ap (λ (k : Known (List Item)). k.keeper) passes.1 ∙ empty in
       -- as if it were kept, and then given
-      let kept : EarlyView = record new { known = record new.known { keeper = Early (back.DataRow row) ∷ [] } } in
-      let settings : new.settings ≡ now.settings = ap (λ (v : EarlyView). v.settings) is ∙ ap (λ (v : EarlyView). v.settings) same in
-      let closed : new.closed ≡ now.closed = ap (λ (v : EarlyView). v.closed) is ∙ ap (λ (v : EarlyView). v.closed) same in
-      let rest : new.kept ≡ mid.kept = ap (λ (v : EarlyView). v.kept) is in
-      let waiting : items_waiting new ≡ [] = ap (λ (k : Known (List Item)). k.keeper) (passes.1 ∙ ap (λ (k : Known (List Item)). record k { stand = new.known.stand }) known) ∙ empty in
-      let one : HearsOne queueing now.settings.password (back.DataRow row) now.known kept.known = keeps_row now.settings.password row now.known new.known (subst (λ (k : Known (List Item)). PassesRow k (Ok tt) new.known) known passes) empty in
-      let past : GoesPast (back.DataRow row) old kept start end = goes_past (back.DataRow row) old now kept start out end g empty (subst (Cuts now (back.DataRow row)) (sym rest) cuts) settings closed one (tt, put ∙ sym (append-nil out)) in
-      let now_held : new.held ≡ Some (lents.Row row) = ap (λ (v : EarlyView). v.held) is ∙ ap (λ (v : EarlyView). v.held) same in (
+      let kept : EarlyView = record new { known = record passed { keeper = Early (back.DataRow row) ∷ [] } } in
+      let past : GoesPast (back.DataRow row) old kept start end =
+      goes_past (back.DataRow row) old now kept start out end g empty (subst (Cuts now (back.DataRow row)) (sym (ap (λ (x : EarlyView). x.kept) at)) cuts) (ap (λ (x : EarlyView). x.settings) at) closed
+      (keeps_row now.settings.password row now.known passed passes empty) (tt, put ∙ sym (append-nil out)) in (
         row,
-        ap (λ (o : Option Cause). row_at o new.held) (closed ∙ is_open) ∙ ap (row_at None) now_held,
+        ap (λ (o : Option Cause). row_at o new.held) (closed ∙ is_open) ∙ ap (λ (x : EarlyView). row_at None x.held) at,
         λ unread h r. (gives (back.DataRow row) old kept new (Early (back.DataRow row)) start end none past (ap (λ (is : List Item). Early (back.DataRow row) ∷ is) (sym waiting)) refl unread h r).2,
       )
 
   -- a row may not come, by the fields of a value that was opened
   pub up_row_fault : (v mid : EarlyView) (passed : Known (List Item)) (new : EarlyView) (f g : FeedFault) (end : List ℕ) → HearsNext queueing now (Ok heard.Row) mid out end → v ≡ mid → PassesRow v.known (Err f) passed → g ≡ f → new ≡ record v { known = passed; closed = cause_of f } → HearsUpTo old (Err g) new start end
   up_row_fault v mid passed new f g end (row, same, cuts, put) view passes fault is =
-      let before : v.known ≡ now.known = ap (λ (x : EarlyView). x.known) view ∙ ap (λ (x : EarlyView). x.known) same in
-      let refused : hear now.known.stand (back.DataRow row) ≡ None = subst (λ (k : Known (List Item)). hear k.stand (back.DataRow row) ≡ None) before (passes.0 row) in
-      subst (λ (x : FeedFault). HearsUpTo old (Err x) new start end) (sym fault)
-      (up_fault new f end (
+      let at : v ≡ record now { kept = mid.kept; held = Some (lents.Row row) } = view ∙ same in
+      let nowhere : hear now.known.stand (back.DataRow row) ≡ None = subst (λ (x : EarlyView). hear x.known.stand (back.DataRow row) ≡ None) at (passes.0 row) in
+      rw fault (up_fault new f end (
         record {
-          refused = refused_row f mid.kept row cuts refused passes.1;
-          settings = ap (λ (x : EarlyView). x.settings) is ∙ (ap (λ (x : EarlyView). x.settings) view ∙ ap (λ (x : EarlyView). x.settings) same);
-          known = ap (λ (x : EarlyView). x.known) is ∙ (passes.2 ∙ before);
+          refused = rw passes.1 (back.DataRow row, mid.kept, cuts, rejected_with now.settings.password now.known.stand (back.DataRow row) nowhere, sym (row_fault queueing now.known.stand row));
+          settings = ap (λ (x : EarlyView). x.settings) is ∙ ap (λ (x : EarlyView). x.settings) at;
+          known = ap (λ (x : EarlyView). x.known) is ∙ passes.2 ∙ ap (λ (x : EarlyView). x.known) at;
           closed = ap (λ (x : EarlyView). x.closed) is;
         },
         put,
       ))
-    where
-      refused_row : (x : FeedFault) (kept : List ℕ) (r : RowValues) → Cuts now (back.DataRow r) kept → hear now.known.stand (back.DataRow r) ≡ None → x ≡ feeding.Unexpected 68 → IsRefused now x
-      refused_row x kept r c nowhere e = subst (IsRefused now) (sym e) (back.DataRow r, kept, c, rejected_with now.settings.password now.known.stand (back.DataRow r) nowhere, sym (row_fault queueing now.known.stand r))
 
 -- ---- push
 

@@ -1,5 +1,5 @@
--- What taking a message in does to what a client knows.
-use Rattle.std.proofs.Common.{◌≡◌, ℕ, ℤ, List, [], ◌++◌, Bool, true, false, cond, Option, Some, None, Result, Ok, Err, refl, sym, ap, subst, ◌∙◌}
+-- What a client finds first among the bytes that it keeps, and what taking that message in does to it.
+use Rattle.std.proofs.Common.{◌≡◌, ℕ, ℤ, List, [], ◌++◌, Bool, false, cond, Option, Some, None, Result, Ok, Err, refl, sym, ap, subst, ◌∙◌, arith, not, ◌<◌, length, inl, inr}
 use Rattle.std.specs.List.{flat_map, AllByRecursion}
 use Rattle.std.specs.Option.{option_map}
 use Rattle.std.proofs.lemmas.List.{append-nil}
@@ -11,7 +11,7 @@ use Rattle.pg_wire.specs.message.FrontMessage.{FrontMessage}
 use Rattle.pg_wire.specs.value.Status.{Status}
 use Rattle.pg_wire.specs.Direction.{spelling, HasSpelling}
 use Rattle.pg_wire.specs.Frontend.{frontend}
-use Rattle.pg_wire.specs.Segment.{asked, status_of}
+use Rattle.pg_wire.specs.Segment.{aside_of, asked, status_of}
 use Rattle.pg_response.specs.declared.place.Place.{Place}
 use Rattle.pg_response.specs.Kind.{is_welcome, IsPart}
 use Rattle.pg_response.specs.declared.mark.Mark.{Mark}
@@ -23,61 +23,66 @@ use Rattle.pg_client.specs.declared.known.Known.{Known}
 use Rattle.pg_client.specs.declared.settings.Settings.{Settings}
 use Rattle.pg_client.specs.declared.stand.CopyAnswer.{CopyAnswer}
 use Rattle.pg_client.specs.declared.stand.Stand.{Stand}
-use Rattle.pg_client.specs.declared.stand.Stand.TheVariants.{New, Starting, Idle, Busy}
+use Rattle.pg_client.specs.declared.stand.Stand.TheVariants.{Starting, Busy}
 use Rattle.pg_client.specs.declared.startup.Welcome.{Welcome}
-use Rattle.pg_client.specs.declared.startup.Welcome.TheVariants.{Fresh, Asked, Admitted}
-use Rattle.pg_client.specs.Client.{key_said, option_or, value_of, value_said}
-use Rattle.pg_client.specs.Keeping.{Keeps}
+use Rattle.pg_client.specs.View.{key_said, option_or, value_of, value_said, View}
+use Rattle.pg_client.specs.Client.{Keeps}
+use Rattle.pg_client.specs.Keeping.{AgreesAs}
 use Rattle.pg_client.specs.Sent.{answer_to}
-use Rattle.pg_client.specs.Session.{can_answer, is_question}
+use Rattle.pg_client.specs.Session.{asks_password}
 use Rattle.pg_client.specs.Stand.{answer_after, fault_at, hear, hear_by, hear_other, hear_with, is_too_early, leads, leads_in, starting_at}
 use Rattle.pg_client.specs.Startup.{greet}
-use Rattle.pg_client.specs.Private.Hearing.{HearsMessage, HearsAlone, HearsOne, KeepsOne, KeepsPart, led_to, PassesRow}
+use Rattle.pg_client.specs.Private.Hearing.{aside_message, HearsMessage, HearsAlone, HearsOne, KeepsOne, KeepsPart, led_to, PassesRow, Closes, Cuts, GoesOn, HearsAll, HearsNext, HearsRow, IsRefused, of_wire, Owns}
 use Rattle.pg_client.specs.Private.Sending.{PutsAnswer}
 use Rattle.pg_client.proofs.Hearing.Faults.{fault_named, IsNamed}
+use Rattle.std.specs.Prelude.{◌⊎◌}
+use Rattle.pg_wire.specs.declared.back.Cut.TheVariants as cut
+use Rattle.pg_wire.specs.declared.fault.WireFault.{WireFault}
+use Rattle.pg_wire.specs.declared.fault.WireFault.TheVariants as wire
+use Rattle.pg_wire.specs.lent.Lent.{Lent}
+use Rattle.pg_wire.specs.lent.Lent.TheVariants as lents
+use Rattle.pg_wire.specs.Backend.{backend}
+use Rattle.pg_wire.specs.BackDecoder.{as_next, BackState, TakesLent}
+use Rattle.pg_wire.specs.Decoder.{Takes}
+use Rattle.pg_wire.specs.Stream.{IsFaulty, IsWithin}
+use Rattle.pg_client.specs.declared.connection.feed.Heard.{Heard}
+use Rattle.pg_client.specs.declared.connection.feed.Heard.TheVariants as heard
+use Rattle.pg_client.specs.declared.phase.Cause.{Cause}
+use Rattle.pg_client.specs.Closed.{cause_of}
+use Rattle.pg_client.proofs.Hearing.Feeding.{goes_end, goes_fault, goes_next, shorter}
 
 -- ---- messages for which nothing is sent
 
 -- what is no question is heard with or without a password
-asks_nothing : (password : Option (List ℕ)) (stand : Stand) (m : BackMessage) → is_question m ≡ false → hear_with password stand m ≡ hear stand m
-asks_nothing None stand back.AuthCleartext e = absurd cc
-asks_nothing None stand (back.AuthMd5 salt) e = absurd cc
-asks_nothing password stand m e = refl
+asks_nothing : (password : Option (List ℕ)) (stand : Stand) (m : BackMessage) → asks_password m ≡ false → hear_with password stand m ≡ hear stand m
+asks_nothing (Some p) stand m e = refl
+asks_nothing None stand m e = ap (λ (b : Bool). cond (not b) (hear stand m) None) e
 
 -- and what may not come there doesn't with one
 pub rejected_with : (password : Option (List ℕ)) (stand : Stand) (m : BackMessage) → hear stand m ≡ None → hear_with password stand m ≡ None
-rejected_with password stand m e = by (can_answer password m)
-  where
-    by : (b : Bool) → cond b (hear stand m) None ≡ None
-    by true = e
-    by false = refl
+rejected_with password stand m e = grind arith
 
-no_answer : (settings : Settings) (m : BackMessage) → is_question m ≡ false → answer_to settings m ≡ []
-no_answer settings back.AuthCleartext e = absurd cc
-no_answer settings (back.AuthMd5 salt) e = absurd cc
-no_answer settings _ e = refl
+no_answer : (settings : Settings) (m : BackMessage) → asks_password m ≡ false → answer_to settings m ≡ []
+no_answer settings m e = grind arith
 
-pub nothing_put : (settings : Settings) (m : BackMessage) (out : List ℕ) → is_question m ≡ false → PutsAnswer settings m out out
+pub nothing_put : (settings : Settings) (m : BackMessage) (out : List ℕ) → asks_password m ≡ false → PutsAnswer settings m out out
 nothing_put settings m out e = subst (λ (ms : List FrontMessage). AllByRecursion (HasSpelling frontend) ms × (out ≡ out ++ flat_map (spelling frontend) ms)) (sym (no_answer settings m e)) (tt, sym (append-nil out))
+
+-- the one message that is this aside
+pub is_aside_message : (m : BackMessage) (a : Aside) → aside_of m ≡ Some a → aside_message a ≡ m
+is_aside_message m a e = grind arith
 
 -- ---- what a message says
 
 -- The message says nothing that outlives its segment.
 pub record SaysNothing (m : BackMessage) : Type 0 where
-  pub no_question : is_question m ≡ false
+  pub no_question : asks_password m ≡ false
   pub no_status : status_of m ≡ None
   pub no_value : (name : List ℕ) → value_said name m ≡ None
   pub no_key : key_said m ≡ None
 
 pub part_says : (m : BackMessage) → IsPart m → SaysNothing m
-part_says back.AuthOk is = absurd (let k = is.no_welcome in cc)
-part_says back.AuthCleartext is = absurd (let k = is.no_welcome in cc)
-part_says (back.AuthMd5 salt) is = absurd (let k = is.no_welcome in cc)
-part_says (back.AuthOther code bytes) is = absurd (let k = is.no_welcome in cc)
-part_says (back.KeyData process secret) is = absurd (let k = is.no_welcome in cc)
-part_says (back.ParameterStatus name value) is = absurd (let k = is.no_aside in cc)
-part_says (back.Ready status) is = absurd (let k = is.no_end in cc)
-part_says _ is = record { no_question = refl; no_status = refl; no_value = λ name. refl; no_key = refl }
+part_says m is = record { no_question = grind (arith, is.no_welcome); no_status = is.no_end; no_value = λ name. grind (arith, is.no_aside); no_key = grind (arith, is.no_welcome) }
 
 -- ---- where a message leads
 
@@ -87,60 +92,34 @@ part_heard stand m is = ap (λ (o : Option Aside). hear_by stand o (status_of m)
 
 -- no part comes in the startup
 no_part : (w : Welcome) (m : BackMessage) → is_welcome m ≡ false → greet w m ≡ None
-no_part Fresh back.AuthOk none = absurd cc
-no_part Fresh back.AuthCleartext none = absurd cc
-no_part Fresh (back.AuthMd5 salt) none = absurd cc
-no_part Fresh _ none = refl
-no_part Asked back.AuthOk none = absurd cc
-no_part Asked _ none = refl
-no_part Admitted (back.KeyData process secret) none = absurd cc
-no_part Admitted _ none = refl
+no_part w m none = grind arith
 
 -- where it leads nowhere, it may not come
 pub part_refused : (stand : Stand) (m : BackMessage) → IsPart m → leads stand (mark_of m) ≡ None → hear stand m ≡ None
-part_refused New m is e = part_heard New m is
 part_refused (Starting w) m is e = part_heard (Starting w) m is ∙ ap starting_at (no_part w m is.no_welcome)
-part_refused Idle m is e = part_heard Idle m is
 part_refused (Busy r p a) m is e = part_heard (Busy r p a) m is ∙ ap (option_map (λ (q : Place). Busy r q (answer_after a (mark_of m)))) e
+part_refused stand m is e = part_heard stand m is
 
 -- and else it leads there
 pub part_led : (stand : Stand) (m : BackMessage) (next : Place) → IsPart m → leads stand (mark_of m) ≡ Some next → hear stand m ≡ Some (led_to stand next (mark_of m))
-part_led New m next is e = absurd cc
-part_led (Starting w) m next is e = absurd cc
-part_led Idle m next is e = absurd cc
 part_led (Busy r p a) m next is e = part_heard (Busy r p a) m is ∙ ap (option_map (λ (q : Place). Busy r q (answer_after a (mark_of m)))) e
+part_led _ m next is e = absurd cc
 
 in_time : (b : Bool) (o : Option Place) (next : Place) → cond b None o ≡ Some next → o ≡ Some next
-in_time true o next e = absurd cc
-in_time false o next e = e
+in_time b o next e = grind arith
 
 -- ---- a fault of a message that may not come has a name of its own
 
 module _ {K : Type 0} (way : Keeps K) where
   pub alone_refused : (m : BackMessage) (old : Known K) (f : FeedFault) → hear old.stand m ≡ None → f ≡ fault_at old.stand m → HearsAlone way m old (Err f) old
-  alone_refused m old f none is = by f is (subst IsNamed (sym is) (fault_named old.stand m))
-    where
-      by : (g : FeedFault) → g ≡ fault_at old.stand m → IsNamed g → HearsAlone way m old (Err g) old
-      by (feeding.Wire g) e n = absurd n
-      by feeding.Memory e n = absurd n
-      by feeding.Closed e n = absurd n
-      by (feeding.Unexpected t) e n = (none, e, refl)
-      by (feeding.UnsupportedAuth c) e n = (none, e, refl)
-      by feeding.PasswordWanted e n = (none, e, refl)
-      by (feeding.StartupError fields) e n = (none, e, refl)
-      by (feeding.ServerEnd fields) e n = (none, e, refl)
+  alone_refused m old feeding.Memory none is = absurd (subst IsNamed (sym is) (fault_named old.stand m))
+  alone_refused m old f none is = (none, is, refl)
 
   -- a message for which nothing is sent, with the settings
-  pub heard_alone : (settings : Settings) (m : BackMessage) (old new : Known K) (r : Result Unit FeedFault) (out : List ℕ) → is_question m ≡ false → HearsAlone way m old r new → HearsMessage way settings m old r new out out
+  pub heard_alone : (settings : Settings) (m : BackMessage) (old new : Known K) (r : Result Unit FeedFault) (out : List ℕ) → asks_password m ≡ false → HearsAlone way m old r new → HearsMessage way settings m old r new out out
   heard_alone settings m old new (Ok x) out plain h = (h settings.password, nothing_put settings m out plain)
   heard_alone settings m old new (Err feeding.Memory) out plain h = (h, refl)
-  heard_alone settings m old new (Err (feeding.Wire f)) out plain h = (rejected_with settings.password old.stand m h.0, h.1, h.2, refl)
-  heard_alone settings m old new (Err (feeding.Unexpected t)) out plain h = (rejected_with settings.password old.stand m h.0, h.1, h.2, refl)
-  heard_alone settings m old new (Err (feeding.UnsupportedAuth c)) out plain h = (rejected_with settings.password old.stand m h.0, h.1, h.2, refl)
-  heard_alone settings m old new (Err feeding.PasswordWanted) out plain h = (rejected_with settings.password old.stand m h.0, h.1, h.2, refl)
-  heard_alone settings m old new (Err (feeding.StartupError f)) out plain h = (rejected_with settings.password old.stand m h.0, h.1, h.2, refl)
-  heard_alone settings m old new (Err (feeding.ServerEnd f)) out plain h = (rejected_with settings.password old.stand m h.0, h.1, h.2, refl)
-  heard_alone settings m old new (Err feeding.Closed) out plain h = (rejected_with settings.password old.stand m h.0, h.1, h.2, refl)
+  heard_alone settings m old new (Err f) out plain h = (rejected_with settings.password old.stand m h.0, h.1, h.2, refl)
 
   -- a message that says nothing leads the client on, and is kept
   pub led : (m : BackMessage) (old : Known K) (stand : Stand) (k : K) → SaysNothing m → hear old.stand m ≡ Some stand → KeepsOne way old.stand m stand old.keeper k → (password : Option (List ℕ)) → HearsOne way password m old (record old { stand = stand; keeper = k })
@@ -167,10 +146,8 @@ module _ {K : Type 0} (way : Keeps K) where
 
   -- nothing is led on that stands nowhere in a response
   pub leads_busy : (stand : Stand) (x : Mark) (next : Place) → leads stand x ≡ Some next → ((r : Request) (p : Place) (a : CopyAnswer) → stand ≡ Busy r p a → ⊥) → ⊥
-  leads_busy New x next e other = cc
-  leads_busy (Starting w) x next e other = cc
-  leads_busy Idle x next e other = cc
   leads_busy (Busy r p a) x next e other = other r p a refl
+  leads_busy _ x next e other = cc
 
   -- ---- a row that isn't kept
 
@@ -178,15 +155,131 @@ module _ {K : Type 0} (way : Keeps K) where
   row_is_part row = record { no_aside = refl; no_end = refl; no_welcome = refl }
 
   pub row_fault : (stand : Stand) (row : RowValues) → fault_at stand (back.DataRow row) ≡ feeding.Unexpected 68
-  row_fault New row = refl
-  row_fault (Starting Fresh) row = refl
-  row_fault (Starting Asked) row = refl
-  row_fault (Starting Admitted) row = refl
-  row_fault Idle row = refl
-  row_fault (Busy r p a) row = refl
+  row_fault stand row = grind arith
 
   -- a row that was passed, where something else is kept of it
   pub row_kept : (password : Option (List ℕ)) (row : RowValues) (old new : Known K) (k : K) → PassesRow old (Ok tt) new → KeepsOne way old.stand (back.DataRow row) new.stand old.keeper k → HearsOne way password (back.DataRow row) old (record new { keeper = k })
   row_kept password row old new k passes keeps =
       subst (λ (x : Known K). HearsOne way password (back.DataRow row) old (record x { keeper = k })) (sym passes.1)
       (led (back.DataRow row) old new.stand k (part_says (back.DataRow row) (row_is_part row)) (passes.0 row) keeps password)
+
+-- ---- what is found first
+
+module _ {K : Type 0} (way : Keeps K) where
+  -- ---- why a message isn't heard
+
+  pub refuses : (v : View K) (m : BackMessage) (rest : List ℕ) (f : FeedFault) (known : Known K) (before after : List ℕ) → Cuts v m rest → HearsMessage way v.settings m v.known (Err f) known before after → IsRefused v f × (known ≡ v.known) × (after ≡ before)
+  refuses v m rest feeding.Memory known before after cuts h = ((m, rest, cuts), h.0, h.1)
+  refuses v m rest (feeding.Wire w) known before after cuts h = absurd (subst IsNamed (sym h.1) (fault_named v.known.stand m))
+  refuses v m rest feeding.Closed known before after cuts h = absurd (subst IsNamed (sym h.1) (fault_named v.known.stand m))
+  -- any other has a name of its own
+  refuses v m rest f known before after cuts h = ((m, rest, cuts, h.0, h.1), h.2, h.3)
+
+  -- ---- what the decoder cuts off, by the fields of a value that was opened
+
+  module _ (v : View K) (d new : BackState) (kept : v.kept ≡ d.stream.kept) (limit : d.stream.limit ≡ v.settings.limit) where
+    cuts_off : (m : BackMessage) → Takes backend d.stream (Ok (Some m)) new.stream → Cuts v m new.stream.kept
+    cuts_off m t = record { within = subst (λ (n : ℕ). IsWithin backend n m) limit t.1; begins = kept ∙ t.2 }
+
+    pub other_cuts : (m : BackMessage) → TakesLent d (Ok (cut.Other m)) new → Cuts v m new.stream.kept
+    other_cuts m t = cuts_off m t.takes
+
+    owned_as : (lent : Option Lent) (m : BackMessage) → Owns lent (Ok (Some m)) → as_next (Ok cut.Held) lent ≡ Ok (Some m)
+    owned_as lent m e = grind arith
+
+    pub held_cuts : (m : BackMessage) → TakesLent d (Ok cut.Held) new → Owns new.held (Ok (Some m)) → Cuts v m new.stream.kept
+    held_cuts m t owns = cuts_off m (subst (λ (r : Result (Option BackMessage) WireFault). Takes backend d.stream r new.stream) (owned_as new.held m owns) t.takes)
+
+    faulty : (none : d.stream.fault ≡ None) (w : WireFault) → (d.stream.fault ≡ Some w) × (new.stream ≡ d.stream) ⊎ (d.stream.fault ≡ None) × (new.stream ≡ record d.stream { fault = Some w }) × IsFaulty backend d.stream.limit d.stream.kept w → IsFaulty backend v.settings.limit v.kept w
+    faulty none w (inl t) = absurd (let k : None ≡ Some w = sym none ∙ t.0 in cc)
+    faulty none w (inr t) = subst (λ (n : ℕ). IsFaulty backend n v.kept w) limit (subst (λ (bs : List ℕ). IsFaulty backend d.stream.limit bs w) (sym kept) t.2)
+
+    refused_wire : (w : WireFault) → d.stream.fault ≡ None → Takes backend d.stream (Err w) new.stream → IsRefused v (of_wire w)
+    refused_wire wire.Memory none t = (t.2.0, t.2.1, record { within = subst (λ (n : ℕ). IsWithin backend n t.2.0) limit t.2.2; begins = kept ∙ t.2.4 })
+    refused_wire w none t = faulty none w t
+
+    -- the bytes are no message
+    pub wire_closes : (old : View K) → v ≡ old → (w : WireFault) (f : FeedFault) (closed : Option Cause) → d.stream.fault ≡ None → TakesLent d (Err w) new → f ≡ of_wire w → closed ≡ cause_of f → Closes old f (record v { kept = new.stream.kept; held = new.held; closed = closed })
+    wire_closes old same w f closed none t is cause =
+        subst (λ (x : View K). Closes x f (record v { kept = new.stream.kept; held = new.held; closed = closed })) same
+        (record { refused = subst (IsRefused v) (sym is) (refused_wire w none t.takes); settings = refl; known = refl; closed = cause })
+
+  -- the message isn't heard
+  pub message_closes : (v old : View K) → v ≡ old → (m : BackMessage) (rest : List ℕ) (f g : FeedFault) (mid new : View K) (before after : List ℕ) → Cuts v m rest → mid.settings ≡ v.settings → HearsMessage way v.settings m v.known (Err f) mid.known before after → g ≡ f → new ≡ record mid { closed = cause_of f }
+      → Closes old g new × (after ≡ before)
+  message_closes v old same m rest f g mid new before after cuts settings h is closed =
+      let r = refuses v m rest f mid.known before after cuts h in (
+        subst (λ (x : FeedFault). Closes old x new) (sym is) (subst (λ (x : View K). Closes x f new) same
+            (record { refused = r.0; settings = ap (λ (x : View K). x.settings) closed ∙ settings; known = ap (λ (x : View K). x.known) closed ∙ r.1; closed = ap (λ (x : View K). x.closed) closed })),
+        r.2,
+      )
+
+  -- ---- the row that is lent, by the fields of a value that was opened
+
+  pub hears_row : (v old : View K) → v ≡ old → (lent values : RowValues) (known : Known K) → v.held ≡ Some (lents.Row lent) → values ≡ lent → ((password : Option (List ℕ)) → HearsOne way password (back.DataRow values) v.known known) → HearsRow way old (Ok tt) (record v { known = known })
+  hears_row v old same lent values known held is one =
+      subst (λ (x : View K). HearsRow way x (Ok tt) (record v { known = known })) same
+      (λ row e. (refl, subst (λ (r : RowValues). HearsOne way v.settings.password (back.DataRow r) v.known known) (is ∙ lent_is row (sym held ∙ e)) (one v.settings.password)))
+    where
+      lent_is : (row : RowValues) → Some (lents.Row lent) ≡ Some (lents.Row row) → lent ≡ row
+      lent_is row e = let k : lents.Row lent ≡ lents.Row row = cc in cc
+
+  -- what was found, by a test of it
+  pub as_found : (found x : Heard) → found ≡ x → (now mid : View K) (out end : List ℕ) → HearsNext way now (Ok found) mid out end → HearsNext way now (Ok x) mid out end
+  as_found found x is now mid out end h = subst (λ (f : Heard). HearsNext way now (Ok f) mid out end) is h
+
+module _ {K : Type 0} (way : Keeps K) (law : AgreesAs way) where
+  -- ---- from message to message
+
+  module _ (old now : View K) (start out : List ℕ) (g : GoesOn way old now start out) (found : Heard) (mid : View K) (end : List ℕ) (h : HearsNext way now (Ok found) mid out end) where
+    -- no message is whole any more
+    pub all_heard : found ≡ heard.Nothing → HearsAll way old (Ok tt) mid start end
+    all_heard is =
+        let x = as_found way found heard.Nothing is now mid out end h in
+        subst (HearsAll way old (Ok tt) mid start) (sym x.2) (goes_end way law old now mid start out g x.0 (x.1 ∙ ap (λ (o : Option Lent). record now { held = o }) (sym (ap (λ (v : View K). v.held) x.1))))
+
+    pub message_heard : found ≡ heard.Message → GoesOn way old mid start end × (length mid.kept < length now.kept) × (mid.closed ≡ now.closed)
+    message_heard is =
+        let x = as_found way found heard.Message is now mid out end h in (
+          goes_next way law old now mid start out end g x.0 x.2 (ap (λ (v : View K). v.settings) x.3) (ap (λ (v : View K). v.closed) x.3) x.5 x.6,
+          shorter x.0 now.kept mid.kept x.2.begins,
+          ap (λ (v : View K). v.closed) x.3,
+        )
+
+    module _ (is : found ≡ heard.Row) where
+      row_cut : HearsNext way now (Ok heard.Row) mid out end
+      row_cut = as_found way found heard.Row is now mid out end h
+
+      same_settings : mid.settings ≡ now.settings
+      same_settings = ap (λ (v : View K). v.settings) row_cut.1
+
+      same_known : mid.known ≡ now.known
+      same_known = ap (λ (v : View K). v.known) row_cut.1
+
+      lent : mid.held ≡ Some (lents.Row row_cut.0)
+      lent = ap (λ (v : View K). v.held) row_cut.1
+
+      pub row_heard : (new : View K) → HearsRow way mid (Ok tt) new → GoesOn way old new start end × (length new.kept < length now.kept) × (new.closed ≡ now.closed)
+      row_heard new hears =
+          let x = row_cut in
+          let r = hears x.0 lent in
+          let rest : new.kept ≡ mid.kept = ap (λ (v : View K). v.kept) r.0 in
+          let closed : new.closed ≡ now.closed = ap (λ (v : View K). v.closed) r.0 ∙ ap (λ (v : View K). v.closed) x.1 in (
+            goes_next way law old now new start out end g (back.DataRow x.0) (subst (Cuts now (back.DataRow x.0)) (sym rest) x.2) (ap (λ (v : View K). v.settings) r.0 ∙ same_settings) closed
+                (subst (λ (k : Known K). HearsOne way now.settings.password (back.DataRow x.0) k new.known) same_known (subst (λ (s : Settings). HearsOne way s.password (back.DataRow x.0) mid.known new.known) same_settings r.1))
+                (subst (PutsAnswer now.settings (back.DataRow x.0) out) (sym x.3) (nothing_put now.settings (back.DataRow x.0) out refl)),
+            subst (λ (bs : List ℕ). length bs < length now.kept) (sym rest) (shorter (back.DataRow x.0) now.kept mid.kept x.2.begins),
+            closed,
+          )
+
+      pub row_stops : (f : FeedFault) (new : View K) → HearsRow way mid (Err f) new → HearsAll way old (Err f) new start end × (new.settings ≡ old.settings)
+      row_stops f new hears =
+          let x = row_cut in
+          let r = hears x.0 lent in
+          let alone : HearsAlone way (back.DataRow x.0) now.known (Err f) now.known = subst (λ (k : Known K). HearsAlone way (back.DataRow x.0) k (Err f) k) same_known r.1 in
+          let c = message_closes way now now refl (back.DataRow x.0) mid.kept f f mid new out out x.2 same_settings (subst (λ (k : Known K). HearsMessage way now.settings (back.DataRow x.0) now.known (Err f) k out out) (sym same_known) (heard_alone way now.settings (back.DataRow x.0) now.known now.known (Err f) out refl alone)) refl r.0 in
+          (subst (HearsAll way old (Err f) new start) (sym x.3) (goes_fault way law old now new f start out g c.0), c.0.settings ∙ g.settings)
+
+  -- the bytes are no message, or one that isn't heard
+  pub all_stops : (old now new : View K) (f : FeedFault) (start out end : List ℕ) → GoesOn way old now start out → HearsNext way now (Err f) new out end → HearsAll way old (Err f) new start end
+  all_stops old now new f start out end g h = subst (HearsAll way old (Err f) new start) (sym h.1) (goes_fault way law old now new f start out g h.0)

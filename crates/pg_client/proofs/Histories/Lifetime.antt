@@ -12,12 +12,11 @@ use Rattle.pg_client.specs.declared.stand.Stand.TheVariants.{New}
 use Rattle.pg_client.specs.declared.settings.Settings.{Settings}
 use Rattle.pg_client.specs.declared.settled.Loss.{Loss}
 use Rattle.pg_client.specs.Session.{Happening, IsTerminated, AreAllowed}
-use Rattle.pg_client.specs.Client.{loss_at, View}
+use Rattle.pg_client.specs.View.{loss_at, View}
 use Rattle.pg_client.specs.Closed.{Ends}
-use Rattle.pg_client.specs.History.{happenings, IsHistoryBefore, IsHistoryOf, with_given, with_handed_back, Carries, blank}
+use Rattle.pg_client.specs.Client.{happenings, IsHistoryBefore, IsHistoryOf, with_given, with_handed_back, Carries, blank, Keeps, Loses, first_cause, HandsBack, IsLost}
 use Rattle.pg_client.specs.Private.Agreeing.{Agrees, shown}
-use Rattle.pg_client.specs.Keeping.{AgreesAs, Keeps}
-use Rattle.pg_client.specs.Lost.{Loses, first_cause, HandsBack, IsLost}
+use Rattle.pg_client.specs.Keeping.{AgreesAs}
 use Rattle.pg_client.specs.Private.Hearing.{IsFirst}
 use Rattle.pg_client.proofs.Histories.Seen.{agreeing, seen}
 use Rattle.pg_client.proofs.Standing.FactsHold.{StandFacts, stand_facts}

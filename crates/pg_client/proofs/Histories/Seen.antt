@@ -1,7 +1,7 @@
 -- What a history of a client is, by what its code goes by.
-use Rattle.pg_client.specs.Client.{View}
-use Rattle.pg_client.specs.History.{History, IsHistoryOf}
-use Rattle.pg_client.specs.Keeping.{AgreesAs, Keeps}
+use Rattle.pg_client.specs.View.{View}
+use Rattle.pg_client.specs.Client.{History, IsHistoryOf, Keeps}
+use Rattle.pg_client.specs.Keeping.{AgreesAs}
 use Rattle.pg_client.specs.Private.Agreeing.{Agrees}
 
 module _ {K : Type 0} (way : Keeps K) (law : AgreesAs way) where
@@ -9,4 +9,4 @@ module _ {K : Type 0} (way : Keeps K) (law : AgreesAs way) where
   agreeing h v r = (law h v).0 r.agrees
 
   pub seen : (h : History way.Given) (v : View K) → Agrees way.tells h v → IsHistoryOf way h v
-  seen h v a = record { stream = a.stream; expected = a.happened.expected; ends = a.ends; agrees = (law h v).1 a }
+  seen h v a = record { stream = a.stream; expected = a.happened.expected; agrees = (law h v).1 a }

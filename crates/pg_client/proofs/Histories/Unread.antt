@@ -1,9 +1,8 @@
 -- A client that is still to hear no bytes.
 use Rattle.std.proofs.Common.{ℕ, List, [], sym, subst, ◌∙◌}
 use Rattle.std.proofs.lemmas.List.{append-nil}
-use Rattle.pg_client.specs.Client.{View}
-use Rattle.pg_client.specs.History.{Carries, History, IsHistoryBefore, IsHistoryOf}
-use Rattle.pg_client.specs.Keeping.{Keeps}
+use Rattle.pg_client.specs.View.{View}
+use Rattle.pg_client.specs.Client.{Carries, History, IsHistoryBefore, IsHistoryOf, Keeps}
 
 module _ {K : Type 0} (way : Keeps K) where
   pub none_unread : (h : History way.Given) (client : View K) → IsHistoryOf way h client → IsHistoryBefore way [] h client

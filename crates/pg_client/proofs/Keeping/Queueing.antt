@@ -1,13 +1,12 @@
 -- The items of one event more.
 use Rattle.std.proofs.Common.{◌≡◌, ℕ, suc, ◌≤◌, List, [], ◌∷◌, ◌++◌, length, map, Option, Some, None, Ok, refl, sym, ap, subst, ◌∙◌, append_assoc, arith, length-append}
 use Rattle.std.specs.List.{AllByRecursion}
-use Rattle.std.proofs.lemmas.List.{append-nil}
+use Rattle.std.proofs.lemmas.List.{append-nil, map_push}
 use Rattle.pg_wire.specs.message.BackMessage.{BackMessage}
 use Rattle.pg_wire.specs.message.BackMessage.TheVariants as back
-use Rattle.pg_wire.specs.declared.session.Aside.{Aside}
 use Rattle.pg_wire.specs.declared.session.Request.{Request}
 use Rattle.pg_wire.specs.value.Status.{Status}
-use Rattle.pg_wire.specs.Segment.{aside_of, asked, Segments, segments, put_before, status_of}
+use Rattle.pg_wire.specs.Segment.{asked, Segments, segments, put_before, status_of}
 use Rattle.pg_response.specs.declared.place.Place.{Place}
 use Rattle.pg_response.specs.Collected.{RowValues}
 use Rattle.pg_response.proofs.Marks.{goes_no_end}
@@ -20,10 +19,9 @@ use Rattle.pg_client.specs.declared.stand.CopyAnswer.{CopyAnswer}
 use Rattle.pg_client.specs.declared.stand.Stand.{Stand}
 use Rattle.pg_client.specs.declared.stand.Stand.TheVariants.{New, Starting, Idle, Busy}
 use Rattle.pg_client.specs.Session.{Happening, Did, Came, messages_in, requests_in, rest_in, whole_in}
-use Rattle.pg_client.specs.Stand.{hear, hear_by, Stands}
+use Rattle.pg_client.specs.Stand.{hear, Stands}
 use Rattle.pg_client.specs.Keeping.{IsSilent, item_for, items_after_startup, items_in, items_of, queueing}
 use Rattle.pg_client.specs.declared.known.Known.{Known}
-use Rattle.pg_client.specs.declared.startup.Welcome.TheVariants.{Fresh, Asked, Admitted}
 use Rattle.pg_client.specs.Private.Hearing.{HearsOne, PassesRow, IsPastStartup, KeepsAside, KeepsEnd, KeepsPart}
 use Rattle.pg_client.proofs.Events.Happening.{messages_in-did, requests_in-more, segments-came}
 use Rattle.pg_client.proofs.Hearing.Messages.{row_kept}
@@ -44,8 +42,7 @@ rest_ends_nothing [] = tt
 rest_ends_nothing (m ∷ ms) = none_ends (status_of m) m (segments ms).whole (segments ms).rest refl (rest_ends_nothing ms)
 
 early_one : (r : Request) (m : BackMessage) → status_of m ≡ None → item_for r m ≡ Early m
-early_one r (back.Ready status) e = absurd cc
-early_one r m e = refl
+early_one r m e = grind arith
 
 early_all : (r : Request) (ms : List BackMessage) → AllByRecursion (λ x. status_of x ≡ None) ms → map (item_for r) ms ≡ map Early ms
 early_all r [] h = refl
@@ -53,13 +50,9 @@ early_all r (m ∷ ms) h = ap (λ (i : Item). i ∷ map (item_for r) ms) (early_
 
 -- ---- lists of segments
 
-map-more : (f : BackMessage → Item) (ms : List BackMessage) (m : BackMessage) → map f (ms ++ m ∷ []) ≡ map f ms ++ f m ∷ []
-map-more f [] m = refl
-map-more f (x ∷ xs) m = ap (λ (is : List Item). f x ∷ is) (map-more f xs m)
-
 -- one message more of the segment that isn't whole
 of_rest : (rs : List Request) (ss : List Group) (rest : Group) (m : BackMessage) → length ss ≤ length rs → items_of rs ss (rest ++ m ∷ []) ≡ items_of rs ss rest ++ Early m ∷ []
-of_rest rs [] rest m le = map-more Early rest m
+of_rest rs [] rest m le = map_push Early rest m
 of_rest [] (s ∷ ss) rest m le = absurd (omega (arith, le))
 of_rest (r ∷ rs) (s ∷ ss) rest m le =
     ap (λ (is : List Item). map (item_for r) s ++ is) (of_rest rs ss rest m (omega (arith, le))) ∙ sym (append_assoc (map (item_for r) s) (items_of rs ss rest) (Early m ∷ []))
@@ -67,7 +60,7 @@ of_rest (r ∷ rs) (s ∷ ss) rest m le =
 -- one segment more, of the last request
 of_whole : (rs : List Request) (ss : List Group) (rest : Group) (r : Request) (m : BackMessage) → length ss ≡ length rs → AllByRecursion (λ x. status_of x ≡ None) rest
     → items_of (rs ++ r ∷ []) (ss ++ (rest ++ m ∷ []) ∷ []) [] ≡ items_of (rs ++ r ∷ []) ss rest ++ item_for r m ∷ []
-of_whole [] [] rest r m e none = append-nil (map (item_for r) (rest ++ m ∷ [])) ∙ map-more (item_for r) rest m ∙ ap (λ (is : List Item). is ++ item_for r m ∷ []) (early_all r rest none)
+of_whole [] [] rest r m e none = append-nil (map (item_for r) (rest ++ m ∷ [])) ∙ map_push (item_for r) rest m ∙ ap (λ (is : List Item). is ++ item_for r m ∷ []) (early_all r rest none)
 of_whole (q ∷ rs) [] rest r m e none = absurd (omega (arith, e))
 of_whole [] (s ∷ ss) rest r m e none = absurd (omega (arith, e))
 of_whole (q ∷ rs) (s ∷ ss) rest r m e none =
@@ -82,50 +75,27 @@ of_more (r ∷ rs) more (s ∷ ss) rest le = ap (λ (is : List Item). map (item_
 -- ---- one message more
 
 module _ (hs : List Happening) (m : BackMessage) where
-  requests_same : requests_in (hs ++ Came m ∷ []) ≡ requests_in hs
-  requests_same = requests_in-more hs (Came m) ∙ append-nil (requests_in hs)
-
   -- by the segments then
   items_then : items_in (hs ++ Came m ∷ []) ≡ items_after_startup (requests_in hs) (put_after (status_of m) m (whole_in hs) (rest_in hs)).whole (put_after (status_of m) m (whole_in hs) (rest_in hs)).rest
-  items_then = ap (λ (rs : List Request). items_after_startup rs (segments (messages_in (hs ++ Came m ∷ []))).whole (segments (messages_in (hs ++ Came m ∷ []))).rest) requests_same
-      ∙ ap (λ (s : Segments). items_after_startup (requests_in hs) s.whole s.rest) (segments-came hs m)
+  items_then = rw (requests_in-more hs (Came m), append-nil (requests_in hs)) (ap (λ (s : Segments). items_after_startup (requests_in hs) s.whole s.rest) (segments-came hs m))
 
   starting_items : whole_in hs ≡ [] → requests_in hs ≡ [] → items_in (hs ++ Came m ∷ []) ≡ items_in hs ++ []
-  starting_items none no_request = items_then ∙ by (status_of m) ∙ sym (append-nil (items_in hs) ∙ ap (λ (w : List Group). items_after_startup (requests_in hs) w (rest_in hs)) none)
-    where
-      by : (o : Option Status) → items_after_startup (requests_in hs) (put_after o m (whole_in hs) (rest_in hs)).whole (put_after o m (whole_in hs) (rest_in hs)).rest ≡ []
-      by (Some status) = rw none refl
-      by None = rw none refl
+  starting_items none no_request = items_then ∙ elim (status_of m) as (λ o. items_after_startup (requests_in hs) (put_after o m (whole_in hs) (rest_in hs)).whole (put_after o m (whole_in hs) (rest_in hs)).rest ≡ []) [ Some status ↦ rw none refl | None ↦ rw none refl ]
+      ∙ sym (append-nil (items_in hs) ∙ ap (λ (w : List Group). items_after_startup (requests_in hs) w (rest_in hs)) none)
 
   module _ (startup : Group) (groups : List Group) (cut : whole_in hs ≡ startup ∷ groups) where
-    items_now : items_in hs ≡ items_of (requests_in hs) groups (rest_in hs)
-    items_now = ap (λ (w : List Group). items_after_startup (requests_in hs) w (rest_in hs)) cut
-
     going_items : status_of m ≡ None → length groups ≤ length (requests_in hs) → items_in (hs ++ Came m ∷ []) ≡ items_in hs ++ Early m ∷ []
-    going_items none le =
-        items_then
-        ∙ ap (λ (o : Option Status). items_after_startup (requests_in hs) (put_after o m (whole_in hs) (rest_in hs)).whole (put_after o m (whole_in hs) (rest_in hs)).rest) none
-        ∙ ap (λ (w : List Group). items_after_startup (requests_in hs) w (rest_in hs ++ m ∷ [])) cut
-        ∙ of_rest (requests_in hs) groups (rest_in hs) m le
-        ∙ ap (λ (is : List Item). is ++ Early m ∷ []) (sym items_now)
+    going_items none le = items_then ∙ rw (none, cut) (of_rest (requests_in hs) groups (rest_in hs) m le)
 
     ending_items : (earlier : List Request) (r : Request) (status : Status) → status_of m ≡ Some status → requests_in hs ≡ earlier ++ r ∷ [] → length groups ≡ length earlier → items_in (hs ++ Came m ∷ []) ≡ items_in hs ++ item_for r m ∷ []
-    ending_items earlier r status is last len =
-        items_then
-        ∙ ap (λ (o : Option Status). items_after_startup (requests_in hs) (put_after o m (whole_in hs) (rest_in hs)).whole (put_after o m (whole_in hs) (rest_in hs)).rest) is
-        ∙ ap (λ (w : List Group). items_after_startup (requests_in hs) (w ++ (rest_in hs ++ m ∷ []) ∷ []) []) cut
-        ∙ ap (λ (rs : List Request). items_of rs (groups ++ (rest_in hs ++ m ∷ []) ∷ []) []) last
-        ∙ of_whole earlier groups (rest_in hs) r m len (rest_ends_nothing (messages_in hs))
-        ∙ ap (λ (rs : List Request). items_of rs groups (rest_in hs) ++ item_for r m ∷ []) (sym last)
-        ∙ ap (λ (is : List Item). is ++ item_for r m ∷ []) (sym items_now)
+    ending_items earlier r status is last len = items_then ∙ rw (is, cut, last) (of_whole earlier groups (rest_in hs) r m len (rest_ends_nothing (messages_in hs)))
 
   -- a message after the startup, which is no ReadyForQuery
   pub came_early : (stand : Stand) → IsPastStartup stand → Stands hs stand → status_of m ≡ None → items_in (hs ++ Came m ∷ []) ≡ items_in hs ++ Early m ∷ []
-  came_early New s h none = absurd s
-  came_early (Starting w) s h none = absurd s
   came_early Idle s h none = going_items h.1.answered.startup h.1.answered.groups h.1.answered.cut none (omega (arith, EachFits-length (requests_in hs) h.1.answered.groups h.1.answered.fit))
   came_early (Busy request place answer) s h none =
       going_items h.1.answered.startup h.1.answered.groups h.1.answered.cut none (omega (arith, EachFits-length h.1.earlier h.1.answered.groups h.1.answered.fit, ap length h.1.last, length-append h.1.earlier (request ∷ [])))
+  came_early _ s h none = absurd s
 
   -- and one that is
   pub came_last : (request : Request) (place : Place) (answer : CopyAnswer) (status : Status) → Stands hs (Busy request place answer) → status_of m ≡ Some status → items_in (hs ++ Came m ∷ []) ≡ items_in hs ++ item_for request m ∷ []
@@ -159,12 +129,7 @@ module _ (hs : List Happening) (m : BackMessage) where
 
   -- nothing is heard before start
   not_new : (next : Stand) → hear New m ≡ Some next → ⊥
-  not_new next = by (aside_of m) (status_of m)
-    where
-      by : (a : Option Aside) (o : Option Status) → hear_by New a o m ≡ Some next → ⊥
-      by (Some a) o e = cc
-      by None (Some status) e = cc
-      by None None e = cc
+  not_new next e = grind arith
 
   -- where no request is outstanding, ReadyForQuery isn't heard
   not_idle : (status : Status) (next : Stand) → status_of m ≡ Some status → hear Idle m ≡ Some next → ⊥
@@ -173,16 +138,8 @@ module _ (hs : List Happening) (m : BackMessage) where
   pub has_items : (stand next : Stand) → Stands hs stand → hear stand m ≡ Some next → HasItems
   has_items New next h e = absurd (not_new next e)
   has_items (Starting w) next h e = record { items = []; then = starting_items h.1.no_segment h.1.no_request; one = tt }
-  has_items Idle next h e = by (status_of m) refl
-    where
-      by : (o : Option Status) → status_of m ≡ o → HasItems
-      by (Some status) is = absurd (not_idle status next is e)
-      by None is = has_early Idle tt h is
-  has_items (Busy request place answer) next h e = by (status_of m) refl
-    where
-      by : (o : Option Status) → status_of m ≡ o → HasItems
-      by (Some status) is = has_last request place answer status h is
-      by None is = has_early (Busy request place answer) tt h is
+  has_items Idle next h e = (elim (status_of m) as (λ o. status_of m ≡ o → HasItems) [ Some status ↦ λ is. absurd (not_idle status next is e) | None ↦ λ is. has_early Idle tt h is ]) refl
+  has_items (Busy request place answer) next h e = (elim (status_of m) as (λ o. status_of m ≡ o → HasItems) [ Some status ↦ λ is. has_last request place answer status h is | None ↦ λ is. has_early (Busy request place answer) tt h is ]) refl
 
 -- ---- one call more
 
@@ -190,8 +147,7 @@ module _ (hs : List Happening) (c : Call) where
   did_more : length (whole_in hs) ≤ suc (length (requests_in hs)) → items_in (hs ++ Did c ∷ []) ≡ items_in hs
   did_more le =
       ap (λ (ms : List BackMessage). items_after_startup (requests_in (hs ++ Did c ∷ [])) (segments ms).whole (segments ms).rest) (messages_in-did hs c)
-      ∙ ap (λ (rs : List Request). items_after_startup rs (whole_in hs) (rest_in hs)) (requests_in-more hs (Did c))
-      ∙ by (whole_in hs) le
+      ∙ rw (requests_in-more hs (Did c)) (by (whole_in hs) le)
     where
       by : (whole : List Group) → length whole ≤ suc (length (requests_in hs)) → items_after_startup (requests_in hs ++ requests_in (Did c ∷ [])) whole (rest_in hs) ≡ items_after_startup (requests_in hs) whole (rest_in hs)
       by [] e = refl
@@ -242,12 +198,8 @@ keeps_row password row old new passes empty =
     item_more given old.keeper (Early (back.DataRow row) ∷ []) (items_in hs) (Early (back.DataRow row)) (items_in (hs ++ Came (back.DataRow row) ∷ [])) (ap (λ (is : List Item). is ++ Early (back.DataRow row) ∷ []) (sym empty)) t has)
   where
     passed_early : (hs : List Happening) (r : RowValues) (stand next : Stand) → Stands hs stand → hear stand (back.DataRow r) ≡ Some next → items_in (hs ++ Came (back.DataRow r) ∷ []) ≡ items_in hs ++ Early (back.DataRow r) ∷ []
-    passed_early hs r New next h e = absurd cc
-    passed_early hs r (Starting Fresh) next h e = absurd cc
-    passed_early hs r (Starting Asked) next h e = absurd cc
-    passed_early hs r (Starting Admitted) next h e = absurd cc
-    passed_early hs r Idle next h e = absurd cc
     passed_early hs r (Busy request place answer) next h e = came_early hs (back.DataRow r) (Busy request place answer) tt h refl
+    passed_early hs r _ next h e = absurd (grind arith)
 
 -- an item is taken
 pub item_taken : (old new : List Item) (i : Item) (given : List Item) (hs : List Happening) → old ≡ i ∷ new → given ++ old ≡ items_in hs → (given ++ i ∷ []) ++ new ≡ items_in hs

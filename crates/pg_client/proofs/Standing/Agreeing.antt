@@ -13,7 +13,7 @@ use Rattle.pg_client.specs.declared.stand.CopyAnswer.{CopyAnswer}
 use Rattle.pg_client.specs.declared.stand.CopyAnswer.TheVariants.{Awaited, Done, Refused}
 use Rattle.pg_client.specs.declared.call.Call.{Call}
 use Rattle.pg_client.specs.declared.call.Call.TheVariants as call
-use Rattle.pg_client.specs.Session.{Happening, Did, Came, whole_in, rest_in, EndInCopyIn, IsAside, IsNoCopyIn, IsCalledForLastCopy, IsReady, IsCopyingIn, AreAllowed}
+use Rattle.pg_client.specs.Session.{Happening, Did, Came, whole_in, rest_in, EndInCopyIn, IsNoCopyIn, IsCalledForLastCopy, IsReady, IsCopyingIn, AreAllowed}
 use Rattle.pg_client.specs.Stand.{copy_answer_after, copy_answer}
 use Rattle.pg_client.proofs.Events.Beginnings.{segments_did, segments_came, AreAsked, AllAfter, after_begins, kept_aside, along, are_asked}
 use Rattle.pg_client.proofs.Events.Happening.{copy_answer_from-more}
@@ -30,11 +30,11 @@ never_ends (x ∷ xs) m e = cc
 pub no_copy_in : (rest : List BackMessage) → without_asides rest ≡ [] → EndInCopyIn rest → ⊥
 no_copy_in rest none k = never_ends k.0 (back.CopyIn k.1) (sym none ∙ k.2)
 
-pub aside_says_nothing : (m : BackMessage) (said : CopyAnswer) → IsAside m → copy_answer_after said (Came m) ≡ said
+pub aside_says_nothing : (m : BackMessage) (said : CopyAnswer) → IsSome (aside_of m) → copy_answer_after said (Came m) ≡ said
 aside_says_nothing (back.CopyIn head) said aside = absurd (let k : IsSome {T = Aside} None = aside in cc)
 aside_says_nothing _ said aside = refl
 
-pub is_aside : (m : BackMessage) (a : Aside) → aside_of m ≡ Some a → IsAside m
+pub is_aside : (m : BackMessage) (a : Aside) → aside_of m ≡ Some a → IsSome (aside_of m)
 is_aside m a e = subst (λ (x : Option Aside). IsSome x) (sym e) refl
 
 pub not_ready : (before : List Happening) → AreAsked before → IsReady before → EndInCopyIn (rest_in before) → ⊥
@@ -103,10 +103,10 @@ says_on Awaited hs h l s = (unsaid_on call.Done hs h l.1 s.0, λ reason. unsaid_
 says_on Done hs h l s = said_on call.Done hs h l.0 s
 says_on Refused hs h l s = (unsaid_on call.Done hs h l.1 s.0, s.1, said_on (call.Fail s.1) hs h l.0 s.2)
 
-aside_leaves : (m : BackMessage) → IsAside m → LeavesSaid (Came m)
+aside_leaves : (m : BackMessage) → IsSome (aside_of m) → LeavesSaid (Came m)
 aside_leaves m aside = (no_copy m aside, λ e. cc, λ reason e. cc)
   where
-    no_copy : (x : BackMessage) → IsAside x → IsNoCopyIn (Came x)
+    no_copy : (x : BackMessage) → IsSome (aside_of x) → IsNoCopyIn (Came x)
     no_copy (back.CopyIn head) some = absurd (let k : IsSome {T = Aside} None = some in cc)
     no_copy _ some = tt
 

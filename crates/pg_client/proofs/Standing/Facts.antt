@@ -11,10 +11,10 @@ use Rattle.pg_client.specs.declared.stand.CopyAnswer.TheVariants.{Awaited}
 use Rattle.pg_client.specs.declared.stand.Stand.{Stand}
 use Rattle.pg_client.specs.declared.stand.Stand.TheVariants.{New, Starting, Idle, Busy}
 use Rattle.pg_client.specs.Session.{Happening, groups_in, requests_in, rest_in, IsStarted, IsStarting, IsReady, IsCopyingIn}
-use Rattle.pg_client.specs.Client.{ClientView, EarlyView, groups_waiting, View, stand_phase, busy_phase_of, phase_with}
-use Rattle.pg_client.specs.History.{happenings, IsHistoryOf, History}
+use Rattle.pg_client.specs.View.{ClientView, EarlyView, groups_waiting, View, stand_phase, busy_phase_of, phase_with}
+use Rattle.pg_client.specs.Client.{happenings, IsHistoryOf, History, Keeps}
 use Rattle.pg_client.specs.Private.Agreeing.{Agrees, shown}
-use Rattle.pg_client.specs.Keeping.{collecting, CollectsAt, EachSettled, Keeps, queueing}
+use Rattle.pg_client.specs.Keeping.{collecting, CollectsAt, EachSettled, queueing}
 use Rattle.pg_wire.specs.message.BackMessage.{BackMessage}
 use Rattle.pg_wire.specs.declared.session.Request.{Request}
 use Rattle.pg_response.specs.Collected.{CollectedView}
@@ -79,6 +79,7 @@ module _ {K : Type 0} (way : Keeps K) (h : History way.Given) (client : View K) 
     expected = r.happened.expected;
     allowed = r.happened.allowed;
     sent = r.happened.sent_is;
+    ends = r.ends;
     knows = r.led.knows;
     phase = phase_by (happenings h) r.led.was client.known.stand client.closed (answer_is_said (happenings h) r.happened.expected.after r.happened.allowed) (stand_facts (happenings h) r.led.was r.led.stands)
         (open_stand r.led.was client.known.stand client.closed h.handed_back r.led.now r.lost);

@@ -28,8 +28,8 @@ use Rattle.pg_client.specs.declared.phase.Phase.TheVariants as phase
 use Rattle.pg_client.specs.Startup.{greet, greet_from, greet_all}
 use Rattle.pg_client.specs.Stand.{copy_answer, Stands}
 use Rattle.pg_client.specs.Session.{Happening, requests_in, rest_in, IsStarted, IsStarting, IsReady, EndInCopyIn, groups_in}
-use Rattle.pg_client.specs.Client.{busy_phase_of, loss_at, stand_phase}
-use Rattle.pg_client.specs.Lost.{has_error}
+use Rattle.pg_client.specs.View.{busy_phase_of, loss_at, stand_phase}
+use Rattle.pg_client.specs.Client.{has_error}
 use Rattle.pg_client.proofs.Events.Greeting.{greet_from-append}
 use Rattle.pg_client.proofs.Events.OneMessage.{EachFits-length}
 use Rattle.pg_client.proofs.Standing.Said.{IsCopyAwaited}

@@ -1,18 +1,19 @@
 -- What the client keeps of the calls for a copy in, and what was called for it.
-use Rattle.std.proofs.Common.{◌≡◌, ℕ, ◌≤◌, List, length, refl}
+use Rattle.std.proofs.Common.{◌≡◌, ℕ, ◌≤◌, List, length, refl, IsSome}
 use Rattle.std.specs.Prelude.{◌⊎◌}
 use Rattle.pg_wire.specs.message.BackMessage.{BackMessage}
 use Rattle.pg_wire.specs.message.BackMessage.TheVariants.{CommandComplete}
 use Rattle.pg_wire.specs.declared.session.Request.{Request}
+use Rattle.pg_wire.specs.Segment.{aside_of}
 use Rattle.pg_client.specs.declared.stand.CopyAnswer.{CopyAnswer}
 use Rattle.pg_client.specs.declared.stand.CopyAnswer.TheVariants.{Awaited, Done, Refused}
 use Rattle.pg_client.specs.declared.call.Call.TheVariants as call
-use Rattle.pg_client.specs.Session.{Happening, requests_in, whole_in, rest_in, EndInCopyIn, IsAside, IsStarted, IsCalledForLastCopy, IsAfterItsCall, IsCopyingIn}
+use Rattle.pg_client.specs.Session.{Happening, requests_in, whole_in, rest_in, EndInCopyIn, IsStarted, IsCalledForLastCopy, IsAfterItsCall, IsCopyingIn}
 use Rattle.pg_client.specs.Stand.{copy_answer}
 
 -- The message comes after the call that it needs, with these requests and segments before it, and this kept of the last copy in.
 pub record MayStand (requests : List Request) (whole : List (List BackMessage)) (rest : List BackMessage) (said : CopyAnswer) (m : BackMessage) : Type 0 where
-  pub asked_for : IsAside m ⊎ (length whole ≤ length requests)
+  pub asked_for : IsSome (aside_of m) ⊎ (length whole ≤ length requests)
   pub copy_ended : (tag : List ℕ) → m ≡ CommandComplete tag → EndInCopyIn rest → said ≡ Done
 
 -- A copy in is open, and nothing is kept of a call for it.

@@ -1,7 +1,6 @@
 -- While copying in: what was sent since the CopyInResponse, and how many copies were ended.
 use Rattle.std.proofs.Common.{◌≡◌, ℕ, suc, ◌+◌, ◌≤◌, List, [], ◌∷◌, ◌++◌, length, Option, Some, None, refl, sym, ap, subst, ◌∙◌, append_assoc, inl, inr, arith, length-append}
 use Rattle.std.specs.Prelude.{IsSome, ◌⊎◌}
-use Rattle.std.specs.List.{AllByRecursion}
 use Rattle.std.proofs.lemmas.List.{append-nil}
 use Rattle.pg_wire.specs.message.BackMessage.{BackMessage}
 use Rattle.pg_wire.specs.message.BackMessage.TheVariants as back
@@ -15,11 +14,13 @@ use Rattle.pg_client.specs.declared.stand.CopyAnswer.{CopyAnswer}
 use Rattle.pg_client.specs.declared.stand.CopyAnswer.TheVariants.{Awaited, Done, Refused}
 use Rattle.pg_client.specs.declared.call.Call.{Call}
 use Rattle.pg_client.specs.declared.call.Call.TheVariants as call
-use Rattle.pg_client.specs.Session.{Happening, Did, Came, messages_in, requests_in, whole_in, rest_in, EndInCopyIn, IsAside, IsStarted, IsTerminated, IsReady, IsCopyingIn, AreAllowed}
+use Rattle.pg_client.specs.Session.{Happening, Did, Came, messages_in, requests_in, whole_in, rest_in, EndInCopyIn, IsStarted, IsTerminated, IsReady, IsCopyingIn, AreAllowed}
 use Rattle.pg_client.specs.Stand.{copy_answer_after, copy_answer}
 use Rattle.pg_wire.specs.Turns.{Turn, copies_begun}
 use Rattle.pg_client.specs.Turns.{turns_of, calls_in}
 use Rattle.pg_client.specs.Answering.{turns_in, turns_with, with_copy, last_copies, copies_ended, IsChunkOrAside, IsCopyingSince}
+use Rattle.pg_response.proofs.Lists.{all_both}
+use Rattle.pg_client.proofs.Calling.Accepting.{terminated_within}
 use Rattle.pg_client.proofs.Standing.Agreeing.{never_ends, no_copy_in, aside_says_nothing, is_aside, not_ready, copying_begun, answer_is_said}
 use Rattle.pg_client.proofs.Events.Beginnings.{segments_did, segments_came, requests_came, AreAsked, AllAfter, after_begins, allowed_begins, kept_aside, along, are_asked, are_answered}
 use Rattle.pg_client.proofs.Events.Happening.{requests_in-more, IsStarted-more, copy_answer_from-more}
@@ -29,24 +30,14 @@ use Rattle.pg_client.proofs.Turns.Ordering.{messages_in-append, calls_in-append,
 
 -- ---- since the last CopyInResponse
 
-chunks_more : (hs : List Happening) (h : Happening) → AllByRecursion IsChunkOrAside hs → IsChunkOrAside h → AllByRecursion IsChunkOrAside (hs ++ h ∷ [])
-chunks_more [] h all one = (one, tt)
-chunks_more (x ∷ xs) h all one = (all.0, chunks_more xs h all.1 one)
-
 since_more : (hs : List Happening) (h : Happening) → IsChunkOrAside h → IsCopyingSince hs → IsCopyingSince (hs ++ h ∷ [])
 since_more hs h one s = record {
   before = s.before;
   head = s.head;
   later = s.later ++ h ∷ [];
   since = ap (λ (x : List Happening). x ++ h ∷ []) s.since ∙ append_assoc s.before (Came (back.CopyIn s.head) ∷ s.later) (h ∷ []);
-  chunks = chunks_more s.later h s.chunks one;
+  chunks = all_both IsChunkOrAside s.later (h ∷ []) s.chunks (one, tt);
 }
-
-terminated_within : (before later : List Happening) → IsTerminated (before ++ Did call.Terminate ∷ later)
-terminated_within [] later = tt
-terminated_within (Did call.Terminate ∷ hs) later = tt
-terminated_within (Did _ ∷ hs) later = terminated_within hs later
-terminated_within (Came x ∷ hs) later = terminated_within hs later
 
 -- nothing is heard before start
 pub heard_after_start : (hs : List Happening) → AllAfter hs → (messages_in hs ≡ []) ⊎ IsStarted hs
@@ -62,14 +53,13 @@ did_copying : (before : List Happening) (c : Call) → IsCopyAwaited (before ++ 
 did_copying before c k = (subst (λ (s : Segments). EndInCopyIn s.rest) (segments_did before c) k.0, sym (copy_answer_from-more Awaited before (Did c)) ∙ k.1)
 
 not_started : (before : List Happening) → AllAfter before → (IsStarted before → ⊥) → EndInCopyIn (rest_in before) → ⊥
-not_started before all never k = by (heard_after_start before all)
-  where
-    by : (messages_in before ≡ []) ⊎ IsStarted before → ⊥
-    by (inl none) = never_ends k.0 (back.CopyIn k.1) (sym (ap (λ (ms : List BackMessage). without_asides (segments ms).rest) none) ∙ k.2)
-    by (inr s) = never s
+not_started before all never k = elim (heard_after_start before all) [
+  | inl none ↦ never_ends k.0 (back.CopyIn k.1) (sym (ap (λ (ms : List BackMessage). without_asides (segments ms).rest) none) ∙ k.2)
+  | inr s ↦ never s
+]
 
 -- an aside leaves it
-copying_kept : (before : List Happening) (m : BackMessage) → IsAside m → EndInCopyIn (rest_in before ++ m ∷ []) → copy_answer_after (copy_answer before) (Came m) ≡ Awaited → IsCopyAwaited before
+copying_kept : (before : List Happening) (m : BackMessage) → IsSome (aside_of m) → EndInCopyIn (rest_in before ++ m ∷ []) → copy_answer_after (copy_answer before) (Came m) ≡ Awaited → IsCopyAwaited before
 copying_kept before m aside ends said = ((ends.0, ends.1, sym (kept_aside (rest_in before) m aside) ∙ ends.2), sym (aside_says_nothing m (copy_answer before) aside) ∙ said)
 
 came_copying : (before : List Happening) (m : BackMessage) (p : Option Status) (o : Option Aside) → aside_of m ≡ o → (IsCopyAwaited before → IsCopyingSince before) → EndInCopyIn (put_after p m (whole_in before) (rest_in before)).rest → copy_answer_after (copy_answer before) (Came m) ≡ Awaited → IsCopyingSince (before ++ Came m ∷ [])
@@ -103,14 +93,11 @@ module _ (hs : List Happening) (after : AllAfter hs) (allowed : AreAllowed hs) (
 
 ended-append : (ms more : List FrontMessage) → copies_ended (ms ++ more) ≡ copies_ended ms + copies_ended more
 ended-append [] more = omega arith
-ended-append (front.CopyDone ∷ ms) more = omega (arith, ended-append ms more)
-ended-append (front.CopyFail b ∷ ms) more = omega (arith, ended-append ms more)
-ended-append (_ ∷ ms) more = ended-append ms more
+ended-append (m ∷ ms) more = grind (arith, ended-append ms more)
 
 begun-append : (ms more : List BackMessage) → copies_begun (ms ++ more) ≡ copies_begun ms + copies_begun more
 begun-append [] more = omega arith
-begun-append (back.CopyIn head ∷ ms) more = omega (arith, begun-append ms more)
-begun-append (_ ∷ ms) more = begun-append ms more
+begun-append (m ∷ ms) more = grind (arith, begun-append ms more)
 
 abbrev EndedIn : List Happening → ℕ
 EndedIn hs = copies_ended (last_copies (turns_in hs))
@@ -171,7 +158,7 @@ module _ (hs : List Happening) (after : AllAfter hs) (allowed : AreAllowed hs) w
   came_level before m (Some status) answered b le = absurd (omega (arith, answered, le, length-append (whole_in before) ((rest_in before ++ m ∷ []) ∷ [])))
   came_level before m None answered b le = omega (arith, b.level le, begun-append (rest_in before) (m ∷ []))
 
-  came_open : (before : List Happening) (m : BackMessage) (p : Option Status) (o : Option Aside) → aside_of m ≡ o → IsAside m ⊎ (length (whole_in before) ≤ length (requests_in before)) → InBalance before → EndInCopyIn (put_after p m (whole_in before) (rest_in before)).rest → copy_answer_after (copy_answer before) (Came m) ≡ Awaited → suc (EndedIn before) ≤ copies_begun (put_after p m (whole_in before) (rest_in before)).rest
+  came_open : (before : List Happening) (m : BackMessage) (p : Option Status) (o : Option Aside) → aside_of m ≡ o → IsSome (aside_of m) ⊎ (length (whole_in before) ≤ length (requests_in before)) → InBalance before → EndInCopyIn (put_after p m (whole_in before) (rest_in before)).rest → copy_answer_after (copy_answer before) (Came m) ≡ Awaited → suc (EndedIn before) ≤ copies_begun (put_after p m (whole_in before) (rest_in before)).rest
   came_open before m (Some status) o e asked b ends said = absurd (no_copy_in [] refl ends)
   came_open before m None (Some a) e asked b ends said = omega (arith, b.one_open (copying_kept before m (is_aside m a e) ends said), begun-append (rest_in before) (m ∷ []))
   came_open before m None None e (inl aside) b ends said = absurd (let k : IsSome {T = Aside} None = subst (λ (x : Option Aside). IsSome x) e aside in cc)

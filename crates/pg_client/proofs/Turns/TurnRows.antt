@@ -1,5 +1,5 @@
 -- A copy in and a query, and the turns that they are, by computation.
-use Rattle.std.proofs.Common.{◌≡◌, List, [], ◌∷◌, length, map, false, Some, None, refl, sym, ap, arith}
+use Rattle.std.proofs.Common.{◌≡◌, List, [], ◌∷◌, length, map, false, Some, None, refl, sym, ap, arith, ℕ}
 use Rattle.pg_wire.specs.message.BackMessage.{BackMessage}
 use Rattle.pg_wire.specs.message.BackMessage.TheVariants.{AuthOk, AuthCleartext, Ready, CommandComplete, NoticeResponse}
 use Rattle.pg_wire.specs.message.BackMessage.TheVariants as back
@@ -7,10 +7,11 @@ use Rattle.pg_wire.specs.message.FrontMessage.TheVariants as front
 use Rattle.pg_wire.specs.value.Status.TheVariants as status
 use Rattle.pg_wire.specs.declared.session.Request.{Request}
 use Rattle.pg_wire.specs.declared.session.Request.TheVariants.{Query}
+use Rattle.pg_client.specs.declared.call.Call.{Call}
 use Rattle.pg_client.specs.declared.settled.Settled.{Settled}
 use Rattle.pg_client.specs.declared.call.Call.TheVariants as call
 use Rattle.pg_client.specs.Session.{Happening, Did, Came, rest_in, groups_in}
-use Rattle.pg_client.specs.History.{Calls, with_ends, merged, blank, with_call, with_fed, with_heard}
+use Rattle.pg_client.specs.Client.{with_ends, merged, blank, with_call, with_fed, with_heard}
 use Rattle.pg_client.specs.Turns.{turns_of, messages_after}
 use Rattle.pg_wire.specs.Turns.{copies_begun}
 use Rattle.pg_client.specs.Answering.{calls_of, turns_in, turns_with, last_copies, copies_ended, IsCopyingSince, SettlesLast}
@@ -25,7 +26,7 @@ select = Query (83 ∷ [])
 abbrev begins : BackMessage
 begins = back.CopyIn (record { binary = false; formats = [] })
 
-abbrev calls : Calls
+abbrev calls : List (Call × ℕ)
 calls = (call.Start, 0) ∷ (call.Request copy, 15) ∷ (call.Chunk (97 ∷ []), 23) ∷ (call.Done, 23) ∷ (call.Request select, 37) ∷ (call.Terminate, 37) ∷ []
 
 abbrev heard : List BackMessage

@@ -1,26 +1,23 @@
 -- What holds between a client and a history of it, all that its code goes by. The laws say what a
 -- user may rely on of that, in the words of the protocol.
-use Rattle.std.specs.Prelude.{◌≡◌, ◌≢◌, ℕ, ◌≤◌, List, [], ◌∷◌, length, Bool, true, false, Option, Some, None, ◌↔◌}
+use Rattle.std.specs.Prelude.{◌≡◌, ◌≢◌, ℕ, ◌≤◌, List, [], ◌∷◌, length, Bool, true, false, Some, None, ◌↔◌}
 use Rattle.std.specs.List.{AllByRecursion}
 use Rattle.pg_wire.specs.Backend.{backend}
 use Rattle.pg_wire.specs.Stream.{IsStream}
+use Rattle.pg_client.specs.declared.call.Call.{Call}
 use Rattle.pg_client.specs.declared.stand.Stand.{Stand}
 use Rattle.pg_client.specs.declared.stand.Stand.TheVariants.{New}
 use Rattle.pg_client.specs.declared.settings.Settings.{Settings}
 use Rattle.pg_client.specs.declared.phase.Cause.TheVariants as cause
 use Rattle.pg_client.specs.Session.{Happening, Expected, IsTerminated, AreAllowed}
-use Rattle.pg_client.specs.Client.{KnowsLast, View}
-use Rattle.pg_client.specs.Past.{Calls, happenings, History}
+use Rattle.pg_client.specs.View.{KnowsLast, View}
+use Rattle.pg_client.specs.Client.{happenings, History}
 use Rattle.pg_client.specs.Sent.{sent_in, IsSpelledAt}
 use Rattle.pg_client.specs.Closed.{Ends}
 use Rattle.pg_client.specs.Stand.{Stands}
 
--- What was kept, where a client stands that has given this, after these events.
-abbrev pub Told : Type 0 → Type 0 → Type 1
-Told K G = K → Stand → List G → List Happening → Type 0
-
 -- The calls are in the order of their places: none was fed fewer bytes than the call before it.
-abbrev pub AreOrdered : Calls → Type 0
+abbrev pub AreOrdered : List (Call × ℕ) → Type 0
 AreOrdered [] = Unit {0}
 AreOrdered (c ∷ []) = Unit {0}
 AreOrdered (c ∷ d ∷ cs) = (c.1 ≤ d.1) × AreOrdered (d ∷ cs)
@@ -42,8 +39,8 @@ shown false was = was
 shown true was = New
 
 -- Where the events have led the client, and that it has kept what came of them.
-pub record IsLedBy {K G : Type 0} (tells : Told K G) (h : History G)
-    (client : View K) : Type 0 where
+pub record IsLedBy {K G : Type 0} (tells : K → Stand → List G → List Happening → Type 0)
+    (h : History G) (client : View K) : Type 0 where
   pub was : Stand
   pub stands : Stands (happenings h) was
   pub now : client.known.stand ≡ shown h.handed_back was
@@ -51,7 +48,8 @@ pub record IsLedBy {K G : Type 0} (tells : Told K G) (h : History G)
   pub knows : KnowsLast h.heard client.known.status client.known.parameters client.known.key
 
 -- The client, as it is now, may have gone through this history.
-pub record Agrees {K G : Type 0} (tells : Told K G) (h : History G) (client : View K) : Type 0 where
+pub record Agrees {K G : Type 0} (tells : K → Stand → List G → List Happening → Type 0)
+    (h : History G) (client : View K) : Type 0 where
   -- the bytes fed are the messages and the bytes left, within the limit of a message's length
   pub stream : IsStream backend client.settings.limit h.fed h.heard h.rest
   -- no call has a place after the bytes fed, and the calls are in the order of their places

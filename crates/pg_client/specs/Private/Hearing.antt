@@ -30,12 +30,10 @@ use Rattle.pg_client.specs.declared.stand.CopyAnswer.{CopyAnswer}
 use Rattle.pg_client.specs.declared.stand.Stand.{Stand}
 use Rattle.pg_client.specs.declared.stand.Stand.TheVariants.{New, Idle, Busy}
 use Rattle.pg_client.specs.declared.startup.Welcome.{Welcome}
-use Rattle.pg_client.specs.Client.{View, key_said, option_or, row_at, value_of, value_said}
+use Rattle.pg_client.specs.View.{View, key_said, option_or, row_at, value_of, value_said}
 use Rattle.pg_client.specs.Closed.{cause_of}
-use Rattle.pg_client.specs.Feed.{Hears}
-use Rattle.pg_client.specs.Past.{happenings, History, with_heard}
+use Rattle.pg_client.specs.Client.{Hears, happenings, History, with_heard, Keeps}
 use Rattle.pg_client.specs.Private.Agreeing.{AreOrdered, IsLedBy, MayHappen}
-use Rattle.pg_client.specs.Keeping.{Keeps}
 use Rattle.pg_client.specs.Private.Sending.{PutsAnswer}
 use Rattle.pg_client.specs.Session.{Happening, Came, IsTerminated}
 use Rattle.pg_client.specs.Stand.{answer_after, fault_at, hear, hear_with, Stands, welcome_fault}

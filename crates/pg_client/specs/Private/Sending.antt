@@ -14,7 +14,7 @@ use Rattle.pg_client.specs.declared.call.Call.TheVariants as call
 use Rattle.pg_client.specs.declared.fault.FeedFault.{FeedFault}
 use Rattle.pg_client.specs.declared.fault.FeedFault.TheVariants as feeding
 use Rattle.pg_client.specs.Sent.{answer_to, call_fault, first_fault, sent_by, IsSpelled}
-use Rattle.pg_client.specs.Session.{can_answer}
+use Rattle.pg_client.specs.Stand.{can_answer}
 
 -- All of these messages are appended, or nothing is, and the fault says why: it is that of the
 -- first message that has one, or Memory where none has.

@@ -1,7 +1,7 @@
 //! The bytes that come from the server.
 
 ghost use Rattle.std.specs.Prelude.{◌≡◌, ◌<◌, IfOk, length, None, OnOk};
-ghost use Rattle.pg_client.specs.Feed.{Feeds};
+ghost use Rattle.pg_client.specs.Client.{Feeds};
 ghost use Rattle.pg_client.specs.Closed.{cause_of};
 ghost use Rattle.pg_client.specs.Private.Hearing.{HearsAll, HearsNext, HearsRow, Owns};
 

@@ -1,9 +1,9 @@
 //! The items of an early client one by one, with rows that are lent.
 
 ghost use Rattle.std.specs.Prelude.{◌≡◌, ◌≢◌, ◌∷◌, ◌↔◌, [], IfNone, IfSome, IsTrue, None};
-ghost use Rattle.pg_client.specs.History.{Carries, with_given};
+ghost use Rattle.pg_client.specs.Client.{Carries, with_given};
 ghost use Rattle.pg_client.specs.Lent.{HearsUpTo, Pushes, TakesLent};
-ghost use Rattle.pg_client.specs.Client.{items_waiting, lent_row, with_items};
+ghost use Rattle.pg_client.specs.View.{items_waiting, lent_row, with_items};
 ghost use Rattle.pg_client.specs.Keeping.{queueing};
 
 use crate::connection::Connection;

@@ -8,8 +8,8 @@ use Rattle.pg_client.specs.declared.next.Next.TheVariants as next
 use Rattle.pg_client.specs.declared.phase.Phase.{Phase}
 use Rattle.pg_client.specs.declared.phase.Phase.TheVariants as phase
 use Rattle.pg_client.specs.declared.settled.Loss.{Loss}
-use Rattle.pg_client.specs.Client.{phase_of}
-use Rattle.pg_client.specs.Lost.{IsLost}
+use Rattle.pg_client.specs.View.{phase_of}
+use Rattle.pg_client.specs.Client.{IsLost}
 use Rattle.pg_client.specs.Keeping.{queueing}
 use Rattle.pg_drive.specs.declared.event.Event.{Event}
 use Rattle.pg_drive.specs.declared.event.Event.TheVariants as event

@@ -5,9 +5,9 @@ use Rattle.std.specs.declared.vec.Vec.{Vec}
 use Rattle.pg_wire.specs.declared.session.Request.{Request}
 use Rattle.pg_client.specs.declared.fault.CallFault.{CallFault}
 use Rattle.pg_client.specs.Keeping.{collecting}
-use Rattle.pg_client.specs.Session.{request_made}
-use Rattle.pg_client.specs.Client.{ClientView, phase_of}
-use Rattle.pg_client.specs.Calls.{Accepts}
+use Rattle.pg_client.specs.Session.{Did, request_of}
+use Rattle.pg_client.specs.View.{ClientView, phase_of}
+use Rattle.pg_client.specs.Client.{Accepts}
 use Rattle.pg_client.specs.declared.call.Call.{Call}
 use Rattle.pg_client.specs.declared.call.Call.TheVariants as call
 use Rattle.pg_pair.specs.declared.pair.calling.Kept.{Kept}
@@ -37,7 +37,7 @@ abbrev pub ClientAnswers : Call → ClientView → List ℕ
     → Result Kept (Option Request × CallFault) → ClientView → List ℕ → Type 0
 ClientAnswers c old before (Ok k) new after = IsAllowedIn c (phase_of old)
     × Accepts collecting c old new before after × (k ≡ kept_of c)
-ClientAnswers c old before (Err refusal) new after = (refusal.0 ≡ request_made c)
+ClientAnswers c old before (Err refusal) new after = (refusal.0 ≡ request_of (Did c))
     × RefusesCall old c refusal.1 × (new ≡ old) × (after ≡ before)
 
 -- The last request's chunks are taken out for one more of them alone.

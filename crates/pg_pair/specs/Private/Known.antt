@@ -1,13 +1,13 @@
 -- What the laws of both ends say.
-use Rattle.std.specs.Prelude.{◌≡◌, ℕ, [], ◌∷◌, ◌++◌}
+use Rattle.std.specs.Prelude.{List, ◌≡◌, ℕ, [], ◌∷◌, ◌++◌}
 use Rattle.pg_wire.specs.Backend.{backend}
 use Rattle.pg_wire.specs.Frontend.{frontend}
 use Rattle.pg_wire.specs.Laws.{OneSpelling, OnePacket, OneOutcome, FaultyBeginsNone, FaultyBeginsNoPacket}
 use Rattle.pg_client.specs.declared.call.Call.{Call}
-use Rattle.pg_client.specs.Client.{ClientView, groups_waiting}
+use Rattle.pg_client.specs.View.{ClientView, groups_waiting}
 use Rattle.pg_client.specs.Keeping.{collecting}
 use Rattle.pg_client.specs.declared.settled.Settled.{Settled}
-use Rattle.pg_client.specs.History.{Calls, History, happenings, IsHistoryOf}
+use Rattle.pg_client.specs.Client.{History, happenings, IsHistoryOf}
 use Rattle.pg_client.specs.Facts.{ClientFacts}
 use Rattle.pg_client.specs.Turns.{InTurns, turns_of}
 use Rattle.pg_client.specs.Spelled.{SendsSpelled}
@@ -33,7 +33,7 @@ pub record Known : Type 0 where
   pub answering : OfHistories
       (λ h client. TakesTurns (happenings h) (h.given ++ groups_waiting client) client)
   pub order : (h : History Settled) → KeepsOrder h
-  pub one_more : (cs : Calls) (c : Call) (place : ℕ)
+  pub one_more : (cs : List (Call × ℕ)) (c : Call) (place : ℕ)
       → turns_of (calls_of (cs ++ (c, place) ∷ [])) ≡ turns_with (turns_of (calls_of cs)) c
   pub segments_fit_log : SegmentsFitLog
   pub one_copy_each : OneCopyEach

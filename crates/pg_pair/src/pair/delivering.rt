@@ -2,7 +2,7 @@
 
 ghost use Rattle.std.specs.Prelude.{◌≡◌, ◌≤◌, ◌<◌, ◌+◌, ◌++◌, [], None, false, length, take};
 ghost use Rattle.std.specs.Vec.{vec_capacity, vec_len};
-ghost use Rattle.pg_client.specs.Client.{groups_waiting, with_groups};
+ghost use Rattle.pg_client.specs.View.{groups_waiting, with_groups};
 ghost use Rattle.pg_pair.specs.Breaking.{is_closed, is_shut};
 ghost use Rattle.pg_pair.specs.Delivering.{ArrivesAt, DeliversUnless};
 ghost use Rattle.pg_pair.specs.Delivering.{client_answer, delivery_applied};

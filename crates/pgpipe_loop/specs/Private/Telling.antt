@@ -1,7 +1,7 @@
 -- What is told of an event, by how far the pair had come before it.
 use Rattle.std.specs.Prelude.{ℕ, ◌-◌, Bool, true, false, cond, List, [], ◌∷◌, ◌++◌, length, drop, None, is_some}
 use Rattle.pg_copy.specs.Row.{Row}
-use Rattle.pg_client.specs.Client as client
+use Rattle.pg_client.specs.View as client
 use Rattle.pg_backend.specs.Backend as backend
 use Rattle.pg_pair.specs.declared.carry.Way.TheVariants.{ToBackend, ToClient}
 use Rattle.pg_pair.specs.declared.event.Applied.{Applied}

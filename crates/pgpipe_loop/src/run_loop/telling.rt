@@ -6,7 +6,7 @@ ghost use Rattle.pgpipe_loop.specs.Lines.{phase_rows, text_lines};
 ghost use Rattle.pgpipe_loop.specs.RunLoop.{is_nothing};
 ghost use Rattle.pgpipe_loop.specs.Private.Telling.{before_of, extent_of, moved_since, named_rows};
 ghost use Rattle.pgpipe_loop.specs.Private.Telling.{rows_since, text_since};
-ghost use Rattle.pg_client.specs.Client as client;
+ghost use Rattle.pg_client.specs.View as client;
 ghost use Rattle.pg_backend.specs.Backend as backend;
 
 use crate::lines::{LineBuffer, event_line, event_lines, put_phases, put_reached, put_sent};

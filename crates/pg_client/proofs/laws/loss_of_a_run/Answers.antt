@@ -1,6 +1,6 @@
 use Rattle.pg_client.proofs.Keeping.Groups.{collecting_is_silent}
 use Rattle.std.proofs.Common.{[], refl}
-use Rattle.pg_client.specs.Client.{loss_at}
+use Rattle.pg_client.specs.View.{loss_at}
 use Rattle.pg_client.specs.Keeping.{collecting}
 use Rattle.pg_client.proofs.Histories.Lifetime.{loses}
 use Rattle.pg_client.proofs.Histories.Unread.{none_unread}

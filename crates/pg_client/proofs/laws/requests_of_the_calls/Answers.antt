@@ -1,4 +1,4 @@
-use Rattle.pg_client.proofs.Turns.Driving.{all_settled_by_calls, asked_last, ready_again}
+use Rattle.pg_client.proofs.Turns.TakingTurns.{all_settled_by_calls, asked_last, ready_again}
 use Rattle.pg_client.proofs.laws.requests_of_the_calls.Goals as goal
 
 pub returns-clause-ready : goal.returns-clause-ready

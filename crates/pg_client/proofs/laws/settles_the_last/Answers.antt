@@ -1,4 +1,4 @@
-use Rattle.pg_client.proofs.Turns.SettlingLast.{settles_last, all_settled}
+use Rattle.pg_client.proofs.Turns.TakingTurns.{settles_last, all_settled}
 use Rattle.pg_client.proofs.laws.settles_the_last.Goals as goal
 
 pub returns-clause-fed : goal.returns-clause-fed

@@ -1,5 +1,5 @@
-use Rattle.pg_client.specs.History.{happenings}
-use Rattle.pg_client.proofs.Turns.SpelledTurns.{spelled_in_turns}
+use Rattle.pg_client.specs.Client.{happenings}
+use Rattle.pg_client.proofs.Turns.TurnLaws.{spelled_in_turns}
 use Rattle.pg_client.proofs.laws.spelled_in_a_run.Goals as goal
 
 pub returns : goal.returns

@@ -1,7 +1,7 @@
 use Rattle.std.proofs.Common.{rules, ◌≡◌, ◌∙◌, []}
 use Rattle.std.specs.Prelude.{◌≢◌}
 use Rattle.pg_client.specs.declared.phase.Phase.TheVariants as phase
-use Rattle.pg_client.specs.Client.{groups_waiting, phase_of}
+use Rattle.pg_client.specs.View.{groups_waiting, phase_of}
 use Rattle.pg_drive.proofs.Looking.{none_waits, not_both_phases}
 use Rattle.pg_drive.proofs.driving.look.Goals as goal
 use Rattle.pg_drive.proofs.driving.look.Goals.{in_default-via-in-Ready+else-eq, in_default-via-in_default}

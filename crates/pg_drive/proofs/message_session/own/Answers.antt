@@ -1,4 +1,4 @@
-use Rattle.pg_client.specs.Client.{lent_row}
+use Rattle.pg_client.specs.View.{lent_row}
 use Rattle.pg_drive.proofs.Owned.{owns_other}
 use Rattle.pg_drive.proofs.message_session.own.Goals as goal
 

@@ -1,13 +1,10 @@
-use Rattle.std.proofs.Common.{rules, ◌≡◌, refl}
-use Rattle.pg_client.specs.declared.phase.Phase.TheVariants as phase
+use Rattle.std.proofs.Common.{rules, refl}
 use Rattle.pg_wire.specs.message.FrontMessage.TheVariants.{CopyData}
-use Rattle.pg_client.specs.Client.{phase_of}
 use Rattle.pg_client.proofs.Calling.Encoded.{encoded}
 use Rattle.pg_client.proofs.Calling.Accepting.{chunk_accepted}
 use Rattle.pg_client.proofs.connection.Connection.copy_chunk.Goals as goal
 
 pub returns-clause-history : goal.returns-clause-history
 returns-clause-history g c =
-    let there : phase_of c.args.self.now ≡ phase.CopyingIn = search rules in
     let e = encoded (CopyData c.args.bytes.now) c.args.out.now.items c.copy_data.new.buf.items c.in_ok-copy_data.ensures in
-    chunk_accepted g.K.Keeper.way c.silent.ensures c.args.self.now c.args.self.now c.args.out.now.items c.copy_data.new.buf.items refl c.args.bytes.now there e.spelled e.put
+    chunk_accepted g.K.Keeper.way c.silent.ensures c.args.self.now c.args.self.now c.args.out.now.items c.copy_data.new.buf.items refl c.args.bytes.now (search rules) e.spelled e.put

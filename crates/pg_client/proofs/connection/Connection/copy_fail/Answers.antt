@@ -1,19 +1,10 @@
-use Rattle.std.proofs.Common.{rules, ◌≡◌, sym, subst}
-use Rattle.pg_client.specs.declared.phase.Phase.TheVariants as phase
+use Rattle.std.proofs.Common.{rules}
 use Rattle.pg_wire.specs.message.FrontMessage.TheVariants.{CopyFail}
-use Rattle.pg_client.specs.declared.call.Call.TheVariants as call
-use Rattle.pg_client.specs.declared.stand.Stand.{Stand}
-use Rattle.pg_client.specs.Calls.{Accepts}
-use Rattle.pg_client.specs.Client.{phase_of}
-use Rattle.pg_client.specs.Private.Inside.{view_of}
 use Rattle.pg_client.proofs.Calling.Encoded.{encoded}
 use Rattle.pg_client.proofs.Calling.Accepting.{copy_fail_accepted}
 use Rattle.pg_client.proofs.connection.Connection.copy_fail.Goals as goal
 
 pub returns-clause-history : goal.returns-clause-history
 returns-clause-history g c =
-    let there : phase_of c.args.self.now ≡ phase.CopyingIn = search rules in
-    let v = view_of c.self.inside in
     let e = encoded (CopyFail c.args.reason.now) c.args.out.now.items c.copy_fail.new.buf.items c.in_ok-copy_fail.ensures in
-    subst (λ (s : Stand). Accepts g.K.Keeper.way (call.Fail c.args.reason.now) c.args.self.now (record v { known = record v.known { stand = s } }) c.args.out.now.items c.copy_fail.new.buf.items) (sym c.answer_copy.ensures)
-    (copy_fail_accepted g.K.Keeper.way c.silent.ensures v c.args.self.now c.args.out.now.items c.copy_fail.new.buf.items c.self.view_is c.args.reason.now there e.spelled e.put)
+    rw c.answer_copy.ensures (copy_fail_accepted g.K.Keeper.way c.silent.ensures _ c.args.self.now c.args.out.now.items c.copy_fail.new.buf.items c.self.view_is c.args.reason.now (search rules) e.spelled e.put)

@@ -1,6 +1,6 @@
 use Rattle.std.proofs.lemmas.Result.{err_from_is_err_and}
 use Rattle.std.proofs.Common.{◌∙◌}
-use Rattle.pg_client.proofs.Hearing.Cutting.{all_heard, all_stops, message_heard, row_heard, row_stops}
+use Rattle.pg_client.proofs.Hearing.Messages.{all_heard, all_stops, message_heard, row_heard, row_stops}
 use Rattle.pg_client.proofs.Hearing.Feeding.{goes_from}
 use Rattle.pg_client.proofs.connection.Connection.hear_all.Goals as goal
 

@@ -1,11 +1,8 @@
-use Rattle.std.proofs.Common.{rules, ◌≡◌, None, Ok, Option, refl, ap, sym, subst, ◌∙◌}
-use Rattle.pg_wire.specs.declared.back.Cut.TheVariants.{Held, Other}
-use Rattle.pg_wire.specs.message.BackMessage.{BackMessage}
-use Rattle.pg_wire.specs.BackDecoder.{TakesLent}
-use Rattle.pg_client.specs.Client.{View}
-use Rattle.pg_client.specs.Private.Hearing.{Cuts, Owns}
+use Rattle.std.proofs.Common.{rules, ◌≡◌, None, refl, ap, ◌∙◌}
+use Rattle.pg_client.specs.View.{View}
+use Rattle.pg_client.specs.Private.Hearing.{Cuts}
 use Rattle.pg_client.specs.Private.Inside.{view_of}
-use Rattle.pg_client.proofs.Hearing.Cutting.{held_cuts, message_closes, other_cuts, wire_closes}
+use Rattle.pg_client.proofs.Hearing.Messages.{held_cuts, message_closes, other_cuts, wire_closes}
 use Rattle.pg_client.proofs.connection.Connection.hear_next.Goals.{in-Other, in-Held+in-Ok-Some}
 use Rattle.pg_client.proofs.connection.Connection.hear_next.Goals as goal
 
@@ -19,11 +16,8 @@ pub returns-in-Err-hear : goal.returns-in-Err-hear
 returns-in-Err-hear g c =
     let v = view_of c.self.inside in
     let cuts : Cuts v c.match-cut.message c.next_lent.new.self.stream.kept = elim c.match-cut.branch [
-      | in-Other w ↦
-          let t : TakesLent c.self.inside.decoder (Ok (Other w.in-Other.message)) c.next_lent.new.self = search rules in
-          subst (λ (m : BackMessage). Cuts v m c.next_lent.new.self.stream.kept) (sym w.message-is) (other_cuts g.K.Keeper.way v c.self.inside.decoder c.next_lent.new.self refl c.self.invariant.0 w.in-Other.message t)
+      | in-Other w ↦ rw w.message-is (other_cuts g.K.Keeper.way v c.self.inside.decoder c.next_lent.new.self refl c.self.invariant.0 w.in-Other.message (search rules))
       | in-Held+in-Ok-Some w ↦
-          let t : TakesLent c.self.inside.decoder (Ok Held) c.next_lent.new.self = search rules in
-          subst (λ (m : BackMessage). Cuts v m c.next_lent.new.self.stream.kept) (sym w.message-is) (held_cuts g.K.Keeper.way v c.self.inside.decoder c.next_lent.new.self refl c.self.invariant.0 w.in-Ok-Some.message t (subst (λ (o : Option BackMessage). Owns c.next_lent.new.self.held (Ok o)) w.in-Ok-Some.field-0-is w.in-Ok-Some.ensures))
+          rw w.message-is (held_cuts g.K.Keeper.way v c.self.inside.decoder c.next_lent.new.self refl c.self.invariant.0 w.in-Ok-Some.message (search rules) (rw (← w.in-Ok-Some.field-0-is) w.in-Ok-Some.ensures))
     ] in
     message_closes g.K.Keeper.way v c.args.self.now c.self.view_is c.match-cut.message c.next_lent.new.self.stream.kept c.in-Err-hear.fault c.close-in-Err-hear.result (record v { kept = c.next_lent.new.self.stream.kept; held = c.next_lent.new.self.held; known = c.hear.new.self }) c.close-in-Err-hear.new.self c.args.out.now.items c.hear.new.out.items cuts refl c.in-Err-hear.ensures c.close-in-Err-hear.ensures.fault c.close-in-Err-hear.ensures.closed

@@ -1,5 +1,5 @@
 use Rattle.std.proofs.Common.{◌∙◌, ap, ℕ, Vec, Global}
-use Rattle.pg_client.specs.Client.{value_of}
+use Rattle.pg_client.specs.View.{value_of}
 use Rattle.pg_client.proofs.ParameterLaws.{looked_up}
 use Rattle.pg_client.proofs.parameters.Parameters.get.Goals as goal
 

@@ -1,5 +1,5 @@
 use Rattle.std.proofs.Common.{◌∙◌, ap, cond, bytes_eq, List, ℕ, Vec, Global, Some, Option}
-use Rattle.pg_client.specs.Client.{value_of}
+use Rattle.pg_client.specs.View.{value_of}
 use Rattle.pg_client.proofs.ParameterLaws.{updated}
 use Rattle.pg_client.proofs.parameters.Parameters.set.Goals as goal
 

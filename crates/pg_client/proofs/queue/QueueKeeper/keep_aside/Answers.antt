@@ -2,7 +2,7 @@ use Rattle.std.proofs.Common.{◌≡◌, Some, sym, ◌∙◌}
 use Rattle.std.proofs.lemmas.Result.{on_ok_weaker}
 use Rattle.pg_wire.specs.message.BackMessage.{BackMessage}
 use Rattle.pg_wire.specs.Segment.{aside_of}
-use Rattle.pg_client.proofs.Hearing.Asides.{is_aside_message}
+use Rattle.pg_client.proofs.Hearing.Messages.{is_aside_message}
 use Rattle.pg_client.proofs.Events.OneMessage.{aside_ends_nothing}
 use Rattle.pg_client.proofs.Keeping.Queueing.{keeps_aside}
 use Rattle.pg_client.proofs.queue.QueueKeeper.keep_aside.Goals as goal

@@ -1,9 +1,7 @@
-use Rattle.std.proofs.Common.{rules, ◌≡◌, ◌∷◌, [], ◌++◌, List, ap, ◌∙◌}
+use Rattle.std.proofs.Common.{rules, ◌≡◌, refl, ap}
 use Rattle.pg_wire.specs.message.BackMessage.{BackMessage}
 use Rattle.pg_wire.specs.message.BackMessage.TheVariants.{ParameterStatus}
 use Rattle.pg_wire.specs.Segment.{status_of}
-use Rattle.pg_client.specs.declared.item.Item.{Item}
-use Rattle.pg_client.specs.declared.item.Item.TheVariants.{Early}
 use Rattle.pg_client.proofs.Keeping.Queueing.{keeps_aside}
 use Rattle.pg_client.proofs.queue.QueueKeeper.keep_parameter.Goals as goal
 
@@ -11,5 +9,4 @@ pub returns-clause-ok : goal.returns-clause-ok
 returns-clause-ok c =
     let same : ParameterStatus c.in_ok-clone.field-0 c.in_ok-clone-2.field-0 ≡ ParameterStatus c.args.name c.args.value = search rules in
     keeps_aside (λ (m : BackMessage). m ≡ ParameterStatus c.args.name c.args.value) (ParameterStatus c.args.name c.args.value) c.args.self.now c.push_back_reserved.new.self.items (λ m is. (is, ap status_of is))
-    (c.push_back_reserved.ensures.items ∙ (ap (λ (is : List Item). is ++ Early (ParameterStatus c.in_ok-clone.field-0 c.in_ok-clone-2.field-0) ∷ []) (c.reserve.ensures.items ∙ c.self.view_is)
-    ∙ ap (λ (m : BackMessage). c.args.self.now ++ Early m ∷ []) same))
+    (rw (c.push_back_reserved.ensures.items, c.reserve.ensures.items, c.self.view_is, same) refl)

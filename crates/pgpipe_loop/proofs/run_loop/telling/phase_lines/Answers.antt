@@ -1,6 +1,6 @@
 use Rattle.std.proofs.Common.{rules}
 use Rattle.pg_backend.specs.Backend as backend
-use Rattle.pg_client.specs.Client as client
+use Rattle.pg_client.specs.View as client
 use Rattle.pgpipe_loop.specs.Lines.{phase_rows}
 use Rattle.pgpipe_loop.proofs.run_loop.telling.phase_lines.Goals as goal
 

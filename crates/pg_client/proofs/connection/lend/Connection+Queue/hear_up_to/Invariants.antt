@@ -1,5 +1,5 @@
 use Rattle.std.proofs.Common.{◌≡◌, None, [], length}
-use Rattle.pg_client.specs.Client.{items_waiting}
+use Rattle.pg_client.specs.View.{items_waiting}
 use Rattle.pg_client.specs.Keeping.{queueing}
 use Rattle.pg_client.specs.Private.Hearing.{GoesOn}
 use Rattle.pg_client.proofs.connection.lend.Connection+Queue.hear_up_to.Given as goal
