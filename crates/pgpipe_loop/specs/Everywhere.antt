@@ -1,5 +1,5 @@
 -- A loop that is run again for each byte of each way, with that way cut after it.
-use Rattle.std.specs.Prelude.{◌≡◌, ◌-◌, ◌+◌, ℕ, zero, suc, Bool, true, false, List, [], ◌∷◌, ◌++◌, length, take, map, Option, Some, None, Result, Ok, Err, IsErr, codes}
+use Rattle.std.specs.Prelude.{◌≡◌, ◌-◌, ℕ, zero, suc, Bool, true, false, List, [], ◌∷◌, ◌++◌, length, take, map, Option, Some, None, Result, Ok, Err, IsErr, codes}
 use Rattle.std.specs.Fmt.{decimal}
 use Rattle.pg_copy.specs.Row.{Row}
 use Rattle.pg_backend.specs.declared.script.Script.{Script}

@@ -269,7 +269,9 @@ fn run_told<C: Carry, K: Sink>(
         pair: Pair::new(alloc, settings, script, carrier),
         carrier_failed: false,
     };
-    running.run(lines, cut, trace, sink)
+    let ran = running.run(lines, cut, trace, sink);
+    drop(running);
+    ran
 }
 
 /// Runs the lines of `calls` over a client with their settings and a backend with `script`. `carrier` carries between them. It sends the lines of

@@ -1,12 +1,15 @@
 //! A loop that is run again for each byte of each way, with that way cut after it.
 
-ghost use Rattle.std.specs.Prelude.{◌≡◌, List, ℕ, IfOk};
+ghost use Rattle.std.specs.Prelude.{◌≡◌, List, ℕ, IfOk, Ok, OnOk};
 ghost use Rattle.std.specs.List.{FoldsTo, concat};
+ghost use Rattle.pg_pair.specs.declared.event.Applied.{Applied};
+ghost use Rattle.pg_pair.specs.Event.{Applies};
+ghost use Rattle.pg_pair.specs.Laws.{break_of};
 ghost use Rattle.pg_wire.specs.Link.{HasRisen};
 ghost use Rattle.pgpipe_base.specs.Receiving.{CountsNoFailure};
 ghost use Rattle.pgpipe_loop.specs.Everywhere.{AreBroken, BreaksAnswer, FillsIn};
 ghost use Rattle.pgpipe_loop.specs.Everywhere.{IsBrokenEverywhere, IsLeftAt, IsLeftBy, IsPlayable};
-ghost use Rattle.pgpipe_loop.specs.Everywhere.{Says, broken_text};
+ghost use Rattle.pgpipe_loop.specs.Everywhere.{Says, broken_as, broken_text};
 
 use super::places::{Broken, Place, break_of, broken_as, first_unseen, places_of, put_places_line};
 use super::wire::{CutWire, Unread};
@@ -30,18 +33,30 @@ pub struct LoopFiles {
     pub named: Seq<Seq<u8>>,
 }
 
-// The calls with the bytes of the files that they name. Where they name fewer files than are given, it fails as where memory runs out.
-fn filled_in(alloc: Global, calls: Calls, named: &[Seq<u8>]) -> Result<Calls, AllocError>
-    ensures { IfOk result (FillsIn calls named.now) }
+// Fills in the files that the calls name. Where they name fewer files than are given, it fails as where memory runs out. The calls are lent, since an
+// owned value would be dropped on each way out of the loop, and each drop is proved.
+fn fill_in(alloc: Global, calls: &mut Calls, named: &[Seq<u8>]) -> Result<(), AllocError>
+    ensures { OnOk result (FillsIn calls.old named.now calls.new) }
 {
-    let mut filled = calls;
     for bytes in named {
-        if filled.next_file().is_none() {
+        if calls.next_file().is_none() {
             return Err(AllocError);
         }
-        filled.fill(alloc, bytes.as_slice())?;
+        calls.fill(alloc, bytes.as_slice())?;
     }
-    Ok(filled)
+    Ok(())
+}
+
+// Breaks the way of this place, and says what the loop has come to that has left the pair. The pair is lent, so that no answer is dropped beside it.
+fn break_at<C: Carry>(pair: &mut Pair<C>, place: Place) -> Result<Broken, AllocError>
+    ensures { IfOk result (λ broken. (answer : Applied)
+        × Applies C.carries (break_of place.way) pair.old (Ok answer) pair.new
+        × (broken ≡ broken_as place pair.new)) }
+{
+    match pair.apply(break_of(place.way)) {
+        Ok(_) => Ok(broken_as(place, pair)),
+        Err(_) => Err(AllocError),
+    }
 }
 
 impl LoopFiles {
@@ -50,8 +65,8 @@ impl LoopFiles {
         ensures { IfOk result (λ said. Says self.now said.0 said.1) }
     {
         let script = read_script(alloc, self.script.as_slice()).map_err(|_| AllocError)?;
-        let calls = read_calls(alloc, self.calls.as_slice()).map_err(|_| AllocError)?;
-        let calls = filled_in(alloc, calls, self.named.as_slice())?;
+        let mut calls = read_calls(alloc, self.calls.as_slice()).map_err(|_| AllocError)?;
+        fill_in(alloc, &mut calls, self.named.as_slice())?;
         Ok((script, calls))
     }
 
@@ -83,10 +98,9 @@ impl LoopFiles {
         ensures { IfOk result (IsLeftAt cut self.now place) }
     {
         let mut pair = self.left_by(alloc, cut, CutWire::new(place))?;
-        match pair.apply(break_of(place.way)) {
-            Ok(_) => Ok(broken_as(place, &pair)),
-            Err(_) => Err(AllocError),
-        }
+        let broken = break_at(&mut pair, place);
+        drop(pair);
+        broken
     }
 
     // What the loop has come to in each of these places.
