@@ -1,6 +1,5 @@
--- What a reader must believe: how the fields and the values of a message are spelled, and how a message is put together.
+-- What a reader must believe: how the fields and the values of a message are spelled.
 pub mod Field
 pub mod Value
-pub mod Part
 -- Words of how bodies are read and written.
 pub mod Private

@@ -37,6 +37,15 @@ impl Appender {
         Appender { buf, start }
     }
 
+    /// Takes the buffer's bytes, to append to.
+    pub fn begin(buf: &mut Vec<u8>) -> Appender
+        ensures before { result.before ≡ buf.old.items }
+        ensures added { result.added ≡ [] }
+    {
+        let alloc = *buf.allocator();
+        Appender::new(mem::replace(buf, Vec::new(alloc)))
+    }
+
     /// Appends bytes.
     pub fn put(&mut self, bytes: &[u8]) -> Result<(), AllocError>
         ensures before { self.new.before ≡ self.old.before }
@@ -59,35 +68,26 @@ impl Appender {
         buf.truncate(start);
         buf
     }
-}
 
-/// Takes the buffer's bytes, to append to.
-pub fn begin(buf: &mut Vec<u8>) -> Appender
-    ensures before { result.before ≡ buf.old.items }
-    ensures added { result.added ≡ [] }
-{
-    let alloc = *buf.allocator();
-    Appender::new(mem::replace(buf, Vec::new(alloc)))
-}
-
-/// Gives the buffer its bytes back, with what was added unless memory ran out.
-pub fn settle(
-    buf: &mut Vec<u8>,
-    out: Appender,
-    written: Result<(), AllocError>,
-) -> Result<(), EncodeFault>
-    ensures { MatchResult written (λ _. (result ≡ Ok record {})
-        × (buf.new.items ≡ out.before ++ out.added)) (λ _. (result ≡ Err EncodeFault.Memory)
-        × (buf.new.items ≡ out.before)) }
-{
-    match written {
-        Ok(()) => {
-            *buf = out.finish();
-            Ok(())
-        }
-        Err(_) => {
-            *buf = out.put_back();
-            Err(EncodeFault::Memory)
+    /// Gives the buffer its bytes back, with what was added unless memory ran out.
+    pub fn settle(
+        self,
+        buf: &mut Vec<u8>,
+        written: Result<(), AllocError>,
+    ) -> Result<(), EncodeFault>
+        ensures { MatchResult written (λ _. (result ≡ Ok record {})
+            × (buf.new.items ≡ self.before ++ self.added)) (λ _. (result ≡ Err EncodeFault.Memory)
+            × (buf.new.items ≡ self.before)) }
+    {
+        match written {
+            Ok(()) => {
+                *buf = self.finish();
+                Ok(())
+            }
+            Err(_) => {
+                *buf = self.put_back();
+                Err(EncodeFault::Memory)
+            }
         }
     }
 }

@@ -8,13 +8,13 @@
 //! | File | Definitions in `specs/` | What it has |
 //! |---|---|---|
 //! | `field.rt`, `value.rt`, `writer.rt`, `reader.rt` | `Field`, `Value` | the parts of a body: how each data type, and each value that messages carry, is spelled, and what keeps it from having a spelling |
-//! | `part.rt`, `appender.rt`, `fault.rt` | `Part` | how a message is put together of its tag and body, and what appending it does with the buffer |
+//! | `part.rt`, `appender.rt` | | the parts of a body, and the buffer that they are appended to |
+//! | `fault.rt` | | why a message can't be written or read |
 //! | `lent.rt` | | a value and a field that are read in place |
 //! | `after.rt` | | what is left of a body after a value, for judging it without making the value |
 //!
-//! **An encoder** takes a message apart into parts (`part`): a String, bytes, a number, a list after its count, and pairs of these. A
-//! body of parts is judged first (the first fault, then the length) and then written once, in order. Each part of the code
-//! (`BodyPart`) says which part of a message's definition it writes.
+//! **A body is a body of parts** (`part`): a String, bytes, a number, a list after its count, and pairs of these. Each part of the code
+//! (`BodyPart`) says which part of a message's definition it writes, and how it is judged.
 #![tactic(auto)]
 
 mod after;
@@ -34,10 +34,7 @@ pub use appender::Appender;
 pub use fault::{BodyFault, EncodeFault};
 pub use field::{Field, ReadField};
 pub use lent::{lent_field_at, lent_value_at};
-pub use part::{
-    BodyPart, Byte, Bytes, Counted, Int32, LONGEST, LONGEST_PACKET, Pair, Salt, Terminated, Text,
-    append, append_packet,
-};
+pub use part::{BodyPart, Byte, Bytes, Counted, Int32, LONGEST, Pair, Salt, Terminated, Text};
 pub use reader::{
     after_zero, copy_head_at, copy_of, counted, ended, i32_at, status_at, terminated, text_at,
     u16_at,

@@ -4,7 +4,7 @@ use Rattle.std.specs.List.{flat_map}
 use Rattle.pg_codec.specs.declared.fault.EncodeFault.{EncodeFault}
 use Rattle.pg_message.specs.declared.message.First.TheVariants.{Startup}
 use Rattle.pg_codec.specs.Field.{◌⨾◌, terminated}
-use Rattle.pg_codec.specs.Part.{packet_of}
+use Rattle.pg_message.specs.Appending.{packet_of}
 use Rattle.pg_message.specs.First.{parameter, packet_fault_of, packet_has_zero, packet_has_no_name, PacketIsOfType, startup_parameters}
 use Rattle.pg_message.specs.Encoder.{EncodesAs, EncodesPacket, AppendsPacket}
 

@@ -3,7 +3,7 @@
 use Rattle.std.specs.Prelude.{ℕ, ◌≡◌, ◌≤◌, ◌+◌, Bool, false, List, length, Option, None}
 use Rattle.pg_codec.specs.declared.fault.EncodeFault.{EncodeFault}
 pub use Rattle.pg_codec.specs.Field.{Body}
-pub use Rattle.pg_codec.specs.Part.{longest, tagged, fault_of}
+pub use Rattle.pg_message.specs.Appending.{longest, tagged, fault_of}
 
 -- What the messages of a direction are made of: the first byte, what stands after the length field, whether the numbers
 -- are of their types (as all numbers of a program are), the tests that a message with a spelling doesn't meet, and whether it holds

@@ -2,7 +2,7 @@
 use Rattle.std.specs.Prelude.{ℕ, List, Result}
 use Rattle.pg_codec.specs.declared.fault.EncodeFault.{EncodeFault}
 use Rattle.pg_message.specs.declared.message.First.{First}
-pub use Rattle.pg_codec.specs.Part.{EncodesAs, Appends, AppendsPacket}
+pub use Rattle.pg_message.specs.Appending.{EncodesAs, Appends, AppendsPacket}
 use Rattle.pg_message.specs.First.{PacketIsOfType, packet_fault, packet}
 use Rattle.pg_message.specs.Direction.{Direction, spelling, encode_fault}
 

@@ -7,8 +7,8 @@ use Rattle.pg_message.specs.declared.message.First.{First}
 use Rattle.pg_message.specs.declared.message.First.TheVariants as first
 use Rattle.pg_codec.specs.Field.{Body, ◌⨾◌, int32, nothing, terminated}
 pub use Rattle.pg_codec.specs.Value.{parameter}
-use Rattle.pg_codec.specs.Part.{packet_of}
-pub use Rattle.pg_codec.specs.Part.{longest_packet, packet_fault_of}
+use Rattle.pg_message.specs.Appending.{packet_of}
+pub use Rattle.pg_message.specs.Appending.{longest_packet, packet_fault_of}
 
 -- ---- a packet as bytes
 

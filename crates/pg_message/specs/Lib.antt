@@ -5,6 +5,7 @@ pub mod Backend
 pub mod Frontend
 pub mod Message
 pub mod Lent
+pub mod Appending
 pub mod First
 pub mod Encoder
 pub mod Shown

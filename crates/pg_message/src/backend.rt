@@ -25,13 +25,13 @@ ghost use Rattle.pg_message.specs.Encoder.{Appends, Encodes};
 ghost use Rattle.pg_message.specs.Private.BackReader.{back_reading};
 ghost use Rattle.pg_message.specs.Private.Reading.{ReadsWhole};
 
+use crate::appending::append;
 use crate::direction::Message;
 use crate::message::BackMessage;
 use judging::is_back_message;
 use kind::BackKind;
 use pg_codec::{
-    BodyFault, Byte, Bytes, Column, CopyHead, Counted, EncodeFault, Int32, Pair, Salt, Status,
-    Text, append,
+    BodyFault, Byte, Bytes, Column, CopyHead, Counted, EncodeFault, Int32, Pair, Salt, Status, Text,
 };
 use pg_values::{CountedValues, Fields, TerminatedFields, ValueList};
 use reading::back_message;

@@ -23,14 +23,12 @@ ghost use Rattle.pg_message.specs.Encoder.{Encodes, EncodesPacket, AppendsPacket
 ghost use Rattle.pg_message.specs.Private.FrontReader.{front_reading};
 ghost use Rattle.pg_message.specs.Private.Reading.{ReadsWhole};
 
+use crate::appending::{append, append_packet};
 use crate::direction::Message;
 use crate::message::{First, FrontMessage};
 use judging::is_front_message;
 use kind::FrontKind;
-use pg_codec::{
-    BodyFault, BodyPart, Byte, Bytes, Counted, EncodeFault, Int32, Pair, Target, Text, append,
-    append_packet,
-};
+use pg_codec::{BodyFault, BodyPart, Byte, Bytes, Counted, EncodeFault, Int32, Pair, Target, Text};
 use pg_values::{CountedValues, ParameterList, TerminatedParameters, ValueList};
 use reading::front_message;
 use std::alloc::Global;

@@ -82,10 +82,10 @@ pub use first::FirstDecoder;
 pub use link::{LinkFault, Over, Sink, Source};
 pub use password::md5_answer;
 pub use patient::{PATIENCE, Patient};
-pub use pg_codec::{
-    BodyFault, Column, CopyHead, EncodeFault, ErrorField, LONGEST, LONGEST_PACKET, Status, Target,
+pub use pg_codec::{BodyFault, Column, CopyHead, EncodeFault, ErrorField, LONGEST, Status, Target};
+pub use pg_message::{
+    BackMessage, First, FrontMessage, LONGEST_PACKET, Lent, Message, backend, frontend,
 };
-pub use pg_message::{BackMessage, First, FrontMessage, Lent, Message, backend, frontend};
 pub use pg_seq::Seq;
 pub use pg_values::{
     Fields, FieldsView, KeptFields, LentFields, LentValues, ParameterList, RowView, Text,
