@@ -1,11 +1,13 @@
 //! What the log says of a request, copied from the script.
 
-ghost use Rattle.std.specs.Prelude.{◌≡◌, IfOk, option_to_list};
+ghost use Rattle.std.specs.Prelude.{◌≡◌, IfOk, Some, option_to_list};
+ghost use Rattle.pg_wire.specs.declared.session.Part.TheVariants as part;
 ghost use Rattle.pg_wire.specs.declared.session.Outcome.{Outcome};
+ghost use Rattle.pg_backend.specs.declared.script.ScriptPart.TheVariants as script_part;
 ghost use Rattle.pg_backend.specs.Outcome.{complete, parts_of, whole_outcome};
 
 use crate::script::{Answer, Load, ScriptPart};
-use pg_wire::{Aside, ExecEnd, Fields, Outcome, Part, Seq, Values};
+use pg_wire::{Aside, Column, CopyHead, ExecEnd, Fields, Outcome, Part, Seq, Values};
 use std::alloc::{AllocError, Global};
 
 fn copy_of_rows(alloc: Global, rows: &[Values]) -> Result<Seq<Values>, AllocError>
@@ -72,43 +74,96 @@ pub fn copy_of_load(load: &Load) -> Result<Load, AllocError>
     }
 }
 
+// A result with rows that have these columns.
+fn complete_rows(
+    alloc: Global,
+    columns: &Seq<Column>,
+    rows: &[Values],
+    tag: &Seq<u8>,
+) -> Result<Option<Part>, AllocError>
+    ensures { IfOk result (λ o. o ≡ Some (part.Rows columns.now rows.now tag.now)) }
+{
+    Ok(Some(Part::Rows {
+        columns: columns.clone()?,
+        rows: copy_of_rows(alloc, rows)?,
+        tag: tag.clone()?,
+    }))
+}
+
+// A copy to the client.
+fn complete_copy_out(
+    head: &CopyHead,
+    chunks: &Seq<Seq<u8>>,
+    tag: &Seq<u8>,
+) -> Result<Option<Part>, AllocError>
+    ensures { IfOk result (λ o. o ≡ Some (part.CopyOut head.now chunks.now tag.now)) }
+{
+    Ok(Some(Part::CopyOut {
+        head: head.clone()?,
+        chunks: chunks.clone()?,
+        tag: tag.clone()?,
+    }))
+}
+
+// A copy from the client, unless it is rejected, which is never complete.
+fn complete_copy_in(head: &CopyHead, load: &Load) -> Result<Option<Part>, AllocError>
+    ensures { IfOk result (λ o. option_to_list o ≡ complete (script_part.CopyIn head.now load.now)) }
+{
+    match load {
+        Load::Accept(tag) => Ok(Some(Part::CopyIn {
+            head: head.clone()?,
+            tag: tag.clone()?,
+        })),
+        Load::Refuse { .. } => Ok(None),
+    }
+}
+
+// The answer to a Describe.
+fn complete_described(
+    parameters: &Option<Seq<u32>>,
+    columns: &Option<Seq<Column>>,
+) -> Result<Option<Part>, AllocError>
+    ensures { IfOk result (λ o. o ≡ Some (part.Described parameters.now columns.now)) }
+{
+    Ok(Some(Part::Described {
+        parameters: parameters.clone()?,
+        columns: columns.clone()?,
+    }))
+}
+
+// The answer to an Execute.
+fn complete_executed(
+    alloc: Global,
+    rows: &[Values],
+    end: &ExecEnd,
+) -> Result<Option<Part>, AllocError>
+    ensures { IfOk result (λ o. o ≡ Some (part.Executed rows.now end.now)) }
+{
+    Ok(Some(Part::Executed {
+        rows: copy_of_rows(alloc, rows)?,
+        end: copy_of_end(end)?,
+    }))
+}
+
 // What the log has of the part once it is complete. None for a copy that is rejected, which never is.
 fn complete_part(alloc: Global, part: &ScriptPart) -> Result<Option<Part>, AllocError>
     ensures { IfOk result (λ o. option_to_list o ≡ complete part.now) }
 {
     match part {
-        ScriptPart::Rows { columns, rows, tag } => Ok(Some(Part::Rows {
-            columns: columns.clone()?,
-            rows: copy_of_rows(alloc, rows.as_slice())?,
-            tag: tag.clone()?,
-        })),
+        ScriptPart::Rows { columns, rows, tag } => {
+            complete_rows(alloc, columns, rows.as_slice(), tag)
+        }
         ScriptPart::Command(tag) => Ok(Some(Part::Command(tag.clone()?))),
         ScriptPart::Empty => Ok(Some(Part::Empty)),
-        ScriptPart::CopyOut { head, chunks, tag } => Ok(Some(Part::CopyOut {
-            head: head.clone()?,
-            chunks: chunks.clone()?,
-            tag: tag.clone()?,
-        })),
-        ScriptPart::CopyIn { head, load } => match load {
-            Load::Accept(tag) => Ok(Some(Part::CopyIn {
-                head: head.clone()?,
-                tag: tag.clone()?,
-            })),
-            Load::Refuse { .. } => Ok(None),
-        },
+        ScriptPart::CopyOut { head, chunks, tag } => complete_copy_out(head, chunks, tag),
+        ScriptPart::CopyIn { head, load } => complete_copy_in(head, load),
         ScriptPart::Parsed => Ok(Some(Part::Parsed)),
         ScriptPart::Bound => Ok(Some(Part::Bound)),
         ScriptPart::Described {
             parameters,
             columns,
-        } => Ok(Some(Part::Described {
-            parameters: parameters.clone()?,
-            columns: columns.clone()?,
-        })),
-        ScriptPart::Executed { rows, end } => Ok(Some(Part::Executed {
-            rows: copy_of_rows(alloc, rows.as_slice())?,
-            end: copy_of_end(end)?,
-        })),
+        } => complete_described(parameters, columns),
+        ScriptPart::Executed { rows, end } => complete_executed(alloc, rows.as_slice(), end),
         ScriptPart::Shut => Ok(Some(Part::Shut)),
     }
 }

@@ -325,13 +325,13 @@ impl Playing {
     fn take_password(
         &self,
         expected: &[u8],
-        message: FrontMessage,
+        message: &FrontMessage,
         out: &mut Vec<u8>,
     ) -> Result<Next, BackendFault>
-        ensures { Moves (entering self.now.script self.now.left expected.now message)
+        ensures { Moves (entering self.now.script self.now.left expected.now message.now)
             self.now out.old.items result self.now out.new.items }
     {
-        match &message {
+        match message {
             FrontMessage::Password(password) => {
                 if password.as_slice() == expected {
                     self.welcome(out)
@@ -355,7 +355,11 @@ impl Playing {
             self.old out.old.items result self.new out.new.items }
     {
         match awaits {
-            Awaits::Password(expected) => self.take_password(expected.as_slice(), message, out),
+            Awaits::Password(expected) => {
+                let next = self.take_password(expected.as_slice(), &message, out);
+                drop(message);
+                next
+            }
             Awaits::Request(steps) => self.take_request(steps, message, out),
             Awaits::Data(loading) => self.take_in_copy(loading, message, out),
         }
