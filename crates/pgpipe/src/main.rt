@@ -2,18 +2,20 @@
 //! scripted backend; and serves clients from a script.
 #![tactic(auto)]
 
-ghost use Rattle.pgpipe_cli.specs.Tasks.{IsTask};
+ghost use Rattle.pgpipe_tasks.specs.Tasks.{IsTask};
 
 use pg_pair::{Carry, Direct};
 use pg_wire::{Over, Patient};
 use pgpipe_cli::{
-    Asked, BothDone, Disk, Failure, FirstBytes, Listening, NotedDisk, Reason, ServeTask, Showing,
-    Subject, Task, Telling, Watched, asked_of, both_reason, connect_to_itself, do_both, do_task,
-    exit_code, explain, file_failure, file_reason, serve_file, stream_reason, task_reason,
-    words_failure,
+    BothDone, Listening, connect_to_itself, do_both, do_task, exit_code, explain, serve_file,
 };
 use pgpipe_explain::Tracked;
+use pgpipe_reasons::{
+    Disk, Failure, FirstBytes, NotedDisk, Reason, Subject, Watched, both_reason, file_failure,
+    file_reason, stream_reason, task_reason, words_failure,
+};
 use pgpipe_show::{Colored, Form, Line};
+use pgpipe_tasks::{Asked, ServeTask, Showing, Task, Telling, asked_of};
 use standard_streams::{ClosedStream, all_open};
 use std::env::VarError;
 use std::io::{IsTerminal, Read};

@@ -2,7 +2,7 @@
 use Rattle.std.proofs.Common.{◌≡◌, ℕ, Bool, List, Result, Ok, Err, refl, inl, inr}
 use Rattle.pgpipe_files.specs.declared.calls_file.Calls.{Calls}
 use Rattle.pgpipe_files.specs.CallsFile.{calls_of, what_is_said}
-use Rattle.pgpipe_cli.specs.declared.failure.Failure.{Failure}
+use Rattle.pgpipe_reasons.specs.declared.failure.Failure.{Failure}
 use Rattle.pg_backend.specs.declared.script.Script.{Script}
 use Rattle.pgpipe_cli.specs.LoopFiles.{calls_limit, HasText, ReadsScript, SaysCalls, SaysScript, Fills, nothing, one_more, ReadsFiles, ReadsCalls}
 

@@ -1,7 +1,7 @@
 -- A script that is judged before clients are served from it.
 use Rattle.std.proofs.Common.{◌≡◌, ℕ, List, Result, Ok, Err, ap, subst}
 use Rattle.pg_backend.specs.declared.script.Script.{Script}
-use Rattle.pgpipe_cli.specs.declared.failure.Failure.{Failure}
+use Rattle.pgpipe_reasons.specs.declared.failure.Failure.{Failure}
 use Rattle.pgpipe_cli.specs.Serving.{ServesScript}
 
 -- what was read, or this other script

@@ -1,4 +1,2 @@
-pub mod Uncommenting
 pub mod Filling
 pub mod Judging
-pub mod Rows

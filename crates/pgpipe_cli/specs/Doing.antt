@@ -26,13 +26,13 @@ use Rattle.pgpipe_show.specs.declared.show.Shown.{Shown}
 use Rattle.pgpipe_show.specs.Show as show
 use Rattle.pgpipe_show.specs.Way.{Way}
 use Rattle.pgpipe_show.specs.Summary.{SumsUp}
-use Rattle.pgpipe_cli.specs.declared.failure.Failure.{Failure}
-use Rattle.pgpipe_cli.specs.declared.failure.Failure.TheVariants as failure
-use Rattle.pgpipe_cli.specs.declared.tasks.Conversion.{Conversion}
-use Rattle.pgpipe_cli.specs.declared.tasks.LoopTask.{LoopTask}
-use Rattle.pgpipe_cli.specs.declared.tasks.Task.{Task}
-use Rattle.pgpipe_cli.specs.declared.tasks.Task.TheVariants as task
-use Rattle.pgpipe_cli.specs.Failure.{BothResults, BreakResults, ShowResults, ConversionResults, LoopResults, check_failure}
+use Rattle.pgpipe_reasons.specs.declared.failure.Failure.{Failure}
+use Rattle.pgpipe_reasons.specs.declared.failure.Failure.TheVariants as failure
+use Rattle.pgpipe_tasks.specs.declared.tasks.Conversion.{Conversion}
+use Rattle.pgpipe_tasks.specs.declared.tasks.LoopTask.{LoopTask}
+use Rattle.pgpipe_tasks.specs.declared.tasks.Task.{Task}
+use Rattle.pgpipe_tasks.specs.declared.tasks.Task.TheVariants as task
+use Rattle.pgpipe_reasons.specs.Failure.{BothResults, BreakResults, ShowResults, ConversionResults, LoopResults, check_failure}
 use Rattle.pgpipe_cli.specs.LoopFiles.{ReadsScript, ReadsCalls, KeepsScript, KeepsCalls}
 use Rattle.pgpipe_cli.specs.TextOptions.{only_byte, ReadsOptions}
 

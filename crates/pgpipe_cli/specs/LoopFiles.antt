@@ -2,17 +2,17 @@
 use Rattle.std.specs.Prelude.{ℕ, ◌≡◌, ◌⊎◌, Bool, true, false, List, Some, None, Result, Ok, Err}
 use Rattle.pg_backend.specs.declared.script.Script.{Script}
 use Rattle.pgpipe_files.specs.declared.calls_file.Calls.{Calls}
-use Rattle.pgpipe_files.specs.declared.fault.LineFault.{LineFault}
-use Rattle.pgpipe_files.specs.declared.fault.LineFault.TheVariants.{Line}
+use Rattle.pgpipe_lines.specs.declared.fault.LineFault.{LineFault}
+use Rattle.pgpipe_lines.specs.declared.fault.LineFault.TheVariants.{Line}
 use Rattle.pgpipe_files.specs.CallsFile.{calls_of, what_is_said}
 use Rattle.pgpipe_files.specs.ScriptFile.{script_of}
 use Rattle.pgpipe_files.specs.Filling.{next_file, filled}
 use Rattle.pgpipe_loop.specs.declared.run_loop.everywhere.LoopFiles.{LoopFiles}
 use Rattle.pgpipe_loop.specs.Everywhere.{FillsIn, Says}
-use Rattle.pgpipe_cli.specs.declared.failure.Failure.{Failure}
-use Rattle.pgpipe_cli.specs.declared.failure.Failure.TheVariants as failure
-use Rattle.pgpipe_cli.specs.Comments.{text_of}
-use Rattle.pgpipe_cli.specs.Failure.{script_failure, calls_failure}
+use Rattle.pgpipe_reasons.specs.declared.failure.Failure.{Failure}
+use Rattle.pgpipe_reasons.specs.declared.failure.Failure.TheVariants as failure
+use Rattle.pgpipe_lines.specs.Comments.{text_of}
+use Rattle.pgpipe_reasons.specs.Failure.{script_failure, calls_failure}
 
 -- the limit of a message's length field in the client of a loop
 abbrev pub calls_limit : ℕ

@@ -6,12 +6,12 @@ use Rattle.pg_backend.specs.declared.script.Script.{Script}
 use Rattle.pg_backend.specs.Check.{Checks}
 use Rattle.pgpipe_base.specs.declared.fault.ToolFault.{ToolFault}
 use Rattle.pgpipe_base.specs.declared.fault.ToolFault.TheVariants as fault
-use Rattle.pgpipe_files.specs.declared.fault.LineFault.{LineFault}
+use Rattle.pgpipe_lines.specs.declared.fault.LineFault.{LineFault}
 use Rattle.pgpipe_files.specs.ScriptFile.{script_of}
 use Rattle.pgpipe_loop.specs.Clients.{ServesAll}
-use Rattle.pgpipe_cli.specs.declared.failure.Failure.{Failure}
-use Rattle.pgpipe_cli.specs.declared.failure.Failure.TheVariants as failure
-use Rattle.pgpipe_cli.specs.Failure.{check_failure, script_failure}
+use Rattle.pgpipe_reasons.specs.declared.failure.Failure.{Failure}
+use Rattle.pgpipe_reasons.specs.declared.failure.Failure.TheVariants as failure
+use Rattle.pgpipe_reasons.specs.Failure.{check_failure, script_failure}
 use Rattle.pgpipe_cli.specs.LoopFiles.{IsAt}
 
 -- how many clients are served at most: so many, or without a number 2^64 - 1, more than ever come

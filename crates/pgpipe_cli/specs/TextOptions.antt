@@ -2,8 +2,8 @@
 use Rattle.std.specs.Prelude.{ℕ, ◌≡◌, List, [], ◌∷◌, Option, Some, None, Result, Ok, Err}
 use Rattle.pg_copy.specs.Text.{Options}
 use Rattle.pg_copy.specs.TextOptions.{options_fault}
-use Rattle.pgpipe_cli.specs.declared.failure.Failure.{Failure}
-use Rattle.pgpipe_cli.specs.declared.failure.Failure.TheVariants as failure
+use Rattle.pgpipe_reasons.specs.declared.failure.Failure.{Failure}
+use Rattle.pgpipe_reasons.specs.declared.failure.Failure.TheVariants as failure
 
 -- the byte of a text that has exactly one
 abbrev pub only_byte : List ℕ → Option ℕ

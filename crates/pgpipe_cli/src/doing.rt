@@ -6,21 +6,21 @@ ghost use Rattle.clap.specs.Words.{kind_of};
 ghost use Rattle.pgpipe_show.specs.Way.{Way};
 ghost use Rattle.pgpipe_cli.specs.Doing.{DoesBoth, DoesTask, DoesShow, DoesShowing, DoesSummary};
 ghost use Rattle.pgpipe_cli.specs.Doing.{DoesConvert, DoesLoop};
-ghost use Rattle.pgpipe_cli.specs.Failure.{failure_status, Explains};
-ghost use Rattle.pgpipe_cli.specs.Tasks.{IsTask};
-ghost use Rattle.pgpipe_cli.specs.declared.tasks.Task.TheVariants as task;
+ghost use Rattle.pgpipe_cli.specs.Ending.{Explains};
+ghost use Rattle.pgpipe_reasons.specs.Failure.{failure_status};
+ghost use Rattle.pgpipe_tasks.specs.Tasks.{IsTask};
+ghost use Rattle.pgpipe_tasks.specs.declared.tasks.Task.TheVariants as task;
 
-use crate::failure::{Failure, both_result_of, conversion_result_of, show_result_of};
-use crate::files::FileStore;
 use crate::loop_files::{break_files, run_files};
-use crate::tasks::{Conversion, LoopTask, Task};
 use crate::text_options::options_of;
 use clap::error::ErrorKind;
 use pg_pair::Carry;
 use pg_wire::{Sink, Source};
 use pgpipe_convert::convert_with;
+use pgpipe_reasons::{Failure, FileStore, both_result_of, conversion_result_of, show_result_of};
 use pgpipe_show::show::show_as;
 use pgpipe_show::{BothPlaces, Form, show_both, summarize};
+use pgpipe_tasks::{Conversion, LoopTask, Task};
 use std::alloc::Global;
 use std::process::ExitCode;
 

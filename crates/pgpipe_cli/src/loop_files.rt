@@ -7,18 +7,18 @@ ghost use Rattle.pgpipe_cli.specs.LoopFiles.{FailsText, HasText, KeepsCalls, Kee
 ghost use Rattle.pgpipe_cli.specs.LoopFiles.{KeepsScript, SaysAll, SaysCalls, SaysScript};
 ghost use Rattle.pgpipe_cli.specs.LoopFiles.{ReadsScript, ReadsCalls, ReadsFiles, calls_limit};
 
-use crate::comments::without_comments;
-use crate::failure::{
-    Failure, break_result_of, calls_failure, check_failure, loop_result_of, script_failure,
-};
-use crate::files::FileStore;
-use crate::tasks::LoopTask;
 use pg_backend::Script;
 use pg_pair::Carry;
 use pg_wire::{Seq, Sink};
 use pgpipe_files::{Calls, read_calls, read_script};
+use pgpipe_lines::without_comments;
 use pgpipe_loop::run_loop::{run_loop, trace_loop};
 use pgpipe_loop::{LoopFiles, break_everywhere};
+use pgpipe_reasons::{
+    Failure, FileStore, break_result_of, calls_failure, check_failure, loop_result_of,
+    script_failure,
+};
+use pgpipe_tasks::LoopTask;
 use std::alloc::Global;
 
 // The text of a file, without its comments where it may have any.
@@ -107,7 +107,7 @@ fn run_judged<C: Carry, K: Sink>(
     ensures { RunsCalls C.carries K.takes K.failures carrier task.now sink.old result sink.new
         script (Ok calls) }
 {
-    script.check(alloc).map_err(check_failure)?;
+    script.check(alloc).map_err(|fault| check_failure(fault))?;
     if task.trace {
         return loop_result_of(trace_loop(alloc, script, calls, task.cut, carrier, sink));
     }
@@ -193,7 +193,7 @@ fn break_judged<K: Sink>(
     ensures { BreaksPlayable K.takes K.failures task.now sink.old result sink.new files.now
         script.now }
 {
-    script.check(alloc).map_err(check_failure)?;
+    script.check(alloc).map_err(|fault| check_failure(fault))?;
     break_result_of(break_everywhere(alloc, files, task.cut, sink))
 }
 

@@ -1,11 +1,11 @@
 //! A connection of the process to itself.
 
 ghost use Rattle.std.specs.Prelude.{◌≡◌, IfErr};
-ghost use Rattle.pgpipe_cli.specs.declared.failure.Failure.TheVariants.{Device};
+ghost use Rattle.pgpipe_reasons.specs.declared.failure.Failure.TheVariants.{Device};
 
-use crate::failure::Failure;
 use pg_wire::{Over, Patient};
 use pgpipe_loop::Across;
+use pgpipe_reasons::Failure;
 use std::io;
 use std::io::ErrorKind;
 use std::net::{Net, OpenListener, OpenStream, SocketAddr, TcpListener, TcpStream};

@@ -4,14 +4,13 @@ ghost use Rattle.std.specs.Prelude.{◌≡◌, Ok, string_bytes};
 ghost use Rattle.pgpipe_files.specs.ScriptFile.{script_of};
 ghost use Rattle.pgpipe_cli.specs.Serving.{ServesFile, ServesScript, most_clients, served_result};
 
-use crate::failure::{Failure, check_failure, script_failure};
-use crate::files::FileStore;
-use crate::tasks::ServeTask;
 use pg_backend::Script;
 use pg_wire::{Sink, Source};
 use pgpipe_base::ToolFault;
 use pgpipe_files::read_script;
 use pgpipe_loop::{Clients, serve_all};
+use pgpipe_reasons::{Failure, FileStore, check_failure, script_failure};
+use pgpipe_tasks::ServeTask;
 use std::alloc::Global;
 
 /// Serves the clients that come to a port from the script in a file, which is read first, and then judged.
@@ -31,7 +30,7 @@ pub fn serve_file<F: FileStore, L: Source + Sink + Drop, C: Clients<L>, K: Sink>
         (string_bytes serving.now.script) }
 {
     let bytes = files.read(serving.script.as_str())?;
-    let script = read_script(alloc, bytes.as_slice()).map_err(script_failure)?;
+    let script = read_script(alloc, bytes.as_slice()).map_err(|fault| script_failure(fault))?;
     let count = most_clients(serving.connections);
     serve_script(alloc, port, &script, bytes.as_slice(), count, clients, sink)
 }
@@ -51,7 +50,7 @@ fn serve_script<L: Source + Sink + Drop, C: Clients<L>, K: Sink>(
         C.gives C.fails K.takes K.failures port count clients.old sink.old result clients.new
         sink.new bytes.now script.now }
 {
-    script.check(alloc).map_err(check_failure)?;
+    script.check(alloc).map_err(|fault| check_failure(fault))?;
     served_result(serve_all(alloc, port, bytes, count, clients, sink))
 }
 

@@ -3,8 +3,8 @@
 ghost use Rattle.std.specs.Prelude.{◌≡◌};
 ghost use Rattle.pgpipe_cli.specs.TextOptions.{only_byte, ReadsOptions};
 
-use crate::failure::Failure;
 use pg_copy::{OptionFault, TextOptions};
+use pgpipe_reasons::Failure;
 use std::alloc::Global;
 
 // The byte of a text that has one.

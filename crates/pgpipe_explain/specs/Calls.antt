@@ -2,11 +2,11 @@
 use Rattle.std.specs.Prelude.{ℕ, ◌==◌, ◌&&◌, Bool, true, false, if◌then◌else◌, List, [], ◌∷◌, Option, Some, None, codes}
 use Rattle.std.specs.Str.{bytes_eq}
 use Rattle.pg_copy.specs.Row.{Row}
-use Rattle.pgpipe_files.specs.declared.verb.CallVerb.{CallVerb}
-use Rattle.pgpipe_files.specs.declared.verb.CallVerb.TheVariants as call
-use Rattle.pgpipe_files.specs.declared.verb.StepVerb.{StepVerb}
-use Rattle.pgpipe_files.specs.declared.verb.StepVerb.TheVariants as step
-use Rattle.pgpipe_files.specs.Verb.{call_verb, step_verb}
+use Rattle.pgpipe_lines.specs.declared.verb.CallVerb.{CallVerb}
+use Rattle.pgpipe_lines.specs.declared.verb.CallVerb.TheVariants as call
+use Rattle.pgpipe_lines.specs.declared.verb.StepVerb.{StepVerb}
+use Rattle.pgpipe_lines.specs.declared.verb.StepVerb.TheVariants as step
+use Rattle.pgpipe_lines.specs.Verb.{call_verb, step_verb}
 use Rattle.pgpipe_explain.specs.declared.calls.CallsSearch.{CallsSearch}
 use Rattle.pgpipe_explain.specs.declared.calls.CallsSeen.{CallsSeen}
 use Rattle.pgpipe_explain.specs.declared.fields.Tail.TheVariants as tail

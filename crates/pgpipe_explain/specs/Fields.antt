@@ -2,8 +2,8 @@
 use Rattle.std.specs.Prelude.{ℕ, ◌+◌, ◌≡◌, ◌⊎◌, ◌||◌, ◌&&◌, ◌==◌, nat_le, Bool, true, false, not, is_some, if◌then◌else◌, List, [], ◌∷◌, length, Option, Some, None, Result, Ok, Err, codes}
 use Rattle.std.specs.Str.{bytes_eq, is_utf8}
 use Rattle.pg_copy.specs.Row.{Row}
-use Rattle.pgpipe_files.specs.Arguments.{number, short_number, signed_number}
-use Rattle.pgpipe_files.specs.Verb.{auth_way, end_way, load_way, target_of}
+use Rattle.pgpipe_lines.specs.Arguments.{number, short_number, signed_number}
+use Rattle.pgpipe_lines.specs.Verb.{auth_way, end_way, load_way, target_of}
 use Rattle.pgpipe_explain.specs.declared.fields.Tail.{Tail}
 use Rattle.pgpipe_explain.specs.declared.fields.Tail.TheVariants as tail
 use Rattle.pgpipe_explain.specs.declared.kind.FieldKind.{FieldKind}

@@ -2,17 +2,17 @@
 use Rattle.std.specs.Prelude.{ℕ, ◌==◌, ◌&&◌, Bool, true, false, not, if◌then◌else◌, List, [], ◌∷◌, Option, Some, None}
 use Rattle.std.specs.List.{slice_get}
 use Rattle.pg_copy.specs.Row.{Row}
-use Rattle.pgpipe_files.specs.declared.verb.AnswerVerb.{AnswerVerb}
-use Rattle.pgpipe_files.specs.declared.verb.AnswerVerb.TheVariants as answer
-use Rattle.pgpipe_files.specs.declared.verb.AuthWay.{AuthWay}
-use Rattle.pgpipe_files.specs.declared.verb.AuthWay.TheVariants as way
-use Rattle.pgpipe_files.specs.declared.verb.EndWay.{EndWay}
-use Rattle.pgpipe_files.specs.declared.verb.EndWay.TheVariants as end
-use Rattle.pgpipe_files.specs.declared.verb.LoadWay.{LoadWay}
-use Rattle.pgpipe_files.specs.declared.verb.LoadWay.TheVariants as load
-use Rattle.pgpipe_files.specs.declared.verb.ScriptVerb.{ScriptVerb}
-use Rattle.pgpipe_files.specs.declared.verb.ScriptVerb.TheVariants as script
-use Rattle.pgpipe_files.specs.Verb.{answer_verb, auth_way, end_way, load_way, script_verb}
+use Rattle.pgpipe_lines.specs.declared.verb.AnswerVerb.{AnswerVerb}
+use Rattle.pgpipe_lines.specs.declared.verb.AnswerVerb.TheVariants as answer
+use Rattle.pgpipe_lines.specs.declared.verb.AuthWay.{AuthWay}
+use Rattle.pgpipe_lines.specs.declared.verb.AuthWay.TheVariants as way
+use Rattle.pgpipe_lines.specs.declared.verb.EndWay.{EndWay}
+use Rattle.pgpipe_lines.specs.declared.verb.EndWay.TheVariants as end
+use Rattle.pgpipe_lines.specs.declared.verb.LoadWay.{LoadWay}
+use Rattle.pgpipe_lines.specs.declared.verb.LoadWay.TheVariants as load
+use Rattle.pgpipe_lines.specs.declared.verb.ScriptVerb.{ScriptVerb}
+use Rattle.pgpipe_lines.specs.declared.verb.ScriptVerb.TheVariants as script
+use Rattle.pgpipe_lines.specs.Verb.{answer_verb, auth_way, end_way, load_way, script_verb}
 use Rattle.pgpipe_explain.specs.declared.fields.Tail.TheVariants as tail
 use Rattle.pgpipe_explain.specs.declared.kind.FieldKind.TheVariants as kind
 use Rattle.pgpipe_explain.specs.declared.reason.LineReason.{LineReason}

@@ -2,7 +2,7 @@
 use Rattle.std.specs.Prelude.{ℕ, ◌||◌, ◌==◌, Bool, is_some, if◌then◌else◌, List, codes}
 use Rattle.std.specs.Str.{bytes_eq}
 use Rattle.std.specs.List.{list_any}
-use Rattle.pgpipe_files.specs.Verb.{answer_verb, call_verb, script_verb, step_verb}
+use Rattle.pgpipe_lines.specs.Verb.{answer_verb, call_verb, script_verb, step_verb}
 use Rattle.pgpipe_explain.specs.declared.reason.LineReason.{LineReason}
 use Rattle.pgpipe_explain.specs.declared.reason.LineReason.TheVariants as reason
 

@@ -12,7 +12,8 @@ use crate::kind::FieldKind;
 use crate::reason::LineReason;
 use crate::verbs::{call_verb, is_of_calls, is_of_script, is_sync, no_verb, step_verb};
 use pg_wire::Values;
-use pgpipe_files::{Arguments, CallVerb, LineFault, Refusal, StepVerb, TakesLines, take_lines};
+use pgpipe_files::{TakesLines, take_lines};
+use pgpipe_lines::{Arguments, CallVerb, LineFault, Refusal, StepVerb};
 use std::alloc::Global;
 
 /// What stands before a line of CALLS.

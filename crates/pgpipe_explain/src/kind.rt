@@ -2,10 +2,10 @@
 
 ghost use Rattle.std.specs.Prelude.{◌≡◌, ◌≢◌, ◌⊎◌, IfSome, is_some, slice_index, None};
 ghost use Rattle.std.specs.Str.{IsUtf8, bytes_eq, is_utf8};
-ghost use Rattle.pgpipe_files.specs.Arguments.{number, short_number, signed_number};
+ghost use Rattle.pgpipe_lines.specs.Arguments.{number, short_number, signed_number};
 ghost use Rattle.pgpipe_explain.specs.Fields.{are_digits, is_format, is_of, is_salt, is_status};
 
-use pgpipe_files::{AuthWay, EndWay, LoadWay, target_of};
+use pgpipe_lines::{AuthWay, EndWay, LoadWay, target_of};
 use std::str;
 use thiserror::Error;
 

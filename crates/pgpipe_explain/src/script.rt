@@ -14,9 +14,9 @@ use crate::kind::FieldKind;
 use crate::reason::LineReason;
 use crate::verbs::{answer_verb, is_of_calls, no_verb, script_verb};
 use pg_wire::Values;
-use pgpipe_files::{
-    AnswerVerb, Arguments, AuthWay, EndWay, LineFault, LoadWay, Refusal, ScriptVerb, TakesLines,
-    take_lines,
+use pgpipe_files::{TakesLines, take_lines};
+use pgpipe_lines::{
+    AnswerVerb, Arguments, AuthWay, EndWay, LineFault, LoadWay, Refusal, ScriptVerb,
 };
 use std::alloc::Global;
 

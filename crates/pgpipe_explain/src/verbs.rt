@@ -1,11 +1,11 @@
 //! Which file a verb is of.
 
 ghost use Rattle.std.specs.Prelude.{◌≡◌};
-ghost use Rattle.pgpipe_files.specs.Verb.{answer_verb, call_verb, script_verb, step_verb};
+ghost use Rattle.pgpipe_lines.specs.Verb.{answer_verb, call_verb, script_verb, step_verb};
 ghost use Rattle.pgpipe_explain.specs.Verbs.{is_of_calls, is_of_script, is_sync, no_verb};
 
 use crate::reason::LineReason;
-use pgpipe_files::{AnswerVerb, CallVerb, ScriptVerb, StepVerb};
+use pgpipe_lines::{AnswerVerb, CallVerb, ScriptVerb, StepVerb};
 use std::str;
 
 /// The verb of SCRIPT that a word is, if it stands in no answer or begins one.

@@ -4,11 +4,11 @@ use Rattle.std.specs.Str.{IsUtf8, is_utf8}
 use Rattle.std.proofs.lemmas.Str.{IsUtf8-from_is_utf8, is_utf8-from_IsUtf8}
 use Rattle.pg_copy.specs.Row.{Row}
 use Rattle.pgpipe_files.specs.declared.calls_file.Group.{Group}
-use Rattle.pgpipe_files.specs.declared.verb.CallVerb.{CallVerb}
-use Rattle.pgpipe_files.specs.declared.verb.StepVerb.{StepVerb}
-use Rattle.pgpipe_files.specs.Arguments.{◌>>=◌}
+use Rattle.pgpipe_lines.specs.declared.verb.CallVerb.{CallVerb}
+use Rattle.pgpipe_lines.specs.declared.verb.StepVerb.{StepVerb}
+use Rattle.pgpipe_lines.specs.Arguments.{◌>>=◌}
 use Rattle.pgpipe_files.specs.CallsFile.{CallsSoFar, call_line, calls_line, calls_line_by, path, step_or_sync, sync_said}
-use Rattle.pgpipe_files.proofs.Words.{differs, is_false, no-call_verb, no-step_verb}
+use Rattle.pgpipe_lines.proofs.Words.{differs, is_false, no-call_verb, no-step_verb}
 
 by_none : (group : Option Group) (s : CallsSoFar) (n : ℕ) (word : List ℕ) (fields : Row) → (IsUtf8 word → ⊥) → calls_line_by group s n word fields ≡ None
 unfolding lib.Utf8.encode

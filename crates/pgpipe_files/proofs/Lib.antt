@@ -1,10 +1,5 @@
--- How a line is taken apart.
-pub mod Words
-pub mod Refusals
-pub mod Numbers
-pub mod FieldLists
+-- The rows of a file.
 pub mod RowsRead
-pub mod FieldRows
 -- The two files.
 pub mod Lists
 pub mod Files

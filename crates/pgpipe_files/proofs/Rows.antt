@@ -13,10 +13,10 @@ use Rattle.pg_backend.specs.declared.script.ScriptPart.TheVariants as part
 use Rattle.pg_client.specs.declared.call.Call.TheVariants as call
 use Rattle.pg_pair.specs.declared.event.Event.TheVariants as event
 use Rattle.hex.proofs.OnLiterals.{hex_on_literals}
-use Rattle.pgpipe_files.specs.Arguments.{numbers_of, texts_of}
+use Rattle.pgpipe_lines.specs.Arguments.{numbers_of, texts_of}
 use Rattle.pgpipe_files.specs.Lines.{in_the_end, with_rows}
 use Rattle.pgpipe_files.specs.CallsFile.{CallsSaid, Happens, calls_line, calls_said, no_calls}
-use Rattle.pgpipe_files.specs.AnswerFile.{answer_line, text_column}
+use Rattle.pgpipe_lines.specs.AnswerLines.{answer_line, text_column}
 use Rattle.pgpipe_files.specs.ScriptFile.{auth_of, no_script, script_line, script_said}
 
 -- a row of texts

@@ -10,12 +10,12 @@ use Rattle.pg_copy.specs.Row.{Row}
 use Rattle.pg_copy.specs.Reading.{RowsRead, RowsEnding, Open, Done, Ended, Bad, after_rows, IsGood, AnswersNext}
 use Rattle.pg_copy.specs.Text.{Options, default_options, backslash, newline, carriage_return, parts_from, pairs_from, lines, decided_at_end, end_mark, line_row, line_reading, lines_reading, row_or_fault, last_reading, last_after, text_file_reading}
 use Rattle.pg_copy.specs.TextReader.{TextState, HasReadText, text_last, last_text_ending}
-use Rattle.pgpipe_files.specs.declared.fault.LineFault.TheVariants as line_fault
-use Rattle.pgpipe_files.specs.declared.fault.Refusal.{Refusal}
-use Rattle.pgpipe_files.specs.declared.fault.Refusal.TheVariants.{Wrong, Memory}
+use Rattle.pgpipe_lines.specs.declared.fault.LineFault.TheVariants as line_fault
+use Rattle.pgpipe_lines.specs.declared.fault.Refusal.{Refusal}
+use Rattle.pgpipe_lines.specs.declared.fault.Refusal.TheVariants.{Wrong, Memory}
 use Rattle.pgpipe_files.specs.Lines.{or_refused, with_row, with_rows, with_file}
 use Rattle.pgpipe_files.specs.Private.Faults.{text_fault_at}
-use Rattle.pgpipe_files.specs.Reads.{Fails, LeavesAll, fault_at}
+use Rattle.pgpipe_lines.specs.Reads.{Fails, LeavesAll, fault_at}
 
 -- ---- a file has at most two rows more than bytes
 

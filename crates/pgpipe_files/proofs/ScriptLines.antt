@@ -2,15 +2,15 @@
 use Rattle.std.proofs.Common.{◌≡◌, ℕ, ◌<◌, [], ◌∷◌, length, Ok, IsSome, arith, List, Option, Some, None, refl, ap, ◌∙◌}
 use Rattle.std.specs.Str.{IsUtf8}
 use Rattle.pg_copy.specs.Row.{Row}
-use Rattle.pgpipe_files.specs.declared.answer_file.OpenAnswer.{OpenAnswer}
-use Rattle.pgpipe_files.specs.declared.verb.AnswerVerb.{AnswerVerb}
-use Rattle.pgpipe_files.specs.declared.verb.ScriptVerb.{ScriptVerb}
-use Rattle.pgpipe_files.specs.Arguments.{◌>>=◌}
-use Rattle.pgpipe_files.specs.AnswerFile.{answer_line}
+use Rattle.pgpipe_lines.specs.declared.answer_lines.OpenAnswer.{OpenAnswer}
+use Rattle.pgpipe_lines.specs.declared.verb.AnswerVerb.{AnswerVerb}
+use Rattle.pgpipe_lines.specs.declared.verb.ScriptVerb.{ScriptVerb}
+use Rattle.pgpipe_lines.specs.Arguments.{◌>>=◌}
+use Rattle.pgpipe_lines.specs.AnswerLines.{answer_line}
 use Rattle.pgpipe_files.specs.ScriptFile.{ScriptSoFar, in_answer, script_line_by, no_script, script_line}
 use Rattle.pgpipe_files.specs.Lines.{with_file, with_rows}
 use Rattle.pg_copy.specs.Text.{last_after}
-use Rattle.pgpipe_files.proofs.Words.{no-answer_verb, no-script_verb}
+use Rattle.pgpipe_lines.proofs.Words.{no-answer_verb, no-script_verb}
 
 in_none : (s : ScriptSoFar) (begun : Option OpenAnswer) (n : ℕ) (word : List ℕ) (fields : Row) → (IsUtf8 word → ⊥) → in_answer s begun n word fields ≡ None
 in_none s None n word fields h = refl

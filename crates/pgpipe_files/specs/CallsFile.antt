@@ -3,9 +3,6 @@ use Rattle.std.specs.Prelude.{ℕ, Bool, true, false, if◌then◌else◌, List,
 use Rattle.std.specs.Str.{bytes_eq, is_utf8}
 use Rattle.pg_copy.specs.Row.{Row}
 use Rattle.pg_client.specs.declared.settings.Settings.{Settings}
-use Rattle.pg_wire.specs.value.Target.{Target}
-use Rattle.pg_wire.specs.declared.session.Step.{Step}
-use Rattle.pg_wire.specs.declared.session.Step.TheVariants as step
 use Rattle.pg_wire.specs.declared.session.Request.TheVariants as request
 use Rattle.pg_client.specs.declared.call.Call.TheVariants as call
 use Rattle.pg_pair.specs.declared.event.Event.{Event}
@@ -14,12 +11,12 @@ use Rattle.pgpipe_files.specs.declared.calls_file.CallLine.{CallLine}
 use Rattle.pgpipe_files.specs.declared.calls_file.CallLine.TheVariants as line
 use Rattle.pgpipe_files.specs.declared.calls_file.Calls.{Calls}
 use Rattle.pgpipe_files.specs.declared.calls_file.Group.{Group}
-use Rattle.pgpipe_files.specs.declared.verb.CallVerb.{CallVerb}
-use Rattle.pgpipe_files.specs.declared.verb.CallVerb.TheVariants as verb
-use Rattle.pgpipe_files.specs.declared.verb.StepVerb.{StepVerb}
-use Rattle.pgpipe_files.specs.declared.verb.StepVerb.TheVariants as step_line
-use Rattle.pgpipe_files.specs.Verb.{call_verb, step_verb, target_of}
-use Rattle.pgpipe_files.specs.Arguments.{◌>>=◌, text_at, read_at, pair_at, signed_number, if_all, nothing_of, text_of, pair_of, number_of, numbers_of}
+use Rattle.pgpipe_lines.specs.declared.verb.CallVerb.{CallVerb}
+use Rattle.pgpipe_lines.specs.declared.verb.CallVerb.TheVariants as verb
+use Rattle.pgpipe_lines.specs.declared.verb.StepVerb.{StepVerb}
+use Rattle.pgpipe_lines.specs.Verb.{call_verb, step_verb}
+use Rattle.pgpipe_lines.specs.Arguments.{◌>>=◌, nothing_of, text_of, pair_of, number_of}
+use Rattle.pgpipe_lines.specs.StepLines.{step_of}
 use Rattle.pgpipe_files.specs.Lines.{with_file, in_the_end}
 
 -- what a line of CALLS asks for: an event; a flow; or that the bytes of the file at this path are
@@ -103,22 +100,6 @@ call_line s n verb.BreakToClient fields =
 call_line s n verb.Flow fields = asks_for s (nothing_of fields) (λ _. Flows)
 
 -- ---- lines in a group
-
--- the fields of a `describe` or `close`: S or P, and the name of the statement or the portal
-abbrev pub named_of : Row → Option (Target × List ℕ)
-named_of fields = read_at target_of fields >>= λ t. text_of t.1 >>= λ name. Some (t.0, name)
-
--- the step that a line in a group asks for. The values of a `bind` are in the text format, and so
--- are the columns of its result.
-abbrev pub step_of : StepVerb → Row → Option Step
-step_of step_line.Parse fields =
-    pair_at fields >>= λ p. numbers_of p.1 >>= λ types. Some (step.Parse p.0.0 p.0.1 types)
-step_of step_line.Bind fields = pair_at fields >>= λ p. Some (step.Bind p.0.0 p.0.1 [] p.1 [])
-step_of step_line.Describe fields = named_of fields
-    >>= λ named. Some (step.Describe named.0 named.1)
-step_of step_line.Execute fields =
-    text_at fields >>= λ t. read_at signed_number t.1 >>= λ n. if_all (step.Execute t.0 n.0) n.1
-step_of step_line.Close fields = named_of fields >>= λ named. Some (step.Close named.0 named.1)
 
 -- the line `sync`, which makes the group's steps one request
 abbrev pub sync_said : CallsSoFar → Group → Row → Option CallsSoFar

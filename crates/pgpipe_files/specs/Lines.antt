@@ -6,7 +6,7 @@ use Rattle.pg_copy.specs.fault.TextFault.{TextFault}
 use Rattle.pg_copy.specs.Row.{Row}
 use Rattle.pg_copy.specs.Reading.{RowsEnding, Bad}
 use Rattle.pg_copy.specs.Text.{default_options, text_file_reading}
-use Rattle.pgpipe_files.specs.Arguments.{◌>>=◌, text_at}
+use Rattle.pgpipe_lines.specs.Arguments.{◌>>=◌, text_at}
 
 -- whether the row is that of an empty line: one empty field
 abbrev pub is_blank : Row → Bool

@@ -11,16 +11,16 @@ use Rattle.pg_backend.specs.declared.script.Auth.{Auth}
 use Rattle.pg_backend.specs.declared.script.Auth.TheVariants as auth
 use Rattle.pg_backend.specs.declared.script.Key.{Key}
 use Rattle.pg_backend.specs.declared.script.Script.{Script}
-use Rattle.pgpipe_files.specs.declared.answer_file.OpenAnswer.{OpenAnswer}
-use Rattle.pgpipe_files.specs.declared.answer_file.Types.{Types}
-use Rattle.pgpipe_files.specs.declared.verb.AuthWay.{AuthWay}
-use Rattle.pgpipe_files.specs.declared.verb.AuthWay.TheVariants as way
-use Rattle.pgpipe_files.specs.declared.verb.ScriptVerb.{ScriptVerb}
-use Rattle.pgpipe_files.specs.declared.verb.ScriptVerb.TheVariants as verb
-use Rattle.pgpipe_files.specs.Verb.{answer_verb, auth_way, script_verb}
-use Rattle.pgpipe_files.specs.Arguments.{◌>>=◌, read_at, signed_number, if_all, nothing_of, text_of, pair_of}
+use Rattle.pgpipe_lines.specs.declared.answer_lines.OpenAnswer.{OpenAnswer}
+use Rattle.pgpipe_lines.specs.declared.answer_lines.Types.{Types}
+use Rattle.pgpipe_lines.specs.declared.verb.AuthWay.{AuthWay}
+use Rattle.pgpipe_lines.specs.declared.verb.AuthWay.TheVariants as way
+use Rattle.pgpipe_lines.specs.declared.verb.ScriptVerb.{ScriptVerb}
+use Rattle.pgpipe_lines.specs.declared.verb.ScriptVerb.TheVariants as verb
+use Rattle.pgpipe_lines.specs.Verb.{answer_verb, auth_way, script_verb}
+use Rattle.pgpipe_lines.specs.Arguments.{◌>>=◌, read_at, signed_number, if_all, nothing_of, text_of, pair_of}
 use Rattle.pgpipe_files.specs.Lines.{with_file, in_the_end}
-use Rattle.pgpipe_files.specs.AnswerFile.{answer_line, if_none, new_answer, whole_answer, with_part}
+use Rattle.pgpipe_lines.specs.AnswerLines.{answer_line, if_none, new_answer, whole_answer, with_part}
 
 -- what the lines of SCRIPT so far say: what stands before the answers, the answers that are whole,
 -- and the open one, if there is one

@@ -4,11 +4,10 @@ ghost use Rattle.std.specs.Prelude.{◌≡◌, ◌<◌, ℕ, List, length, Optio
 ghost use Rattle.pg_copy.specs.Row.{Row};
 ghost use Rattle.pgpipe_files.specs.Lines.{is_blank, with_file, with_row};
 ghost use Rattle.pgpipe_files.specs.Private.Faults.{text_fault_at};
-ghost use Rattle.pgpipe_files.specs.Reads.{Leaves, LeavesAll};
+ghost use Rattle.pgpipe_lines.specs.Reads.{Leaves, LeavesAll};
 
-use crate::arguments::Arguments;
-use crate::fault::{LineFault, Refusal};
 use pg_copy::{Row, TextFault, TextReader};
+use pgpipe_lines::{Arguments, LineFault, Refusal};
 use std::alloc::Global;
 
 /// What is made of the lines of a file.

@@ -1,24 +1,21 @@
 //! Reading SCRIPT: what a backend answers.
 
 ghost use Rattle.std.specs.Prelude.{◌≡◌, ◌<◌, ℕ, length, Some, Ok, Err, IfOk, OnErr, IsSome};
-ghost use Rattle.pgpipe_files.specs.declared.fault.LineFault.TheVariants.{Line};
-ghost use Rattle.pgpipe_files.specs.declared.fault.Refusal.TheVariants.{Memory};
-ghost use Rattle.pgpipe_files.specs.AnswerFile.{if_none};
+ghost use Rattle.pgpipe_lines.specs.declared.fault.LineFault.TheVariants.{Line};
+ghost use Rattle.pgpipe_lines.specs.declared.fault.Refusal.TheVariants.{Memory};
+ghost use Rattle.pgpipe_lines.specs.AnswerLines.{if_none};
 ghost use Rattle.pgpipe_files.specs.Private.Begun.{row_left_open};
 ghost use Rattle.pgpipe_files.specs.Private.Reads.{ReadsFileAs};
-ghost use Rattle.pgpipe_files.specs.Reads.{ReadsAs, Leaves};
+ghost use Rattle.pgpipe_lines.specs.Reads.{ReadsAs, Leaves};
 ghost use Rattle.pgpipe_files.specs.ScriptFile.{auth_of, closed, in_answer, key_of, no_script};
 ghost use Rattle.pgpipe_files.specs.ScriptFile.{own_line, salt_of, script_line, script_of};
 ghost use Rattle.pgpipe_files.specs.ScriptFile.{script_said, status_named};
 
-use crate::answer_file::OpenAnswer;
-use crate::arguments::Arguments;
-use crate::fault::{LineFault, Refusal};
 use crate::lines::{TakesLines, take_lines};
-use crate::verb::{AnswerVerb, AuthWay, ScriptVerb};
 use hex::FromHex;
 use pg_backend::{Answer, Auth, Key, Script};
 use pg_wire::{Seq, Status};
+use pgpipe_lines::{AnswerVerb, Arguments, AuthWay, LineFault, OpenAnswer, Refusal, ScriptVerb};
 use std::alloc::Global;
 use std::marker::Model;
 use std::str;

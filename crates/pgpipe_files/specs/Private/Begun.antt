@@ -1,6 +1,6 @@
 -- The row of a `paramtypes` whose `described` has yet to come.
 use Rattle.std.specs.Prelude.{ℕ, Option, Some, None, option_map}
-use Rattle.pgpipe_files.specs.declared.answer_file.OpenAnswer.{OpenAnswer}
+use Rattle.pgpipe_lines.specs.declared.answer_lines.OpenAnswer.{OpenAnswer}
 
 -- the row that waits, if there is one
 abbrev pub row_left_open : Option OpenAnswer → Option ℕ

@@ -1,9 +1,9 @@
 -- What functions answer that read a path or a whole file: what its definition gives, or that there is nothing, unless memory ran out.
 use Rattle.std.specs.Prelude.{◌≡◌, ℕ, List, Option, Some, Result, Ok, Err, String, string_bytes}
-use Rattle.pgpipe_files.specs.declared.fault.LineFault.{LineFault}
-use Rattle.pgpipe_files.specs.declared.fault.LineFault.TheVariants as fault
-use Rattle.pgpipe_files.specs.declared.fault.Refusal.{Refusal}
-use Rattle.pgpipe_files.specs.Reads.{Fails}
+use Rattle.pgpipe_lines.specs.declared.fault.LineFault.{LineFault}
+use Rattle.pgpipe_lines.specs.declared.fault.LineFault.TheVariants as fault
+use Rattle.pgpipe_lines.specs.declared.fault.Refusal.{Refusal}
+use Rattle.pgpipe_lines.specs.Reads.{Fails}
 
 -- a function that makes a text of bytes
 abbrev pub GivesText : {Z : Type 0} → Result (String Z) Refusal → Option (List ℕ) → Type 0

@@ -1,4 +1,4 @@
-use Rattle.std.proofs.Common.{◌≡◌, ◌<◌, ◌≤◌, ◌∙◌, length, drop, Some, None, sym, arith}
+use Rattle.std.proofs.Common.{◌<◌, ◌≤◌, ◌∙◌, length, drop, Some, None, sym, arith}
 use Rattle.pgpipe_explain.proofs.FieldLists.{from_by, from_done}
 use Rattle.pgpipe_explain.proofs.fields.judge_kinds.Goals as goal
 

@@ -1,4 +1,3 @@
-use Rattle.std.proofs.Common.{None, Some}
 use Rattle.std.specs.Prelude.{option_copied}
 use Rattle.pgpipe_explain.proofs.FieldLists.{none_left, some_left}
 use Rattle.pgpipe_explain.proofs.fields.judge_tail.Goals as goal

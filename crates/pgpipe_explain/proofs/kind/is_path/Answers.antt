@@ -1,7 +1,7 @@
 use Rattle.std.proofs.Common.{◌≡◌, true, sym}
 use Rattle.std.specs.Str.{is_utf8}
 use Rattle.std.proofs.lemmas.Str.{IsUtf8-from_is_utf8, is_utf8-from_IsUtf8}
-use Rattle.pgpipe_files.proofs.Words.{is_false}
+use Rattle.pgpipe_lines.proofs.Words.{is_false}
 use Rattle.pgpipe_explain.proofs.kind.is_path.Goals as goal
 
 pub returns-in-Ok : goal.returns-in-Ok

@@ -1,6 +1,6 @@
 use Rattle.std.proofs.Common.{ℤ, Option, Ok, Err, refl, sym, ap}
 use Rattle.std.specs.Prelude.{is_some}
-use Rattle.pgpipe_files.proofs.Numbers.{no_signed, signed-read}
+use Rattle.pgpipe_lines.proofs.Numbers.{no_signed, signed-read}
 use Rattle.pgpipe_explain.proofs.kind.is_signed.Goals as goal
 
 pub returns-in-None : goal.returns-in-None

@@ -1,5 +1,5 @@
 use Rattle.std.proofs.Common.{sym}
-use Rattle.pgpipe_files.proofs.Words.{no-script_verb}
+use Rattle.pgpipe_lines.proofs.Words.{no-script_verb}
 use Rattle.pgpipe_explain.proofs.verbs.script_verb.Goals as goal
 
 pub returns-in-Err : goal.returns-in-Err

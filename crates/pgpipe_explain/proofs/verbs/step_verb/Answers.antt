@@ -1,5 +1,5 @@
 use Rattle.std.proofs.Common.{sym}
-use Rattle.pgpipe_files.proofs.Words.{no-step_verb}
+use Rattle.pgpipe_lines.proofs.Words.{no-step_verb}
 use Rattle.pgpipe_explain.proofs.verbs.step_verb.Goals as goal
 
 pub returns-in-Err : goal.returns-in-Err

@@ -1,7 +1,7 @@
 use Rattle.std.proofs.Common.{Result, [], ◌∙◌, ap, arith, ◌≡◌, Err, Option}
 use Rattle.pg_copy.specs.fault.TextFault.{TextFault}
 use Rattle.pg_copy.specs.Row.{Row}
-use Rattle.pgpipe_files.specs.declared.fault.LineFault.TheVariants.{Memory}
+use Rattle.pgpipe_lines.specs.declared.fault.LineFault.TheVariants.{Memory}
 use Rattle.pgpipe_files.specs.Private.Faults.{text_fault_at}
 use Rattle.pg_copy.specs.TextReader.{TextState, kept_after}
 use Rattle.pgpipe_files.proofs.RowsRead.{file-faulty, file-taken, row-few, row-refused, row-wants, stands-first, stands-next, text-memory, waiting-wants}
