@@ -10,7 +10,7 @@
 //! | `comments.rt` | `Comments` | a file without its comments |
 //! | `fault.rt` | `Reads` | why a line is refused, and the fault of its file |
 //!
-//! How a line is taken apart depends on neither file: rows, verbs and fields know no client, no backend and no pair.
+//! How a line is taken apart depends on neither file: verbs and fields know no client, no backend and no pair.
 #![tactic(auto)]
 
 mod answer_lines;
