@@ -107,7 +107,8 @@ fn complete_copy_out(
 
 // A copy from the client, unless it is rejected, which is never complete.
 fn complete_copy_in(head: &CopyHead, load: &Load) -> Result<Option<Part>, AllocError>
-    ensures { IfOk result (λ o. option_to_list o ≡ complete (script_part.CopyIn head.now load.now)) }
+    ensures { IfOk result (λ o.
+        option_to_list o ≡ complete (script_part.CopyIn head.now load.now)) }
 {
     match load {
         Load::Accept(tag) => Ok(Some(Part::CopyIn {
