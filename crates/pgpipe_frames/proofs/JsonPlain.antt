@@ -1,5 +1,5 @@
 -- What is shown has no float, and nests no deeper than four levels: so serde_json says which text it has, and that this reads back.
-use Rattle.std.proofs.Common.{◌≡◌, ℕ, suc, ◌+◌, ◌-◌, ◌≤◌, max, Bool, true, false, true≢false, List, [], ◌∷◌, length, drop, Option, Some, None, Ordering, Less, Equal, Greater, map, nat_cmp, refl, ap, ◌∙◌, subst, sym, arith}
+use Rattle.std.proofs.Common.{◌≡◌, ℕ, ◌+◌, ◌-◌, ◌≤◌, Bool, true, false, true≢false, List, [], ◌∷◌, length, drop, Option, Some, None, Ordering, Less, Equal, Greater, map, nat_cmp, refl, subst, sym, arith}
 use Rattle.std.specs.Prelude.{ℤ, pos, negsuc, ◌==◌, ◌||◌, codes, slice_index, if◌then◌else◌}
 use Rattle.std.specs.Cmp.Lexicographic.{slice_cmp}
 use Rattle.std.specs.Ordering.{match_ordering}
@@ -18,13 +18,13 @@ use Rattle.pgpipe_frames.specs.declared.next.NextFrame.TheVariants as next
 use Rattle.serde_json.specs.Data.{Data, string, boolean, object, Members, no_members, member, put, depth, items_depth, members_depth}
 use Rattle.serde_json.specs.View.{items_of}
 use Rattle.serde_json.specs.Written.{has_float, items_have_float, members_have_float}
-use Rattle.pgpipe_frames.specs.Json.Backend.{back_called, back_json, back_members, column_json, error_members, field_json, origin_members, request_more, type_members, type_name}
+use Rattle.pgpipe_texts.specs.Json.Backend.{back_called, back_json, back_members, column_json, error_members, field_json, origin_members, request_more, type_members, type_name}
 use Rattle.pgpipe_frames.specs.Json.Frame.{IsBackJson, IsFrontJson, IsJsonOf, IsPacketJson, json_or}
 use Rattle.pgpipe_frames.specs.Json.Frontend.{front_called, front_json, front_members}
-use Rattle.pgpipe_frames.specs.Json.Members.{Member, head_members, message_json, with_members}
+use Rattle.pgpipe_texts.specs.Json.Members.{Member, head_members, message_json, with_members}
 use Rattle.pgpipe_frames.specs.Json.Other.{other_back, other_front, other_packet, other_members, other_packet_members, packet_name, shown_or_hidden}
-use Rattle.pgpipe_frames.specs.Json.Packet.{packet_called, packet_json, packet_members, parameter_json}
-use Rattle.pgpipe_frames.specs.Json.Values.{count_json, hex_json, hidden_json, list_json, signed_json, text_json, text_or_hex, text_or_null, utf8_text, word_or_null}
+use Rattle.pgpipe_texts.specs.Json.Packet.{packet_called, packet_json, packet_members, parameter_json}
+use Rattle.pgpipe_texts.specs.Json.Values.{count_json, hex_json, hidden_json, list_json, signed_json, text_json, text_or_hex, text_or_null, utf8_text, word_or_null}
 
 -- ---- members and items
 

@@ -7,7 +7,7 @@ use Rattle.pg_wire.specs.declared.fault.WireFault.{WireFault}
 use Rattle.pg_wire.specs.declared.fault.WireFault.TheVariants as wire
 use Rattle.pg_wire.specs.message.First.{First}
 use Rattle.pg_wire.specs.Decoder.{IsLasting}
-use Rattle.pg_wire.specs.First.{IsPacket, packet, NoPacket, BeginsNoPacket, IsFaultyPacket}
+use Rattle.pg_wire.specs.First.{IsPacket, packet, NoPacket, BeginsNoPacket}
 use Rattle.pg_wire.specs.FirstDecoder.{FirstState, FirstTakes, NoMorePackets}
 use Rattle.pg_wire.proofs.Packets.{one_packet, faulty_begins_none}
 use Rattle.pgpipe_frames.specs.Reading.{IsPacketReadAs}

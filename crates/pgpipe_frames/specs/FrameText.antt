@@ -8,9 +8,9 @@ use Rattle.pg_wire.specs.message.First.{First}
 use Rattle.pgpipe_frames.specs.declared.next.NextFrame.{NextFrame}
 use Rattle.pgpipe_frames.specs.declared.next.NextFrame.TheVariants as next
 use Rattle.pgpipe_frames.specs.Reading.{IsReadAs, IsPacketReadAs}
-use Rattle.pgpipe_frames.specs.Backend.{back_text}
+use Rattle.pgpipe_texts.specs.Backend.{back_text}
 use Rattle.pgpipe_frames.specs.Frontend.{front_text}
-use Rattle.pgpipe_frames.specs.Packet.{packet_text}
+use Rattle.pgpipe_texts.specs.Packet.{packet_text}
 use Rattle.pgpipe_frames.specs.Other.{other_back, other_front, other_packet}
 
 -- the text of what was read, or this other one where nothing was

@@ -3,9 +3,9 @@ use Rattle.std.specs.Prelude.{ℕ, ℤ, List, ◌++◌, Option, codes}
 use Rattle.std.specs.Fmt.{signed_decimal}
 use Rattle.pg_wire.specs.message.FrontMessage.{FrontMessage}
 use Rattle.pg_wire.specs.message.FrontMessage.TheVariants.{Query, Parse, Bind, Describe, Close, Execute, Sync, Flush, Terminate, CopyData, CopyDone, CopyFail, Password}
-use Rattle.pgpipe_frames.specs.Backend.{value_text}
-use Rattle.pgpipe_frames.specs.Text.{listed, quoted, whole}
-use Rattle.pgpipe_frames.specs.Words.{format_text, target_text, type_text}
+use Rattle.pgpipe_texts.specs.Backend.{value_text}
+use Rattle.pgpipe_texts.specs.Text.{listed, quoted, whole}
+use Rattle.pgpipe_texts.specs.Words.{format_text, target_text, type_text}
 
 -- a Bind: its portal and its statement, and the values of the parameters
 unfoldable pub bind_text : List ℕ → List ℕ → List (Option (List ℕ)) → List ℕ

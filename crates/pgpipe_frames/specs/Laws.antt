@@ -1,5 +1,5 @@
 -- Laws of frames, for every list of bytes.
-use Rattle.std.specs.Prelude.{ℕ, ◌≡◌, ◌⊎◌, List}
+use Rattle.std.specs.Prelude.{ℕ, ◌⊎◌, List}
 use Rattle.pgpipe_frames.specs.declared.next.NextFrame.{NextFrame}
 use Rattle.pgpipe_frames.specs.Frames.{Frame, AreFramed}
 use mathlib.Core.List.{IsPrefix}

@@ -4,16 +4,10 @@ pub mod Frames
 pub mod Reader
 pub mod Reading
 pub mod Laws
--- Of their texts: what each frame is shown as.
+-- Of their texts: what each frame is shown as. What a message of the server and a first packet of the
+-- tables are shown as stands in pgpipe_texts.
 pub mod FrameText
 pub mod Other
-pub mod Backend
 pub mod Frontend
-pub mod Packet
-pub mod Fields
-pub mod Words
-pub mod Text
 -- The JSON object that each frame is shown as.
 pub mod Json
--- Words of private functions, which no public contract cites.
-pub mod Private

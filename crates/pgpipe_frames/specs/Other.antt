@@ -5,7 +5,7 @@ use Rattle.std.specs.Prelude.{ℕ, ◌-◌, ◌/◌, ◌%◌, ◌==◌, ◌&&◌
 use Rattle.std.specs.Fmt.{decimal}
 use Rattle.std.specs.List.{list_any}
 use Rattle.pgpipe_frames.specs.Frames.{code}
-use Rattle.pgpipe_frames.specs.Text.{digits_escape, quoted}
+use Rattle.pgpipe_texts.specs.Text.{digits_escape, quoted}
 
 -- ---- names by tags
 

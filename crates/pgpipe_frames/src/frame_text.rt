@@ -5,19 +5,19 @@ ghost use Rattle.pg_wire.specs.Backend.{backend};
 ghost use Rattle.pg_wire.specs.message.BackMessage.TheVariants.{DataRow};
 ghost use Rattle.pgpipe_frames.specs.Frames.{fewest};
 ghost use Rattle.pgpipe_frames.specs.Reading.{IsReadAs};
-ghost use Rattle.pgpipe_frames.specs.Backend.{back_text};
+ghost use Rattle.pgpipe_texts.specs.Backend.{back_text};
 ghost use Rattle.pgpipe_frames.specs.FrameText.{IsBackText, IsFrontText, IsMessageText};
 ghost use Rattle.pgpipe_frames.specs.FrameText.{IsPacketText, IsTextOf, text_or};
 ghost use Rattle.pgpipe_frames.specs.Frontend.{front_text};
 ghost use Rattle.pgpipe_frames.specs.Other.{other_back, other_front, other_packet};
-ghost use Rattle.pgpipe_frames.specs.Packet.{packet_text};
+ghost use Rattle.pgpipe_texts.specs.Packet.{packet_text};
 
-use crate::backend::put_row;
+use crate::frontend::put_front_message;
 use crate::next::NextFrame;
 use crate::other::{put_other_back, put_other_front, put_other_packet};
 use crate::reading::{read_message, read_packet};
-use crate::text::Readable;
 use pg_wire::{BackMessage, First, FrontMessage, RowView};
+use pgpipe_texts::{Readable, put_row};
 use std::alloc::{AllocError, Global};
 
 // Appends the text of what was read of a message of the backend.
@@ -82,7 +82,7 @@ fn put_read_front(
         ≡ line.old.items ++ text_or front_text (other_front frame.now) read) }
 {
     match read {
-        Some(message) => message.put(line),
+        Some(message) => put_front_message(&message, line),
         None => put_other_front(frame, line),
     }
 }

@@ -3,12 +3,11 @@
 ghost use Rattle.std.specs.Prelude.{◌≡◌, ◌++◌, codes, OnOk};
 ghost use Rattle.std.specs.Fmt.{signed_decimal};
 ghost use Rattle.pgpipe_frames.specs.Frontend.{bind_text, formats_text, front_text};
-ghost use Rattle.pgpipe_frames.specs.Text.{listed, quoted, whole};
-ghost use Rattle.pgpipe_frames.specs.Words.{target_text, type_text};
+ghost use Rattle.pgpipe_texts.specs.Text.{listed, quoted, whole};
+ghost use Rattle.pgpipe_texts.specs.Words.{target_text, type_text};
 
-use crate::backend::{put_after, put_name, put_named, put_named_quoted};
-use crate::text::{Readable, put_number, put_quoted};
 use pg_wire::{FrontMessage, Seq, Target, Values};
+use pgpipe_texts::{put_after, put_name, put_named, put_named_quoted, put_number, put_quoted};
 use std::alloc::AllocError;
 
 // Appends a Parse.
@@ -80,35 +79,32 @@ fn put_execute(portal: &Seq<u8>, max_rows: i32, line: &mut Vec<u8>) -> Result<()
     put_number(max_rows, line)
 }
 
-impl Readable for FrontMessage {
-    ghost text = { front_text };
-
-    fn put(&self, line: &mut Vec<u8>) -> Result<(), AllocError> {
-        match self {
-            FrontMessage::Query(text) => put_named(b"Query ", text, line),
-            FrontMessage::Parse { name, text, types } => put_parse(name, text, types, line),
-            FrontMessage::Bind {
-                portal,
-                statement,
-                formats,
-                values,
-                result_formats,
-            } => {
-                put_bind(portal, statement, values, line)?;
-                put_formats(formats, result_formats, line)
-            }
-            FrontMessage::Describe { target, name } => {
-                put_target(b"Describe ", *target, name, line)
-            }
-            FrontMessage::Close { target, name } => put_target(b"Close ", *target, name, line),
-            FrontMessage::Execute { portal, max_rows } => put_execute(portal, *max_rows, line),
-            FrontMessage::Sync => put_name(b"Sync", line),
-            FrontMessage::Flush => put_name(b"Flush", line),
-            FrontMessage::Terminate => put_name(b"Terminate", line),
-            FrontMessage::CopyData(bytes) => put_named_quoted(b"CopyData ", bytes, line),
-            FrontMessage::CopyDone => put_name(b"CopyDone", line),
-            FrontMessage::CopyFail(reason) => put_named_quoted(b"CopyFail ", reason, line),
-            FrontMessage::Password(_) => put_name(b"PasswordMessage (hidden)", line),
+/// Appends the text of a message. A password is hidden.
+pub fn put_front_message(message: &FrontMessage, line: &mut Vec<u8>) -> Result<(), AllocError>
+    ensures { OnOk result (line.new.items ≡ line.old.items ++ front_text message.now) }
+{
+    match message {
+        FrontMessage::Query(text) => put_named(b"Query ", text, line),
+        FrontMessage::Parse { name, text, types } => put_parse(name, text, types, line),
+        FrontMessage::Bind {
+            portal,
+            statement,
+            formats,
+            values,
+            result_formats,
+        } => {
+            put_bind(portal, statement, values, line)?;
+            put_formats(formats, result_formats, line)
         }
+        FrontMessage::Describe { target, name } => { put_target(b"Describe ", *target, name, line) }
+        FrontMessage::Close { target, name } => put_target(b"Close ", *target, name, line),
+        FrontMessage::Execute { portal, max_rows } => put_execute(portal, *max_rows, line),
+        FrontMessage::Sync => put_name(b"Sync", line),
+        FrontMessage::Flush => put_name(b"Flush", line),
+        FrontMessage::Terminate => put_name(b"Terminate", line),
+        FrontMessage::CopyData(bytes) => put_named_quoted(b"CopyData ", bytes, line),
+        FrontMessage::CopyDone => put_name(b"CopyDone", line),
+        FrontMessage::CopyFail(reason) => put_named_quoted(b"CopyFail ", reason, line),
+        FrontMessage::Password(_) => put_name(b"PasswordMessage (hidden)", line),
     }
 }

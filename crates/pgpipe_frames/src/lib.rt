@@ -14,21 +14,15 @@
 //! and keys hidden. What isn't of the tables of this library is shown as its tag, its length and its bytes.
 //!
 //! - frame_text.rt: a frame of either direction ([`put_frame`])
-//! - backend.rt, frontend.rt, packet.rt: messages of the tables
+//! - frontend.rt: messages of a client; those of a server, first packets and the parts of texts are `pgpipe_texts`
 //! - other.rt: what isn't of the tables
-//! - text.rt, fields.rt, words.rt: texts in quotes, fields of errors, words for numbers
 //!
-//! [`put_frame`] appends the text of what a frame is read as (`backend`, `frontend`, `packet`), or of its bytes (`other`). What can be shown
-//! says its text (`Readable`), so a list is shown once for all elements. A text is escaped in runs (`put_some` in `text`): the bytes in front
-//! that are shown as they are, at once, or one that isn't. A word of the definitions that stands for a long text is opaque to all but the
-//! function that appends it.
+//! [`put_frame`] appends the text of what a frame is read as, or of its bytes (`other`).
 //!
 //! **As JSON.** [`as_json::put_frame`] appends the object of a frame (as_json.rt and the files in as_json/).
 #![tactic(auto)]
 
 pub mod as_json;
-mod backend;
-mod fields;
 mod frame_text;
 mod frames;
 mod frontend;
@@ -36,10 +30,7 @@ mod judge;
 pub mod laws;
 mod next;
 mod other;
-mod packet;
 mod reading;
-mod text;
-mod words;
 
 pub use frame_text::put_frame;
 pub use frames::Frames;
@@ -47,5 +38,3 @@ pub use judge::FrameJudgement;
 pub use next::{NextFrame, code_of};
 pub use other::{back_name, front_name, request_of_code};
 pub use reading::{is_message, read_message, read_packet};
-pub use text::put_whole;
-pub use words::{array_type, other_type, plain_type};

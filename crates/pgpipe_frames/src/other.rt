@@ -11,7 +11,7 @@ ghost use Rattle.pgpipe_frames.specs.Other.{request_of_code, shown_or_hidden, ta
 ghost use Rattle.pgpipe_frames.specs.Other.{version_text};
 
 use crate::next::code_of;
-use crate::text::{put_digits, put_number, put_quoted};
+use pgpipe_texts::{put_digits, put_number, put_quoted};
 use std::alloc::AllocError;
 
 // The backend's messages that end a step, or tell how the session stands.

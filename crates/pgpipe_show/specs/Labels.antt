@@ -8,17 +8,17 @@ use Rattle.pg_wire.specs.message.BackMessage.{BackMessage}
 use Rattle.pg_wire.specs.message.BackMessage.TheVariants.{AuthOk, AuthCleartext, AuthMd5, AuthOther, KeyData, ParameterStatus, Ready, RowDescription, DataRow, CommandComplete, EmptyQuery, ParseComplete, BindComplete, CloseComplete, NoData, PortalSuspended, ParameterDescription, ErrorResponse, NoticeResponse, Notification, CopyIn, CopyOut, CopyData, CopyDone}
 use Rattle.pg_wire.specs.message.FrontMessage.{FrontMessage}
 use Rattle.pg_wire.specs.message.First.{First}
-use Rattle.pgpipe_frames.specs.Fields.{first_field}
+use Rattle.pgpipe_texts.specs.Fields.{first_field}
 use Rattle.pgpipe_frames.specs.Other.{back_name, front_name}
-use Rattle.pgpipe_frames.specs.Words.{status_text}
+use Rattle.pgpipe_texts.specs.Words.{status_text}
 use Rattle.pgpipe_frames.specs.declared.next.NextFrame.{NextFrame}
 use Rattle.pgpipe_frames.specs.declared.next.NextFrame.TheVariants as next
 use Rattle.pgpipe_frames.specs.Frames.{code}
 use Rattle.pgpipe_frames.specs.Reading.{IsReadAs, IsPacketReadAs}
-use Rattle.pgpipe_frames.specs.Json.Backend.{back_called}
+use Rattle.pgpipe_texts.specs.Json.Backend.{back_called}
 use Rattle.pgpipe_frames.specs.Json.Frontend.{front_called}
 use Rattle.pgpipe_frames.specs.Json.Other.{packet_name}
-use Rattle.pgpipe_frames.specs.Json.Packet.{packet_called}
+use Rattle.pgpipe_texts.specs.Json.Packet.{packet_called}
 
 -- what a message of the backend says beside its name: a ReadyForQuery its status, and an ErrorResponse
 -- its code

@@ -12,9 +12,9 @@ use Rattle.pgpipe_frames.specs.Reading.{IsReadAs, IsPacketReadAs}
 use Rattle.serde_json.specs.Data.{Data}
 use Rattle.serde_json.specs.Read.{read}
 use Rattle.serde_json.specs.Written.{compact_text}
-use Rattle.pgpipe_frames.specs.Json.Backend.{back_json}
+use Rattle.pgpipe_texts.specs.Json.Backend.{back_json}
 use Rattle.pgpipe_frames.specs.Json.Frontend.{front_json}
-use Rattle.pgpipe_frames.specs.Json.Packet.{packet_json}
+use Rattle.pgpipe_texts.specs.Json.Packet.{packet_json}
 use Rattle.pgpipe_frames.specs.Json.Other.{other_back, other_front, other_packet}
 
 -- the object of what was read, or this other one where nothing was

@@ -5,8 +5,8 @@ use Rattle.pg_wire.specs.message.FrontMessage.TheVariants.{Query, Parse, Bind, D
 use Rattle.pg_wire.specs.value.Target.{Target}
 use Rattle.pg_wire.specs.value.Target.TheVariants.{Statement, Portal}
 use Rattle.serde_json.specs.Data.{Data}
-use Rattle.pgpipe_frames.specs.Json.Members.{Member, message_json}
-use Rattle.pgpipe_frames.specs.Json.Values.{count_json, hidden_json, list_json, signed_json, text_json, text_or_null}
+use Rattle.pgpipe_texts.specs.Json.Members.{Member, message_json}
+use Rattle.pgpipe_texts.specs.Json.Values.{count_json, hidden_json, list_json, signed_json, text_json, text_or_null}
 
 -- the key under which the name of a statement or of a portal stands
 abbrev pub target_key : Target → List ℕ

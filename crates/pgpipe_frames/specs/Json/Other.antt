@@ -5,8 +5,8 @@ use Rattle.std.specs.Prelude.{ℕ, ◌-◌, ◌/◌, ◌==◌, ◌||◌, Bool, f
 use Rattle.pgpipe_frames.specs.Other.{back_name, front_name, request_of_code}
 use Rattle.pgpipe_frames.specs.Frames.{code}
 use Rattle.serde_json.specs.Data.{Data, boolean}
-use Rattle.pgpipe_frames.specs.Json.Members.{Member, message_json}
-use Rattle.pgpipe_frames.specs.Json.Values.{count_json, hidden_json, text_json}
+use Rattle.pgpipe_texts.specs.Json.Members.{Member, message_json}
+use Rattle.pgpipe_texts.specs.Json.Values.{count_json, hidden_json, text_json}
 
 -- bytes, unless they are to be hidden
 abbrev pub shown_or_hidden : Bool → List ℕ → Data

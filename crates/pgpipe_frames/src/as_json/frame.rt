@@ -6,21 +6,20 @@ ghost use Rattle.serde_json.specs.Data.{depth};
 ghost use Rattle.serde_json.specs.Read.{max_depth};
 ghost use Rattle.serde_json.specs.View.{view};
 ghost use Rattle.serde_json.specs.Written.{has_float};
-ghost use Rattle.pgpipe_frames.specs.Json.Backend.{back_json};
+ghost use Rattle.pgpipe_texts.specs.Json.Backend.{back_json};
 ghost use Rattle.pgpipe_frames.specs.Json.Frame.{IsBackJson, IsFrontJson, IsJsonOf, IsJsonText};
 ghost use Rattle.pgpipe_frames.specs.Json.Frame.{IsMessageJson, IsPacketJson, IsTextOfJson};
 ghost use Rattle.pgpipe_frames.specs.Json.Frame.{json_or};
 ghost use Rattle.pgpipe_frames.specs.Json.Frontend.{front_json};
 ghost use Rattle.pgpipe_frames.specs.Json.Other.{other_back, other_front, other_packet};
-ghost use Rattle.pgpipe_frames.specs.Json.Packet.{packet_json};
+ghost use Rattle.pgpipe_texts.specs.Json.Packet.{packet_json};
 
-use super::backend::back_value;
 use super::frontend::front_value;
 use super::other::{other_back_value, other_front_value, other_packet_value};
-use super::packet::packet_value;
 use crate::next::NextFrame;
 use crate::reading::{read_message, read_packet};
 use pg_wire::{BackMessage, First, FrontMessage};
+use pgpipe_texts::as_json::{back_value, packet_value};
 use serde_json::Value;
 use std::alloc::{AllocError, Global};
 

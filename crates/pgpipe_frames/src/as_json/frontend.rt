@@ -5,12 +5,12 @@ ghost use Rattle.serde_json.specs.Data.{put as with_member};
 ghost use Rattle.serde_json.specs.View.{members_view, view};
 ghost use Rattle.pgpipe_frames.specs.Json.Frontend.{front_called, front_json, front_members};
 ghost use Rattle.pgpipe_frames.specs.Json.Frontend.{target_key};
-ghost use Rattle.pgpipe_frames.specs.Json.Members.{with_members};
-ghost use Rattle.pgpipe_frames.specs.Json.Values.{count_json, list_json, signed_json, text_json};
-ghost use Rattle.pgpipe_frames.specs.Json.Values.{text_or_null};
+ghost use Rattle.pgpipe_texts.specs.Json.Members.{with_members};
+ghost use Rattle.pgpipe_texts.specs.Json.Values.{count_json, list_json, signed_json, text_json};
+ghost use Rattle.pgpipe_texts.specs.Json.Values.{text_or_null};
 
-use super::members::{begin, put_hidden, put_shown, put_text};
 use pg_wire::{FrontMessage, Seq, Target, Values};
+use pgpipe_texts::as_json::{begin, put_hidden, put_shown, put_text};
 use serde_json::{Map, Value};
 use std::alloc::{AllocError, Global};
 

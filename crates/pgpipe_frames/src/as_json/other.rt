@@ -3,14 +3,14 @@
 ghost use Rattle.std.specs.Prelude.{◌≡◌, ◌≤◌, codes, length, IfOk, OnOk};
 ghost use Rattle.serde_json.specs.Data.{put as with_member};
 ghost use Rattle.serde_json.specs.View.{members_view, view};
-ghost use Rattle.pgpipe_frames.specs.Json.Members.{message_json, with_members};
+ghost use Rattle.pgpipe_texts.specs.Json.Members.{message_json, with_members};
 ghost use Rattle.pgpipe_frames.specs.Json.Other.{other_back, other_front, other_members};
 ghost use Rattle.pgpipe_frames.specs.Json.Other.{other_packet, other_packet_members, packet_name};
 ghost use Rattle.pgpipe_frames.specs.Json.Other.{shown_or_hidden, version_name};
 
-use super::members::{begin, put_hidden, put_shown, put_text};
 use crate::next::code_of;
 use crate::other::{back_name, front_name, request_of_code};
+use pgpipe_texts::as_json::{begin, put_hidden, put_shown, put_text};
 use serde_json::{Map, Value};
 use std::alloc::{AllocError, Global};
 

@@ -2,21 +2,21 @@
 
 ghost use Rattle.std.specs.Prelude.{◌≡◌, ◌≤◌, ◌++◌, ℕ, List, drop, length, option_copied};
 ghost use Rattle.std.specs.Prelude.{slice_index, OnOk};
-ghost use Rattle.pgpipe_frames.specs.Fields.{first_field};
+ghost use Rattle.pgpipe_texts.specs.Fields.{first_field};
 ghost use Rattle.pgpipe_frames.specs.Other.{back_name, front_name};
 ghost use Rattle.pgpipe_frames.specs.Frames.{code, fewest};
 ghost use Rattle.pgpipe_frames.specs.Json.Frontend.{front_called};
 ghost use Rattle.pgpipe_frames.specs.Json.Other.{packet_name};
-ghost use Rattle.pgpipe_frames.specs.Json.Packet.{packet_called};
+ghost use Rattle.pgpipe_texts.specs.Json.Packet.{packet_called};
 ghost use Rattle.pgpipe_show.specs.Labels.{IsBackLabel, IsFrontLabel, IsLabelOf, IsMessageLabel};
 ghost use Rattle.pgpipe_show.specs.Labels.{IsPacketLabel, back_detail, back_label, label_or};
 ghost use Rattle.pgpipe_show.specs.Labels.{marked};
 
 use pg_wire::{BackMessage, First, FrontMessage};
-use pgpipe_frames::as_json::{back_called, front_called, packet_called, packet_name, status_word};
-use pgpipe_frames::{
-    NextFrame, back_name, code_of, front_name, put_whole, read_message, read_packet,
-};
+use pgpipe_frames::as_json::{front_called, packet_name};
+use pgpipe_frames::{NextFrame, back_name, code_of, front_name, read_message, read_packet};
+use pgpipe_texts::as_json::{back_called, packet_called, status_word};
+use pgpipe_texts::put_whole;
 use std::alloc::{AllocError, Global};
 
 // Appends the code of an error, or a dash.

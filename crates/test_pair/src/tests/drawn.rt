@@ -2,7 +2,7 @@
 
 use super::answers::{Question, Reply, checked, settings};
 use super::events::{ASKS, TableEvent, events};
-use crate::{answers_settled, deliver, play, settled_when_ready};
+use example_pair::{answers_settled, deliver, play, settled_when_ready};
 use pg_pair::{Direct, Pair, Way};
 use std::alloc::{AllocError, Global};
 use testing::holds;

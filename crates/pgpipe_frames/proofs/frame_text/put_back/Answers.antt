@@ -1,8 +1,8 @@
 use Rattle.std.proofs.Common.{Some, refl}
 use Rattle.pg_wire.specs.message.BackMessage.TheVariants.{DataRow}
-use Rattle.pgpipe_frames.specs.Backend.{back_text}
+use Rattle.pgpipe_texts.specs.Backend.{back_text}
 use Rattle.pgpipe_frames.specs.FrameText.{IsBackText}
-use Rattle.pgpipe_frames.proofs.Texts.{text_put}
+use Rattle.pgpipe_texts.proofs.Texts.{text_put}
 use Rattle.pgpipe_frames.proofs.frame_text.put_back.Goals as goal
 
 pub returns-in-Some : goal.returns-in-Some

@@ -2,7 +2,7 @@ use Rattle.std.proofs.Common.{refl}
 use Rattle.pgpipe_frames.specs.Frontend.{front_text}
 use Rattle.pgpipe_frames.specs.FrameText.{IsFrontText, text_or}
 use Rattle.pgpipe_frames.specs.Other.{other_front}
-use Rattle.pgpipe_frames.proofs.Texts.{text_put}
+use Rattle.pgpipe_texts.proofs.Texts.{text_put}
 use Rattle.pgpipe_frames.proofs.frame_text.put_front.Goals as goal
 
 pub returns : goal.returns

@@ -1,8 +1,8 @@
 use Rattle.std.proofs.Common.{refl}
-use Rattle.pgpipe_frames.specs.Packet.{packet_text}
+use Rattle.pgpipe_texts.specs.Packet.{packet_text}
 use Rattle.pgpipe_frames.specs.FrameText.{IsPacketText, text_or}
 use Rattle.pgpipe_frames.specs.Other.{other_packet}
-use Rattle.pgpipe_frames.proofs.Texts.{text_put}
+use Rattle.pgpipe_texts.proofs.Texts.{text_put}
 use Rattle.pgpipe_frames.proofs.frame_text.put_packet.Goals as goal
 
 pub returns : goal.returns

@@ -1,8 +1,8 @@
 use Rattle.std.proofs.Common.{refl}
-use Rattle.pgpipe_frames.specs.Backend.{back_text}
+use Rattle.pgpipe_texts.specs.Backend.{back_text}
 use Rattle.pgpipe_frames.specs.FrameText.{IsBackText, text_or}
 use Rattle.pgpipe_frames.specs.Other.{other_back}
-use Rattle.pgpipe_frames.proofs.Texts.{text_put}
+use Rattle.pgpipe_texts.proofs.Texts.{text_put}
 use Rattle.pgpipe_frames.proofs.frame_text.put_whole_back.Goals as goal
 
 pub returns : goal.returns

@@ -1,5 +1,5 @@
 use Rattle.std.proofs.Common.{◌-◌, length, refl}
-use Rattle.pgpipe_frames.specs.Json.Backend.{back_json}
+use Rattle.pgpipe_texts.specs.Json.Backend.{back_json}
 use Rattle.pgpipe_frames.specs.Json.Frame.{IsBackJson, json_or}
 use Rattle.pgpipe_frames.specs.Json.Other.{other_back}
 use Rattle.pgpipe_frames.proofs.JsonTexts.{json_made}

@@ -1,5 +1,5 @@
-use Rattle.std.proofs.Common.{◌-◌, length, refl}
-use Rattle.pgpipe_frames.specs.Json.Packet.{packet_json}
+use Rattle.std.proofs.Common.{length, refl}
+use Rattle.pgpipe_texts.specs.Json.Packet.{packet_json}
 use Rattle.pgpipe_frames.specs.Json.Frame.{IsPacketJson, json_or}
 use Rattle.pgpipe_frames.specs.Json.Other.{other_packet}
 use Rattle.pgpipe_frames.proofs.JsonTexts.{json_made}

@@ -1,7 +1,7 @@
 use Rattle.std.proofs.Common.{refl}
 use Rattle.pgpipe_frames.specs.Frames.{code}
 use Rattle.pgpipe_frames.specs.Json.Other.{packet_name}
-use Rattle.pgpipe_frames.specs.Json.Packet.{packet_called}
+use Rattle.pgpipe_texts.specs.Json.Packet.{packet_called}
 use Rattle.pgpipe_show.proofs.Labels.{text_put}
 use Rattle.pgpipe_show.specs.Labels.{IsPacketLabel, label_or}
 use Rattle.pgpipe_show.proofs.summary.label.put_packet.Goals as goal

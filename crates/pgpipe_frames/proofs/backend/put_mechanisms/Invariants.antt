@@ -1,7 +1,0 @@
-use Rattle.std.proofs.Common.{◌≡◌, ◌++◌, take}
-use Rattle.std.specs.List.{flat_map}
-use Rattle.pgpipe_frames.specs.Backend.{of_mechanism}
-use Rattle.pgpipe_frames.proofs.backend.put_mechanisms.Given as goal
-
-abbrev pub invariant-loop-byte : goal.invariant-loop-byte
-invariant-loop-byte l = l.line.items ≡ l.initial.line.items ++ flat_map of_mechanism (take l.byte-index l.names)

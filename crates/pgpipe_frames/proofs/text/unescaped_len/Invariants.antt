@@ -1,7 +1,0 @@
-use Rattle.std.proofs.Common.{◌≡◌, true, take}
-use Rattle.std.specs.List.{list_all}
-use Rattle.pgpipe_frames.specs.Private.Parts.{is_unescaped}
-use Rattle.pgpipe_frames.proofs.text.unescaped_len.Given as goal
-
-abbrev pub invariant-loop-i : goal.invariant-loop-i
-invariant-loop-i l = list_all (is_unescaped l.utf8 l.mark) (take l.i l.bytes) ≡ true
