@@ -1,6 +1,6 @@
 //! What the log says of a request, copied from the script.
 
-ghost use Rattle.std.specs.Prelude.{◌≡◌, IfOk, Some, option_to_list};
+ghost use Rattle.std.specs.Prelude.{◌≡◌, IfOk, option_to_list};
 ghost use Rattle.pg_wire.specs.declared.session.Part.TheVariants as part;
 ghost use Rattle.pg_wire.specs.declared.session.Outcome.{Outcome};
 ghost use Rattle.pg_backend.specs.declared.script.ScriptPart.TheVariants as script_part;
@@ -80,14 +80,14 @@ fn complete_rows(
     columns: &Seq<Column>,
     rows: &[Values],
     tag: &Seq<u8>,
-) -> Result<Option<Part>, AllocError>
-    ensures { IfOk result (λ o. o ≡ Some (part.Rows columns.now rows.now tag.now)) }
+) -> Result<Part, AllocError>
+    ensures { IfOk result (λ p. p ≡ part.Rows columns.now rows.now tag.now) }
 {
-    Ok(Some(Part::Rows {
+    Ok(Part::Rows {
         columns: columns.clone()?,
         rows: copy_of_rows(alloc, rows)?,
         tag: tag.clone()?,
-    }))
+    })
 }
 
 // A copy to the client.
@@ -95,14 +95,14 @@ fn complete_copy_out(
     head: &CopyHead,
     chunks: &Seq<Seq<u8>>,
     tag: &Seq<u8>,
-) -> Result<Option<Part>, AllocError>
-    ensures { IfOk result (λ o. o ≡ Some (part.CopyOut head.now chunks.now tag.now)) }
+) -> Result<Part, AllocError>
+    ensures { IfOk result (λ p. p ≡ part.CopyOut head.now chunks.now tag.now) }
 {
-    Ok(Some(Part::CopyOut {
+    Ok(Part::CopyOut {
         head: head.clone()?,
         chunks: chunks.clone()?,
         tag: tag.clone()?,
-    }))
+    })
 }
 
 // A copy from the client, unless it is rejected, which is never complete.
@@ -123,27 +123,23 @@ fn complete_copy_in(head: &CopyHead, load: &Load) -> Result<Option<Part>, AllocE
 fn complete_described(
     parameters: &Option<Seq<u32>>,
     columns: &Option<Seq<Column>>,
-) -> Result<Option<Part>, AllocError>
-    ensures { IfOk result (λ o. o ≡ Some (part.Described parameters.now columns.now)) }
+) -> Result<Part, AllocError>
+    ensures { IfOk result (λ p. p ≡ part.Described parameters.now columns.now) }
 {
-    Ok(Some(Part::Described {
+    Ok(Part::Described {
         parameters: parameters.clone()?,
         columns: columns.clone()?,
-    }))
+    })
 }
 
 // The answer to an Execute.
-fn complete_executed(
-    alloc: Global,
-    rows: &[Values],
-    end: &ExecEnd,
-) -> Result<Option<Part>, AllocError>
-    ensures { IfOk result (λ o. o ≡ Some (part.Executed rows.now end.now)) }
+fn complete_executed(alloc: Global, rows: &[Values], end: &ExecEnd) -> Result<Part, AllocError>
+    ensures { IfOk result (λ p. p ≡ part.Executed rows.now end.now) }
 {
-    Ok(Some(Part::Executed {
+    Ok(Part::Executed {
         rows: copy_of_rows(alloc, rows)?,
         end: copy_of_end(end)?,
-    }))
+    })
 }
 
 // What the log has of the part once it is complete. None for a copy that is rejected, which never is.
@@ -152,19 +148,25 @@ fn complete_part(alloc: Global, part: &ScriptPart) -> Result<Option<Part>, Alloc
 {
     match part {
         ScriptPart::Rows { columns, rows, tag } => {
-            complete_rows(alloc, columns, rows.as_slice(), tag)
+            let part = complete_rows(alloc, columns, rows.as_slice(), tag)?;
+            Ok(Some(part))
         }
         ScriptPart::Command(tag) => Ok(Some(Part::Command(tag.clone()?))),
         ScriptPart::Empty => Ok(Some(Part::Empty)),
-        ScriptPart::CopyOut { head, chunks, tag } => complete_copy_out(head, chunks, tag),
+        ScriptPart::CopyOut { head, chunks, tag } => {
+            let part = complete_copy_out(head, chunks, tag)?;
+            Ok(Some(part))
+        }
         ScriptPart::CopyIn { head, load } => complete_copy_in(head, load),
         ScriptPart::Parsed => Ok(Some(Part::Parsed)),
         ScriptPart::Bound => Ok(Some(Part::Bound)),
         ScriptPart::Described {
             parameters,
             columns,
-        } => complete_described(parameters, columns),
-        ScriptPart::Executed { rows, end } => complete_executed(alloc, rows.as_slice(), end),
+        } => Ok(Some(complete_described(parameters, columns)?)),
+        ScriptPart::Executed { rows, end } => {
+            Ok(Some(complete_executed(alloc, rows.as_slice(), end)?))
+        }
         ScriptPart::Shut => Ok(Some(Part::Shut)),
     }
 }
