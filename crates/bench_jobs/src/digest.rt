@@ -1,5 +1,7 @@
 //! A number that stands for all that was put to it, in order.
 
+use pg_wire::Values;
+
 /// What was put, mixed. Eight bytes are mixed at a time, so that a digest costs little beside the work.
 #[derive(Drop)]
 pub struct Digest {
@@ -42,6 +44,15 @@ impl Digest {
         match value {
             Some(bytes) => self.put_bytes(bytes),
             None => self.put(u64::MAX),
+        }
+    }
+
+    /// Puts the values of rows.
+    pub fn put_rows(&mut self, rows: &[Values]) {
+        for row in rows {
+            for value in row.iter() {
+                self.put_value(value);
+            }
         }
     }
 

@@ -6,7 +6,7 @@ ghost use Rattle.pg_wire.specs.Direction.{IsLimit};
 use crate::digest::Digest;
 use crate::orders::{Order, columns};
 use anyhow::bail;
-use pg_client::{Client, Settings, Settled};
+use pg_client::{Client, Settings};
 use pg_wire::backend::{command_complete, data_row, encode, row_description};
 use pg_wire::{BackMessage, EncodeFault, Part, Request, Seq, Status};
 use rand_xoshiro::Xoshiro256PlusPlus;
@@ -69,15 +69,11 @@ fn begin(alloc: Global, client: &mut Client, out: &mut Vec<u8>) -> anyhow::Resul
     Ok(())
 }
 
-// Puts the rows of a group.
-fn put_settled(settled: &Settled, digest: &mut Digest) {
-    for part in settled.outcome.parts.iter() {
+// Puts the rows of a group's parts.
+fn put_parts(parts: &[Part], digest: &mut Digest) {
+    for part in parts {
         if let Part::Rows { rows, .. } = part {
-            for row in rows.iter() {
-                for value in row.iter() {
-                    digest.put_value(value);
-                }
-            }
+            digest.put_rows(rows.as_slice());
             digest.put(rows.len() as u64);
         }
     }
@@ -88,7 +84,7 @@ fn take(client: &mut Client, digest: &mut Digest) -> anyhow::Result<()> {
     let Some(settled) = client.take_settled() else {
         bail!("no group is settled");
     };
-    put_settled(&settled, digest);
+    put_parts(settled.outcome.parts.as_slice(), digest);
     Ok(())
 }
 

@@ -7,8 +7,7 @@ use crate::digest::Digest;
 use crate::orders::{Order, columns};
 use crate::session::{BothEnds, checked};
 use pg_backend::{Answer, Script, ScriptPart};
-use pg_client::Settled;
-use pg_wire::{Aside, ExecEnd, Fields, Part, Request, Seq, Status, Step, Target, Values};
+use pg_wire::{Aside, ExecEnd, Fields, Outcome, Part, Request, Seq, Status, Step, Target, Values};
 use rand_xoshiro::Xoshiro256PlusPlus;
 use rand_xoshiro::rand_core::Rng;
 use std::alloc::{AllocError, Global};
@@ -99,9 +98,13 @@ fn notices(alloc: Global, comes: bool) -> anyhow::Result<Seq<Aside>> {
 }
 
 // The error that ends some.
-fn error(alloc: Global) -> anyhow::Result<Fields> {
+fn error(alloc: Global, comes: bool) -> anyhow::Result<Option<Fields>> {
+    if !comes {
+        return Ok(None);
+    }
     let text = b"duplicate key value violates unique constraint";
-    Ok(Fields::from_slice(alloc, &[(b'S', b"ERROR"), (b'C', b"23505"), (b'M', text)])?)
+    let fields = Fields::from_slice(alloc, &[(b'S', b"ERROR"), (b'C', b"23505"), (b'M', text)])?;
+    Ok(Some(fields))
 }
 
 // What a run gives: so many rows.
@@ -122,45 +125,44 @@ fn executed(
     })
 }
 
-// Puts what a group is answered into an answer: mostly a few rows, sometimes an error, and before some a notice.
-fn fill(
+// Puts the parts of an answer: without rows the error comes after the statement is bound.
+fn put_parts(
     alloc: Global,
     order: &mut Order,
     random: &mut Xoshiro256PlusPlus,
-    answer: &mut Answer,
+    rows: Option<u64>,
+    parts: &mut Vec<ScriptPart>,
 ) -> anyhow::Result<()> {
-    let bits = random.next_u64();
-    answer.before = notices(alloc, bits & 7 == 0)?;
-    answer.parts.push(ScriptPart::Parsed)?;
-    answer.parts.push(ScriptPart::Bound)?;
-    if bits >> 3 & 15 == 0 {
-        answer.error = Some(error(alloc)?);
+    parts.push(ScriptPart::Parsed)?;
+    parts.push(ScriptPart::Bound)?;
+    let Some(count) = rows else {
         return Ok(());
-    }
-    answer.parts.push(ScriptPart::Described {
+    };
+    parts.push(ScriptPart::Described {
         parameters: None,
         columns: Some(columns(alloc)?),
     })?;
-    answer
-        .parts
-        .push(executed(alloc, order, random, bits >> 8 & 7)?)?;
+    parts.push(executed(alloc, order, random, count)?)?;
     Ok(())
 }
 
-// What a group is answered.
+// What a group is answered: mostly a few rows, sometimes an error, and before some a notice.
 fn answer(
     alloc: Global,
     order: &mut Order,
     random: &mut Xoshiro256PlusPlus,
 ) -> anyhow::Result<Answer> {
-    let mut answer = Answer {
-        before: Seq::new(Vec::new(alloc)),
-        parts: Seq::new(Vec::new(alloc)),
-        error: None,
+    let bits = random.next_u64();
+    let fails = bits >> 3 & 15 == 0;
+    let rows = if fails { None } else { Some(bits >> 8 & 7) };
+    let mut parts = Vec::new(alloc);
+    put_parts(alloc, order, random, rows, &mut parts)?;
+    Ok(Answer {
+        before: notices(alloc, bits & 7 == 0)?,
+        parts: Seq::new(parts),
+        error: error(alloc, fails)?,
         status: Status::Idle,
-    };
-    fill(alloc, order, random, &mut answer)?;
-    Ok(answer)
+    })
 }
 
 // Puts the answers of a session.
@@ -189,21 +191,22 @@ fn script(
     checked(alloc, answers)
 }
 
-// Puts a group that was settled.
-fn put_settled(settled: &Settled, digest: &mut Digest) {
-    for part in settled.outcome.parts.iter() {
+// Puts the rows of a group's parts.
+fn put_rows(parts: &[Part], digest: &mut Digest) {
+    for part in parts {
         if let Part::Executed { rows, .. } = part {
-            for row in rows.iter() {
-                for value in row.iter() {
-                    digest.put_value(value);
-                }
-            }
+            digest.put_rows(rows.as_slice());
         }
     }
-    if let Some(fields) = &settled.outcome.error {
+}
+
+// Puts what came of a group.
+fn put_outcome(outcome: &Outcome, digest: &mut Digest) {
+    put_rows(outcome.parts.as_slice(), digest);
+    if let Some(fields) = &outcome.error {
         digest.put_value(fields.message());
     }
-    digest.put(settled.outcome.asides.len() as u64);
+    digest.put(outcome.asides.len() as u64);
 }
 
 // The client starts, and asks for group after group.
@@ -218,7 +221,7 @@ fn ask_all(
     for _ in 0..GROUPS {
         session.ask(group(alloc, order, random)?)?;
         session.trickle(random)?;
-        put_settled(&session.settled()?, digest);
+        put_outcome(&session.settled()?.outcome, digest);
     }
     Ok(())
 }
