@@ -3,7 +3,7 @@
 use std::fmt;
 
 /// How bytes are cut into pieces.
-#[derive(Clone, Copy, Debug)]
+#[derive(Clone, Copy)]
 pub enum ByteCut {
     /// In one piece.
     Nowhere,
@@ -16,9 +16,15 @@ pub enum ByteCut {
 impl fmt::Display for ByteCut {
     fn fmt<W: fmt::Write>(&self, f: &mut fmt::Formatter<W>) -> fmt::Result {
         match self {
-            ByteCut::Nowhere => write!(f, "in one piece"),
-            ByteCut::Everywhere => write!(f, "a byte at a time"),
+            ByteCut::Nowhere => f.write_str("in one piece"),
+            ByteCut::Everywhere => f.write_str("a byte at a time"),
             ByteCut::At(place) => write!(f, "cut at {place}"),
         }
+    }
+}
+
+impl fmt::Debug for ByteCut {
+    fn fmt<W: fmt::Write>(&self, f: &mut fmt::Formatter<W>) -> fmt::Result {
+        fmt::Display::fmt(self, f)
     }
 }

@@ -9,7 +9,7 @@ pub mod reader;
 mod text_loops;
 
 use crate::byte_cut::ByteCut;
-use anyhow::{Result, bail, ensure};
+use anyhow::{Context, Result, bail, ensure};
 use file::CopyFormat;
 use pg_copy::{BinaryReader, Row, TextReader};
 use std::alloc::Global;
@@ -28,15 +28,19 @@ fn has_rows<F: CopyFormat>(
     Ok(found.as_slice() == rows)
 }
 
+// A file that is cut so has to have these rows.
+fn check_cut<F: CopyFormat>(alloc: Global, bytes: &[u8], cut: ByteCut, rows: &[Row]) -> Result<()> {
+    if !has_rows::<F>(alloc, bytes, cut, rows)? {
+        bail!("{cut} it gives other rows");
+    }
+    Ok(())
+}
+
 // A file has to have these rows however it is cut.
 fn check_cuts<F: CopyFormat>(alloc: Global, bytes: &[u8], rows: &[Row]) -> Result<()> {
-    if !has_rows::<F>(alloc, bytes, ByteCut::Everywhere, rows)? {
-        bail!("a byte at a time gives other rows");
-    }
+    check_cut::<F>(alloc, bytes, ByteCut::Everywhere, rows)?;
     for place in 0..bytes.len() {
-        if !has_rows::<F>(alloc, bytes, ByteCut::At(place), rows)? {
-            bail!("cut at {place} it gives other rows");
-        }
+        check_cut::<F>(alloc, bytes, ByteCut::At(place), rows)?;
     }
     Ok(())
 }
@@ -47,9 +51,11 @@ fn put_rows<F: CopyFormat>(alloc: Global, bytes: &[u8], rows: &mut Vec<Row>) -> 
     check_cuts::<F>(alloc, bytes, rows.as_slice())
 }
 
-// Whether these rows are written as this file.
-fn is_written<F: CopyFormat>(alloc: Global, rows: &[Row], wanted: &[u8]) -> Result<bool> {
-    Ok(file::write::<F>(alloc, rows)?.as_slice() == wanted)
+// These rows have to be written as this file.
+fn check_written<F: CopyFormat>(alloc: Global, rows: &[Row], wanted: &[u8]) -> Result<()> {
+    let written = file::write::<F>(alloc, rows)?;
+    ensure!(written.as_slice() == wanted, "another file is written");
+    Ok(())
 }
 
 /// A text file and a binary file of the same rows.
@@ -62,14 +68,12 @@ struct Files<'a> {
 // The rows that were read of both files have to be the same, and are written as both.
 fn check_rows(alloc: Global, files: Files<'_>, of_text: &[Row], of_binary: &[Row]) -> Result<()> {
     ensure!(of_text == of_binary, "the files have other rows");
-    ensure!(
-        is_written::<TextReader>(alloc, of_binary, files.text)?,
-        "another text is written"
-    );
-    ensure!(
-        is_written::<BinaryReader>(alloc, of_text, files.binary)?,
-        "another binary file is written"
-    );
+    check_written::<TextReader>(alloc, of_binary, files.text).context("in text")?;
+    check_written::<BinaryReader>(alloc, of_text, files.binary).context("in binary")
+}
+
+// The loops over a reader and a writer that the guide shows have to come to the same.
+fn check_loops(alloc: Global, files: Files<'_>, of_text: &[Row], of_binary: &[Row]) -> Result<()> {
     loops::check(alloc, files.binary, of_binary)?;
     text_loops::check(alloc, files.text, of_text)
 }
@@ -84,6 +88,7 @@ fn check(
     put_rows::<TextReader>(rt.alloc(), files.text, of_text)?;
     put_rows::<BinaryReader>(rt.alloc(), files.binary, of_binary)?;
     check_rows(rt.alloc(), files, of_text.as_slice(), of_binary.as_slice())?;
+    check_loops(rt.alloc(), files, of_text.as_slice(), of_binary.as_slice())?;
     println!(rt;
         "{} rows, {} bytes in text, {} in binary",
         of_text.len(),
@@ -101,14 +106,21 @@ fn check_files(rt: &HostRuntime, files: Files<'_>) -> Result<()> {
     check(rt, files, &mut of_text, &mut of_binary)
 }
 
+// Reads the binary file beside this text.
+fn check_text(rt: &HostRuntime, text: &[u8]) -> Result<()> {
+    let binary = fs::read(rt, "rows.binary")?;
+    check_files(
+        rt,
+        Files {
+            text,
+            binary: binary.as_slice(),
+        },
+    )
+}
+
 /// Reads both files, of which the input is the text.
 pub fn run(rt: &HostRuntime, mut input: impl BufRead + Drop) -> Result<()> {
     let mut text = Vec::new(rt.alloc());
     input.read_to_end(&mut text)?;
-    let binary = fs::read(rt, "rows.binary")?;
-    let files = Files {
-        text: text.as_slice(),
-        binary: binary.as_slice(),
-    };
-    check_files(rt, files)
+    check_text(rt, text.as_slice())
 }

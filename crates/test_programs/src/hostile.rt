@@ -39,29 +39,45 @@ fn calls_of(alloc: Global, digits: &str) -> Result<Calls>
     Ok(read_calls(alloc, bytes.as_slice())?)
 }
 
-// Pushes a piece or makes a step, and writes the answer, the phase after it, and what was sent.
-fn take_word(alloc: Global, backend: &mut Backend, word: &str, out: &mut impl Write) -> Result<()> {
-    let mut sent = Vec::new(alloc);
-    if word == "-" {
-        write!(out, "{:?}", backend.step(&mut sent))?;
-    } else {
-        let piece = hex::decode(alloc, word)?;
-        write!(out, "{:?}", backend.push(piece.as_slice()))?;
-    }
-    writeln!(out, " {:?} {:?}", backend.phase(), Seq::new(sent))?;
+// Pushes a piece, and writes the answer, the phase after it, and that nothing was sent.
+fn push(alloc: Global, backend: &mut Backend, digits: &str, out: &mut impl Write) -> Result<()> {
+    let piece = hex::decode(alloc, digits)?;
+    let pushed = backend.push(piece.as_slice());
+    writeln!(out, "{pushed:?} {:?} b\"\"", backend.phase())?;
     Ok(())
 }
 
-// Runs a backend that plays the script, and writes its log at the end.
-fn run_backend(alloc: Global, script: Script, words: &str, out: &mut impl Write) -> Result<()>
-    requires { IsChecked script }
-{
-    let mut backend = Backend::new(alloc, script, LONGEST);
+// Makes a step, and writes the answer, the phase after it, and what was sent.
+fn step(alloc: Global, backend: &mut Backend, out: &mut impl Write) -> Result<()> {
+    let mut sent = Vec::new(alloc);
+    let made = backend.step(&mut sent);
+    writeln!(out, "{made:?} {:?} {:?}", backend.phase(), Seq::new(sent))?;
+    Ok(())
+}
+
+// Pushes a piece or makes a step as each word says, and writes the log at the end.
+fn take_words(
+    alloc: Global,
+    backend: &mut Backend,
+    words: &str,
+    out: &mut impl Write,
+) -> Result<()> {
     for word in words.split(' ') {
-        take_word(alloc, &mut backend, word, out)?;
+        if word == "-" {
+            step(alloc, backend, out)?;
+        } else {
+            push(alloc, backend, word, out)?;
+        }
     }
     writeln!(out, "{:?}", backend.log())?;
     Ok(())
+}
+
+// Runs a backend that plays the script of these bytes. It is dropped here, in a function that does little else, since proving that takes long.
+fn run_backend(alloc: Global, digits: &str, words: &str, out: &mut impl Write) -> Result<()> {
+    let script = script_of(alloc, digits)?;
+    let mut backend = Backend::new(alloc, script, LONGEST);
+    take_words(alloc, &mut backend, words, out)
 }
 
 // Writes the phases of both ends; of each way how many bytes were sent and have reached the other end, and whether it is broken; and how many
@@ -85,21 +101,27 @@ fn write_end(pair: &Pair<Direct>, out: &mut impl Write) -> io::Result<()> {
     writeln!(out, "{:?}", pair.sent(Way::ToClient))
 }
 
-// Applies each event to a pair, and writes where it stands after it, and at the end what came of it.
+// Applies the event of a line to a pair, and writes where it stands after it.
+fn apply(pair: &mut Pair<Direct>, line: CallLine, out: &mut impl Write) -> Result<()> {
+    let CallLine::Event(event) = line else {
+        bail!("a line of calls is one event");
+    };
+    pair.apply(event)?;
+    write_place(pair, out)?;
+    Ok(())
+}
+
+// Applies each event to a pair, and writes at the end what came of it.
 fn apply_all(pair: &mut Pair<Direct>, lines: Seq<CallLine>, out: &mut impl Write) -> Result<()> {
     for line in lines {
-        let CallLine::Event(event) = line else {
-            bail!("a line of calls is one event");
-        };
-        pair.apply(event)?;
-        write_place(pair, out)?;
+        apply(pair, line, out)?;
     }
     write_end(pair, out)?;
     Ok(())
 }
 
 // Runs a pair. It is dropped here, in a function that does little else, since proving that takes long.
-fn run_pair(alloc: Global, script: Script, calls: Calls, out: &mut impl Write) -> Result<()>
+fn play_pair(alloc: Global, script: Script, calls: Calls, out: &mut impl Write) -> Result<()>
     requires limit { IsLimit calls.settings.limit }
     requires checked { IsChecked script }
 {
@@ -108,14 +130,20 @@ fn run_pair(alloc: Global, script: Script, calls: Calls, out: &mut impl Write) -
     apply_all(&mut pair, lines, out)
 }
 
+// Runs a pair whose backend plays the script of these bytes, and whose client makes the calls of those.
+fn run_pair(alloc: Global, script: &str, calls: &str, out: &mut impl Write) -> Result<()> {
+    let calls = calls_of(alloc, calls)?;
+    let script = script_of(alloc, script)?;
+    play_pair(alloc, script, calls, out)
+}
+
 // Runs what a line says.
 fn take_line(alloc: Global, line: &str, out: &mut impl Write) -> Result<()> {
     let (name, rest) = line.split_once(' ').unwrap_or((line, ""));
     let (digits, happens) = rest.split_once(' ').unwrap_or((rest, ""));
-    let script = script_of(alloc, digits)?;
     match name {
-        "backend" => run_backend(alloc, script, happens, out),
-        "pair" => run_pair(alloc, script, calls_of(alloc, happens)?, out),
+        "backend" => run_backend(alloc, digits, happens, out),
+        "pair" => run_pair(alloc, digits, happens, out),
         _ => bail!("a line begins with backend or pair"),
     }
 }

@@ -70,6 +70,15 @@ fn next_row<R: CopyReader>(reader: &mut R) -> Result<Option<Row>> {
     Ok(reader.next()?)
 }
 
+// Keeps a row, and says whether there was one.
+fn keep(row: Option<Row>, rows: &mut Vec<Row>) -> Result<bool> {
+    let Some(row) = row else {
+        return Ok(false);
+    };
+    rows.push(row)?;
+    Ok(true)
+}
+
 // Pushes a piece, and takes the rows that wait then, of which there are no more than bytes.
 fn read_piece<R: CopyReader>(
     reader: &mut R,
@@ -80,12 +89,19 @@ fn read_piece<R: CopyReader>(
     ensure!(!reader.ended(), "the input has ended");
     reader.push(piece)?;
     for _ in 0..=most {
-        match next_row(reader)? {
-            Some(row) => rows.push(row)?,
-            None => return Ok(()),
+        if !keep(next_row(reader)?, rows)? {
+            return Ok(());
         }
     }
     bail!("there are more rows than bytes")
+}
+
+// Pushes a file a byte at a time, and takes the rows that wait after each.
+fn push_bytes<R: CopyReader>(reader: &mut R, bytes: &[u8], rows: &mut Vec<Row>) -> Result<()> {
+    for i in 0..bytes.len() {
+        read_piece(reader, &bytes[i..i + 1], bytes.len(), rows)?;
+    }
+    Ok(())
 }
 
 // Pushes a file that comes in pieces, and takes the rows that wait after each.
@@ -98,12 +114,7 @@ fn push_pieces<R: CopyReader>(
     let most = bytes.len();
     match cut {
         ByteCut::Nowhere => read_piece(reader, bytes, most, rows),
-        ByteCut::Everywhere => {
-            for i in 0..bytes.len() {
-                read_piece(reader, &bytes[i..i + 1], most, rows)?;
-            }
-            Ok(())
-        }
+        ByteCut::Everywhere => push_bytes(reader, bytes, rows),
         ByteCut::At(place) => {
             let (front, back) = bytes.split_at(place.min(bytes.len()));
             read_piece(reader, front, most, rows)?;
@@ -115,9 +126,8 @@ fn push_pieces<R: CopyReader>(
 // Takes the rows that are left at the end of the input, of which there are no more than bytes.
 fn read_left<R: CopyReader>(reader: &mut R, most: usize, rows: &mut Vec<Row>) -> Result<()> {
     for _ in 0..=most {
-        match reader.finish()? {
-            Some(row) => rows.push(row)?,
-            None => return Ok(()),
+        if !keep(reader.finish()?, rows)? {
+            return Ok(());
         }
     }
     bail!("there are more rows than bytes")

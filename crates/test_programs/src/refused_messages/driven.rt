@@ -137,15 +137,27 @@ impl Driving {
         self.check_closed(true)?;
         Ok(false)
     }
+
+    // Whether all was given and taken, and a group is to be taken.
+    fn is_whole(&mut self) -> bool {
+        self.link.is_done() && self.client.take_settled().is_some()
+    }
+
+    // Goes through the session. False where it ran out of memory in a drive.
+    fn goes_through(&mut self, alloc: Global, refused: &mut Refused) -> Result<bool> {
+        if !self.becomes_ready(refused)? || !self.settles(alloc, refused)? {
+            return Ok(false);
+        }
+        ensure!(
+            self.is_whole(),
+            "bytes are left, or no group is to be taken"
+        );
+        Ok(true)
+    }
 }
 
 /// Drives a new client through the session. False where it ran out of memory in a drive.
 pub fn comes_to_its_end(alloc: Global, refused: &mut Refused) -> Result<bool> {
     let mut it = fresh(alloc)?;
-    if !it.becomes_ready(refused)? || !it.settles(alloc, refused)? {
-        return Ok(false);
-    }
-    let whole = it.link.is_done() && it.client.take_settled().is_some();
-    ensure!(whole, "bytes are left, or no group is to be taken");
-    Ok(true)
+    it.goes_through(alloc, refused)
 }

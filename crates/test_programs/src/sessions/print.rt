@@ -73,21 +73,17 @@ fn print_part(part: &Part, out: &mut impl Write) -> io::Result<()> {
     }
 }
 
-/// Writes a settled group. psql prints notices as they come, which is before the results of the commands recorded here, and
-/// notifications last.
-pub fn print(settled: &Settled, out: &mut impl Write) -> io::Result<()> {
-    for aside in &settled.outcome.asides {
+fn print_notices(asides: &Seq<Aside>, out: &mut impl Write) -> io::Result<()> {
+    for aside in asides {
         if let Aside::Notice(fields) = aside {
             print_fields(fields, out)?;
         }
     }
-    for part in &settled.outcome.parts {
-        print_part(part, out)?;
-    }
-    if let Some(fields) = &settled.outcome.error {
-        print_fields(fields, out)?;
-    }
-    for aside in &settled.outcome.asides {
+    Ok(())
+}
+
+fn print_notifications(asides: &Seq<Aside>, out: &mut impl Write) -> io::Result<()> {
+    for aside in asides {
         if let Aside::Notification {
             process,
             channel,
@@ -102,4 +98,17 @@ pub fn print(settled: &Settled, out: &mut impl Write) -> io::Result<()> {
         }
     }
     Ok(())
+}
+
+/// Writes a settled group. psql prints notices as they come, which is before the results of the commands recorded here, and
+/// notifications last.
+pub fn print(settled: &Settled, out: &mut impl Write) -> io::Result<()> {
+    print_notices(&settled.outcome.asides, out)?;
+    for part in &settled.outcome.parts {
+        print_part(part, out)?;
+    }
+    if let Some(fields) = &settled.outcome.error {
+        print_fields(fields, out)?;
+    }
+    print_notifications(&settled.outcome.asides, out)
 }

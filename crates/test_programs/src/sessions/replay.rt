@@ -303,20 +303,25 @@ impl<'a> Running<'a> {
         Ok(())
     }
 
-    fn end(self) -> Result<SessionEnd> {
+    // Takes what came of the session.
+    fn take_end(&mut self, alloc: Global) -> SessionEnd {
+        SessionEnd {
+            settled: mem::replace(&mut self.settled, Vec::new(alloc)),
+            loss: self.client.lost(),
+            refusal: self.refusal.take(),
+        }
+    }
+
+    // Makes the session, and takes what came of it.
+    fn come_to_end(
+        &mut self,
+        alloc: Global,
+        entries: &'a [Entry],
+        cut: StreamCut,
+    ) -> Result<SessionEnd> {
+        self.make_all(alloc, entries, cut)?;
         self.check_end()?;
-        let Running {
-            mut client,
-            settled,
-            refusal,
-            ..
-        } = self;
-        let loss = client.lost();
-        Ok(SessionEnd {
-            settled,
-            loss,
-            refusal,
-        })
+        Ok(self.take_end(alloc))
     }
 }
 
@@ -330,6 +335,40 @@ fn password_of(entries: &[Entry]) -> Option<&Seq<u8>>
     }
 }
 
+// A copy of a text, if there is one.
+fn copy_of(text: Option<&Seq<u8>>) -> Result<Option<Seq<u8>>>
+    ensures { IfOk result (λ copy. copy ≡ option_copied text.entry) }
+{
+    match text {
+        Some(text) => Ok(Some(text.clone()?)),
+        None => Ok(None),
+    }
+}
+
+// The value of a startup packet's parameter of this name, if it has one.
+fn parameter<'a>(parameters: &'a Seq<(Seq<u8>, Seq<u8>)>, wanted: &[u8]) -> Option<&'a Seq<u8>> {
+    for (name, value) in parameters {
+        if name.as_slice() == wanted {
+            return Some(value);
+        }
+    }
+    None
+}
+
+// A startup packet's parameters without the user and the database.
+fn other_parameters(
+    alloc: Global,
+    parameters: &Seq<(Seq<u8>, Seq<u8>)>,
+) -> Result<Seq<(Seq<u8>, Seq<u8>)>> {
+    let mut others = Vec::new(alloc);
+    for parameter in parameters {
+        if !matches!(parameter.0.as_slice(), b"user" | b"database") {
+            others.push(parameter.clone()?)?;
+        }
+    }
+    Ok(Seq::new(others))
+}
+
 // The settings that a startup packet's parameters say: the user, maybe the database, and others.
 fn settings_of(alloc: Global, entries: &[Entry]) -> Result<Settings>
     ensures limit { IfOk result (λ settings. settings.limit ≡ 65536) }
@@ -338,35 +377,19 @@ fn settings_of(alloc: Global, entries: &[Entry]) -> Result<Settings>
     let Some(Entry::Start(parameters)) = entries.first() else {
         bail!("a session begins with its start");
     };
-    let mut user = None;
-    let mut database = None;
-    let mut pairs = Vec::new(alloc);
-    for (name, value) in parameters {
-        match name.as_slice() {
-            b"user" => user = Some(value.clone()?),
-            b"database" => database = Some(value.clone()?),
-            _ => pairs.push((name.clone()?, value.clone()?))?,
-        }
-    }
-    let Some(user) = user else {
+    let Some(user) = parameter(parameters, b"user") else {
         bail!("a startup names the user");
     };
-    let password = match password_of(entries) {
-        Some(password) => Some(password.clone()?),
-        None => None,
-    };
-    Ok(Settings {
-        user,
-        database,
-        pairs: Seq::new(pairs),
-        password,
-        limit: 65_536,
-    })
+    let mut settings = Settings::new(alloc, user.clone()?);
+    settings.limit = 65_536;
+    settings.database = copy_of(parameter(parameters, b"database"))?;
+    settings.pairs = other_parameters(alloc, parameters)?;
+    settings.password = copy_of(password_of(entries))?;
+    Ok(settings)
 }
 
 /// Makes the session again.
 pub fn replay(alloc: Global, entries: &[Entry], cut: StreamCut) -> Result<SessionEnd> {
     let mut running = Running::new(alloc, settings_of(alloc, entries)?, cut)?;
-    running.make_all(alloc, entries, cut)?;
-    running.end()
+    running.come_to_end(alloc, entries, cut)
 }
