@@ -2,8 +2,8 @@
 //! (PostgreSQL documentation, page COPY, "File Formats").
 //!
 //! - **Readers.** [`TextReader`] and [`BinaryReader`]: `push` appends bytes, `next` returns the next row that is whole, and `finish`
-//!   those that are left at the end of the input. `next_lent` copies nothing: `held` lends the row until the next call. A fault stands
-//!   in the place of its row, after all rows before it; `rows_given` and `offset` say where.
+//!   those that are left at the end of the input. `next_lent` and `finish_lent` copy no row: `held` lends it until the next call. A fault
+//!   stands in the place of its row, after all rows before it; `rows_given` and `offset` say where.
 //! - **A limit.** A [`TextReader`] keeps a line until it is whole, however long it is. A [`LimitedTextReader`] gives the same rows, and
 //!   rejects a line once more bytes of it are there than its limit, while the line isn't whole ([`LimitedTextFault::LongLine`]). So a
 //!   server or a loader that reads what a stranger sends keeps no more than the limit and one piece.
@@ -20,7 +20,7 @@
 //!     Reading --- next: T1 to T5, LongLine, B1 to B7 ----------------> Failed: each later call returns this fault again
 //!     Reading --- next: memory ran out ------------------------------> Reading, unchanged: the call may be made again
 //!     Reading --- the end mark `\.`, or the trailer -----------------> Done: no row comes any more
-//!     Reading, Done --- finish, until it returns None ---------------> Ended: the input has ended
+//!     Reading, Done --- finish, finish_lent, until no row is left ----> Ended: the input has ended
 //!
 //! # What is proved
 //!

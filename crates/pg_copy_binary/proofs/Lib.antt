@@ -9,6 +9,7 @@ pub mod BinarySizes
 pub mod BinaryHistory
 pub mod BinaryFewer
 pub mod BinaryHolds
+pub mod BinaryLast
 pub mod BinaryPushes
 pub mod BinaryWalk
 pub mod BinaryLent

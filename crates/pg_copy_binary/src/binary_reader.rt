@@ -19,6 +19,7 @@ ghost use Rattle.pg_copy_binary.specs.BinaryReader.{binary_ending};
 ghost use Rattle.pg_copy_rows.specs.Lent.{as_next, Lends};
 ghost use Rattle.pg_copy_binary.specs.Private.BinaryPart.{IsRowAt, HasRowAt, lending, let_go};
 ghost use Rattle.pg_copy_binary.specs.Private.BinaryPart.{start_offset, TakesPart, FindsNext};
+ghost use Rattle.pg_copy_binary.specs.Private.BinaryPart.{LendsLast};
 ghost use Rattle.pg_copy_binary.specs.Private.BinaryPart.{stage_of, extension_left, in_extension};
 
 use crate::binary_part::{
@@ -56,8 +57,9 @@ fn start_offset(offset: u64, start: usize) -> u64
 
 /// Takes a binary file in any pieces, and gives exactly its rows.
 ///
-/// `push` keeps a piece. `next` gives the rows that are whole, one by one, and `finish` those that are left at the end of the input. The trailer must
-/// have come by then, and no byte may stand after it. The length -1 is a null. A fault takes the place of its row, and each later call returns it.
+/// `push` keeps a piece. `next` gives the rows that are whole, one by one, and `finish` those that are left at the end of the input. `next_lent` and
+/// `finish_lent` lend each row in place of that. The trailer must have come by then, and no byte may stand after it. The length -1 is a null. A fault
+/// takes the place of its row, and each later call returns it.
 ///
 /// The flags that a reader need not know and the header's extension are skipped. The extension's bytes are dropped as they come. So no more is kept
 /// than a row until it is whole, and what was pushed since `next` was last called. A row is looked over once, however the pieces are cut, and its
@@ -126,7 +128,8 @@ impl BinaryReader {
         self.stage == BinaryStage::Closed
     }
 
-    /// Whether `finish` was called; a call that returned Memory doesn't count. Once it was, no more may be pushed, and `next` may not be called.
+    /// Whether `finish` or `finish_lent` was called; a call that returned Memory doesn't count. Once one was, no more may be pushed, and neither
+    /// `next` nor `next_lent` may be called.
     pub fn ended(&self) -> bool
         ensures { result ≡ self.now.ended }
     {
@@ -255,8 +258,8 @@ impl BinaryReader {
         }
     }
 
-    /// The row for which the last call of `next_lent` returned true. It is None after any other call of `push`, `next`, `next_lent` or `finish`,
-    /// except one that returned Memory. It takes no memory.
+    /// The row for which the last call of `next_lent` or `finish_lent` returned true. It is None after any other call that changes the reader, except
+    /// one that returned Memory. It takes no memory.
     pub fn held(&self) -> Option<BinaryRow<'_>>
         ensures { result ≡ self.now.held }
     {
@@ -318,6 +321,46 @@ impl BinaryReader {
         }
     }
 
+    /// Says that the input has ended, and returns whether a row is left. It counts as given, and [`BinaryReader::held`] lends it until the next change
+    /// of the reader. Call it until it returns false, which says that the trailer was read. A fault is returned as `finish` returns it, and no memory
+    /// is taken (PostgreSQL documentation, page COPY, "Binary Format").
+    pub fn finish_lent(&mut self) -> Result<bool, BinaryFault>
+        ensures read { (pushed : List ℕ) (given : List Row) → HasReadBinary self.old pushed given
+            → HasReadBinary self.new pushed (given ++ given_by (as_next result self.new.held)) }
+        ensures gives { (pushed : List ℕ) (given : List Row) → HasReadBinary self.old pushed given
+            → AnswersNext Memory (binary_file_reading self.new.columns self.new.limit pushed) given
+            (binary_ending self.new.stage self.new.kept) (as_next result self.new.held) }
+        ensures same { (self.new.columns ≡ self.old.columns) × (self.new.limit ≡ self.old.limit) }
+        ensures ended { self.new.ended ≡ true }
+        ensures lends { Lends result self.new.held }
+        ensures row { result ≡ Ok true → self.new.stage ≡ Rows }
+        ensures given { self.new.given
+            ≡ given_after self.old.given (given_by (as_next result self.new.held)) }
+        ensures fewer { result ≡ Ok true → length self.new.kept < length self.old.kept }
+        ensures failed { (fault : BinaryFault) → self.old.stage ≡ Failed fault
+            → (result ≡ Err fault) × (self.new ≡ record self.old { ended = true }) }
+        ensures closed { self.old.stage ≡ Closed
+            → (result ≡ Ok false) × (self.new ≡ record self.old { ended = true }) }
+        ensures trailer { result ≡ Ok false → self.new.stage ≡ Closed }
+        ensures memory { result ≡ Err Memory → ⊥ }
+    {
+        match self.stage {
+            BinaryStage::Failed(fault) => {
+                self.ended = true;
+                Err(fault)
+            }
+            BinaryStage::Closed => {
+                self.ended = true;
+                Ok(false)
+            }
+            BinaryStage::Head | BinaryStage::Extension(_) | BinaryStage::Rows => {
+                let lent = self.lend_last();
+                self.end();
+                lent
+            }
+        }
+    }
+
     // Drops what a piece has of the extension, and keeps what stands after it.
     fn skip(&mut self, missing: u32, piece: &[u8]) -> Result<(), BinaryFault>
         requires { self.old.stage ≡ Extension missing }
@@ -353,6 +396,25 @@ impl BinaryReader {
                 Err(_) => Err(NoRow::Memory),
             },
             Err(stop) => Err(NoRow::NoPart(stop)),
+        }
+    }
+
+    // Lends the next row that is left at the end of the input, or takes the trailer.
+    fn lend_last(&mut self) -> Result<bool, BinaryFault>
+        requires { IsReading self.old.stage }
+        ensures { LendsLast result self.old self.new }
+    {
+        match self.find() {
+            Ok(None) => Ok(false),
+            Ok(Some(place)) => {
+                self.hold(place);
+                Ok(true)
+            }
+            Err(NoPart::Incomplete) => {
+                self.stop(BinaryFault::Truncated);
+                Err(BinaryFault::Truncated)
+            }
+            Err(NoPart::Faulty(fault)) => Err(fault),
         }
     }
 

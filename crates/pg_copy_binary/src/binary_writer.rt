@@ -105,6 +105,8 @@ fn put_count(count: usize, buf: &mut Vec<u8>) -> Result<(), AllocError>
     buf.extend_from_slice(&(count as u16).to_be_bytes())
 }
 
+// as a part of a large function it pays for that one's locals, value by value
+#[inline(never)]
 fn put_value(field: Option<&[u8]>, buf: &mut Vec<u8>) -> Result<(), AllocError>
     requires { is_long (option_copied field) ≡ false }
     ensures ok { OnOk result (buf.new.items

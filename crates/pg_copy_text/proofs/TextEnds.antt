@@ -14,7 +14,8 @@ use Rattle.pg_copy_text.specs.Text.{end_len, Options, lines, decided_at_end, lin
 use Rattle.pg_copy_text.specs.Text as text
 use Rattle.pg_copy_text.specs.TextReader.{TextState, lines_end, HasReadText, text_left, text_last, text_stage_reading, text_stage_last, text_ending, last_text_ending}
 use Rattle.pg_copy_text.specs.Private.Breaks.{IsLastLine}
-use Rattle.pg_copy_text.specs.Private.TextLine.{passed, let_go, PassesLine, TakesLine, TakesLast, EndsInput}
+use Rattle.pg_copy_text.specs.declared.text_reader.LineLeft.{LineLeft}
+use Rattle.pg_copy_text.specs.Private.TextLine.{passed, let_go, PassesLine, TakesLine, TakesLast, EndsInput, IsLineLeft, IsLeft}
 use Rattle.pg_copy_rows.proofs.Numbers.{told-rows, told-add}
 use Rattle.pg_copy_text.proofs.TextPlaces.{lines_end-zero, lines_end-none, lines_end-last, lines_end-open}
 use Rattle.pg_copy_rows.proofs.Readings.{after-after, after-none}
@@ -95,6 +96,14 @@ takes-open old new answer end lines one some t = go answer t
     go (Ok None) t = rw t.1 (first-line ∙ t.0 closed, tt, refl, λ f. absurd (clash f))
     go (Err fault) (inl t) = inl (t.0, t.1, row-waits (text_last old) closed t.2 (first-line ∙ t.3 closed))
     go (Err fault) (inr t) = inr (t.0.not_memory, first-line ∙ t.0.is closed, t.1)
+
+-- what is left of the lines
+pub takes-left : (old new : TextState) (left : LineLeft) (answer : Answer) → old.stage ≡ Lines → IsLeft old.options.delimiter old.line_end old.kept left → TakesLine left.scan.at left.taken left.line_end old answer new → TakesLast old answer new
+takes-left old new left answer lines is t = go is.line
+  where
+    go : IsLineLeft old.line_end old.kept left.scan.at left.taken left.line_end → TakesLast old answer new
+    go (inl l) = takes-line old new l.0 left.scan.at left.taken answer lines l.2.some is.in_range l.2.sizes l.2.is_last (rw l.1 at t)
+    go (inr l) = takes-open old new answer left.line_end lines l.2.one l.2.some (rw (l.0, l.1) at t)
 
 -- ---- what finish answers
 

@@ -9,15 +9,16 @@ use Rattle.pg_copy_text.specs.declared.text_stage.TextStage.{TextStage}
 use Rattle.pg_copy_text.specs.declared.text_stage.TextStage.TheVariants.{Lines, Marked, Failed}
 use Rattle.pg_copy_rows.specs.Row.{Row}
 use Rattle.pg_copy_rows.specs.Reading.{given_by, given_after, AnswersNext, RowWaits}
-use Rattle.pg_copy_text.specs.Text.{Options, end_len, text_reading}
+use Rattle.pg_copy_text.specs.Text.{Options, end_len, text_reading, text_file_reading}
 use Rattle.pg_copy_rows.specs.Lent.{as_next, Lends}
-use Rattle.pg_copy_text.specs.TextReader.{TextState, HasReadText, text_left, text_ending}
+use Rattle.pg_copy_text.specs.TextReader.{TextState, HasReadText, text_left, text_last, text_ending, last_text_ending}
 use Rattle.pg_copy_text.specs.Private.Breaks.{IsFirstLine}
 use Rattle.pg_copy_text.specs.Private.Units.{IsScanned, StandsAt}
 use Rattle.pg_copy_text.specs.declared.scan.Scan.{Scan}
 use Rattle.pg_copy_text.specs.Private.TextRow.{held_line}
-use Rattle.pg_copy_text.specs.Private.TextLine.{let_go, TakesLine, TakesLast, EndsInput}
+use Rattle.pg_copy_text.specs.Private.TextLine.{let_go, TakesLine, TakesLast, LendsLast, EndsInput}
 use Rattle.pg_copy_text.proofs.TextPlaces.{end-some}
+use Rattle.pg_copy_text.proofs.TextEnds.{HasReadText-finish, AnswersNext-finish, given-finish, fewer-finish}
 use Rattle.pg_copy_text.proofs.TextReads.{Answer, HasReadText-same, HasReadText-goes, Goes-line, AnswersNext-line, AnswersNext-none, given-line, fewer-line, waits-line}
 
 HasReadText-held : (s : TextState) (pushed : List ℕ) (given : List Row) → HasReadText (let_go s) pushed given → HasReadText s pushed given
@@ -168,3 +169,102 @@ held-finish old mid new (Ok None) t e = inr (ap (λ (s : TextState). s.held) e �
 held-finish old mid new (Err fault) (inl t) e = inl (ap (λ (f : TextFault). Err f) t.0)
 held-finish old mid new (Err fault) (inr t) (inl e) = inr (ap (λ (s : TextState). s.held) e.1 ∙ ap (λ (s : TextState). s.held) t.2)
 held-finish old mid new (Err fault) (inr t) (inr e) = inr (ap (λ (s : TextState). s.held) e.1 ∙ ap (λ (s : TextState). s.held) t.2)
+
+-- ---- a row that is lent at the end of the input
+
+abbrev pub Lent : Type 0
+Lent = Result Bool TextFault
+
+held-ends : (mid new : TextState) (answer : Lent) → EndsInput answer mid new → new.held ≡ mid.held
+held-ends mid new (Ok lent) e = ap (λ (s : TextState). s.held) e
+held-ends mid new (Err fault) (inl e) = ap (λ (s : TextState). s.held) e.1
+held-ends mid new (Err fault) (inr e) = ap (λ (s : TextState). s.held) e.1
+
+ends-next : (mid new : TextState) (answer : Lent) → EndsInput answer mid new → EndsInput (as_next answer new.held) (let_go mid) (let_go new)
+ends-next mid new (Ok true) e = ap let_go e
+ends-next mid new (Ok false) e = ap let_go e
+ends-next mid new (Err fault) (inl e) = inl (e.0, ap let_go e.1)
+ends-next mid new (Err fault) (inr e) = inr (e.0, ap let_go e.1)
+
+-- A call took what is left of the lines, lends its row in place of giving it, and ended the input.
+pub record LendsEnd (old new : TextState) (answer : Lent) : Type 0 where
+  pub mid : TextState
+  pub takes : TakesLast (let_go old) (as_next answer new.held) mid
+  pub ends : EndsInput (as_next answer new.held) mid (let_go new)
+  pub lends : Lends answer new.held
+
+pub lends-end : (old mid new : TextState) (answer : Lent) → LendsLast (let_go old) answer mid → EndsInput answer mid new → LendsEnd old new answer
+lends-end old mid new answer l e =
+    let held = held-ends mid new answer e in
+    record {
+      mid = let_go mid;
+      takes = rw held l.0;
+      ends = ends-next mid new answer e;
+      lends = rw held l.1;
+    }
+
+pub read-end : (old new : TextState) (answer : Lent) → old.stage ≡ Lines → LendsEnd old new answer → (pushed : List ℕ) (given : List Row) → HasReadText old pushed given → HasReadText new pushed (given ++ given_by (as_next answer new.held))
+read-end old new answer lines l pushed given h =
+    HasReadText-held new pushed _ (HasReadText-finish (let_go old) l.mid (let_go new) (as_next answer new.held) pushed given lines l.takes l.ends (HasReadText-free old pushed given h))
+
+pub gives-end : (old new : TextState) (answer : Lent) → LendsEnd old new answer → (pushed : List ℕ) (given : List Row) → HasReadText old pushed given
+    → AnswersNext Memory (text_file_reading new.options new.columns pushed) given (last_text_ending new.stage) (as_next answer new.held)
+gives-end old new answer l pushed given h =
+    AnswersNext-finish (let_go old) l.mid (let_go new) (as_next answer new.held) pushed given l.takes l.ends (HasReadText-free old pushed given h)
+
+pub given-end : (old new : TextState) (answer : Lent) → LendsEnd old new answer → new.given ≡ given_after old.given (given_by (as_next answer new.held))
+given-end old new answer l = given-finish (let_go old) l.mid (let_go new) (as_next answer new.held) l.takes l.ends
+
+-- what the end of the input leaves as it was
+pub record KeepsAtEnd (old new : TextState) : Type 0 where
+  pub options : new.options ≡ old.options
+  pub columns : new.columns ≡ old.columns
+
+keeps-finish : (old mid new : TextState) (answer : Answer) → TakesLast old answer mid → EndsInput answer mid new → KeepsAtEnd old new
+keeps-finish old mid new (Ok (Some row)) t e = record { options = ap (λ (s : TextState). s.options) e ∙ ap (λ (s : TextState). s.options) t.1; columns = ap (λ (s : TextState). s.columns) e ∙ ap (λ (s : TextState). s.columns) t.1 }
+keeps-finish old mid new (Ok None) t e = record { options = ap (λ (s : TextState). s.options) e ∙ ap (λ (s : TextState). s.options) t.2; columns = ap (λ (s : TextState). s.columns) e ∙ ap (λ (s : TextState). s.columns) t.2 }
+keeps-finish old mid new (Err fault) (inl t) (inl e) = rw (e.1, t.1) (record { options = refl; columns = refl })
+keeps-finish old mid new (Err fault) (inl t) (inr e) = absurd (e.0 t.0)
+keeps-finish old mid new (Err fault) (inr t) (inl e) = absurd (t.0 e.0)
+keeps-finish old mid new (Err fault) (inr t) (inr e) = rw (e.1, t.2) (record { options = refl; columns = refl })
+
+pub keeps-end : (old new : TextState) (answer : Lent) → LendsEnd old new answer → KeepsAtEnd old new
+keeps-end old new answer l =
+    let k = keeps-finish (let_go old) l.mid (let_go new) (as_next answer new.held) l.takes l.ends in
+    record { options = k.options; columns = k.columns }
+
+pub ended-end : (old new : TextState) (answer : Lent) → LendsEnd old new answer → (answer ≡ Err Memory) ⊎ (new.ended ≡ true)
+ended-end old new (Ok true) l = inr (ap (λ (s : TextState). s.ended) l.ends)
+ended-end old new (Ok false) l = inr (ap (λ (s : TextState). s.ended) l.ends)
+ended-end old new (Err fault) l = go l.ends
+  where
+    go : EndsInput {A = Option Row} (Err fault) l.mid (let_go new) → ◌≡◌ {A = Lent} (Err fault) (Err Memory) ⊎ (new.ended ≡ true)
+    go (inl e) = inl (ap (λ (f : TextFault). Err f) e.0)
+    go (inr e) = inr (ap (λ (s : TextState). s.ended) e.1)
+
+pub row-end : (old new : TextState) (answer : Lent) → old.stage ≡ Lines → LendsEnd old new answer → answer ≡ Ok true → new.stage ≡ Lines
+row-end old new (Ok true) lines l is =
+    let row = row-of new.held l.lends in
+    let goes = subst (λ (o : Option Row). TakesLast (let_go old) (Ok o) l.mid) row.1 l.takes in
+    ap (λ (s : TextState). s.stage) l.ends ∙ ap (λ (s : TextState). s.stage) goes.1 ∙ lines
+row-end old new (Ok false) lines l is = absurd cc
+row-end old new (Err fault) lines l is = absurd cc
+
+pub fewer-end : (old new : TextState) (answer : Lent) → LendsEnd old new answer → answer ≡ Ok true → length new.kept < length old.kept
+fewer-end old new (Ok true) l is =
+    let row = row-of new.held l.lends in
+    fewer-finish (let_go old) l.mid (let_go new) (Ok new.held) l.takes l.ends row.0 (ap (λ (o : Option Row). Ok o) row.1)
+fewer-end old new (Ok false) l is = absurd cc
+fewer-end old new (Err fault) l is = absurd cc
+
+pub waits-end : (old new : TextState) (answer : Lent) → LendsEnd old new answer → answer ≡ Err Memory → (new ≡ let_go old) × RowWaits (text_last old)
+waits-end old new (Ok lent) l is = absurd cc
+waits-end old new (Err fault) l is = go l.takes l.ends
+  where
+    is_memory : fault ≡ Memory
+    is_memory = cc
+
+    go : TakesLast (let_go old) (Err fault) l.mid → EndsInput {A = Option Row} (Err fault) l.mid (let_go new) → (new ≡ let_go old) × RowWaits (text_last old)
+    go (inl t) (inl e) = (free new l.lends ∙ e.1 ∙ t.1, t.2)
+    go (inl t) (inr e) = absurd (e.0 is_memory)
+    go (inr t) e = absurd (t.0 is_memory)

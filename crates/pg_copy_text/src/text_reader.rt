@@ -18,7 +18,8 @@ ghost use Rattle.pg_copy_text.specs.TextOptions.{AreOptions};
 ghost use Rattle.pg_copy_text.specs.Private.Breaks.{IsFirstLine};
 ghost use Rattle.pg_copy_text.specs.Private.Units.{IsCounted, IsScanned, StandsAt};
 ghost use Rattle.pg_copy_text.specs.Private.TextLine.{let_go, lending, LendsLine, TakesLine};
-ghost use Rattle.pg_copy_text.specs.Private.TextLine.{TakesLast, EndsInput};
+ghost use Rattle.pg_copy_text.specs.Private.TextLine.{TakesLast, LendsLast, EndsInput};
+ghost use Rattle.pg_copy_text.specs.Private.TextLine.{IsLeft, FindsLeft};
 
 use crate::line_end::LineEnd;
 use crate::scan::Scan;
@@ -33,10 +34,19 @@ use pg_seq::Seq;
 use std::alloc::{AllocError, Global};
 use std::marker::Model;
 
+/// The first line, where the input has ended: how far it was walked over, how many bytes are taken with what ends it, and how lines end from then on.
+#[derive(Drop)]
+pub struct LineLeft {
+    pub scan: Scan,
+    pub taken: usize,
+    pub line_end: Option<LineEnd>,
+}
+
 /// Takes a text file in any pieces, and gives exactly its rows.
 ///
-/// `push` keeps a piece. `next` gives the rows of the lines that are closed, one by one, and `finish` those that are left at the end of the input. A
-/// fault takes the place of its row, and each later call returns it. The line `\.` ends the rows, and what follows it is dropped.
+/// `push` keeps a piece. `next` gives the rows of the lines that are closed, one by one, and `finish` those that are left at the end of the input.
+/// `next_lent` and `finish_lent` lend each row in place of that. A fault takes the place of its row, and each later call returns it. The line `\.`
+/// ends the rows, and what follows it is dropped.
 ///
 /// All lines end alike: by a newline, by a return, or by a return and a newline directly after it. The first newline or return that isn't escaped
 /// decides which. While that is a return and is the last byte, its line isn't whole. Each byte is walked over once to find where its line ends,
@@ -124,7 +134,8 @@ impl TextReader {
         self.stage == TextStage::Marked
     }
 
-    /// Whether `finish` was called; a call that returned Memory doesn't count. Once it was, no more may be pushed, and `next` may not be called.
+    /// Whether `finish` or `finish_lent` was called; a call that returned Memory doesn't count. Once one was, no more may be pushed, and neither
+    /// `next` nor `next_lent` may be called.
     pub fn ended(&self) -> bool
         ensures { result ≡ self.now.ended }
     {
@@ -248,8 +259,8 @@ impl TextReader {
         }
     }
 
-    /// The row for which the last call of `next_lent` returned true. It is None after any other call of `push`, `next`, `next_lent` or `finish`,
-    /// except a `push`, `next` or `finish` that returned Memory. It takes no memory.
+    /// The row for which the last call of `next_lent` or `finish_lent` returned true. It is None after any other call that changes the reader, except
+    /// a `push`, `next` or `finish` that returned Memory. It takes no memory.
     pub fn held(&self) -> Option<TextRow<'_>>
         ensures { result ≡ self.now.held }
     {
@@ -299,6 +310,49 @@ impl TextReader {
                 let answer = self.last_line();
                 self.end(&answer);
                 answer
+            }
+        }
+    }
+
+    /// Says that the input has ended, and returns whether a row is left. It counts as given, and [`TextReader::held`] lends it until the next change
+    /// of the reader, so that a last line that isn't closed is kept once. Call it until it returns false.
+    ///
+    /// The last line and a fault are those that `finish` returns. Memory is returned only where a row is left, of which the text of a field that has an
+    /// escape can't be copied. The reader is then unchanged, but lends no row (PostgreSQL documentation, page COPY, "Text Format").
+    pub fn finish_lent(&mut self) -> Result<bool, TextFault>
+        ensures read { (pushed : List ℕ) (given : List Row) → HasReadText self.old pushed given
+            → HasReadText self.new pushed (given ++ given_by (as_next result self.new.held)) }
+        ensures gives { (pushed : List ℕ) (given : List Row) → HasReadText self.old pushed given
+            → AnswersNext Memory (text_file_reading self.new.options self.new.columns pushed) given
+            (last_text_ending self.new.stage) (as_next result self.new.held) }
+        ensures options { self.new.options ≡ self.old.options }
+        ensures columns { self.new.columns ≡ self.old.columns }
+        ensures ended { result ≡ Err Memory ⊎ self.new.ended ≡ true }
+        ensures lends { Lends result self.new.held }
+        ensures row { result ≡ Ok true → self.new.stage ≡ Lines }
+        ensures given { self.new.given
+            ≡ given_after self.old.given (given_by (as_next result self.new.held)) }
+        ensures fewer { result ≡ Ok true → length self.new.kept < length self.old.kept }
+        ensures failed { (fault : TextFault) → self.old.stage ≡ Failed fault
+            → (result ≡ Err fault) × (self.new ≡ record self.old { ended = true }) }
+        ensures marked { self.old.stage ≡ Marked
+            → (result ≡ Ok false) × (self.new ≡ record self.old { ended = true }) }
+        ensures memory { result ≡ Err Memory
+            → (self.new ≡ record self.old { held = None }) × RowWaits (text_last self.old) }
+    {
+        match self.stage {
+            TextStage::Failed(fault) => {
+                self.ended = true;
+                Err(fault)
+            }
+            TextStage::Marked => {
+                self.ended = true;
+                Ok(false)
+            }
+            TextStage::Lines => {
+                let lent = self.lend_last();
+                self.end(&lent);
+                lent
             }
         }
     }
@@ -439,42 +493,85 @@ impl TextReader {
         requires { self.old.stage ≡ Lines }
         ensures { TakesLast self.old result self.new }
     {
-        let (scan, found) = self.walk();
-        if let Some(end) = found {
-            return self.take_line(scan, scan.at + end.len(), Some(end));
+        match self.line_left() {
+            Some(left) => self.take_line(left.scan, left.taken, left.line_end),
+            None => {
+                self.let_go();
+                Ok(None)
+            }
         }
-        if self.buffer.kept().is_empty() {
-            self.let_go();
-            return Ok(None);
-        }
-        self.open_line(scan)
     }
 
-    // Returns the row of the last line, or its fault. The line is open, and was walked over, but for a return at its end.
-    fn open_line(&mut self, scan: Scan) -> Result<Option<Row>, TextFault>
-        requires lines { self.old.stage ≡ Lines }
-        requires options { AreOptions self.old.options }
-        requires scanned { IsScanned self.old.options.delimiter self.old.line_end self.old.kept
+    // Lends the row of the next line, or returns its fault. The last line may be open.
+    fn lend_last(&mut self) -> Result<bool, TextFault>
+        requires { self.old.stage ≡ Lines }
+        ensures { LendsLast (let_go self.old) result self.new }
+    {
+        match self.line_left() {
+            Some(left) => self.lend_line(left.scan, left.taken, left.line_end),
+            None => {
+                self.let_go();
+                Ok(false)
+            }
+        }
+    }
+
+    // Walks on over the first line, where the input has ended, and returns what is to be taken of it. None where no line is left.
+    fn line_left(&mut self) -> Option<LineLeft>
+        ensures left { FindsLeft self.old.options.delimiter self.old.line_end self.old.kept result }
+        ensures state { self.new ≡ self.old }
+        ensures options { AreOptions self.old.options }
+    {
+        let (scan, found) = self.walk();
+        if let Some(end) = found {
+            return Some(LineLeft {
+                scan,
+                taken: scan.at + end.len(),
+                line_end: Some(end),
+            });
+        }
+        if self.buffer.kept().is_empty() {
+            return None;
+        }
+        Some(self.open_line(scan))
+    }
+
+    // What is to be taken of the last line, which is open, and was walked over, but for a return at its end.
+    fn open_line(&self, scan: Scan) -> LineLeft
+        requires options { AreOptions self.now.options }
+        requires scanned { IsScanned self.now.options.delimiter self.now.line_end self.now.kept
             scan }
-        requires stands { StandsAt self.old.line_end self.old.kept scan }
-        requires some { 0 < length self.old.kept }
-        ensures { TakesLast self.old result self.new }
+        requires stands { StandsAt self.now.line_end self.now.kept scan }
+        requires some { 0 < length self.now.kept }
+        ensures { IsLeft self.now.options.delimiter self.now.line_end self.now.kept result }
     {
         let len = self.buffer.kept().len();
         if scan.at == len {
-            return self.take_line(scan, len, self.line_end);
+            return LineLeft {
+                scan,
+                taken: len,
+                line_end: self.line_end,
+            };
         }
         match self.line_end {
-            None => self.take_line(scan, len, Some(LineEnd::Return)),
+            None => LineLeft {
+                scan,
+                taken: len,
+                line_end: Some(LineEnd::Return),
+            },
             Some(end) => {
                 let whole = scan.after(b'\r', self.options.delimiter());
-                self.take_line(whole, len, Some(end))
+                LineLeft {
+                    scan: whole,
+                    taken: len,
+                    line_end: Some(end),
+                }
             }
         }
     }
 
     // The input has ended, unless memory ran out.
-    fn end(&mut self, answer: &Result<Option<Row>, TextFault>)
+    fn end<T>(&mut self, answer: &Result<T, TextFault>)
         ensures { EndsInput answer.now self.old self.new }
     {
         match answer {

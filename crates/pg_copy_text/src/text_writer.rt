@@ -57,6 +57,8 @@ fn put_text(text: &[u8], delimiter: u8, buf: &mut Vec<u8>) -> Result<(), AllocEr
 }
 
 /// Appends a field, as a line has it.
+// as a part of a large function it pays for that one's locals, value by value
+#[inline(never)]
 pub fn put_field(
     field: Option<&[u8]>,
     options: &TextOptions,

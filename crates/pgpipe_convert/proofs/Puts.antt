@@ -37,12 +37,12 @@ lent_next at_end to r r' (Some row) out result out' some on w = row_next at_end 
 lent_next at_end to r r' None out result out' some on w = absurd cc
 
 -- the row that `next_lent` lends comes next
-pub lent_reads_on : (r r' : RowReader) (held : Option Row) (lends : Bool) (row : Row) → lends ≡ true → held ≡ Some row → GivesRow false r (as_next (Ok lends) held) r' → ReadsOn false r (row ∷ []) r'
-lent_reads_on r r' (Some x) true row e k g =
+pub lent_reads_on : (at_end : Bool) (r r' : RowReader) (held : Option Row) (lends : Bool) (row : Row) → lends ≡ true → held ≡ Some row → GivesRow at_end r (as_next (Ok lends) held) r' → ReadsOn at_end r (row ∷ []) r'
+lent_reads_on at_end r r' (Some x) true row e k g =
     let same : x ≡ row = cc in
-    subst (λ (y : Row). ReadsOn false r (y ∷ []) r') same g
-lent_reads_on r r' None true row e k g = absurd cc
-lent_reads_on r r' held false row e k g = absurd cc
+    subst (λ (y : Row). ReadsOn at_end r (y ∷ []) r') same g
+lent_reads_on at_end r r' None true row e k g = absurd cc
+lent_reads_on at_end r r' held false row e k g = absurd cc
 
 -- what was made of the row that is lent
 pub held_written : (to : FileWriting) (held : Option Row) (mine : Row) (out : List ℕ) (result : Result Bool (Stop Converted)) (out' : List ℕ) → held ≡ Some mine → WritesRow to mine out result out' → (row : Row) → held ≡ Some row → WritesRow to row out result out'
@@ -51,17 +51,10 @@ held_written to held mine out result out' e w row is =
     subst (λ (r : Row). WritesRow to r out result out') same w
 
 -- what `next_lent` answered, and what was made of the row that it lent
-pub lent_puts : (to : FileWriting) (r r' : RowReader) (held : Option Row) (lends : Bool) (out : List ℕ) (result : Result Bool (Stop Converted)) (out' : List ℕ) → lends ≡ true → Lends {F = Stop Converted} (Ok lends) held → GivesRow false r (as_next (Ok lends) held) r' → ((row : Row) → held ≡ Some row → WritesRow to row out result out') → PutsNext false to r out result r' out'
-lent_puts to r r' held true out result out' e some g w = lent_next false to r r' held out result out' some g w
-lent_puts to r r' held false out result out' e some g w = absurd cc
+pub lent_puts : (at_end : Bool) (to : FileWriting) (r r' : RowReader) (held : Option Row) (lends : Bool) (out : List ℕ) (result : Result Bool (Stop Converted)) (out' : List ℕ) → lends ≡ true → Lends {F = Stop Converted} (Ok lends) held → GivesRow at_end r (as_next (Ok lends) held) r' → ((row : Row) → held ≡ Some row → WritesRow to row out result out') → PutsNext at_end to r out result r' out'
+lent_puts at_end to r r' held true out result out' e some g w = lent_next at_end to r r' held out result out' some g w
+lent_puts at_end to r r' held false out result out' e some g w = absurd cc
 
-pub none_lent : (to : FileWriting) (r r' : RowReader) (held : Option Row) (lends : Bool) (out : List ℕ) → lends ≡ false → GivesRow false r (as_next (Ok lends) held) r' → PutsNext false to r out (Ok false) r' out
-none_lent to r r' held true out e g = absurd cc
-none_lent to r r' held false out e g = (g, refl)
-
--- what `finish` answered, and what was made of the row that it gave
-pub left_puts : (to : FileWriting) (r r' : RowReader) (given : Option Row) (row : Row) (out : List ℕ) (result : Result Bool (Stop Converted)) (out' : List ℕ) → given ≡ Some row → GivesRow true r (Ok given) r' → WritesRow to row out result out' → PutsNext true to r out result r' out'
-left_puts to r r' given row out result out' e g w = row_next true to r r' row out result out' (subst (λ (o : Option Row). GivesRow true r (Ok o) r') e g) w
-
-pub none_left : (to : FileWriting) (r r' : RowReader) (given : Option Row) (out : List ℕ) → given ≡ None → GivesRow true r (Ok given) r' → PutsNext true to r out (Ok false) r' out
-none_left to r r' given out e g = (subst (λ (o : Option Row). GivesRow true r (Ok o) r') e g, refl)
+pub none_lent : (at_end : Bool) (to : FileWriting) (r r' : RowReader) (held : Option Row) (lends : Bool) (out : List ℕ) → lends ≡ false → GivesRow at_end r (as_next (Ok lends) held) r' → PutsNext at_end to r out (Ok false) r' out
+none_lent at_end to r r' held true out e g = absurd cc
+none_lent at_end to r r' held false out e g = (g, refl)

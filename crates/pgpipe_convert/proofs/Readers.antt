@@ -31,27 +31,20 @@ stopped stop_of (Ok row) = Ok row
 stopped stop_of (Err f) = Err (stop_of f)
 
 -- a row that is lent, by what the reader of its format answered
-pub lent_by : {F : Type 0} (stop_of : F → Stop Converted) (r r' : RowReader) (held : Option Row) (lent : Result Bool F) (out : Result Bool (Stop Converted)) → MatchResult lent (λ x. out ≡ Ok x) (λ f. IsErrAnd out (λ s. s ≡ stop_of f))
-    → GivesRow false r (stopped stop_of (as_next lent held)) r' → GivesRow false r (as_next out held) r'
-lent_by stop_of r r' held (Ok true) out made g = rw made g
-lent_by stop_of r r' held (Ok false) out made g = rw made g
-lent_by stop_of r r' held (Err f) out made g =
+pub lent_by : {F : Type 0} (stop_of : F → Stop Converted) (at_end : Bool) (r r' : RowReader) (held : Option Row) (lent : Result Bool F) (out : Result Bool (Stop Converted)) → MatchResult lent (λ x. out ≡ Ok x) (λ f. IsErrAnd out (λ s. s ≡ stop_of f))
+    → GivesRow at_end r (stopped stop_of (as_next lent held)) r' → GivesRow at_end r (as_next out held) r'
+lent_by stop_of at_end r r' held (Ok true) out made g = rw made g
+lent_by stop_of at_end r r' held (Ok false) out made g = rw made g
+lent_by stop_of at_end r r' held (Err f) out made g =
     let s = err_from_is_err_and out made in
     rw (s.1, s.2) g
 
-pub lends_by : {F : Type 0} (stop_of : F → Stop Converted) (held : Option Row) (lent : Result Bool F) (out : Result Bool (Stop Converted)) → MatchResult lent (λ x. out ≡ Ok x) (λ f. IsErrAnd out (λ s. s ≡ stop_of f)) → Lends lent held → Lends out held
-lends_by stop_of held (Ok true) out made l = rw made l
-lends_by stop_of held (Ok false) out made l = rw made l
-lends_by stop_of held (Err f) out made l =
-    let s = err_from_is_err_and out made in
-    subst (λ (o : Result Bool (Stop Converted)). Lends o held) (sym s.1) l
-
--- a row that is left, by what the reader of its format answered
-pub left_by : {F : Type 0} (stop_of : F → Stop Converted) (r r' : RowReader) (left : Result (Option Row) F) (out : Result (Option Row) (Stop Converted)) → MatchResult left (λ x. out ≡ Ok x) (λ f. IsErrAnd out (λ s. s ≡ stop_of f)) → GivesRow true r (stopped stop_of left) r' → GivesRow true r out r'
-left_by stop_of r r' (Ok row) out made g = rw made g
-left_by stop_of r r' (Err f) out made g =
-    let s = err_from_is_err_and out made in
-    rw (s.1, s.2) g
+-- where `finish_lent` tells that no row is left
+pub none_by : {F : Type 0} (held : Option Row) (lent : Result Bool F) → Lends lent held → as_next lent held ≡ Ok None → lent ≡ Ok false
+none_by None (Ok true) l e = absurd cc
+none_by (Some row) (Ok true) l e = absurd cc
+none_by held (Ok false) l e = refl
+none_by held (Err f) l e = absurd cc
 
 abbrev pub reading_of : List Row → RowsEnding Converted → RowsRead Converted
 reading_of rows ending = record { rows = rows; ending = ending }

@@ -14,7 +14,7 @@ ghost use Rattle.pgpipe_convert.specs.Private.Converting.{WritesRow, PutsNext, S
 
 use crate::convert::Converted;
 use crate::format::{Format, RowWriter, copy_of};
-use pg_copy::{BinaryFault, BinaryReader, Row, RowFault, TextFault, TextOptions, TextReader};
+use pg_copy::{BinaryFault, BinaryReader, RowFault, TextFault, TextOptions, TextReader};
 use pg_wire::Sink;
 use pgpipe_base::outbox::{ROOM, send};
 use pgpipe_base::{Stop, ToolFault};
@@ -97,38 +97,29 @@ impl RowReader {
         }
     }
 
-    // Whether a next row waits, which is lent then.
-    fn next_lent(&mut self) -> Result<bool, Stop<Converted>>
-        requires begun { ended_of self.old ≡ false }
+    // Whether a next row waits, or is left at the end of the input, which is lent then.
+    fn next_lent(&mut self, at_end: bool) -> Result<bool, Stop<Converted>>
+        requires begun { at_end ≡ false → ended_of self.old ≡ false }
         requires read { (bytes : List ℕ) × (given : List Row) × HasReadBy self.old bytes given }
-        ensures gives { GivesRow false self.old (as_next result (held_of self.new)) self.new }
+        ensures gives { GivesRow at_end self.old (as_next result (held_of self.new)) self.new }
         ensures lends { Lends result (held_of self.new) }
     {
         match self {
-            RowReader::Text(reader) => reader.next_lent().map_err(text_stop),
-            RowReader::Binary(reader) => reader.next_lent().map_err(binary_stop),
+            RowReader::Text(reader) => {
+                if at_end {
+                    reader.finish_lent().map_err(text_stop)
+                } else {
+                    reader.next_lent().map_err(text_stop)
+                }
+            }
+            RowReader::Binary(reader) => {
+                if at_end {
+                    reader.finish_lent().map_err(binary_stop)
+                } else {
+                    reader.next_lent().map_err(binary_stop)
+                }
+            }
         }
-    }
-
-    // The next row that is left at the end of the input.
-    fn finish(&mut self) -> Result<Option<Row>, Stop<Converted>>
-        requires { (bytes : List ℕ) × (given : List Row) × HasReadBy self.old bytes given }
-        ensures { GivesRow true self.old result self.new }
-    {
-        match self {
-            RowReader::Text(reader) => reader.finish().map_err(text_stop),
-            RowReader::Binary(reader) => reader.finish().map_err(binary_stop),
-        }
-    }
-}
-
-// Puts a row.
-fn put_row(row: &Row, to: &RowWriter<'_>, out: &mut Vec<u8>) -> Result<bool, Stop<Converted>>
-    ensures { WritesRow (writing_by to.now) row.now out.old.items result out.new.items }
-{
-    match to.write_row(row, out) {
-        Ok(()) => Ok(true),
-        Err(fault) => Err(row_stop(fault)),
     }
 }
 
@@ -177,43 +168,6 @@ fn put_held(
     }
 }
 
-// Puts the next row that waits, and returns whether one did.
-fn put_waiting(
-    reader: &mut RowReader,
-    to: &mut RowWriter<'_>,
-    out: &mut Vec<u8>,
-) -> Result<bool, Stop<Converted>>
-    requires begun { ended_of reader.old ≡ false }
-    requires read { (bytes : List ℕ) × (given : List Row) × HasReadBy reader.old bytes given }
-    requires width { HasWidth (file_by reader.old) to.old.columns }
-    ensures puts { PutsNext false (writing_by to.old) reader.old out.old.items result reader.new
-        out.new.items }
-    ensures same { to.new ≡ to.old }
-{
-    match reader.next_lent() {
-        Ok(true) => put_held(reader, to, out),
-        Ok(false) => Ok(false),
-        Err(stop) => Err(stop),
-    }
-}
-
-// Puts the next row that is left at the end of the input, and returns whether one was.
-fn put_left(
-    reader: &mut RowReader,
-    to: &RowWriter<'_>,
-    out: &mut Vec<u8>,
-) -> Result<bool, Stop<Converted>>
-    requires { (bytes : List ℕ) × (given : List Row) × HasReadBy reader.old bytes given }
-    ensures { PutsNext true (writing_by to.now) reader.old out.old.items result reader.new
-        out.new.items }
-{
-    match reader.finish() {
-        Ok(Some(row)) => put_row(&row, to, out),
-        Ok(None) => Ok(false),
-        Err(stop) => Err(stop),
-    }
-}
-
 // Puts the next row that waits, or at the end of the input the next that is left, and returns whether there was one.
 fn put_next(
     reader: &mut RowReader,
@@ -228,10 +182,10 @@ fn put_next(
         out.new.items }
     ensures same { to.new ≡ to.old }
 {
-    if at_end {
-        put_left(reader, to, out)
-    } else {
-        put_waiting(reader, to, out)
+    match reader.next_lent(at_end) {
+        Ok(true) => put_held(reader, to, out),
+        Ok(false) => Ok(false),
+        Err(stop) => Err(stop),
     }
 }
 

@@ -8,10 +8,7 @@ ghost use Rattle.pgpipe_convert.specs.Private.Values.{AreGiven, WritesInPart, Wr
 ghost use Rattle.pgpipe_convert.specs.Private.Values.{writing_by};
 
 use crate::values::{Progress, put_line, put_values};
-use pg_copy::{
-    Row, RowFault, TextOptions, TextRowWriter, write_binary_head, write_binary_row,
-    write_binary_trailer, write_text_row_with,
-};
+use pg_copy::{RowFault, TextOptions, TextRowWriter, write_binary_head, write_binary_trailer};
 use pgpipe_base::ToolFault;
 use std::alloc::Global;
 use std::marker::Model;
@@ -98,17 +95,6 @@ impl<'a> RowWriter<'a> {
         }
     }
 
-    /// Appends a row. After a fault `buf` is as it was.
-    pub fn write_row(&self, row: &Row, buf: &mut Vec<u8>) -> Result<(), RowFault>
-        ensures { Writes ((writing_by self.now).row_fault row.now)
-            ((writing_by self.now).row row.now) buf.old.items result buf.new.items }
-    {
-        match self.format {
-            Format::Text => write_text_row_with(row, self.options, buf),
-            Format::Binary => write_binary_row(row, buf),
-        }
-    }
-
     // Puts a row of these values. Where it has more than `most` bytes, it may be put off. Where it isn't written, a part of it stays.
     fn put_values<'v, I: Iterator<Item = Option<&'v [u8]>> + Drop>(
         &mut self,
@@ -183,8 +169,8 @@ impl<'a> RowWriter<'a> {
         }
     }
 
-    /// Appends a row of these values, which are lent one by one; `again` gives the same values. It returns what `write_row` returns for a row of
-    /// them. A large row is judged before it is written, so a row that can't be written takes little memory. After a fault `buf` is as it was.
+    /// Appends a row of these values, which are lent one by one; `again` gives the same values. A large row is judged before it is written, so a row
+    /// that can't be written takes little memory. After a fault `buf` is as it was.
     pub fn write_values<'v, I: Iterator<Item = Option<&'v [u8]>> + Drop>(
         &mut self,
         values: I,

@@ -1,7 +1,8 @@
 -- The next part of a binary file, as private functions read it.
 use Rattle.std.specs.Prelude.{◌≡◌, ℕ, zero, suc, ◌+◌, ◌<◌, ◌≤◌, ◌-◌, ◌⊎◌, Bool, true, false, List, [], ◌∷◌, length, drop, Option, Some, None, Result, Ok, Err}
 use Rattle.std.specs.Int.{w16}
-use Rattle.pg_copy_rows.specs.declared.fault.BinaryFault.TheVariants.{AfterTrailer, Memory}
+use Rattle.pg_copy_rows.specs.declared.fault.BinaryFault.{BinaryFault}
+use Rattle.pg_copy_rows.specs.declared.fault.BinaryFault.TheVariants.{AfterTrailer, Truncated, Memory}
 use Rattle.pg_copy_binary.specs.declared.binary_part.NoPart.{NoPart as Stop}
 use Rattle.pg_copy_binary.specs.declared.binary_part.NoPart.TheVariants as stops
 use Rattle.pg_copy_binary.specs.declared.binary_part.NoRow.{NoRow}
@@ -260,3 +261,14 @@ TakesPart (Ok row) old new = (part_at old.stage old.columns old.limit old.kept
     })
 TakesPart (Err no_row.Memory) old new = (new ≡ old) × RowWaits (binary_left old [])
 TakesPart (Err (no_row.NoPart stop)) old new = FindsNext (Err stop) old new
+
+-- What is left is taken at the end of the input: a row is lent, or the trailer is taken; or a part
+-- that isn't whole is cut short, or the reader stops at a fault in its place.
+abbrev pub LendsLast : Result Bool BinaryFault → BinaryState → BinaryState → Type 0
+LendsLast (Ok true) old new = (row : Row) × (place : Place) × IsRowAt old place row
+    × (new ≡ lending row place old)
+LendsLast (Ok false) old new = FindsNext (Ok None) old new
+LendsLast (Err fault) old new = ((fault ≡ Truncated) × (waits : BinaryState)
+    × FindsNext (Err stops.Incomplete) old waits
+    × (new ≡ record waits { kept = []; stage = Failed Truncated; held = None }))
+    ⊎ FindsNext (Err (stops.Faulty fault)) old new

@@ -1,5 +1,5 @@
 -- What a function answers for one line.
-use Rattle.std.specs.Prelude.{◌≡◌, ℕ, suc, ◌+◌, ◌<◌, ◌⊎◌, Bool, true, List, [], ◌∷◌, length, take, drop, map, Option, Some, None, Result, Ok, Err}
+use Rattle.std.specs.Prelude.{◌≡◌, ℕ, suc, ◌+◌, ◌<◌, ◌≤◌, ◌⊎◌, Bool, true, List, [], ◌∷◌, length, take, drop, map, Option, Some, None, Result, Ok, Err}
 use Rattle.pg_copy_rows.specs.declared.fault.TextFault.{TextFault}
 use Rattle.pg_copy_rows.specs.declared.fault.TextFault.TheVariants.{Memory}
 use Rattle.pg_copy_text.specs.declared.line_end.LineEnd.{LineEnd}
@@ -8,12 +8,14 @@ use Rattle.pg_copy_text.specs.declared.text_line.JudgedLine.TheVariants as judge
 use Rattle.pg_copy_text.specs.declared.text_stage.TextStage.TheVariants as stages
 use Rattle.pg_copy_rows.specs.Row.{Row}
 use Rattle.pg_copy_rows.specs.Reading.{RowsRead, Done, Bad, after_rows, RowWaits, IsGood, told, one_more}
-use Rattle.pg_copy_text.specs.Text.{Options, parts, field_value, line_reading}
+use Rattle.pg_copy_text.specs.Text.{Options, parts, field_value, line_reading, lines, end_len, decided_at_end}
 use Rattle.pg_copy_text.specs.declared.scan.Scan.{Scan}
 use Rattle.pg_copy_text.specs.declared.text_stage.TextStage.{TextStage}
 use Rattle.pg_copy_text.specs.TextReader.{TextState, lines_end, text_last, last_text_ending}
 use Rattle.pg_copy_rows.specs.Lent.{as_next, Lends}
-use Rattle.pg_copy_text.specs.Private.Units.{IsScanned}
+use Rattle.pg_copy_text.specs.declared.text_reader.LineLeft.{LineLeft}
+use Rattle.pg_copy_text.specs.Private.Units.{IsScanned, IsCounted}
+use Rattle.pg_copy_text.specs.Private.Breaks.{IsLastLine}
 use Rattle.pg_copy_rows.specs.Private.RowBuffer.{RowBytes}
 use Rattle.pg_copy_text.specs.Private.TextRow.{line_values, AreTexts}
 
@@ -84,11 +86,44 @@ abbrev pub LendsLine : ℕ → ℕ → Option LineEnd → TextState → Result B
 LendsLine len taken end old answer new =
     TakesLine len taken end old (as_next answer new.held) (let_go new) × Lends answer new.held
 
--- the reader after an answer of finish: the input has ended, unless memory ran out
-abbrev pub EndsInput : Result (Option Row) TextFault → TextState → TextState → Type 0
-EndsInput (Ok row) mid new = new ≡ record mid { ended = true }
+-- the reader after an answer at the end of the input: it has ended, unless memory ran out
+abbrev pub EndsInput : {A : Type 0} → Result A TextFault → TextState → TextState → Type 0
+EndsInput (Ok x) mid new = new ≡ record mid { ended = true }
 EndsInput (Err fault) mid new = ((fault ≡ Memory) × (new ≡ mid))
     ⊎ ((fault ≡ Memory → ⊥) × (new ≡ record mid { ended = true }))
+
+-- The first line of these bytes, which come after lines that ended so, ends so at the end of the
+-- input: it has so many bytes, and so many with what ends it.
+pub record EndsLine (before : Option LineEnd) (bytes : List ℕ) (len taken : ℕ)
+    (e : LineEnd) : Type 0 where
+  pub some : 0 < taken
+  pub sizes : taken ≡ len + end_len e
+  pub is_last : IsLastLine before bytes e len taken
+
+-- These bytes are one line at the end of the input, which has no end.
+pub record IsOpenLine (before : Option LineEnd) (bytes : List ℕ) : Type 0 where
+  pub some : 0 < length bytes
+  pub one : lines (decided_at_end before bytes) bytes ≡ bytes ∷ []
+
+-- The first line of these bytes has so many at the end of the input, so many go off with what ends
+-- it, and lines end so from then on.
+abbrev pub IsLineLeft : Option LineEnd → List ℕ → ℕ → ℕ → Option LineEnd → Type 0
+IsLineLeft before bytes len taken end =
+    ((e : LineEnd) × (end ≡ Some e) × EndsLine before bytes len taken e)
+    ⊎ ((len ≡ length bytes) × (taken ≡ length bytes) × IsOpenLine before bytes)
+
+-- What is to be taken of the first line of these bytes at the end of the input.
+pub record IsLeft (delimiter : ℕ) (before : Option LineEnd) (bytes : List ℕ)
+    (left : LineLeft) : Type 0 where
+  pub counted : IsCounted delimiter bytes left.scan
+  pub in_order : left.scan.at ≤ left.taken
+  pub in_range : left.taken ≤ length bytes
+  pub line : IsLineLeft before bytes left.scan.at left.taken left.line_end
+
+-- A line of these bytes is left at the end of the input, or there are none.
+abbrev pub FindsLeft : ℕ → Option LineEnd → List ℕ → Option LineLeft → Type 0
+FindsLeft delimiter before bytes None = bytes ≡ []
+FindsLeft delimiter before bytes (Some left) = IsLeft delimiter before bytes left
 
 -- what is kept of a reader: the first line is walked over so far, no fault is Memory, a row
 -- is lent only among the lines, and of its line these texts were copied
@@ -128,3 +163,9 @@ TakesLast old (Err fault) new =
     ((fault ≡ Memory) × (new ≡ old) × RowWaits (text_last old))
     ⊎ ((fault ≡ Memory → ⊥) × (text_last old ≡ record { rows = []; ending = Bad fault })
     × (new ≡ record old { kept = []; stage = stages.Failed fault; held = None }))
+
+-- What a call answers at the end of the input as TakesLast says, but a row is lent in place of being
+-- given.
+abbrev pub LendsLast : TextState → Result Bool TextFault → TextState → Type 0
+LendsLast old answer new =
+    TakesLast old (as_next answer new.held) (let_go new) × Lends answer new.held

@@ -60,6 +60,26 @@ fn rows_of_text_are_lent(rt: HostRuntime) {
     assert!(rt; is_lent(rt.alloc(), file, &LENT));
 }
 
+// Whether this file of four columns is lent as these rows once the input has ended.
+fn is_lent_at_end(alloc: Global, file: &[u8], rows: &[&[Option<&[u8]>]]) -> bool {
+    let mut reader = TextReader::new(alloc, Some(4));
+    if reader.push(file) != Ok(()) {
+        return false;
+    }
+    for values in rows {
+        if reader.finish_lent() != Ok(true) || !lends(&reader, *values) {
+            return false;
+        }
+    }
+    reader.finish_lent() == Ok(false) && reader.held().is_none() && reader.ended()
+}
+
+#[test]
+fn an_open_line_is_lent_at_the_end(rt: HostRuntime) {
+    let file = b"a\\tb\tplain\t\\N\t\\\\N\n\\x41\\102\t\td\\\\\te";
+    assert!(rt; is_lent_at_end(rt.alloc(), file, &LENT));
+}
+
 // ---- rows that are written field by field
 
 /// A call of a writer.
