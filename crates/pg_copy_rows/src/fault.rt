@@ -16,7 +16,7 @@ pub enum TextFault {
     /// The line has a carriage return that isn't escaped, in a file whose lines don't end by a return alone.
     #[error("T1 RawReturn")]
     RawReturn,
-    /// The input ends in a backslash that begins an escape. Only `finish` returns it.
+    /// The input ends in a backslash that begins an escape. Only `finish` and `finish_lent` return it.
     #[error("T2 LoneBackslash")]
     LoneBackslash,
     /// The line has this many fields, which isn't the number of columns, or is above 32,767 where none was given.
@@ -80,7 +80,7 @@ pub enum BinaryFault {
     /// The length of a field, this number, is below -1 or above the reader's limit.
     #[error("B5 FieldLength {0}")]
     FieldLength(i32),
-    /// The input ends before the trailer. Only `finish` returns it.
+    /// The input ends before the trailer. Only `finish` and `finish_lent` return it.
     #[error("B6 Truncated")]
     Truncated,
     /// A byte stands after the trailer.
