@@ -4,7 +4,7 @@ use Rattle.std.specs.Prelude.{ℤ, pos, negsuc, ◌<ℤ◌, ◌≤ℤ◌, slice_
 use Rattle.std.specs.Int.{w32, to_be_bytes, from_be_bytes, cast_signed, cast_unsigned}
 use Rattle.std.proofs.lemmas.Int.{ints, of_z-to_z, to_z_pos}
 use Rattle.std.specs.Int.RustNames.{unsigned_abs as mag}
-use Rattle.std.proofs.lemmas.List.{take-append-drop, length-take, length-drop, drop-drop, get_or-drop, take_at}
+use Rattle.std.proofs.lemmas.List.{append-nil, take-append-drop, take-append-le, drop-append-le, length-take, length-drop, drop-drop, get_or-drop, get_or_append_left, take_at}
 use Rattle.std.proofs.lemmas.Nat.{be_bytes_4, from_be_bytes-to_be_bytes_4}
 use Rattle.pg_wire.specs.declared.fault.WireFault.{WireFault}
 use Rattle.pg_wire.specs.declared.fault.WireFault.TheVariants as wire
@@ -14,6 +14,7 @@ use Rattle.pg_codec.specs.declared.fault.BodyFault.{BodyFault}
 use Rattle.pg_codec.specs.declared.fault.BodyFault.TheVariants as body_faults
 use Rattle.pg_message.specs.Message.{IsMessage, ReadsBody}
 use Rattle.pg_wire.specs.Decoder.{WantsMemory}
+use Rattle.pg_wire.specs.Private.Found.{Awaits, StaysOpen}
 use Rattle.pg_codec.proofs.Layouts.{IsBytes, IsBytes-take, wide32}
 use Rattle.pg_message.proofs.Bodies.{spelled_parts, spelled_from}
 
@@ -200,8 +201,35 @@ module _ {M : Type 0} (d : Direction M) (limit : ℕ) (rest : List ℕ) (t : ℕ
   pub long_fault : pos limit <ℤ y → IsFaulty d limit rest (wire.LongLength y)
   long_fault lt = (t, head_y, known, lt)
 
-pub judged_open : {M : Type 0} (d : Direction M) (limit : ℕ) (rest : List ℕ) (t : ℕ) (y z : ℤ) → y ≡ z → Head rest t z → IsTag d t → pos 4 ≤ℤ y → y ≤ℤ pos limit → length rest ≤ mag y → IsOpen d limit rest × (length rest < limit + 1)
-judged_open d limit rest t (pos n) z same head known low high part = (partial_open d limit rest t n (subst (λ (x : ℤ). Head rest t x) (sym same) head) known (omega (arith, ints)) (omega (arith, ints)) part, omega (arith, ints))
+-- the head of bytes that go on
+head_on : (rest more : List ℕ) (t : ℕ) (z : ℤ) → Head rest t z → Head (rest ++ more) t z
+head_on rest more t z h = record {
+  there = omega (arith, h.there, length-append rest more);
+  tag_is = get_or_append_left rest more 0 0 (omega (arith, h.there)) ∙ h.tag_is;
+  length_is = ap (λ (u : List ℕ). cast_signed w32 (from_be_bytes w32 (take 4 u))) (drop-append-le 1 rest more (omega (arith, h.there)))
+      ∙ ap (λ (u : List ℕ). cast_signed w32 (from_be_bytes w32 u)) (take-append-le 4 (drop 1 rest) more (omega (arith, h.there, length-drop 1 rest))) ∙ h.length_is;
+}
+
+-- without a head they stay open until there is one
+pub headless_open : {M : Type 0} (d : Direction M) (limit : ℕ) (rest : List ℕ) → 64 ≤ limit → Awaits d limit rest 4
+headless_open d limit rest wide = λ more le. (short_open d limit (rest ++ more) (omega (arith, le)), omega (arith, le))
+
+pub headless : {M : Type 0} (d : Direction M) (limit : ℕ) (rest : List ℕ) → 64 ≤ limit → length rest < 5 → StaysOpen d limit rest 4
+headless d limit rest wide short = (short_open d limit rest short, omega (arith, short), headless_open d limit rest wide)
+
+pub awaits_push : {M : Type 0} (d : Direction M) (limit : ℕ) (rest piece : List ℕ) (size : ℕ) → Awaits d limit rest size → Awaits d limit (rest ++ piece) size
+awaits_push d limit rest piece size h = λ more lt. subst (λ (u : List ℕ). IsOpen d limit u × (length u < limit + 1)) (sym (append_assoc rest piece more)) (h (piece ++ more) (omega (arith, lt, ap length (append_assoc rest piece more))))
+
+pub awaits_now : {M : Type 0} (d : Direction M) (limit : ℕ) (rest : List ℕ) (size : ℕ) → Awaits d limit rest size → length rest ≤ size → IsOpen d limit rest × (length rest < limit + 1)
+awaits_now d limit rest size h lt = subst (λ (u : List ℕ). IsOpen d limit u × (length u < limit + 1)) (append-nil rest) (h [] (omega (arith, lt, ap length (append-nil rest))))
+
+pub judged_open : {M : Type 0} (d : Direction M) (limit : ℕ) (rest : List ℕ) (t : ℕ) (y z : ℤ) → y ≡ z → Head rest t z → IsTag d t → pos 4 ≤ℤ y → y ≤ℤ pos limit → length rest ≤ mag y → StaysOpen d limit rest (mag y)
+judged_open d limit rest t (pos n) z same head known low high part =
+    let there = subst (λ (x : ℤ). Head rest t x) (sym same) head in (
+      partial_open d limit rest t n there known (omega (arith, ints)) (omega (arith, ints)) part,
+      omega (arith, ints),
+      λ more lt. (partial_open d limit (rest ++ more) t n (head_on rest more t (pos n) there) known (omega (arith, ints)) (omega (arith, ints)) (omega (arith, lt)), omega (arith, ints, lt)),
+    )
 judged_open d limit rest t (negsuc n) z same head known low high part = absurd (omega (arith, ints))
 
 pub judged_whole : {M : Type 0} (d : Direction M) (limit : ℕ) (rest : List ℕ) (t : ℕ) (y z : ℤ) → y ≡ z → Head rest t z → IsTag d t → pos 4 ≤ℤ y → y ≤ℤ pos limit → mag y < length rest → IsWhole d limit rest t (mag y)

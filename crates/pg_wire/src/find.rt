@@ -10,9 +10,13 @@ use pg_codec::BodyFault;
 use pg_message::{BackMessage, Lent, Message};
 use std::alloc::Global;
 
+/// So many bytes are no head of a message, which has a tag and a length field.
+pub const NO_HEAD: usize = 4;
+
 /// What the head of a rest shows.
 pub enum Judged {
-    Open,
+    /// No message is whole while no more than so many bytes are there.
+    Open(usize),
     Faulty(WireFault),
     /// A message of this tag, with this length field, is all there.
     Whole(u8, usize),
@@ -33,7 +37,7 @@ fn judge<M: Message>(limit: u32, rest: &[u8]) -> Judged
     ensures { Judges M.direction limit rest.now result }
 {
     let Some((tag, len)) = head(rest) else {
-        return Judged::Open;
+        return Judged::Open(NO_HEAD);
     };
     if !M::is_tag(tag) {
         return Judged::Faulty(WireFault::UnknownTag(tag));
@@ -56,28 +60,32 @@ fn judge_length<M: Message>(limit: u32, rest: &[u8], tag: u8, len: i32) -> Judge
     }
     let len = len as usize;
     if rest.len() <= len {
-        Judged::Open
+        Judged::Open(len)
     } else {
         Judged::Whole(tag, len)
     }
 }
 
+/// The next message of a rest, made.
+pub enum Next<M> {
+    /// No message is whole while no more than so many bytes are there.
+    Open(usize),
+    /// A message, and how many bytes it takes.
+    Message(M, usize),
+}
+
 /// The message at the beginning of a rest, and how many bytes it takes.
 // a part of each caller, as `Stream::next` is
 #[inline(always)]
-pub fn find<M: Message>(
-    alloc: Global,
-    limit: u32,
-    rest: &[u8],
-) -> Result<Option<(M, usize)>, WireFault>
+pub fn find<M: Message>(alloc: Global, limit: u32, rest: &[u8]) -> Result<Next<M>, WireFault>
     requires { IsLimit limit }
     ensures { Finds M.direction limit rest.now result }
 {
     match judge::<M>(limit, rest) {
-        Judged::Open => Ok(None),
+        Judged::Open(size) => Ok(Next::Open(size)),
         Judged::Faulty(fault) => Err(fault),
         Judged::Whole(tag, len) => match M::of_body(alloc, tag, &rest[5..len + 1]) {
-            Ok(message) => Ok(Some((message, len + 1))),
+            Ok(message) => Ok(Next::Message(message, len + 1)),
             Err(BodyFault::Bad) => Err(WireFault::BadBody(tag)),
             Err(BodyFault::Memory) => Err(WireFault::Memory),
         },
@@ -90,7 +98,7 @@ pub fn find_whole<M: Message>(limit: u32, rest: &[u8]) -> Judged
     ensures { FindsWhole M.direction limit rest.now result }
 {
     match judge::<M>(limit, rest) {
-        Judged::Open => Judged::Open,
+        Judged::Open(size) => Judged::Open(size),
         Judged::Faulty(fault) => Judged::Faulty(fault),
         Judged::Whole(tag, len) => {
             if M::is_message(tag, &rest[5..len + 1]) {
@@ -104,8 +112,8 @@ pub fn find_whole<M: Message>(limit: u32, rest: &[u8]) -> Judged
 
 /// What stands at the beginning of a backend's rest, where some messages are lent.
 pub enum Found {
-    /// No whole message.
-    Nothing,
+    /// No message is whole while no more than so many bytes are there.
+    Nothing(usize),
     /// A message that can be lent, and how many bytes it takes.
     Lent(usize),
     /// Five bytes or more, and the first is no tag of a message that can be lent. It is another message, whole or not, or a fault.
@@ -120,13 +128,13 @@ pub fn find_lent(limit: u32, rest: &[u8]) -> Result<Found, WireFault>
     ensures { FindsLent limit rest.now result }
 {
     let Some((tag, len)) = head(rest) else {
-        return Ok(Found::Nothing);
+        return Ok(Found::Nothing(NO_HEAD));
     };
     if !Lent::has_tag(tag) {
         return Ok(Found::Other);
     }
     match judge_length::<BackMessage>(limit, rest, tag, len) {
-        Judged::Open => Ok(Found::Nothing),
+        Judged::Open(size) => Ok(Found::Nothing(size)),
         Judged::Faulty(fault) => Err(fault),
         Judged::Whole(tag, len) => match Lent::of_body(tag, &rest[5..len + 1]) {
             Some(_) => Ok(Found::Lent(len + 1)),

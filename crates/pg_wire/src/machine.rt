@@ -1,17 +1,19 @@
 //! What the decoders of tagged messages have in common.
 
-ghost use Rattle.std.specs.Prelude.{◌≡◌, ◌≤◌, [], true, take, drop, length};
+ghost use Rattle.std.specs.Prelude.{◌≡◌, ◌≤◌, ◌<◌, ◌+◌, [], true, take, drop, length};
 ghost use Rattle.pg_message.specs.Backend.{backend};
 ghost use Rattle.pg_message.specs.Direction.{IsLimit};
 ghost use Rattle.pg_wire.specs.Decoder.{Pushes, IsLasting, Takes};
+ghost use Rattle.pg_wire.specs.Stream.{IsOpen};
 ghost use Rattle.pg_wire.specs.BackDecoder.{TakesLent};
 ghost use Rattle.pg_wire.specs.Spellings.{LetsBytes, TakesSpelling};
+ghost use Rattle.pg_wire.specs.Private.Found.{Awaits};
 ghost use Rattle.pg_wire.specs.Private.Held.{back_state, spellings_state, IsHeldFront, HoldsNext};
 
 use crate::back::Cut;
 use crate::buffer::drop_first;
 use crate::fault::WireFault;
-use crate::find::{Found, Judged, find, find_lent, find_whole};
+use crate::find::{Found, Judged, NO_HEAD, Next, find, find_lent, find_whole};
 use bytes::BytesMut;
 use pg_message::{BackMessage, Message};
 use std::alloc::Global;
@@ -25,6 +27,8 @@ pub struct Stream<M: Message> {
     buffer: BytesMut,
     // so many bytes at the beginning of the buffer are a message that was given and is held until the next call
     held: usize,
+    // no message is whole while no more than so many bytes are kept
+    awaited: usize,
     limit: u32,
     fault: Option<WireFault>,
     message: PhantomData<M>,
@@ -33,6 +37,7 @@ pub struct Stream<M: Message> {
 impl<M: Message> Model for Stream<M> {
     ghost use Rattle.std.specs.Prelude.{◌≤◌, length, take, drop};
     ghost use Rattle.pg_wire.specs.Decoder.{IsLasting};
+    ghost use Rattle.pg_wire.specs.Private.Found.{Awaits};
     ghost use Rattle.pg_wire.specs.Private.Held.{StreamState};
 
     ghost Value = { StreamState };
@@ -43,7 +48,8 @@ impl<M: Message> Model for Stream<M> {
     } };
 
     ghost invariant = { λ s. (s.held ≤ length s.buffer.items) × (64 ≤ s.limit)
-        × (s.limit ≤ 1073741823) × IsLasting s.fault };
+        × (s.limit ≤ 1073741823) × IsLasting s.fault
+        × Awaits M.direction s.limit (drop s.held s.buffer.items) s.awaited };
 }
 
 impl<M: Message> Stream<M> {
@@ -63,6 +69,7 @@ impl<M: Message> Stream<M> {
             alloc,
             buffer,
             held: 0,
+            awaited: NO_HEAD,
             limit,
             fault,
             message: PhantomData,
@@ -92,6 +99,24 @@ impl<M: Message> Stream<M> {
         rest
     }
 
+    // Whether too few bytes are kept for a whole message.
+    fn is_short(&self) -> bool
+        ensures { result ≡ true → IsOpen M.direction self.now.rest.limit self.now.rest.kept
+            × (length self.now.rest.kept < self.now.rest.limit + 1) }
+    {
+        self.kept() <= self.awaited
+    }
+
+    // Ends the holding. No message is whole while no more than so many bytes are kept.
+    fn wait_for(&mut self, size: usize)
+        requires { Awaits M.direction self.old.rest.limit self.old.rest.kept size }
+        ensures front { self.new.front ≡ [] }
+        ensures rest { self.new.rest ≡ self.old.rest }
+    {
+        self.let_go();
+        self.awaited = size;
+    }
+
     // Ends the holding, and takes so many bytes off what is kept.
     fn take_off(&mut self, count: usize)
         requires { count ≤ length self.old.rest.kept }
@@ -103,6 +128,7 @@ impl<M: Message> Stream<M> {
         let len = self.buffer.len();
         drop_first(&mut self.buffer, len - left);
         self.held = 0;
+        self.awaited = NO_HEAD;
     }
 
     // Ends the holding.
@@ -126,6 +152,7 @@ impl<M: Message> Stream<M> {
         let held = self.held;
         self.buffer.advance(held);
         self.held = count;
+        self.awaited = NO_HEAD;
     }
 
     /// The limit of a message's length field.
@@ -173,12 +200,16 @@ impl<M: Message> Stream<M> {
             self.let_go();
             return Err(fault);
         }
+        if self.is_short() {
+            self.let_go();
+            return Ok(None);
+        }
         match find(self.alloc, self.limit, self.rest()) {
-            Ok(None) => {
-                self.let_go();
+            Ok(Next::Open(size)) => {
+                self.wait_for(size);
                 Ok(None)
             }
-            Ok(Some((message, len))) => {
+            Ok(Next::Message(message, len)) => {
                 self.take_off(len);
                 Ok(Some(message))
             }
@@ -202,8 +233,8 @@ impl<M: Message> Stream<M> {
             return Err(fault);
         }
         match find_whole::<M>(self.limit, self.rest()) {
-            Judged::Open => {
-                self.let_go();
+            Judged::Open(size) => {
+                self.wait_for(size);
                 Ok(false)
             }
             Judged::Faulty(reason) => {
@@ -230,8 +261,12 @@ impl Stream<BackMessage> {
         if self.fault.is_some() {
             return Found::Other;
         }
-        match find_lent(self.limit, self.rest()) {
-            Ok(Found::Nothing) => Found::Nothing,
+        let rest = self.rest();
+        if rest.len() <= self.awaited {
+            return Found::Nothing(self.awaited);
+        }
+        match find_lent(self.limit, rest) {
+            Ok(Found::Nothing(size)) => Found::Nothing(size),
             Ok(Found::Lent(size)) => {
                 self.hold(size);
                 Found::Lent(size)
@@ -262,8 +297,8 @@ impl Stream<BackMessage> {
         ensures front { IsHeldFront self.old.front → IsHeldFront self.new.front }
     {
         match self.hold_next() {
-            Found::Nothing => {
-                self.let_go();
+            Found::Nothing(size) => {
+                self.wait_for(size);
                 return Ok(Cut::Nothing);
             }
             Found::Lent(_) => return Ok(Cut::Held),

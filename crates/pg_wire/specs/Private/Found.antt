@@ -4,6 +4,8 @@ use Rattle.pg_wire.specs.declared.fault.WireFault.{WireFault}
 use Rattle.pg_wire.specs.declared.fault.WireFault.TheVariants as wire
 use Rattle.pg_wire.specs.declared.find.Judged.{Judged}
 use Rattle.pg_wire.specs.declared.find.Judged.TheVariants as judged
+use Rattle.pg_wire.specs.declared.find.Next.{Next}
+use Rattle.pg_wire.specs.declared.find.Next.TheVariants as next
 use Rattle.pg_wire.specs.declared.find.Found.{Found}
 use Rattle.pg_wire.specs.declared.find.Found.TheVariants as found
 use Rattle.pg_message.specs.declared.lent.Lent.{Lent}
@@ -15,9 +17,19 @@ use Rattle.pg_message.specs.Private.LentReader.{has_lent, lent_bytes}
 use Rattle.pg_wire.specs.Stream.{IsWithin, IsWhole, IsFaulty, IsOpen}
 use Rattle.pg_wire.specs.Decoder.{WantsMemory}
 
+-- Bytes that go on from these are open while they are no more than so many.
+abbrev pub Awaits : {M : Type 0} → Direction M → ℕ → List ℕ → ℕ → Type 0
+Awaits d limit rest size = (more : List ℕ) → length (rest ++ more) ≤ size
+    → IsOpen d limit (rest ++ more) × (length (rest ++ more) < limit + 1)
+
+-- They are open, and stay so while they are no more than so many.
+abbrev pub StaysOpen : {M : Type 0} → Direction M → ℕ → List ℕ → ℕ → Type 0
+StaysOpen d limit rest size = IsOpen d limit rest × (length rest < limit + 1)
+    × Awaits d limit rest size
+
 -- what the head says
 abbrev pub Judges : {M : Type 0} → Direction M → ℕ → List ℕ → Judged → Type 0
-Judges d limit rest judged.Open = IsOpen d limit rest × (length rest < limit + 1)
+Judges d limit rest (judged.Open size) = StaysOpen d limit rest size
 Judges d limit rest (judged.Faulty f) = IsFaulty d limit rest f
 Judges d limit rest (judged.Whole tag len) = IsWhole d limit rest tag len
 
@@ -32,15 +44,14 @@ IsFirst d limit rest m len = (len ≤ length rest) × IsWithin d limit m
 
 -- what stands at the beginning of the rest, where a whole message is judged in place
 abbrev pub FindsWhole : {M : Type 0} → Direction M → ℕ → List ℕ → Judged → Type 0
-FindsWhole d limit rest judged.Open = IsOpen d limit rest × (length rest < limit + 1)
+FindsWhole d limit rest (judged.Open size) = StaysOpen d limit rest size
 FindsWhole d limit rest (judged.Faulty f) = IsFaulty d limit rest f
 FindsWhole {M} d limit rest (judged.Whole tag len) = (m : M) × IsFirst d limit rest m (len + 1)
 
 -- the next message, and how many bytes it takes
-abbrev pub Finds : {M : Type 0} → Direction M → ℕ → List ℕ → Result (Option (M × ℕ)) WireFault
-    → Type 0
-Finds d limit rest (Ok None) = IsOpen d limit rest × (length rest < limit + 1)
-Finds d limit rest (Ok (Some x)) = IsFirst d limit rest x.0 x.1
+abbrev pub Finds : {M : Type 0} → Direction M → ℕ → List ℕ → Result (Next M) WireFault → Type 0
+Finds d limit rest (Ok (next.Open size)) = StaysOpen d limit rest size
+Finds d limit rest (Ok (next.Message m len)) = IsFirst d limit rest m len
 Finds d limit rest (Err f) = Refuses d limit rest f
 
 -- The rest begins with no message within the limit that is lent.
@@ -55,7 +66,7 @@ HasOtherTag limit rest = (t len : ℕ) → IsWhole backend limit rest t len → 
 -- what stands at the beginning of the rest, where some messages are lent; a whole message with the tag
 -- of one that is lent is either lent or a fault
 abbrev pub FindsLent : ℕ → List ℕ → Result Found WireFault → Type 0
-FindsLent limit rest (Ok found.Nothing) = IsOpen backend limit rest × (length rest < limit + 1)
+FindsLent limit rest (Ok (found.Nothing size)) = StaysOpen backend limit rest size
 FindsLent limit rest (Ok (found.Lent len)) = (lent : Lent) × (5 ≤ len)
     × (lent_bytes (take len rest) ≡ Some lent) × IsFirst backend limit rest (message_of lent) len
 FindsLent limit rest (Ok found.Other) = BeginsNoLent limit rest × HasOtherTag limit rest

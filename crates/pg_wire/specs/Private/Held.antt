@@ -7,7 +7,7 @@ use Rattle.pg_message.specs.declared.lent.Lent.{Lent}
 use Rattle.pg_message.specs.Backend.{backend}
 use Rattle.pg_message.specs.Lent.{message_of}
 use Rattle.pg_wire.specs.Stream.{IsFaulty}
-use Rattle.pg_wire.specs.Private.Found.{BeginsNoLent, HasOtherTag}
+use Rattle.pg_wire.specs.Private.Found.{Awaits, BeginsNoLent, HasOtherTag}
 use Rattle.pg_wire.specs.declared.find.Found.{Found}
 use Rattle.pg_wire.specs.declared.find.Found.TheVariants as found
 use Rattle.pg_wire.specs.Decoder.{DecoderState, Takes}
@@ -41,7 +41,8 @@ StoresFault old new = (f : WireFault) × (old.rest.fault ≡ None)
 -- Nothing whole is next; or the next message was held; or its fault was stored; or nothing was changed,
 -- where no message that is lent is next, and a whole one has another tag.
 abbrev pub HoldsNext : StreamState → Found → StreamState → Type 0
-HoldsNext old found.Nothing new = (new ≡ old) × Takes backend old.rest (Ok None) old.rest
+HoldsNext old (found.Nothing size) new = (new ≡ old) × Takes backend old.rest (Ok None) old.rest
+    × Awaits backend old.rest.limit old.rest.kept size
 HoldsNext old (found.Lent size) new = (lent : Lent) × (5 ≤ length new.front)
     × (lent_bytes new.front ≡ Some lent)
     × Takes backend old.rest (Ok (Some (message_of lent))) new.rest
