@@ -24,6 +24,20 @@ fn rows(stream: &[u8], size: usize) -> Result<u64, Error> {
     Ok(total)
 }
 
+/// Keeps each row, as whoever collects a result does: how many rows there are.
+fn kept(stream: &[u8], size: usize) -> Result<u64, Error> {
+    let (mut buffer, mut rows) = (BytesMut::new(), Vec::new());
+    for piece in stream.chunks(size) {
+        buffer.extend_from_slice(piece);
+        while let Some(message) = Message::parse(&mut buffer)? {
+            if let Message::DataRow(body) = message {
+                rows.push(body);
+            }
+        }
+    }
+    Ok(rows.len() as u64)
+}
+
 /// Writes a Bind of so many values, many times over.
 fn bind(count: usize, times: usize) -> Result<u64, Error> {
     let values: Vec<&[u8]> = (0..count).map(|_| b"a value of a text" as &[u8]).collect();
@@ -58,6 +72,7 @@ fn main() -> Result<(), Error> {
     let total = match words[1].as_str() {
         "read" => stream.len() as u64,
         "rows" => rows(&stream, number(2))?,
+        "kept" => kept(&stream, number(2))?,
         "bind" => bind(number(2), number(3))?,
         word => return Err(Error::other(format!("no work: {word}"))),
     };

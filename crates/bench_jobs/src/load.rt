@@ -60,7 +60,7 @@ fn put_rows(reader: &mut TextReader, digest: &mut Digest) -> anyhow::Result<()> 
             break;
         };
         for value in row.iter() {
-            digest.put_value(value.as_ref().map(|text| text.as_slice()));
+            digest.put_value(value);
         }
     }
     Ok(())

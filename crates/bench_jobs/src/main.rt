@@ -13,10 +13,12 @@
 //! - `feed` feeds it to a client, as the rows of a query: how many bytes were fed;
 //! - `early` gives it to an early client, which lends the rows: how many bytes their values have;
 //! - `bind` writes a Bind of so many values, a million values in all: how many bytes were written;
+//! - `rows` and `lent_rows` read a COPY file in text, whose rows have so many columns, owned (`bench/convert` times it) or lent: how many values they have;
 //! - `read` does no more than read the stream: how many bytes it has.
 #![tactic(auto)]
 
 mod convert;
+mod copy;
 mod digest;
 mod fetch;
 mod load;
@@ -57,6 +59,12 @@ fn do_work(rt: &HostRuntime, words: &[String]) -> anyhow::Result<()> {
         bail!("the words are a job, a seed and a size, or a work and a number");
     };
     let number: usize = number.parse().context("no number")?;
+    if let "rows" | "lent_rows" = work.as_str() {
+        let lent = work.as_str() == "lent_rows";
+        let values = copy::read_rows(rt.alloc(), &mut rt.reader(), number, lent)?;
+        println!(rt; "{values}")?;
+        return Ok(());
+    }
     let mut stream = Vec::new(rt.alloc());
     rt.reader().read_to_end(&mut stream)?;
     let size = wire::work(rt.alloc(), work.as_str(), stream.as_slice(), number)?;

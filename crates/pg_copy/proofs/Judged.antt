@@ -6,13 +6,13 @@ use Rattle.pg_copy_rows.specs.declared.fault.TextFault.{TextFault}
 use Rattle.pg_copy_rows.specs.declared.fault.TextFault.TheVariants.{Memory}
 use Rattle.pg_copy_text.specs.declared.text_stage.TextStage.{TextStage}
 use Rattle.pg_copy_text.specs.declared.text_stage.TextStage.TheVariants as stages
-use Rattle.pg_copy_rows.specs.Reading.{AnswersNext, IsGood, given_by}
+use Rattle.pg_copy_rows.specs.Reading.{AnswersNext, IsGood, given_by, told}
 use Rattle.pg_copy_rows.specs.Row.{Row}
 use Rattle.pg_copy_text.specs.Text.{text_reading}
 use Rattle.pg_copy_text.specs.TextLaws.{OneSplit}
 use Rattle.pg_copy_text.specs.TextReader.{HasReadText, text_ending}
 use Rattle.pg_copy.specs.declared.limit.fault.LimitedTextFault.{LimitedTextFault}
-use Rattle.pg_copy.specs.Limited.{LimitedState, HasReadLimited, JudgesLine}
+use Rattle.pg_copy.specs.Limited.{LimitedState, HasReadLimited, JudgesLine, as_text}
 use Rattle.pg_copy.specs.Private.Judging.{is_marked, is_long, judged, after_judging}
 use Rattle.pg_copy.proofs.Kept.{kept-longer, kept-no-longer}
 
@@ -65,3 +65,14 @@ judges-next split old mid new found result same short made is read gives p g h =
     go (Ok (Some row)) k a = short
     go (Ok None) k a = open-judged split mid p (g ++ []) (record { read = k; counted = same ∙ h.counted }) a.0
     go (Err f) k a = short
+
+-- what was read and given, once a line was judged
+pub read-judged : (s : LimitedState) (found : Result (Option Row) TextFault) (answer : Result (Option Row) LimitedTextFault) (new : LimitedState) → answer ≡ judged (is_long s) found → new ≡ after_judging s found
+    → (p : List ℕ) (g : List Row) → HasReadText s.reader p (g ++ given_by found) → s.pushed ≡ told (length p) → HasReadLimited new p (g ++ given_by (as_text answer))
+read-judged s found answer new is state p g read counted = rw (is, state) (go found (is_long s) read)
+  where
+    go : (found : Result (Option Row) TextFault) (long : Bool) → HasReadText s.reader p (g ++ given_by found) → HasReadLimited (after_judging s found) p (g ++ given_by (as_text (judged long found)))
+    go (Ok (Some row)) long h = record { read = h; counted = counted }
+    go (Ok None) true h = record { read = h; counted = counted }
+    go (Ok None) false h = record { read = h; counted = counted }
+    go (Err f) long h = record { read = h; counted = counted }

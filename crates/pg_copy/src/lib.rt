@@ -42,7 +42,7 @@ pub use pg_copy_binary::{
     BinaryReader, BinaryRow, LentValues, write_binary_count, write_binary_field, write_binary_head,
     write_binary_row, write_binary_trailer,
 };
-pub use pg_copy_rows::{BinaryFault, OptionFault, Row, RowFault, Seq, TextFault};
+pub use pg_copy_rows::{BinaryFault, OptionFault, Row, RowFault, TextFault};
 pub use pg_copy_text::{
     LentTexts, TextOptions, TextReader, TextRow, TextRowWriter, write_text_field, write_text_row,
     write_text_row_with,

@@ -15,8 +15,7 @@ ghost use Rattle.pg_copy_binary.specs.Private.BinaryPart.{IsAfterHead, StartsRow
 ghost use Rattle.pg_copy_binary.specs.Private.BinaryPart.{FindsPart, extension_left};
 
 use crate::format::{LONGEST_VALUE, NULL, SIGNATURE, TRAILER};
-use pg_copy_rows::BinaryFault;
-use pg_seq::Seq;
+use pg_copy_rows::{BinaryFault, Row};
 use std::alloc::{AllocError, Global};
 
 /// Why no part was read.
@@ -309,34 +308,25 @@ pub fn find_part(
     }
 }
 
-/// Copies so many values, which were walked over before.
+/// Copies so many values, which were walked over before and have so many bytes in all.
 pub fn values_of(
     alloc: Global,
     limit: u32,
     count: u16,
+    size: usize,
     bytes: &[u8],
-) -> Result<Vec<Option<Seq<u8>>>, AllocError>
-    ensures { IfOk result (λ values. IfOk (values_at limit count bytes.now) (λ x. values.items
-        ≡ x.0)) }
+) -> Result<Row, AllocError>
+    ensures { IfOk result (λ row. IfOk (values_at limit count bytes.now) (λ x. row ≡ x.0)) }
 {
-    let mut values = Vec::with_capacity(alloc, usize::from(count))?;
+    let mut row = Row::with_capacity(alloc, usize::from(count), size)?;
     let mut rest = bytes;
     for _ in 0..count {
         // Each was walked over, so each is whole.
         let Ok((value, after)) = value_at(limit, rest) else {
-            return Ok(values);
+            return Ok(row);
         };
-        values.push(copy_of(alloc, value)?)?;
+        row.push(value)?;
         rest = after;
     }
-    Ok(values)
-}
-
-fn copy_of(alloc: Global, value: Option<&[u8]>) -> Result<Option<Seq<u8>>, AllocError>
-    ensures { IfOk result (λ copy. copy ≡ option_copied value.entry) }
-{
-    match value {
-        None => Ok(None),
-        Some(bytes) => Ok(Some(Seq::from_slice(alloc, bytes)?)),
-    }
+    Ok(row)
 }

@@ -29,7 +29,6 @@ use crate::binary_row::BinaryRow;
 use pg_copy_rows::counts::{later, one_more};
 use pg_copy_rows::row_buffer::RowBuffer;
 use pg_copy_rows::{BinaryFault, Row};
-use pg_seq::Seq;
 use std::alloc::{AllocError, Global};
 use std::marker::Model;
 
@@ -474,8 +473,10 @@ impl BinaryReader {
         ensures { IfOk result (λ row. IsRowAt self.now place row) }
     {
         let (_, values) = self.buffer.kept().split_at(place.start + 2);
-        let values = values_of(self.alloc, self.limit, self.columns, values)?;
-        Ok(Seq::new(values))
+        // a length of four bytes stands in front of each value
+        let lengths = 2 + 4 * usize::from(self.columns);
+        let size = (place.end - place.start).saturating_sub(lengths);
+        values_of(self.alloc, self.limit, self.columns, size, values)
     }
 
     // Takes the row that was found at this place, and lends it.

@@ -8,9 +8,8 @@ ghost use Rattle.pg_copy_rows.specs.Row.{is_long, width_fault, field_fault, bina
 ghost use Rattle.pg_copy_binary.specs.Binary.{value, binary_row, written_head, trailer};
 
 use crate::format::{LONGEST_VALUE, NULL, SIGNATURE, TRAILER};
-use pg_copy_rows::format::{MOST_FIELDS, lent, settle};
+use pg_copy_rows::format::{MOST_FIELDS, settle};
 use pg_copy_rows::{Row, RowFault};
-use pg_seq::Seq;
 use std::alloc::AllocError;
 
 /// Appends the head of a file, with no flags and an empty extension (PostgreSQL documentation, page COPY, "Binary Format"). Memory: the buffer could
@@ -78,20 +77,25 @@ fn field_fault(field: Option<&[u8]>) -> Option<RowFault>
     None
 }
 
-fn has_long(fields: &[Option<Seq<u8>>]) -> bool
-    ensures { result ≡ list_any is_long fields.now }
+fn has_long(row: &Row) -> bool
+    ensures { result ≡ list_any is_long row.now }
 {
-    fields.iter().any(|field| is_long(lent(field)))
+    for value in row.iter() {
+        if is_long(value) {
+            return true;
+        }
+    }
+    false
 }
 
 // Why a row can't be written.
-fn row_fault(fields: &[Option<Seq<u8>>]) -> Option<RowFault>
-    ensures { result ≡ binary_fault fields.now }
+fn row_fault(row: &Row) -> Option<RowFault>
+    ensures { result ≡ binary_fault row.now }
 {
-    if let Some(fault) = width_fault(fields.len()) {
+    if let Some(fault) = width_fault(row.len()) {
         return Some(fault);
     }
-    if has_long(fields) {
+    if has_long(row) {
         return Some(RowFault::FieldLong);
     }
     None
@@ -122,15 +126,15 @@ fn put_value(field: Option<&[u8]>, buf: &mut Vec<u8>) -> Result<(), AllocError>
     }
 }
 
-fn put_values(fields: &[Option<Seq<u8>>], buf: &mut Vec<u8>) -> Result<(), AllocError>
-    requires width { length fields.now ≤ 32767 }
-    requires short { list_any is_long fields.now ≡ false }
-    ensures ok { OnOk result (buf.new.items ≡ buf.old.items ++ binary_row fields.now) }
+fn put_row(row: &Row, buf: &mut Vec<u8>) -> Result<(), AllocError>
+    requires width { length row.now ≤ 32767 }
+    requires short { list_any is_long row.now ≡ false }
+    ensures ok { OnOk result (buf.new.items ≡ buf.old.items ++ binary_row row.now) }
     ensures err { OnErr result (take (length buf.old.items) buf.new.items ≡ buf.old.items) }
 {
-    put_count(fields.len(), buf)?;
-    for i in 0..fields.len() {
-        put_value(lent(&fields[i]), buf)?;
+    put_count(row.len(), buf)?;
+    for value in row.iter() {
+        put_value(value, buf)?;
     }
     Ok(())
 }
@@ -172,11 +176,10 @@ pub fn write_binary_row(row: &Row, buf: &mut Vec<u8>) -> Result<(), RowFault>
     ensures { Writes (binary_fault row.now)
         (binary_row row.now) buf.old.items result buf.new.items }
 {
-    let fields = row.as_slice();
-    if let Some(fault) = row_fault(fields) {
+    if let Some(fault) = row_fault(row) {
         return Err(fault);
     }
     let before = buf.len();
-    let written = put_values(fields, buf);
+    let written = put_row(row, buf);
     settle(buf, before, written)
 }

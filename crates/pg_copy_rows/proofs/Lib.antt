@@ -2,3 +2,4 @@ pub mod Numbers
 pub mod Bytes
 pub mod Readings
 pub mod Writing
+pub mod Cuts

@@ -1,29 +1,19 @@
 //! What both formats agree on: how many fields a row may have, and that a row for which memory runs out leaves the buffer as it was.
 
-ghost use Rattle.std.specs.Prelude.{◌≡◌, take, option_copied, MatchResult, Ok, Err};
+ghost use Rattle.std.specs.Prelude.{◌≡◌, take, MatchResult, Ok, Err};
 ghost use Rattle.pg_copy_rows.specs.Row.{is_misfit};
 
-use crate::{RowFault, Seq};
+use crate::{Row, RowFault};
 use std::alloc::AllocError;
 
 /// The most fields that a row may have.
 pub const MOST_FIELDS: usize = 32_767;
 
 /// Whether a row has no field, or too many.
-pub fn is_misfit(fields: &[Option<Seq<u8>>]) -> bool
-    ensures { result ≡ is_misfit fields.now }
+pub fn is_misfit(row: &Row) -> bool
+    ensures { result ≡ is_misfit row.now }
 {
-    fields.is_empty() || fields.len() > MOST_FIELDS
-}
-
-/// A field of a row, lent.
-pub fn lent(field: &Option<Seq<u8>>) -> Option<&[u8]>
-    ensures { option_copied result ≡ field.now }
-{
-    match field {
-        None => None,
-        Some(bytes) => Some(bytes.as_slice()),
-    }
+    row.is_empty() || row.len() > MOST_FIELDS
 }
 
 /// What a writer returns once it has appended its bytes, or memory ran out for them. In that case all but the first `before` bytes are taken off the

@@ -5,17 +5,16 @@
 //!
 //! | File | Definitions in `specs/` | What it has |
 //! |---|---|---|
-//! | `fault.rt`, `format.rt` | `Row` | rows, and why one can't be written |
-//! | `counts.rt`, `row_buffer.rt` | `Reading`, `Lent` | rows and what comes after them; what a call may return that looks for the next row, or lends it; the numbers that a reader tells |
+//! | `row.rt`, `fault.rt`, `format.rt` | `Row` | rows, and why one can't be written |
+//! | `counts.rt`, `row_buffer.rt`, `lent_texts.rt` | `Reading`, `Lent` | rows and what comes after them; what a call may return that looks for the next row, or lends it; the numbers that a reader tells |
 #![tactic(auto)]
 
 pub mod counts;
 mod fault;
 pub mod format;
+pub mod lent_texts;
+pub mod row;
 pub mod row_buffer;
 
 pub use fault::{BinaryFault, OptionFault, RowFault, TextFault};
-pub use pg_seq::Seq;
-
-/// The values of a row, in the order of its columns. None is null (PostgreSQL documentation, page COPY, "File Formats").
-pub type Row = Seq<Option<Seq<u8>>>;
+pub use row::Row;

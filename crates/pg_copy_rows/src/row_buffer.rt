@@ -1,7 +1,7 @@
 //! The bytes that a reader of rows keeps. A row that was given may still stand in front of them.
 
 ghost use Rattle.std.specs.Prelude.{◌≡◌, ◌≤◌, ◌++◌, [], None, Some, length, drop, option_copied};
-ghost use Rattle.std.specs.Prelude.{OnOk, OnErr, IsOk};
+ghost use Rattle.std.specs.Prelude.{OnOk, OnErr, IsOk, vec_len};
 ghost use Rattle.pg_copy_rows.specs.Private.RowBuffer.{held_len};
 
 use pg_seq::Buffer;
@@ -110,5 +110,26 @@ impl RowBuffer {
         self.bytes.take(held_len(self.held));
         self.bytes.take(start);
         self.held = Some(end - start);
+    }
+
+    /// The block that has the bytes that aren't taken, and where in it they begin. So they can be changed where they are.
+    pub fn into_parts(self) -> (Vec<u8>, usize)
+        ensures bytes { self.kept ≡ drop result.1 result.0.items }
+        ensures in_range { result.1 ≤ vec_len result.0 }
+    {
+        let mut bytes = self.bytes;
+        bytes.take(held_len(self.held));
+        bytes.into_parts()
+    }
+
+    /// A buffer of the bytes that stand in a block from `start` on.
+    pub fn of_parts(bytes: Vec<u8>, start: usize) -> RowBuffer
+        requires { start ≤ vec_len bytes }
+        ensures { result ≡ record { front = None; kept = drop start bytes.items } }
+    {
+        RowBuffer {
+            bytes: Buffer::of_parts(bytes, start),
+            held: None,
+        }
     }
 }

@@ -1,5 +1,6 @@
 -- What the bits of a comparison of sixteen bytes say of each of them.
 use Rattle.std.proofs.Common.{◌≡◌, ◌≢◌, ℕ, ◌%◌, ◌^◌, ◌<◌, List, [], ◌∷◌, ◌++◌, Bool, true, false, cond, length, get_or, map, replicate, refl, sym, ap, ◌∙◌, arith, w8, w64, ◌≤◌, eqb, max, zero, suc, bit_or}
+use Rattle.std.proofs.Math.Bool.{not}
 use Rattle.std.proofs.lemmas.Nat.Bits.{bit_at_or, bit_at-zero, bit_at-trailing_zeros}
 use Rattle.std.proofs.lemmas.Bool.{ne_eqb, cond-false}
 use Rattle.std.proofs.lemmas.Nat.{or_lt}
@@ -11,6 +12,14 @@ use Rattle.std.proofs.Math.ListN.{get_or-append}
 use Rattle.std.proofs.lemmas.List.FromFn.{get_or-map-range_with_len, length-range_with_len}
 use Rattle.std.proofs.lemmas.Simd.{bit_mask_l, bitmask_splat}
 use Rattle.std.proofs.lemmas.List.{get_or-map, length-map}
+
+pub unless : (t : Bool) → not t ≡ true → t ≡ false
+unless true e = absurd cc
+unless false e = refl
+
+pub when : (t : Bool) → not t ≡ false → t ≡ true
+when true e = refl
+when false e = absurd cc
 
 clear : (b : Bool) → cond {A = ℕ} b 1 0 ≡ 0 → b ≡ false
 clear false e = refl

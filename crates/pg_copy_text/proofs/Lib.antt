@@ -4,7 +4,8 @@ pub mod TextParts
 pub mod TextValues
 pub mod TextLines
 pub mod TextEscapes
-pub mod TextLent
+pub mod TextCuts
+pub mod TextPuts
 pub mod TextSplit
 pub mod TextPairs
 pub mod TextBreaks

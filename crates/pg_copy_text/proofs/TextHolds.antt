@@ -1,6 +1,6 @@
 -- What a reader of text files does with the first line that it keeps, and with its row where it
 -- lends it.
-use Rattle.std.proofs.Common.{◌≡◌, ℕ, ◌+◌, ◌<◌, Bool, true, false, List, [], ◌++◌, length, Option, Some, None, Result, Ok, Err, refl, sym, ap, subst, ◌∙◌, inl, inr, arith}
+use Rattle.std.proofs.Common.{◌≡◌, ℕ, ◌+◌, ◌<◌, Bool, true, false, List, [], ◌++◌, length, take, drop, Option, Some, None, Result, Ok, Err, refl, sym, ap, subst, ◌∙◌, inl, inr, arith}
 use Rattle.std.specs.Prelude.{◌⊎◌, IsSome}
 use Rattle.pg_copy_rows.specs.declared.fault.TextFault.{TextFault}
 use Rattle.pg_copy_rows.specs.declared.fault.TextFault.TheVariants.{Memory}
@@ -8,15 +8,15 @@ use Rattle.pg_copy_text.specs.declared.line_end.LineEnd.{LineEnd}
 use Rattle.pg_copy_text.specs.declared.text_stage.TextStage.{TextStage}
 use Rattle.pg_copy_text.specs.declared.text_stage.TextStage.TheVariants.{Lines, Marked, Failed}
 use Rattle.pg_copy_rows.specs.Row.{Row}
-use Rattle.pg_copy_rows.specs.Reading.{given_by, given_after, AnswersNext, RowWaits}
-use Rattle.pg_copy_text.specs.Text.{Options, end_len, text_reading, text_file_reading}
+use Rattle.pg_copy_rows.specs.Reading.{one_more, told, given_by, given_after, AnswersNext, RowWaits}
+use Rattle.pg_copy_text.specs.Text.{end_len, text_reading, text_file_reading}
 use Rattle.pg_copy_rows.specs.Lent.{as_next, Lends}
 use Rattle.pg_copy_text.specs.TextReader.{TextState, HasReadText, text_left, text_last, text_ending, last_text_ending}
 use Rattle.pg_copy_text.specs.Private.Breaks.{IsFirstLine}
 use Rattle.pg_copy_text.specs.Private.Units.{IsScanned, StandsAt}
 use Rattle.pg_copy_text.specs.declared.scan.Scan.{Scan}
-use Rattle.pg_copy_text.specs.Private.TextRow.{held_line}
-use Rattle.pg_copy_text.specs.Private.TextLine.{let_go, TakesLine, TakesLast, LendsLast, EndsInput}
+use Rattle.pg_copy_text.specs.Private.TextRow.{held_row, line_values}
+use Rattle.pg_copy_text.specs.Private.TextLine.{let_go, lending, TakesLine, TakesLast, LendsLast, EndsInput}
 use Rattle.pg_copy_text.proofs.TextPlaces.{end-some}
 use Rattle.pg_copy_text.proofs.TextEnds.{HasReadText-finish, AnswersNext-finish, given-finish, fewer-finish}
 use Rattle.pg_copy_text.proofs.TextReads.{Answer, HasReadText-same, HasReadText-goes, Goes-line, AnswersNext-line, AnswersNext-none, given-line, fewer-line, waits-line}
@@ -27,31 +27,36 @@ HasReadText-held s pushed given h = record { so_far = h.so_far; to_end = h.to_en
 pub HasReadText-free : (s : TextState) (pushed : List ℕ) (given : List Row) → HasReadText s pushed given → HasReadText (let_go s) pushed given
 HasReadText-free s pushed given h = record { so_far = h.so_far; to_end = h.to_end; in_all = h.in_all; counted = h.counted; placed = h.placed; goes_on = h.goes_on }
 
+-- a reader that lends the row of a line
+pub lent-state : (s : TextState) (size taken : ℕ) (end : Option LineEnd) (kept : List ℕ) (given offset : ℕ) (held : Option Row) → kept ≡ drop taken s.kept → given ≡ one_more s.given → offset ≡ told (s.offset + taken)
+    → held ≡ Some (line_values s.options (take size s.kept)) → record s { kept = kept; line_end = end; given = given; offset = offset; held = held } ≡ lending size taken end s
+lent-state s size taken end kept given offset held is-kept is-given is-offset is-held = rw (is-kept, is-given, is-offset, is-held) refl
+
 -- a reader that is lent none of
 pub free : (s : TextState) → s.held ≡ None → s ≡ let_go s
 free s e = ap (λ (o : Option Row). record s { held = o }) e
 
 -- a reader that failed or has read the end mark lends none
-rests : (o : Options) (len : ℕ) (stage : TextStage) (front : Option (List ℕ)) → (stage ≡ Lines) ⊎ (front ≡ None) → (stage ≡ Lines → ⊥) → held_line o len front ≡ None
-rests o len stage front (inl e) n = absurd (n e)
-rests o len stage front (inr e) n = ap (held_line o len) e
+rests : (cuts : List ℕ) (stage : TextStage) (front : Option (List ℕ)) → (stage ≡ Lines) ⊎ (front ≡ None) → (stage ≡ Lines → ⊥) → held_row cuts front ≡ None
+rests cuts stage front (inl e) n = absurd (n e)
+rests cuts stage front (inr e) n = ap (held_row cuts) e
 
-pub rests-failed : (o : Options) (len : ℕ) (stage : TextStage) (front : Option (List ℕ)) (fault : TextFault) → (stage ≡ Lines) ⊎ (front ≡ None) → stage ≡ Failed fault → held_line o len front ≡ None
-rests-failed o len stage front fault h e = rests o len stage front h (λ f. clash (sym e ∙ f))
+pub rests-failed : (cuts : List ℕ) (stage : TextStage) (front : Option (List ℕ)) (fault : TextFault) → (stage ≡ Lines) ⊎ (front ≡ None) → stage ≡ Failed fault → held_row cuts front ≡ None
+rests-failed cuts stage front fault h e = rests cuts stage front h (λ f. clash (sym e ∙ f))
   where
     clash : Failed fault ≡ Lines → ⊥
     clash f = cc
 
-pub rests-marked : (o : Options) (len : ℕ) (stage : TextStage) (front : Option (List ℕ)) → (stage ≡ Lines) ⊎ (front ≡ None) → stage ≡ Marked → held_line o len front ≡ None
-rests-marked o len stage front h e = rests o len stage front h (λ f. clash (sym e ∙ f))
+pub rests-marked : (cuts : List ℕ) (stage : TextStage) (front : Option (List ℕ)) → (stage ≡ Lines) ⊎ (front ≡ None) → stage ≡ Marked → held_row cuts front ≡ None
+rests-marked cuts stage front h e = rests cuts stage front h (λ f. clash (sym e ∙ f))
   where
     clash : Marked ≡ Lines → ⊥
     clash f = cc
 
 -- nothing stands in front where no row is lent
-pub no-front : (o : Options) (len : ℕ) (front : Option (List ℕ)) → held_line o len front ≡ None → front ≡ None
-no-front o len None e = refl
-no-front o len (Some bytes) e = absurd cc
+pub no-front : (cuts : List ℕ) (front : Option (List ℕ)) → held_row cuts front ≡ None → front ≡ None
+no-front cuts None e = refl
+no-front cuts (Some bytes) e = absurd cc
 
 -- ---- a line that is whole
 

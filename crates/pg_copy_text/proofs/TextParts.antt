@@ -41,7 +41,7 @@ cond-same : (t : Bool) (ps qs : List (List ℕ)) → ps ≡ before_first_part []
 cond-same true ps qs h k = h
 cond-same false ps qs h k = k
 
-parts_from-same : (e : Bool) (mark : ℕ) (b : List ℕ) → parts_from e mark b ≡ before_first_part [] (parts_from e mark b)
+pub parts_from-same : (e : Bool) (mark : ℕ) (b : List ℕ) → parts_from e mark b ≡ before_first_part [] (parts_from e mark b)
 parts_from-same e mark [] = refl
 parts_from-same true mark (x ∷ b) = onto_first-same x (parts_from false mark b)
 parts_from-same false mark (x ∷ b) = cond-same (eqb x mark) ([] ∷ parts_from false mark b) (onto_first x (parts_from (eqb x 92) mark b)) refl (onto_first-same x (parts_from (eqb x 92) mark b))

@@ -18,12 +18,13 @@ use Rattle.pg_copy_text.specs.Private.Breaks.{IsFirstLine, IsLastLine}
 use Rattle.pg_copy_text.specs.Private.Units.{IsScanned, StandsAt}
 use Rattle.pg_copy_text.specs.declared.scan.Scan.{Scan}
 use Rattle.pg_copy_rows.specs.Private.RowBuffer.{RowBytes}
-use Rattle.pg_copy_text.specs.Private.TextRow.{held_line}
-use Rattle.pg_copy_text.specs.Private.TextLine.{passed, TakesLine}
+use Rattle.pg_copy_text.specs.Private.TextRow.{held_row}
+use Rattle.pg_copy_text.specs.Private.TextLine.{passed, TakesLine, IsTextReader}
 use Rattle.pg_copy_rows.proofs.Readings.{after-after, after-none}
 use Rattle.pg_copy_rows.proofs.Numbers.{told-rows, told-add}
 use Rattle.pg_copy_text.proofs.TextPlaces.{lines-some, lines_end-zero, lines_end-first}
-use Rattle.pg_copy_text.proofs.TextBreaks.{lines_from-none, undecided, waiting-undecided, one-line, lone-return}
+use Rattle.pg_copy_text.proofs.TextCuts.{noted-more}
+use Rattle.pg_copy_text.proofs.TextBreaks.{scanned-push, lines_from-none, undecided, waiting-undecided, one-line, lone-return}
 
 pub good_ending : (stage stage' : TextStage) → stage ≡ stage' → IsGood (last_text_ending stage') → IsGood (last_text_ending stage)
 good_ending stage stage' e h = subst (λ (t : TextStage). IsGood (last_text_ending t)) (sym e) h
@@ -201,8 +202,8 @@ pub reading-now : (s : TextState) (pushed : List ℕ) (given : List Row) → s.e
 reading-now s pushed given e h = ap (text_reading s.options s.columns) (sym (append-nil pushed)) ∙ h.so_far e []
 
 -- a reader that was pushed nothing
-pub HasReadText-none : (o : Options) (columns : Option ℕ) (buffer : RowBytes) → buffer ≡ record { front = None; kept = [] } → HasReadText (record { options = o; columns = columns; line_end = None; kept = buffer.kept; stage = Lines; ended = false; given = 0; offset = 0; held = held_line o 0 buffer.front }) [] []
-HasReadText-none o columns buffer empty =
+pub HasReadText-none : (o : Options) (columns : Option ℕ) (cuts : List ℕ) (buffer : RowBytes) → buffer ≡ record { front = None; kept = [] } → HasReadText (record { options = o; columns = columns; line_end = None; kept = buffer.kept; stage = Lines; ended = false; given = 0; offset = 0; held = held_row cuts buffer.front }) [] []
+HasReadText-none o columns cuts buffer empty =
     rw empty (record {
       so_far = λ e more. refl;
       to_end = λ e more. refl;
@@ -213,6 +214,18 @@ HasReadText-none o columns buffer empty =
     })
 
 -- ---- pushing
+
+-- what is kept of a reader, after a piece
+pub pushed-reader : (o : Options) (line_end : Option LineEnd) (buffer new : RowBytes) (scan : Scan) (cuts : List ℕ) (stage : TextStage) (held_cuts piece : List ℕ) → new ≡ record { front = None; kept = buffer.kept ++ piece }
+    → IsTextReader o line_end buffer scan cuts stage held_cuts → IsTextReader o line_end new scan cuts stage held_cuts
+pushed-reader o line_end buffer new scan cuts stage held_cuts piece is h =
+    rw is (record {
+      scanned = scanned-push o.delimiter line_end buffer.kept piece scan h.scanned;
+      noted = noted-more o.delimiter buffer.kept piece cuts h.noted;
+      not_memory = h.not_memory;
+      lends = inr refl;
+      held = tt;
+    })
 
 pub left-lines : (s : TextState) (more : List ℕ) → s.stage ≡ Lines → text_left s more ≡ reading_after s.options s.columns s.line_end (s.kept ++ more)
 left-lines s more e = ap (λ (t : TextStage). text_stage_reading t s.options s.columns s.line_end (s.kept ++ more)) e

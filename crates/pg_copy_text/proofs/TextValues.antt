@@ -1,21 +1,15 @@
 -- Values of text fields.
-use Rattle.std.proofs.Common.{◌≡◌, ◌≢◌, ℕ, zero, suc, ◌+◌, ◌-◌, ◌*◌, ◌%◌, ◌<◌, ◌≤◌, Bool, true, false, eqb, ltb, List, [], ◌∷◌, ◌++◌, length, take, drop, get_or, Option, Some, None, refl, sym, ap, subst, ◌∙◌, append_assoc, arith}
+use Rattle.std.proofs.Common.{◌≡◌, ◌≢◌, ℕ, zero, suc, ◌+◌, ◌*◌, ◌%◌, ◌<◌, ◌≤◌, Bool, true, false, eqb, ltb, List, [], ◌∷◌, length, take, drop, get_or, Option, Some, None, refl, sym, ap, ◌∙◌, arith}
 use Rattle.std.specs.List.{prefix_len}
 use Rattle.std.specs.Char.{digit_value}
 use Rattle.std.specs.Prelude.{MatchOption}
 use Rattle.std.specs.Option.{SomeIff}
 use Rattle.std.proofs.lemmas.Bool.{lt-ltb, le-ltb, cond-true, cond-false, ne_eqb, eq-eqb}
-use Rattle.std.proofs.lemmas.List.{take_more, drop_more, drop-drop, length-drop, length-take, get_or-drop, append-nil}
+use Rattle.std.proofs.lemmas.List.{drop_more, drop-drop, length-take}
 use Rattle.std.proofs.lemmas.List.Sums.{take_while-cons}
 use Rattle.std.specs.Str.{bytes_eq}
 use Rattle.pg_copy_text.specs.Private.Units.{LeadsWith, NoBackslash, IsPlain}
 use Rattle.pg_copy_text.specs.Text.{Options, field_value, digits_at, text_after, escape_at, digits_value, octal_escape, hex_escape}
-
--- the value is read up to at, but for a run from start on that is copied as it is
-pub record IsReadTo (old bytes : List ℕ) (start at : ℕ) (text : List ℕ) : Type 0 where
-  pub in_order : start ≤ at
-  pub in_range : at ≤ length bytes
-  pub rest : (text ++ take (at - start) (drop start bytes)) ++ text_after 0 (drop at bytes) ≡ old ++ text_after 0 bytes
 
 -- ---- digits
 
@@ -103,18 +97,11 @@ text_after-drop zero bytes = refl
 text_after-drop (suc n) [] = refl
 text_after-drop (suc n) (b ∷ bs) = text_after-drop n bs
 
-run_more : (bytes : List ℕ) (start i : ℕ) → start ≤ i → i < length bytes → take (i + 1 - start) (drop start bytes) ≡ take (i - start) (drop start bytes) ++ get_or bytes i 0 ∷ []
-run_more bytes start i le lt =
-    let one : i + 1 - start ≡ (i - start) + 1 = omega arith in
-    let place : start + (i - start) ≡ i = omega arith in
-    let more = take_more (drop start bytes) (i - start) 0 (omega (arith, length-drop start bytes)) in
-    ap (λ (n : ℕ). take n (drop start bytes)) one ∙ more ∙ ap (λ (x : ℕ). take (i - start) (drop start bytes) ++ x ∷ []) (get_or-drop start bytes (i - start) 0 ∙ ap (λ (n : ℕ). get_or bytes n 0) place)
-
 -- where the text goes on, at a byte that stands for itself and at an escape
-text-plain : (bytes : List ℕ) (at : ℕ) → at < length bytes → (get_or bytes at 0 ≡ 92 → ⊥) → text_after 0 (drop at bytes) ≡ get_or bytes at 0 ∷ text_after 0 (drop (at + 1) bytes)
+pub text-plain : (bytes : List ℕ) (at : ℕ) → at < length bytes → (get_or bytes at 0 ≡ 92 → ⊥) → text_after 0 (drop at bytes) ≡ get_or bytes at 0 ∷ text_after 0 (drop (at + 1) bytes)
 text-plain bytes at lt plain = ap (text_after 0) (drop_more bytes at 0 lt) ∙ cond-false (eqb (get_or bytes at 0) 92) _ _ (ne_eqb (get_or bytes at 0) 92 plain)
 
-text-escape : (bytes : List ℕ) (at byte len : ℕ) → at < length bytes → get_or bytes at 0 ≡ 92 → (byte, len) ≡ escape_at (drop (at + 1) bytes) → text_after 0 (drop at bytes) ≡ byte ∷ text_after 0 (drop (at + (1 + len)) bytes)
+pub text-escape : (bytes : List ℕ) (at byte len : ℕ) → at < length bytes → get_or bytes at 0 ≡ 92 → (byte, len) ≡ escape_at (drop (at + 1) bytes) → text_after 0 (drop at bytes) ≡ byte ∷ text_after 0 (drop (at + (1 + len)) bytes)
 text-escape bytes at byte len lt is value =
     let bs = drop (at + 1) bytes in
     let place : (at + 1) + len ≡ at + (1 + len) = omega arith in
@@ -122,51 +109,11 @@ text-escape bytes at byte len lt is value =
     ap (λ (x : ℕ × ℕ). text_after x.1 bs) (sym value) ∙ text_after-drop len bs ∙ ap (text_after 0) (drop-drop len (at + 1) bytes ∙ ap (λ (n : ℕ). drop n bytes) place) in
     ap (text_after 0) (drop_more bytes at 0 lt) ∙ cond-true (eqb (get_or bytes at 0) 92) _ _ (eq-eqb (get_or bytes at 0) 92 is) ∙ ap (λ (x : ℕ). x ∷ text_after (escape_at bs).1 bs) (ap (λ (x : ℕ × ℕ). x.0) (sym value)) ∙ ap (λ (x : List ℕ). byte ∷ x) after
 
-not-backslash : (b : ℕ) → IsPlain 92 b → b ≢ 92
+pub not-backslash : (b : ℕ) → IsPlain 92 b → b ≢ 92
 not-backslash b p e = clash (sym (eq-eqb b 92 e) ∙ p.no_backslash)
   where
     clash : true ≡ false → ⊥
     clash e = cc
-
-pub IsReadTo-begin : (old bytes : List ℕ) → IsReadTo old bytes 0 0 old
-IsReadTo-begin old bytes = record { in_order = omega arith; in_range = omega arith; rest = ap (λ (x : List ℕ). x ++ text_after 0 bytes) (append-nil old) }
-
-pub IsReadTo-plain : (old bytes : List ℕ) (start at : ℕ) (text : List ℕ) → at < length bytes → (get_or bytes at 0 ≡ 92 → ⊥) → IsReadTo old bytes start at text → IsReadTo old bytes start (at + 1) text
-IsReadTo-plain old bytes start at text lt plain h =
-    let b = get_or bytes at 0 in
-    let next = text-plain bytes at lt plain in
-    let run = run_more bytes start at h.in_order lt in
-    record {
-      in_order = omega (arith, h.in_order);
-      in_range = omega arith;
-      rest = rw run (ap (λ (x : List ℕ). x ++ text_after 0 (drop (at + 1) bytes)) (sym (append_assoc text (take (at - start) (drop start bytes)) (b ∷ []))) ∙ append_assoc (text ++ take (at - start) (drop start bytes)) (b ∷ []) (text_after 0 (drop (at + 1) bytes)) ∙ ap (λ (x : List ℕ). (text ++ take (at - start) (drop start bytes)) ++ x) (sym next) ∙ h.rest);
-    }
-
--- plain bytes more
-run-read : (old bytes : List ℕ) (start at n : ℕ) (text : List ℕ) → at + n ≤ length bytes → ((i : ℕ) → at ≤ i → i < at + n → IsPlain 92 (get_or bytes i 0)) → IsReadTo old bytes start at text → IsReadTo old bytes start (at + n) text
-run-read old bytes start at zero text le each h = let same : at ≡ at + 0 = omega arith in subst (λ (i : ℕ). IsReadTo old bytes start i text) same h
-run-read old bytes start at (suc n) text le each h =
-    let same : at + n + 1 ≡ at + suc n = omega arith in
-    subst (λ (i : ℕ). IsReadTo old bytes start i text) same
-    (IsReadTo-plain old bytes start (at + n) text (omega arith) (not-backslash _ (each (at + n) (omega arith) (omega arith))) (run-read old bytes start at n text (omega arith) (λ i a b. each i a (omega (arith, b))) h))
-
--- a plain byte, and those after it
-pub IsReadTo-run : (old bytes : List ℕ) (start at end : ℕ) (text : List ℕ) → at < length bytes → IsPlain 92 (get_or bytes at 0) → at + 1 ≤ end → end ≤ length bytes → ((i : ℕ) → at + 1 ≤ i → i < end → IsPlain 92 (get_or bytes i 0)) → IsReadTo old bytes start at text → IsReadTo old bytes start end text
-IsReadTo-run old bytes start at end text lt p in_order in_range each h =
-    let all : (at + 1) + (end - (at + 1)) ≡ end = omega (arith, in_order) in
-    let first = IsReadTo-plain old bytes start at text lt (not-backslash _ p) h in
-    subst (λ (i : ℕ). IsReadTo old bytes start i text) all (run-read old bytes start (at + 1) (end - (at + 1)) text (omega (arith, all, in_range)) (λ i a b. each i a (omega (arith, all, b))) first)
-
-pub IsReadTo-escape : (old bytes : List ℕ) (start at : ℕ) (text : List ℕ) (byte len : ℕ) → at < length bytes → get_or bytes at 0 ≡ 92 → (byte, len) ≡ escape_at (drop (at + 1) bytes) → len ≤ length (drop (at + 1) bytes)
-    → IsReadTo old bytes start at text → IsReadTo old bytes (at + (1 + len)) (at + (1 + len)) ((text ++ take (at - start) (drop start bytes)) ++ byte ∷ [])
-IsReadTo-escape old bytes start at text byte len lt is value le h =
-    let next = text-escape bytes at byte len lt is value in
-    let none : (at + (1 + len)) - (at + (1 + len)) ≡ 0 = omega arith in
-    record {
-      in_order = omega arith;
-      in_range = omega (arith, length-drop (at + 1) bytes);
-      rest = rw none (ap (λ (x : List ℕ). x ++ text_after 0 (drop (at + (1 + len)) bytes)) (append-nil ((text ++ take (at - start) (drop start bytes)) ++ byte ∷ [])) ∙ append_assoc (text ++ take (at - start) (drop start bytes)) (byte ∷ []) (text_after 0 (drop (at + (1 + len)) bytes)) ∙ ap (λ (x : List ℕ). (text ++ take (at - start) (drop start bytes)) ++ x) (sym next) ∙ h.rest);
-    }
 
 -- ---- a field without a backslash
 

@@ -1,9 +1,10 @@
 -- Texts and rows that are written piece by piece.
-use Rattle.std.proofs.Common.{◌≡◌, ℕ, ◌+◌, ◌-◌, ◌<◌, ◌≤◌, List, [], ◌∷◌, ◌++◌, length, take, drop, map, get_or, false, eqb, Option, Some, None, zero, suc, refl, sym, ap, subst, ◌∙◌, append_assoc, arith}
+use Rattle.std.proofs.Common.{◌≡◌, ℕ, ◌+◌, ◌-◌, ◌<◌, ◌≤◌, List, [], ◌∷◌, ◌++◌, length, take, drop, map, get_or, Bool, true, false, eqb, Option, Some, None, zero, suc, refl, sym, ap, subst, ◌∙◌, append_assoc, arith}
 use Rattle.std.specs.List.{flat_map, join_with_byte}
 use Rattle.std.proofs.lemmas.List.{take_more, drop-append-le, drop_all, take_all, length-take, length-take-le, append-nil, flat_map_more, map_push, length-map, length-append, drop-take}
 use Rattle.std.specs.Str.{bytes_eq}
 use Rattle.std.specs.Cmp.Lexicographic.{unequal}
+use Rattle.pg_copy_rows.specs.Row.{Row}
 use Rattle.pg_copy_rows.proofs.Writing.{GoesOn, GoesOn-append}
 use Rattle.pg_copy_text.specs.Private.Units.{IsPlain}
 use Rattle.pg_copy_text.specs.Text.{Options, letter_for, with_letter, written_byte, written_field, written_fields}
@@ -85,6 +86,54 @@ IsBegun-more o old fields new field lt h =
       written = rw (e, h.written) (simp append_assoc);
       goes_on = GoesOn-append old (new ++ o.delimiter ∷ []) (written_field o field) (GoesOn-append old new (o.delimiter ∷ []) h.goes_on);
     }
+
+-- The first values of a row are written, and these are left; `first` says that none is.
+pub record WritesRow (o : Options) (old : List ℕ) (row : Row) (rest : Row) (first : Bool) (new : List ℕ) : Type 0 where
+  pub done : Row
+  pub all : done ++ rest ≡ row
+  pub begun : IsBegun o old done new
+  pub none : first ≡ true → done ≡ []
+  pub some : first ≡ false → 0 < length done
+
+pub row-begins : (o : Options) (old : List ℕ) (row : Row) → WritesRow o old row row true old
+row-begins o old row = record {
+  done = [];
+  all = refl;
+  begun = record { written = sym (append-nil old); goes_on = take_all (length old) old (omega arith) };
+  none = λ e. refl;
+  some = λ e. absurd (clash e);
+}
+  where
+    clash : true ≡ false → ⊥
+    clash e = cc
+
+-- one value more
+row-more : (o : Options) (old : List ℕ) (row rest : Row) (field : Option (List ℕ)) (first : Bool) (new new' : List ℕ) → (h : WritesRow o old row (field ∷ rest) first new) → IsBegun o old (h.done ++ field ∷ []) new' → WritesRow o old row rest false new'
+row-more o old row rest field first new new' h begun = record {
+  done = h.done ++ field ∷ [];
+  all = append_assoc h.done (field ∷ []) rest ∙ h.all;
+  begun = begun;
+  none = λ e. absurd (clash e);
+  some = λ e. omega (arith, length-append h.done (field ∷ []));
+}
+  where
+    clash : false ≡ true → ⊥
+    clash e = cc
+
+pub row-first : (o : Options) (old : List ℕ) (row left rest : Row) (field : Option (List ℕ)) (new : List ℕ) → left ≡ field ∷ rest → WritesRow o old row left true new → WritesRow o old row rest false (new ++ written_field o field)
+row-first o old row left rest field new e h =
+    let k = rw e at h in
+    row-more o old row rest field true new (new ++ written_field o field) k (IsBegun-first o old k.done new field (k.none refl) k.begun)
+
+pub row-next : (o : Options) (old : List ℕ) (row left rest : Row) (field : Option (List ℕ)) (new : List ℕ) → left ≡ field ∷ rest → WritesRow o old row left false new → WritesRow o old row rest false ((new ++ o.delimiter ∷ []) ++ written_field o field)
+row-next o old row left rest field new e h =
+    let k = rw e at h in
+    row-more o old row rest field false new ((new ++ o.delimiter ∷ []) ++ written_field o field) k (IsBegun-more o old k.done new field (k.some refl) k.begun)
+
+pub row-ends : (o : Options) (old : List ℕ) (row left : Row) (first : Bool) (new : List ℕ) → left ≡ [] → WritesRow o old row left first new → IsBegun o old row new
+row-ends o old row left first new e h =
+    let all : h.done ≡ row = sym (append-nil h.done) ∙ ap (λ (rest : Row). h.done ++ rest) (sym e) ∙ h.all in
+    subst (λ (r : Row). IsBegun o old r new) all h.begun
 
 -- ---- no text is written with fewer bytes than it has
 

@@ -2,4 +2,5 @@
 pub mod Breaks
 pub mod Units
 pub mod TextLine
+pub mod Cuts
 pub mod TextRow

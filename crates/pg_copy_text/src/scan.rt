@@ -5,7 +5,9 @@ ghost use Rattle.pg_copy_text.specs.declared.line_end.LineEnd.{LineEnd};
 ghost use Rattle.pg_copy_text.specs.Private.Breaks.{IsFirstLine};
 ghost use Rattle.pg_copy_text.specs.Text.{end_len};
 ghost use Rattle.pg_copy_text.specs.Private.Units.{IsScanned, StandsAt, after};
+ghost use Rattle.pg_copy_text.specs.Private.Cuts.{AreNoted};
 
+use crate::cuts::note_cut;
 use crate::line_end::{LineBreak, LineEnd, break_at, is_break};
 use crate::plain::{is_plain, plain_end};
 
@@ -67,19 +69,22 @@ impl Scan {
         }
     }
 
-    /// Walks on to what ends the line, where the lines before it ended so, and returns how it ends, if it does.
+    /// Walks on to what ends the line, where the lines before it ended so, and returns how it ends, if it does. Notes the cuts that it comes to.
     pub fn find_end(
         &mut self,
         bytes: &[u8],
         delimiter: u8,
         before: Option<LineEnd>,
+        cuts: &mut Vec<usize>,
     ) -> Option<LineEnd>
-        requires { IsScanned delimiter before bytes.now self.old }
+        requires scanned { IsScanned delimiter before bytes.now self.old }
+        requires noted { AreNoted delimiter bytes.now cuts.old.items }
         ensures scanned { IsScanned delimiter before bytes.now self.new }
         ensures found { (e : LineEnd) → result ≡ Some e
             → IsFirstLine before bytes.now e self.new.at (self.new.at + end_len e) }
         ensures room { (e : LineEnd) → result ≡ Some e → self.new.at + end_len e < 2 ^ 64 }
         ensures none { result ≡ None → StandsAt before bytes.now self.new }
+        ensures noted { AreNoted delimiter bytes.now cuts.new.items }
     {
         let mut scan = *self;
         while scan.at < bytes.len() {
@@ -101,6 +106,9 @@ impl Scan {
                     LineBreak::Stays => scan = scan.after(byte, delimiter),
                 }
             } else {
+                if byte == delimiter {
+                    note_cut(scan.at + 1, scan.delimiters, cuts);
+                }
                 scan = scan.after(byte, delimiter);
             }
         }

@@ -1,15 +1,9 @@
-//! The value of a field of a text file.
+//! The bytes that escapes stand for.
 
-ghost use Rattle.std.specs.Prelude.{◌≡◌, ◌≤◌, ◌<◌, ◌++◌, ℕ, [], length, true, MatchOption, IfOk};
-ghost use Rattle.std.specs.Prelude.{OnOk};
+ghost use Rattle.std.specs.Prelude.{◌≡◌, ◌≤◌, ◌<◌, ℕ, [], length, MatchOption};
 ghost use Rattle.pg_copy_text.specs.Text.{letter_value, digits_at, octal_escape, hex_escape};
-ghost use Rattle.pg_copy_text.specs.Text.{escape_at, text_after, field_value};
-ghost use Rattle.pg_copy_text.specs.Private.Units.{LeadsWith, NoBackslash};
-
-use crate::plain::{is_plain, plain_end};
-use crate::text_options::TextOptions;
-use pg_seq::Seq;
-use std::alloc::{AllocError, Global};
+ghost use Rattle.pg_copy_text.specs.Text.{escape_at};
+ghost use Rattle.pg_copy_text.specs.Private.Units.{LeadsWith};
 
 // What a letter after a backslash stands for.
 fn letter_value(letter: u8) -> u8
@@ -69,8 +63,8 @@ fn hex_escape(bytes: &[u8]) -> (u8, usize)
     ((first * 16 + second) as u8, 3)
 }
 
-// The byte that an escape stands for, and how many bytes follow its backslash.
-fn escape_at(bytes: &[u8]) -> (u8, usize)
+/// The byte that an escape stands for, and how many bytes follow its backslash.
+pub fn escape_at(bytes: &[u8]) -> (u8, usize)
     ensures value { (result.0, result.1) ≡ escape_at bytes.now }
     ensures len { result.1 ≤ length bytes.now }
 {
@@ -82,70 +76,4 @@ fn escape_at(bytes: &[u8]) -> (u8, usize)
         [b'x', rest @ ..] => hex_escape(rest),
         [letter, ..] => (letter_value(*letter), 1),
     }
-}
-
-// Appends bytes as they are. Between two escapes there is often none or one.
-#[inline(always)]
-fn put_run(bytes: &[u8], text: &mut Vec<u8>) -> Result<(), AllocError>
-    ensures { OnOk result (text.new.items ≡ text.old.items ++ bytes.now) }
-{
-    match bytes {
-        [] => Ok(()),
-        [byte] => {
-            text.push(*byte)?;
-            Ok(())
-        }
-        _ => text.extend_from_slice(bytes),
-    }
-}
-
-/// Appends the text that the bytes spell.
-pub fn put_text_of(bytes: &[u8], text: &mut Vec<u8>) -> Result<(), AllocError>
-    ensures { OnOk result (text.new.items ≡ text.old.items ++ text_after 0 bytes.now) }
-{
-    // where the bytes begin that are still to be copied as they are
-    let mut start = 0;
-    let mut at = 0;
-    while at < bytes.len() {
-        if is_plain(bytes[at], b'\\') {
-            at = plain_end(bytes, at + 1, b'\\');
-        } else if bytes[at] == b'\\' {
-            put_run(&bytes[start..at], text)?;
-            let (byte, len) = escape_at(&bytes[at + 1..]);
-            text.push(byte)?;
-            at += 1 + len;
-            start = at;
-        } else {
-            at += 1;
-        }
-    }
-    text.extend_from_slice(&bytes[start..])
-}
-
-// The text that the bytes spell.
-fn text_of(alloc: Global, bytes: &[u8]) -> Result<Vec<u8>, AllocError>
-    ensures { IfOk result (λ text. text.items ≡ text_after 0 bytes.now) }
-{
-    let mut text = Vec::with_capacity(alloc, bytes.len())?;
-    put_text_of(bytes, &mut text)?;
-    Ok(text)
-}
-
-/// The value of a field, which is plain where it has no backslash. Whether it is null is decided before any escape is read.
-pub fn field_value(
-    alloc: Global,
-    bytes: &[u8],
-    plain: bool,
-    options: &TextOptions,
-) -> Result<Option<Seq<u8>>, AllocError>
-    requires { plain ≡ true → NoBackslash bytes.now }
-    ensures { IfOk result (λ value. value ≡ field_value options.now bytes.now) }
-{
-    if bytes == options.null_mark() {
-        return Ok(None);
-    }
-    if plain {
-        return Ok(Some(Seq::from_slice(alloc, bytes)?));
-    }
-    Ok(Some(Seq::new(text_of(alloc, bytes)?)))
 }

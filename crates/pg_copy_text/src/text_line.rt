@@ -1,7 +1,7 @@
 //! The row that a line of a text file spells.
 
-ghost use Rattle.std.specs.Prelude.{◌≡◌, ◌<◌, ◌+◌, length, map, IfOk};
-ghost use Rattle.pg_copy_text.specs.Text.{parts, fits_width, field_value};
+ghost use Rattle.std.specs.Prelude.{◌≡◌, ◌<◌, ◌+◌, length};
+ghost use Rattle.pg_copy_text.specs.Text.{fits_width};
 ghost use Rattle.pg_copy_text.specs.TextOptions.{AreOptions};
 ghost use Rattle.pg_copy_text.specs.Private.Units.{IsCounted, IsFieldEnd};
 ghost use Rattle.pg_copy_text.specs.Private.TextLine.{IsJudged};
@@ -9,12 +9,9 @@ ghost use Rattle.pg_copy_text.specs.Private.TextLine.{IsJudged};
 use crate::format::END_MARK;
 use crate::plain::{is_plain, plain_end};
 use crate::scan::Scan;
-use crate::text_field::field_value;
 use crate::text_options::TextOptions;
 use pg_copy_rows::TextFault;
 use pg_copy_rows::format::MOST_FIELDS;
-use pg_seq::Seq;
-use std::alloc::{AllocError, Global};
 
 /// What a line is found to be.
 #[derive(Debug, Drop)]
@@ -66,8 +63,6 @@ pub fn judge(options: &TextOptions, columns: Option<u16>, line: &[u8], scan: Sca
 #[derive(Clone, Copy, Debug, Drop)]
 pub struct FieldEnd {
     pub len: usize,
-    /// Whether it has no backslash.
-    pub plain: bool,
     /// Whether no delimiter stands after it.
     pub last: bool,
 }
@@ -77,19 +72,16 @@ pub struct FieldEnd {
 pub fn field_end(rest: &[u8], delimiter: u8) -> FieldEnd
     ensures { IsFieldEnd delimiter rest.now result }
 {
-    let mut plain = true;
     let mut at = 0;
     while at < rest.len() {
         let byte = rest[at];
         if byte == delimiter {
             return FieldEnd {
                 len: at,
-                plain,
                 last: false,
             };
         }
         if byte == b'\\' {
-            plain = false;
             // with the byte after it
             at += 2;
         } else if is_plain(byte, delimiter) {
@@ -100,32 +92,6 @@ pub fn field_end(rest: &[u8], delimiter: u8) -> FieldEnd
     }
     FieldEnd {
         len: rest.len(),
-        plain,
         last: true,
     }
-}
-
-/// The values of a line of so many fields.
-pub fn fields_of(
-    alloc: Global,
-    line: &[u8],
-    count: usize,
-    options: &TextOptions,
-) -> Result<Vec<Option<Seq<u8>>>, AllocError>
-    ensures { IfOk result (λ fields. fields.items
-        ≡ map (field_value options.now) (parts options.now.delimiter line.now)) }
-{
-    let delimiter = options.delimiter();
-    let mut fields = Vec::with_capacity(alloc, count)?;
-    let mut rest = line;
-    let mut end = field_end(rest, delimiter);
-    while !end.last {
-        let (field, _) = rest.split_at(end.len);
-        fields.push(field_value(alloc, field, end.plain, options)?)?;
-        let (_, after) = rest.split_at(end.len + 1);
-        rest = after;
-        end = field_end(rest, delimiter);
-    }
-    fields.push(field_value(alloc, rest, end.plain, options)?)?;
-    Ok(fields)
 }

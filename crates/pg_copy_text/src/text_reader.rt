@@ -1,7 +1,8 @@
 //! Reading a text file that comes in pieces.
 
 ghost use Rattle.std.specs.Prelude.{◌≡◌, ◌++◌, ◌≤◌, ◌+◌, ◌^◌, ◌<◌, ◌↔◌, ℕ, List, Some, None, Ok};
-ghost use Rattle.std.specs.Prelude.{Err, [], true, false, length, IsTrue, OnOk, OnErr, IfSome, ◌⊎◌};
+ghost use Rattle.std.specs.Prelude.{Err, [], true, false, length, take, IsTrue, OnOk, OnErr, IfOk};
+ghost use Rattle.std.specs.Prelude.{IfSome, ◌⊎◌};
 ghost use Rattle.pg_copy_rows.specs.declared.fault.TextFault.{TextFault};
 ghost use Rattle.pg_copy_rows.specs.declared.fault.TextFault.TheVariants.{Memory};
 ghost use Rattle.pg_copy_text.specs.declared.line_end.LineEnd.{LineEnd};
@@ -17,22 +18,27 @@ ghost use Rattle.pg_copy_text.specs.TextReader.{text_last, text_ending, last_tex
 ghost use Rattle.pg_copy_text.specs.TextOptions.{AreOptions};
 ghost use Rattle.pg_copy_text.specs.Private.Breaks.{IsFirstLine};
 ghost use Rattle.pg_copy_text.specs.Private.Units.{IsCounted, IsScanned, StandsAt};
-ghost use Rattle.pg_copy_text.specs.Private.TextLine.{let_go, lending, LendsLine, TakesLine};
+ghost use Rattle.pg_copy_text.specs.Private.Cuts.{line_cuts};
+ghost use Rattle.pg_copy_text.specs.Private.TextRow.{line_values};
+ghost use Rattle.pg_copy_text.specs.Private.TextLine.{PutsFirst};
+ghost use Rattle.pg_copy_text.specs.Private.TextLine.{let_go, passed, lending};
+ghost use Rattle.pg_copy_text.specs.Private.TextLine.{LendsLine, TakesLine};
 ghost use Rattle.pg_copy_text.specs.Private.TextLine.{TakesLast, LendsLast, EndsInput};
 ghost use Rattle.pg_copy_text.specs.Private.TextLine.{IsLeft, FindsLeft};
 
+use crate::cuts::{finish_cuts, may_differ, put_texts, row_of};
 use crate::line_end::LineEnd;
 use crate::scan::Scan;
-use crate::text_line::{JudgedLine, fields_of, judge};
+use crate::text_line::{JudgedLine, judge};
 use crate::text_options::TextOptions;
-use crate::text_row::{TextRow, empty_texts, replace_texts};
+use crate::text_row::TextRow;
 use crate::text_stage::TextStage;
 use pg_copy_rows::counts::{later, one_more};
 use pg_copy_rows::row_buffer::RowBuffer;
 use pg_copy_rows::{Row, TextFault};
-use pg_seq::Seq;
 use std::alloc::{AllocError, Global};
 use std::marker::Model;
+use std::mem;
 
 /// The first line, where the input has ended: how far it was walked over, how many bytes are taken with what ends it, and how lines end from then on.
 #[derive(Drop)]
@@ -40,6 +46,29 @@ pub struct LineLeft {
     pub scan: Scan,
     pub taken: usize,
     pub line_end: Option<LineEnd>,
+}
+
+// Puts the texts of the first line that is kept where its fields stand, or nearer to its beginning, and lets its cuts tell where they end.
+fn put_first(
+    alloc: Global,
+    len: usize,
+    options: &TextOptions,
+    buffer: &mut RowBuffer,
+    cuts: &mut [usize],
+)
+    requires options { AreOptions options.now }
+    requires cuts { cuts.old ≡ line_cuts options.now.delimiter (take len buffer.old.kept) }
+    requires in_range { len ≤ length buffer.old.kept }
+    ensures puts { PutsFirst len options.now buffer.old.kept buffer.new cuts.new }
+    ensures count { length cuts.new ≡ length cuts.old }
+{
+    if !may_differ(&buffer.kept()[..len], options) {
+        buffer.take(0);
+        return;
+    }
+    let (mut block, start) = mem::replace(buffer, RowBuffer::new(alloc)).into_parts();
+    put_texts(&mut block.as_mut_slice()[start..start + len], cuts, options);
+    *buffer = RowBuffer::of_parts(block, start);
 }
 
 /// Takes a text file in any pieces, and gives exactly its rows.
@@ -59,11 +88,11 @@ pub struct TextReader {
     // how the lines of the rows that were given ended
     line_end: Option<LineEnd>,
     buffer: RowBuffer,
-    // how far the first line of the buffer was walked over
+    // how far the first line of the buffer was walked over, and the cuts that were noted
     scan: Scan,
-    // how many bytes the line has whose row is lent, and the texts of its fields that have an escape, each after its length
-    held_len: usize,
-    texts: Vec<u8>,
+    cuts: Vec<usize>,
+    // the cuts of the row that is lent
+    held_cuts: Vec<usize>,
     stage: TextStage,
     ended: bool,
     given: u64,
@@ -73,7 +102,7 @@ pub struct TextReader {
 impl Model for TextReader {
     ghost use Rattle.pg_copy_text.specs.TextReader.{TextState};
     ghost use Rattle.pg_copy_text.specs.Private.TextLine.{IsTextReader};
-    ghost use Rattle.pg_copy_text.specs.Private.TextRow.{held_line};
+    ghost use Rattle.pg_copy_text.specs.Private.TextRow.{held_row};
 
     ghost Value = { TextState };
 
@@ -86,11 +115,11 @@ impl Model for TextReader {
       ended = r.ended;
       given = r.given;
       offset = r.offset;
-      held = held_line r.options r.held_len r.buffer.front;
+      held = held_row r.held_cuts.items r.buffer.front;
     } };
 
-    ghost invariant = { λ r.
-        IsTextReader r.options r.line_end r.buffer r.scan r.stage r.held_len r.texts.items };
+    ghost invariant = { λ r. IsTextReader r.options r.line_end r.buffer r.scan r.cuts.items r.stage
+        r.held_cuts.items };
 }
 
 impl TextReader {
@@ -118,8 +147,8 @@ impl TextReader {
             line_end: None,
             buffer: RowBuffer::new(alloc),
             scan: Scan::start(),
-            held_len: 0,
-            texts: Vec::new(alloc),
+            cuts: Vec::new(alloc),
+            held_cuts: Vec::new(alloc),
             stage: TextStage::Lines,
             ended: false,
             given: 0,
@@ -217,11 +246,11 @@ impl TextReader {
     }
 
     /// Whether a next row waits. It counts as given, and [`TextReader::held`] lends it until the next change of the reader, which keeps its bytes
-    /// until then. The text of a field that has an escape is copied into a block that the reader uses again; a block with much more room than is
-    /// needed gives it back.
+    /// until then. The text of a field that has an escape takes the field's place.
     ///
-    /// A fault is returned as `next` returns it. Memory is returned only where a row waits and that block could not grow. The reader is then
-    /// unchanged, but lends no row (PostgreSQL documentation, page COPY, "Text Format").
+    /// A fault is returned as `next` returns it. Memory is returned only where a row waits and there is none to keep where its fields end: eight
+    /// bytes for each, which the reader uses again. The reader is then unchanged, but lends no row (PostgreSQL documentation, page COPY,
+    /// "Text Format").
     pub fn next_lent(&mut self) -> Result<bool, TextFault>
         requires { self.old.ended ≡ false }
         ensures read { (pushed : List ℕ) (given : List Row) → HasReadText self.old pushed given
@@ -265,10 +294,7 @@ impl TextReader {
         ensures { result ≡ self.now.held }
     {
         match self.buffer.front() {
-            Some(bytes) => {
-                let line = &bytes[..self.held_len];
-                Some(TextRow::of_line(&self.options, line, self.texts.as_slice()))
-            }
+            Some(bytes) => Some(TextRow::of_cuts(bytes, self.held_cuts.as_slice())),
             None => None,
         }
     }
@@ -317,8 +343,8 @@ impl TextReader {
     /// Says that the input has ended, and returns whether a row is left. It counts as given, and [`TextReader::held`] lends it until the next change
     /// of the reader, so that a last line that isn't closed is kept once. Call it until it returns false.
     ///
-    /// The last line and a fault are those that `finish` returns. Memory is returned only where a row is left, of which the text of a field that has an
-    /// escape can't be copied. The reader is then unchanged, but lends no row (PostgreSQL documentation, page COPY, "Text Format").
+    /// The last line and a fault are those that `finish` returns. Memory is returned only where a row is left and there is none to keep where its
+    /// fields end. The reader is then unchanged, but lends no row (PostgreSQL documentation, page COPY, "Text Format").
     pub fn finish_lent(&mut self) -> Result<bool, TextFault>
         ensures read { (pushed : List ℕ) (given : List Row) → HasReadText self.old pushed given
             → HasReadText self.new pushed (given ++ given_by (as_next result self.new.held)) }
@@ -370,7 +396,9 @@ impl TextReader {
     {
         let delimiter = self.options.delimiter();
         let kept = self.buffer.kept();
-        let found = self.scan.find_end(kept, delimiter, self.line_end);
+        let found = self
+            .scan
+            .find_end(kept, delimiter, self.line_end, &mut self.cuts);
         (self.scan, found)
     }
 
@@ -398,19 +426,40 @@ impl TextReader {
                 self.stop(TextStage::Failed(fault));
                 Err(fault)
             }
-            JudgedLine::Row(count) => match fields_of(self.alloc, line, count, &self.options) {
-                Ok(fields) => {
-                    self.buffer.take(taken);
-                    empty_texts(&mut self.texts, 0);
-                    self.line_end = line_end;
-                    self.scan = Scan::start();
-                    self.offset = later(self.offset, taken);
-                    self.given = one_more(self.given);
-                    Ok(Some(Seq::new(fields)))
-                }
+            JudgedLine::Row(_) => match self.take_row(scan, taken, line_end) {
+                Ok(row) => Ok(Some(row)),
                 Err(_) => Err(TextFault::Memory),
             },
         }
+    }
+
+    // Takes off the first line, which was walked over, with what ends it, and returns its row. Lines end so from then on.
+    fn take_row(
+        &mut self,
+        scan: Scan,
+        taken: usize,
+        line_end: Option<LineEnd>,
+    ) -> Result<Row, AllocError>
+        requires lines { self.old.stage ≡ Lines }
+        requires options { AreOptions self.old.options }
+        requires counted { IsCounted self.old.options.delimiter self.old.kept scan }
+        requires in_range { taken ≤ length self.old.kept }
+        ensures row { IfOk result (λ row. row
+            ≡ line_values self.old.options (take scan.at self.old.kept)) }
+        ensures ok { OnOk result (self.new ≡ passed taken line_end self.old) }
+        ensures err { OnErr result (self.new ≡ self.old) }
+    {
+        let line = &self.buffer.kept()[..scan.at];
+        finish_cuts(line, scan.delimiters, &self.options, &mut self.cuts)?;
+        let row = row_of(self.alloc, line, self.cuts.as_slice(), &self.options);
+        self.cuts.clear();
+        let row = row?;
+        self.buffer.take(taken);
+        self.line_end = line_end;
+        self.scan = Scan::start();
+        self.offset = later(self.offset, taken);
+        self.given = one_more(self.given);
+        Ok(row)
     }
 
     // Judges the first line, which was walked over. Where it is a row, the row is lent, and its bytes are taken with what ends it. Lines end so from
@@ -438,30 +487,35 @@ impl TextReader {
                 self.stop(TextStage::Failed(fault));
                 Err(fault)
             }
-            JudgedLine::Row(_) => match self.hold(scan.at, taken, line_end) {
+            JudgedLine::Row(_) => match self.hold(scan, taken, line_end) {
                 Ok(()) => Ok(true),
                 Err(_) => Err(TextFault::Memory),
             },
         }
     }
 
-    // Takes off a line of so many bytes, with what ends it, and lends its row. Lines end so from then on.
+    // Takes off the first line, which was walked over, with what ends it, and lends its row. Lines end so from then on.
     fn hold(
         &mut self,
-        len: usize,
+        scan: Scan,
         taken: usize,
         line_end: Option<LineEnd>,
     ) -> Result<(), AllocError>
         requires lines { self.old.stage ≡ Lines }
-        requires in_order { len ≤ taken }
+        requires counted { IsCounted self.old.options.delimiter self.old.kept scan }
+        requires in_order { scan.at ≤ taken }
         requires in_range { taken ≤ length self.old.kept }
-        ensures ok { OnOk result (self.new ≡ lending len taken line_end self.old) }
+        ensures ok { OnOk result (self.new ≡ lending scan.at taken line_end self.old) }
         ensures err { OnErr result (self.new ≡ let_go self.old) }
     {
         self.buffer.take(0);
-        replace_texts(&self.buffer.kept()[..len], &self.options, &mut self.texts)?;
+        let line = &self.buffer.kept()[..scan.at];
+        finish_cuts(line, scan.delimiters, &self.options, &mut self.cuts)?;
+        mem::swap(&mut self.cuts, &mut self.held_cuts);
+        self.cuts.clear();
+        let cuts = self.held_cuts.as_mut_slice();
+        put_first(self.alloc, scan.at, &self.options, &mut self.buffer, cuts);
         self.buffer.hold(0, taken);
-        self.held_len = len;
         self.line_end = line_end;
         self.scan = Scan::start();
         self.offset = later(self.offset, taken);
@@ -469,12 +523,11 @@ impl TextReader {
         Ok(())
     }
 
-    // Lends no row any more, and keeps no large block for the texts of one.
+    // Lends no row any more.
     fn let_go(&mut self)
         ensures { self.new ≡ let_go self.old }
     {
         self.buffer.take(0);
-        empty_texts(&mut self.texts, 0);
     }
 
     // Reads no more.
@@ -483,8 +536,8 @@ impl TextReader {
         ensures { self.new ≡ record self.old { kept = []; stage = stage; held = None } }
     {
         self.buffer.clear();
-        empty_texts(&mut self.texts, 0);
         self.scan = Scan::start();
+        self.cuts.clear();
         self.stage = stage;
     }
 

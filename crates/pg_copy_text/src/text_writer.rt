@@ -1,19 +1,18 @@
 //! The canonical line of a row.
 
-ghost use Rattle.std.specs.Prelude.{◌≡◌, ◌++◌, ◌<◌, true, None, length, option_copied, take, OnOk};
-ghost use Rattle.std.specs.Prelude.{OnErr};
+ghost use Rattle.std.specs.Prelude.{◌≡◌, ◌++◌, ◌<◌, true, false, None, length, option_copied};
+ghost use Rattle.std.specs.Prelude.{take, OnOk, OnErr};
 ghost use Rattle.std.specs.List.{flat_map, position_from};
 ghost use Rattle.std.specs.Str.{bytes_eq};
-ghost use Rattle.pg_copy_rows.specs.Row.{Writes};
+ghost use Rattle.pg_copy_rows.specs.Row.{is_misfit, Writes};
 ghost use Rattle.pg_copy_text.specs.Private.Units.{IsWrittenFirst};
 ghost use Rattle.pg_copy_text.specs.Text.{default_options, letter_for, written_byte, written_field};
 ghost use Rattle.pg_copy_text.specs.Text.{written_row, is_like_null, text_fault};
 
 use crate::plain::{is_plain, plain_end};
 use crate::text_options::TextOptions;
-use pg_copy_rows::format::{is_misfit, lent, settle};
+use pg_copy_rows::format::{is_misfit, settle};
 use pg_copy_rows::{Row, RowFault};
-use pg_seq::Seq;
 use std::alloc::AllocError;
 
 // The letter that is written for a byte, after a backslash.
@@ -74,36 +73,30 @@ pub fn put_field(
     }
 }
 
-fn put_row(
-    fields: &[Option<Seq<u8>>],
-    options: &TextOptions,
-    buf: &mut Vec<u8>,
-) -> Result<(), AllocError>
+fn put_row(row: &Row, options: &TextOptions, buf: &mut Vec<u8>) -> Result<(), AllocError>
     ensures ok { OnOk result (buf.new.items
-        ≡ buf.old.items ++ written_row options.now fields.now) }
+        ≡ buf.old.items ++ written_row options.now row.now) }
     ensures err { OnErr result (take (length buf.old.items) buf.new.items ≡ buf.old.items) }
 {
-    for i in 0..fields.len() {
-        if i > 0 {
+    let mut first = true;
+    for value in row.iter() {
+        if !first {
             buf.push(options.delimiter())?;
         }
-        put_field(lent(&fields[i]), options, buf)?;
+        first = false;
+        put_field(value, options, buf)?;
     }
     buf.push(b'\n')?;
     Ok(())
 }
 
 // Appends the line of a row, or nothing.
-fn write_fields(
-    fields: &[Option<Seq<u8>>],
-    options: &TextOptions,
-    buf: &mut Vec<u8>,
-) -> Result<(), RowFault>
+fn write_fields(row: &Row, options: &TextOptions, buf: &mut Vec<u8>) -> Result<(), RowFault>
     ensures { Writes None
-        (written_row options.now fields.now) buf.old.items result buf.new.items }
+        (written_row options.now row.now) buf.old.items result buf.new.items }
 {
     let before = buf.len();
-    let written = put_row(fields, options, buf);
+    let written = put_row(row, options, buf);
     settle(buf, before, written)
 }
 
@@ -150,13 +143,16 @@ pub fn is_like_null(field: Option<&[u8]>, options: &TextOptions) -> bool
 }
 
 // The first field that is a text and would be written as the null mark is.
-fn first_like_null(fields: &[Option<Seq<u8>>], options: &TextOptions) -> Option<usize>
-    ensures { result ≡ position_from (is_like_null options.now) 0 fields.now }
+fn first_like_null(row: &Row, options: &TextOptions) -> Option<usize>
+    requires { is_misfit row.now ≡ false }
+    ensures { result ≡ position_from (is_like_null options.now) 0 row.now }
 {
-    for i in 0..fields.len() {
-        if is_like_null(lent(&fields[i]), options) {
-            return Some(i);
+    let mut index = 0;
+    for value in row.iter() {
+        if is_like_null(value, options) {
+            return Some(index);
         }
+        index += 1;
     }
     None
 }
@@ -180,11 +176,10 @@ pub fn write_text_row(row: &Row, buf: &mut Vec<u8>) -> Result<(), RowFault>
     ensures { Writes (text_fault default_options row.now)
         (written_row default_options row.now) buf.old.items result buf.new.items }
 {
-    let fields = row.as_slice();
-    if is_misfit(fields) {
-        return Err(RowFault::Width(fields.len()));
+    if is_misfit(row) {
+        return Err(RowFault::Width(row.len()));
     }
-    write_fields(fields, &TextOptions::default(), buf)
+    write_fields(row, &TextOptions::default(), buf)
 }
 
 /// Appends the canonical line of the row with these options. Their null mark is a null, and their delimiter separates two fields. The bytes 08 to 0D
@@ -201,12 +196,11 @@ pub fn write_text_row_with(
     ensures { Writes (text_fault options.now row.now)
         (written_row options.now row.now) buf.old.items result buf.new.items }
 {
-    let fields = row.as_slice();
-    if is_misfit(fields) {
-        return Err(RowFault::Width(fields.len()));
+    if is_misfit(row) {
+        return Err(RowFault::Width(row.len()));
     }
-    if let Some(field) = first_like_null(fields, options) {
+    if let Some(field) = first_like_null(row, options) {
         return Err(RowFault::LikeNull(field));
     }
-    write_fields(fields, options, buf)
+    write_fields(row, options, buf)
 }

@@ -83,4 +83,20 @@ impl Buffer {
     {
         self.start += n;
     }
+
+    /// The block that has the bytes, and where in it they begin. So they can be changed where they are.
+    pub fn into_parts(self) -> (Vec<u8>, usize)
+        ensures bytes { self ≡ drop result.1 result.0.items }
+        ensures in_range { result.1 ≤ vec_len result.0 }
+    {
+        (self.bytes, self.start)
+    }
+
+    /// A queue of the bytes that stand in a block from `start` on.
+    pub fn of_parts(bytes: Vec<u8>, start: usize) -> Buffer
+        requires { start ≤ vec_len bytes }
+        ensures { result ≡ drop start bytes.items }
+    {
+        Buffer { bytes, start }
+    }
 }

@@ -24,8 +24,8 @@ pub trait TakesLines {
 fn is_blank(row: &Row) -> bool
     ensures { result ≡ is_blank row.now }
 {
-    match row.as_slice() {
-        [Some(field)] => field.is_empty(),
+    match row.get(0) {
+        Some(Some(field)) => field.is_empty() && row.len() == 1,
         _ => false,
     }
 }
@@ -42,7 +42,7 @@ fn take_row<T: TakesLines>(
     if is_blank(&row) {
         return Ok(());
     }
-    let mut arguments = Arguments::new(alloc, row);
+    let mut arguments = Arguments::new(alloc, &row)?;
     let verb = arguments.text()?;
     taker.take(number, verb.as_slice(), arguments)
 }

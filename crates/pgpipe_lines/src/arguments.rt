@@ -34,15 +34,31 @@ impl Model for Arguments {
     ghost view = { λ a. into_iter_items a.fields };
 }
 
+// The fields of a row, each copied.
+fn fields_of(alloc: Global, row: &Row) -> Result<Vec<Option<Seq<u8>>>, AllocError>
+    ensures { IfOk result (λ fields. fields.items ≡ row.now) }
+{
+    let mut fields = Vec::with_capacity(alloc, row.len())?;
+    for value in row.iter() {
+        let field = match value {
+            Some(text) => Some(Seq::from_slice(alloc, text)?),
+            None => None,
+        };
+        fields.push(field)?;
+    }
+    Ok(fields)
+}
+
 impl Arguments {
-    /// All the fields of a row.
-    pub fn new(alloc: Global, row: Row) -> Arguments
-        ensures { result ≡ row }
+    /// All the fields of a row, copied.
+    pub fn new(alloc: Global, row: &Row) -> Result<Arguments, AllocError>
+        ensures { IfOk result (λ arguments. arguments ≡ row.now) }
     {
-        Arguments {
+        let fields = fields_of(alloc, row)?;
+        Ok(Arguments {
             alloc,
-            fields: row.into_iter(),
-        }
+            fields: fields.into_iter(),
+        })
     }
 
     /// The next field, which is a text.

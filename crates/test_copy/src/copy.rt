@@ -6,12 +6,13 @@
 mod binary;
 mod faults;
 mod limit;
+mod made;
 mod options;
 mod single;
 mod text;
 
 use pg_copy::{
-    BinaryFault, BinaryReader, LimitedTextFault, LimitedTextReader, Row, RowFault, Seq, TextFault,
+    BinaryFault, BinaryReader, LimitedTextFault, LimitedTextReader, Row, RowFault, TextFault,
     TextOptions, TextReader, write_text_row, write_text_row_with,
 };
 use std::alloc::{AllocError, Global};
@@ -336,22 +337,6 @@ type WrittenRow = (
     &'static [u8],
 );
 
-fn value(alloc: Global, bytes: Option<&[u8]>) -> Result<Option<Seq<u8>>, AllocError> {
-    match bytes {
-        Some(bytes) => Ok(Some(Seq::from_slice(alloc, bytes)?)),
-        None => Ok(None),
-    }
-}
-
-// A row of these values.
-fn row(alloc: Global, values: &[Option<&[u8]>]) -> Result<Row, AllocError> {
-    let mut row = Vec::new(alloc);
-    for bytes in values {
-        row.push(value(alloc, *bytes)?)?;
-    }
-    Ok(Seq::new(row))
-}
-
 fn write_row(
     row: &Row,
     options: Option<&TextOptions>,
@@ -371,7 +356,7 @@ fn writes(
 ) -> Result<bool, AllocError> {
     let mut lines = Vec::new(alloc);
     for (values, answer, all) in rows {
-        let row = row(alloc, *values)?;
+        let row = Row::from_slice(alloc, *values)?;
         if write_row(&row, options, &mut lines) != *answer || lines.as_slice() != *all {
             return Ok(false);
         }

@@ -1,5 +1,5 @@
 -- What a function answers for one line.
-use Rattle.std.specs.Prelude.{◌≡◌, ℕ, suc, ◌+◌, ◌<◌, ◌≤◌, ◌⊎◌, Bool, true, List, [], ◌∷◌, length, take, drop, map, Option, Some, None, Result, Ok, Err}
+use Rattle.std.specs.Prelude.{◌≡◌, ℕ, suc, ◌+◌, ◌<◌, ◌≤◌, ◌⊎◌, Bool, true, List, [], ◌∷◌, ◌++◌, length, take, drop, map, Option, Some, None, Result, Ok, Err}
 use Rattle.pg_copy_rows.specs.declared.fault.TextFault.{TextFault}
 use Rattle.pg_copy_rows.specs.declared.fault.TextFault.TheVariants.{Memory}
 use Rattle.pg_copy_text.specs.declared.line_end.LineEnd.{LineEnd}
@@ -17,7 +17,9 @@ use Rattle.pg_copy_text.specs.declared.text_reader.LineLeft.{LineLeft}
 use Rattle.pg_copy_text.specs.Private.Units.{IsScanned, IsCounted}
 use Rattle.pg_copy_text.specs.Private.Breaks.{IsLastLine}
 use Rattle.pg_copy_rows.specs.Private.RowBuffer.{RowBytes}
-use Rattle.pg_copy_text.specs.Private.TextRow.{line_values, AreTexts}
+use Rattle.pg_copy_rows.specs.Private.Cuts.{AreTexts}
+use Rattle.pg_copy_text.specs.Private.Cuts.{AreNoted}
+use Rattle.pg_copy_text.specs.Private.TextRow.{line_values, AreHeld}
 
 -- what a line is read as, whatever comes after it
 abbrev pub LineGives : Options → Option ℕ → List ℕ → Row → Type 0
@@ -125,14 +127,24 @@ abbrev pub FindsLeft : ℕ → Option LineEnd → List ℕ → Option LineLeft �
 FindsLeft delimiter before bytes None = bytes ≡ []
 FindsLeft delimiter before bytes (Some left) = IsLeft delimiter before bytes left
 
--- what is kept of a reader: the first line is walked over so far, no fault is Memory, a row
--- is lent only among the lines, and of its line these texts were copied
+-- The texts of the first line that was kept, which had so many bytes, stand in its place and end at
+-- these cuts, and what is kept behind it is as it was.
+pub record PutsFirst (size : ℕ) (o : Options) (kept : List ℕ) (buffer : RowBytes)
+    (cuts : List ℕ) : Type 0 where
+  pub line : List ℕ
+  pub is : buffer ≡ record { front = None; kept = line ++ drop size kept }
+  pub len : length line ≡ size
+  pub texts : AreTexts (line_values o (take size kept)) cuts line
+
+-- what is kept of a reader: the first line is walked over so far, and these of its cuts are noted; no
+-- fault is Memory; and a row is lent only among the lines, whose texts end at the held cuts
 pub record IsTextReader (o : Options) (line_end : Option LineEnd) (buffer : RowBytes) (scan : Scan)
-    (stage : TextStage) (held_len : ℕ) (texts : List ℕ) : Type 0 where
+    (cuts : List ℕ) (stage : TextStage) (held_cuts : List ℕ) : Type 0 where
   pub scanned : IsScanned o.delimiter line_end buffer.kept scan
+  pub noted : AreNoted o.delimiter buffer.kept cuts
   pub not_memory : stage ≡ stages.Failed Memory → ⊥
   pub lends : (stage ≡ stages.Lines) ⊎ (buffer.front ≡ None)
-  pub copied : AreTexts o held_len texts buffer.front
+  pub held : AreHeld held_cuts buffer.front
 
 -- The first line that is kept goes off with what ends it, and the reader tells where it ends.
 pub record PassesLine (old new : TextState) : Type 0 where

@@ -94,17 +94,13 @@ abbrev pub has_backslash : List ℕ → Bool
 has_backslash [] = false
 has_backslash (b ∷ bs) = b == backslash || has_backslash bs
 
--- the bytes up to i have no delimiter, and a backslash where they aren't plain
-pub record IsFieldWalked (delimiter : ℕ) (bytes : List ℕ) (i : ℕ) (e p : Bool) : Type 0 where
+-- the bytes up to i have no delimiter
+pub record IsFieldWalked (delimiter : ℕ) (bytes : List ℕ) (i : ℕ) (e : Bool) : Type 0 where
   pub escaped : ends_escaped false (take i bytes) ≡ e
   pub none : units delimiter (take i bytes) ≡ 0
-  pub plain : p ≡ true → NoBackslash (take i bytes)
-  pub escapes : p ≡ false → has_backslash (take i bytes) ≡ true
 
 -- The field at the front of the bytes ends here: at a delimiter, or at the end of the bytes.
 pub record IsFieldEnd (delimiter : ℕ) (bytes : List ℕ) (e : FieldEnd) : Type 0 where
-  pub plain : e.plain ≡ true → NoBackslash (take e.len bytes)
-  pub escapes : e.plain ≡ false → has_backslash (take e.len bytes) ≡ true
   pub more : e.last ≡ false → IsUnitAt delimiter bytes e.len
   pub whole : e.last ≡ true → (e.len ≡ length bytes) × (units delimiter bytes ≡ 0)
 

@@ -1,7 +1,7 @@
 //! Binary files.
 
 use super::Answer::{Is, Nothing, Taken};
-use super::{Answer, Fault, ReaderCall, answers, row, write_file};
+use super::{Answer, Fault, ReaderCall, answers, write_file};
 use pg_copy::{
     BinaryFault, BinaryReader, Row, RowFault, write_binary_head, write_binary_row,
     write_binary_trailer,
@@ -290,7 +290,7 @@ fn write_one(row: &Row, file: &mut Vec<u8>) -> Result<(), RowFault> {
 // Whether a file of one row of these values is a head and these bytes.
 fn is_written(alloc: Global, values: &[Option<&[u8]>], rest: &[u8]) -> Result<bool, AllocError> {
     let mut file = Vec::new(alloc);
-    let row = row(alloc, values)?;
+    let row = Row::from_slice(alloc, values)?;
     Ok(write_one(&row, &mut file) == Ok(()) && file.as_slice().strip_prefix(HEAD) == Some(rest))
 }
 
@@ -301,13 +301,13 @@ fn files_are_written(rt: HostRuntime) {
 }
 
 // Whether a row of no values is rejected, and nothing is written.
-fn refuses_none(alloc: Global) -> Result<bool, AllocError> {
+fn refuses_none(alloc: Global) -> bool {
     let mut file = Vec::new(alloc);
-    let none = row(alloc, &[])?;
-    Ok(write_binary_row(&none, &mut file) == Err(RowFault::Width(0)) && file.is_empty())
+    let none = Row::new(alloc);
+    write_binary_row(&none, &mut file) == Err(RowFault::Width(0)) && file.is_empty()
 }
 
 #[test]
 fn a_row_without_a_field_is_refused(rt: HostRuntime) {
-    assert!(rt; refuses_none(rt.alloc()) == Ok(true));
+    assert!(rt; refuses_none(rt.alloc()));
 }

@@ -1,6 +1,6 @@
 //! Files with options, and the ways in which lines end.
 
-use super::{WrittenRow, row, wanted_text, write_left, write_piece, writes};
+use super::{WrittenRow, wanted_text, write_left, write_piece, writes};
 use pg_copy::{OptionFault, Row, RowFault, TextFault, TextOptions, TextReader};
 use std::alloc::{AllocError, Global};
 
@@ -31,7 +31,7 @@ fn is_read(
     line: &[u8],
     values: &[Option<&[u8]>],
 ) -> Result<bool, AllocError> {
-    let row = row(alloc, values)?;
+    let row = Row::from_slice(alloc, values)?;
     let mut reader = TextReader::with_options(alloc, Some(3), options);
     Ok(reader.push(line) == Ok(()) && gives_alone(&mut reader, &row))
 }

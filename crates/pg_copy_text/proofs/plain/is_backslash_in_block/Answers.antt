@@ -3,7 +3,7 @@ use Rattle.std.proofs.lemmas.Simd.{get_or-chunk}
 use Rattle.std.proofs.lemmas.Nat.Bits.{bit_at-zero}
 use Rattle.std.specs.Int.{bit_at}
 use Rattle.std.proofs.lemmas.Bool.{eqb-true}
-use Rattle.pg_copy_text.proofs.TextLent.{when}
+use Rattle.pg_copy_text.proofs.BlockBits.{when}
 use Rattle.pg_copy_text.proofs.plain.is_backslash_in_block.Goals as goal
 
 pub returns : goal.returns

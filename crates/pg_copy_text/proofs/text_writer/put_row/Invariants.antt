@@ -1,6 +1,5 @@
-use Rattle.std.proofs.Common.{take}
-use Rattle.pg_copy_text.proofs.Writing.{IsBegun}
+use Rattle.pg_copy_text.proofs.Writing.{WritesRow}
 use Rattle.pg_copy_text.proofs.text_writer.put_row.Given as goal
 
-abbrev pub invariant-loop-i : goal.invariant-loop-i
-invariant-loop-i l = IsBegun l.options l.fn.buf.items (take l.i l.fields) l.buf.items
+abbrev pub invariant-loop-value : goal.invariant-loop-value
+invariant-loop-value l = WritesRow l.options l.fn.buf.items l.row l.value-iterator l.first l.buf.items

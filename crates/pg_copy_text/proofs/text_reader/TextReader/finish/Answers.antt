@@ -19,12 +19,12 @@ returns-in-Lines-clause-fewer c = λ row e. fewer-finish c.args.self.now c.last_
 pub returns-in-Failed-clause-held : goal.returns-in-Failed-clause-held
 returns-in-Failed-clause-held c =
     let s = c.self.inside in
-    inr (rests-failed s.options s.held_len s.stage s.buffer.front c.in-Failed.fault c.self.invariant.lends c.in-Failed.is)
+    inr (rests-failed s.held_cuts.items s.stage s.buffer.front c.in-Failed.fault c.self.invariant.lends c.in-Failed.is)
 
 pub returns-in-Marked-clause-held : goal.returns-in-Marked-clause-held
 returns-in-Marked-clause-held c =
     let s = c.self.inside in
-    inr (rests-marked s.options s.held_len s.stage s.buffer.front c.self.invariant.lends c.in-Marked.is)
+    inr (rests-marked s.held_cuts.items s.stage s.buffer.front c.self.invariant.lends c.in-Marked.is)
 
 pub returns-in-Lines-clause-held : goal.returns-in-Lines-clause-held
 returns-in-Lines-clause-held c = held-finish c.args.self.now c.last_line-answer.new.self c.end.new.self c.last_line-answer.result c.last_line-answer.ensures c.end.ensures

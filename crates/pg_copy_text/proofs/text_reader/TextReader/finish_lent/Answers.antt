@@ -9,12 +9,12 @@ lent c = lends-end c.args.self.now c.lend_last-lent.new.self c.end.new.self c.le
 pub returns-in-Failed-clause-lends : goal.returns-in-Failed-clause-lends
 returns-in-Failed-clause-lends c =
     let s = c.self.inside in
-    rests-failed s.options s.held_len s.stage s.buffer.front c.in-Failed.fault c.self.invariant.lends c.in-Failed.is
+    rests-failed s.held_cuts.items s.stage s.buffer.front c.in-Failed.fault c.self.invariant.lends c.in-Failed.is
 
 pub returns-in-Marked-clause-lends : goal.returns-in-Marked-clause-lends
 returns-in-Marked-clause-lends c =
     let s = c.self.inside in
-    rests-marked s.options s.held_len s.stage s.buffer.front c.self.invariant.lends c.in-Marked.is
+    rests-marked s.held_cuts.items s.stage s.buffer.front c.self.invariant.lends c.in-Marked.is
 
 pub returns-in-Lines-clause-read : goal.returns-in-Lines-clause-read
 returns-in-Lines-clause-read c = read-end c.args.self.now c.end.new.self c.lend_last-lent.result (stage-now _ _ _ c.self.view_is c.in-Lines.is) (lent (goal.at.returns-in-Lines-clause-read c).After-end)

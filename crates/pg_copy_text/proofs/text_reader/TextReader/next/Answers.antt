@@ -20,7 +20,7 @@ returns-in-Failed-clause-gives c = λ pushed given h. AnswersNext-failed-next c.
 pub returns-in-Failed-clause-held : goal.returns-in-Failed-clause-held
 returns-in-Failed-clause-held c =
     let s = c.self.inside in
-    inr (ap (λ (t : TextState). t.held) (sym c.self.view_is) ∙ rests-failed s.options s.held_len s.stage s.buffer.front c.in-Failed.fault c.self.invariant.lends c.in-Failed.is)
+    inr (ap (λ (t : TextState). t.held) (sym c.self.view_is) ∙ rests-failed s.held_cuts.items s.stage s.buffer.front c.in-Failed.fault c.self.invariant.lends c.in-Failed.is)
 
 pub returns-in-Marked-clause-gives : goal.returns-in-Marked-clause-gives
 returns-in-Marked-clause-gives c = λ pushed given h. AnswersNext-marked-next c.args.self.now pushed given c.requires (stage-now _ _ _ c.self.view_is c.in-Marked.is) h
@@ -28,7 +28,7 @@ returns-in-Marked-clause-gives c = λ pushed given h. AnswersNext-marked-next c.
 pub returns-in-Marked-clause-held : goal.returns-in-Marked-clause-held
 returns-in-Marked-clause-held c =
     let s = c.self.inside in
-    inr (ap (λ (t : TextState). t.held) (sym c.self.view_is) ∙ rests-marked s.options s.held_len s.stage s.buffer.front c.self.invariant.lends c.in-Marked.is)
+    inr (ap (λ (t : TextState). t.held) (sym c.self.view_is) ∙ rests-marked s.held_cuts.items s.stage s.buffer.front c.self.invariant.lends c.in-Marked.is)
 
 pub returns-in-Some-clause-read : goal.returns-in-Some-clause-read
 returns-in-Some-clause-read c = read-first c.args.self.now c.take_line.new.self c.take_line.result (taken (goal.at.returns-in-Some-clause-read c).After-take_line)

@@ -25,7 +25,7 @@ returns-in-Failed-clause-gives c = λ pushed given h. AnswersNext-failed-next c.
 pub returns-in-Failed-clause-lends : goal.returns-in-Failed-clause-lends
 returns-in-Failed-clause-lends c =
     let s = c.self.inside in
-    ap (λ (t : TextState). t.held) (sym c.self.view_is) ∙ rests-failed s.options s.held_len s.stage s.buffer.front c.in-Failed.fault c.self.invariant.lends c.in-Failed.is
+    ap (λ (t : TextState). t.held) (sym c.self.view_is) ∙ rests-failed s.held_cuts.items s.stage s.buffer.front c.in-Failed.fault c.self.invariant.lends c.in-Failed.is
 
 pub returns-in-Marked-clause-gives : goal.returns-in-Marked-clause-gives
 returns-in-Marked-clause-gives c = λ pushed given h. AnswersNext-marked-next c.args.self.now pushed given c.requires (stage-now _ _ _ c.self.view_is c.in-Marked.is) h
@@ -33,7 +33,7 @@ returns-in-Marked-clause-gives c = λ pushed given h. AnswersNext-marked-next c.
 pub returns-in-Marked-clause-lends : goal.returns-in-Marked-clause-lends
 returns-in-Marked-clause-lends c =
     let s = c.self.inside in
-    ap (λ (t : TextState). t.held) (sym c.self.view_is) ∙ rests-marked s.options s.held_len s.stage s.buffer.front c.self.invariant.lends c.in-Marked.is
+    ap (λ (t : TextState). t.held) (sym c.self.view_is) ∙ rests-marked s.held_cuts.items s.stage s.buffer.front c.self.invariant.lends c.in-Marked.is
 
 pub returns-in-Some-clause-read : goal.returns-in-Some-clause-read
 returns-in-Some-clause-read c = read-lent c.args.self.now c.lend_line.new.self c.lend_line.result (lent (goal.at.returns-in-Some-clause-read c).After-lend_line)

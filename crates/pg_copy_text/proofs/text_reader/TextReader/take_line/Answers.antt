@@ -9,4 +9,4 @@ returns-in-Err c =
     let options : c.self.inside.options ≡ c.args.self.now.options = ap (λ (s : TextState). s.options) c.self.view_is in
     let kept : c.kept.result.now ≡ c.args.self.now.kept = c.kept.ensures ∙ ap (λ (s : TextState). s.kept) c.self.view_is in
     let row = rw (options, columns, kept) at c.in-Row.ensures in
-    inl (refl, refl, map (field_value c.args.self.now.options) (parts c.args.self.now.options.delimiter (take c.args.scan.at c.args.self.now.kept)), row.1)
+    inl (refl, c.in-Err.ensures.err, map (field_value c.args.self.now.options) (parts c.args.self.now.options.delimiter (take c.args.scan.at c.args.self.now.kept)), row.1)

@@ -1,8 +1,15 @@
 use Rattle.std.proofs.Common.{ap, ◌∙◌}
-use Rattle.pg_copy.proofs.Judged.{judges-next}
+use Rattle.pg_copy.proofs.Judged.{judges-next, read-judged}
 use Rattle.pg_copy.specs.Limited.{LimitedState}
 use Rattle.pg_copy.specs.contracts.limit.reader.LimitedTextReader.{the_view}
 use Rattle.pg_copy.proofs.limit.reader.LimitedTextReader.next.Goals as goal
+
+pub returns-clause-read : goal.returns-clause-read
+returns-clause-read c p g h =
+    let s = c.self.inside in
+    let reader = ap (λ (t : LimitedState). t.reader) c.self.view_is in
+    read-judged (the_view (record { reader = c.next-found.new.self; limit = s.limit; pushed = s.pushed; long = s.long })) c.next-found.result c.judge.result c.judge.new.self c.judge.ensures.answer c.judge.ensures.state p g
+    (c.next-found.ensures.read p g (rw reader h.read)) (ap (λ (t : LimitedState). t.pushed) c.self.view_is ∙ h.counted)
 
 pub returns-clause-judges : goal.returns-clause-judges
 returns-clause-judges c short p g h =
