@@ -51,8 +51,8 @@ pub fn after_status(bytes: &[u8]) -> Option<&[u8]>
     }
 }
 
-// The bytes after so many fields.
-fn after_times<T: ReadField>(count: u16, bytes: &[u8]) -> Option<&[u8]>
+/// The bytes after so many fields.
+pub fn after_times<T: ReadField>(count: u16, bytes: &[u8]) -> Option<&[u8]>
     ensures { option_copied result ≡ left_after (times_at T.reading count bytes.now) }
 {
     let mut rest = bytes;

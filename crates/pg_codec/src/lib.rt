@@ -29,6 +29,7 @@ mod writer;
 
 pub use after::{
     after_copy_head, after_counted, after_i32, after_status, after_terminated, after_text,
+    after_times,
 };
 pub use appender::Appender;
 pub use fault::{BodyFault, EncodeFault};

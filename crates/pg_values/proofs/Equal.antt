@@ -1,11 +1,11 @@
--- Blocks with the same places and the same bytes hold the same values, and no others do.
-use Rattle.std.proofs.Common.{◌≡◌, ℕ, Bool, true, false, ◌&&◌, List, [], ◌∷◌, length, Option, Some, None, refl, sym, ap, ◌∙◌}
+-- Lists that are as long and are spelled alike have the same values, and no others do.
+use Rattle.std.proofs.Common.{◌≡◌, ℕ, Bool, true, false, ◌&&◌, List, [], ◌∷◌, length, ◌≤◌, Option, Some, None, refl, sym, ap, ◌∙◌}
 use Rattle.std.specs.Prelude.{nat_eq}
 use Rattle.std.specs.Option.{option_eq}
 use Rattle.std.specs.Cmp.Lexicographic.{pointwise, same_text, lists_equiv, options_equiv, nat_list_eq_equiv}
 use Rattle.pg_values.specs.Private.View.{values_left}
-use Rattle.pg_values.specs.Private.Block.{IsBlock, spelled}
-use Rattle.pg_values.proofs.Blocks.{count_is}
+use Rattle.pg_values.specs.Private.Block.{spelled, longest_block}
+use Rattle.pg_values.proofs.Blocks.{read_back}
 
 abbrev pub equal_values : List (Option (List ℕ)) → List (Option (List ℕ)) → Bool
 equal_values = pointwise (option_eq (pointwise nat_eq))
@@ -43,30 +43,21 @@ pub and_true : (p q : Bool) → p ≡ true → q ≡ true → (p && q) ≡ true
 and_true true q e f = f
 and_true false q e f = e
 
-module _ (places block places' block' : List ℕ) (b : IsBlock places block) (b' : IsBlock places' block') where
-  abbrev vs : List (Option (List ℕ))
-  vs = values_left (length places) block
+-- values that a block has, as many of each
+pub compared : (vs ws : List (Option (List ℕ))) → length vs ≡ length ws → length (spelled vs) ≤ longest_block → length (spelled ws) ≤ longest_block → pointwise nat_eq (spelled vs) (spelled ws) ≡ equal_values vs ws
+compared vs ws len few few' = one_truth (pointwise nat_eq (spelled vs) (spelled ws)) (equal_values vs ws) to from
+  where
+    to : pointwise nat_eq (spelled vs) (spelled ws) ≡ true → equal_values vs ws ≡ true
+    to e =
+        let same : vs ≡ ws = sym (read_back vs few) ∙ ap (λ (n : ℕ). values_left n (spelled vs)) len ∙ ap (values_left (length ws)) (same_text (spelled vs) (spelled ws) (sym e)) ∙ read_back ws few' in
+        ap (equal_values vs) (sym same) ∙ refl_values vs
 
-  abbrev ws : List (Option (List ℕ))
-  ws = values_left (length places') block'
+    from : equal_values vs ws ≡ true → pointwise nat_eq (spelled vs) (spelled ws) ≡ true
+    from e = ap (pointwise nat_eq (spelled vs)) (ap spelled (sym (same_values vs ws e))) ∙ refl_numbers (spelled vs)
 
-  -- two blocks with as many values are compared as their bytes are
-  pub compared : length places ≡ length places' → pointwise nat_eq block block' ≡ equal_values vs ws
-  compared len = one_truth (pointwise nat_eq block block') (equal_values vs ws) to from
-    where
-      to : pointwise nat_eq block block' ≡ true → equal_values vs ws ≡ true
-      to e =
-          let same : vs ≡ ws = ap (λ (n : ℕ). values_left n block) len ∙ ap (values_left (length places')) (same_text block block' (sym e)) in
-          ap (equal_values vs) (sym same) ∙ refl_values vs
-
-      from : equal_values vs ws ≡ true → pointwise nat_eq block block' ≡ true
-      from e =
-          let same : block ≡ block' = sym b.whole ∙ ap spelled (same_values vs ws e) ∙ b'.whole in
-          ap (pointwise nat_eq block) (sym same) ∙ refl_numbers block
-
-  -- those with more or fewer aren't equal
-  pub apart : (length places ≡ length places' → ⊥) → false ≡ equal_values vs ws
-  apart other = one_truth false (equal_values vs ws) (λ e. absurd (differ e)) (λ e. absurd (other (sym (count_is places block b) ∙ ap length (same_values vs ws e) ∙ count_is places' block' b')))
-    where
-      differ : false ≡ true → ⊥
-      differ e = cc
+-- more or fewer aren't equal
+pub apart : (vs ws : List (Option (List ℕ))) → (length vs ≡ length ws → ⊥) → false ≡ equal_values vs ws
+apart vs ws other = one_truth false (equal_values vs ws) (λ e. absurd (differ e)) (λ e. absurd (other (ap length (same_values vs ws e))))
+  where
+    differ : false ≡ true → ⊥
+    differ e = cc

@@ -1,9 +1,10 @@
 -- A list of lent values or pairs is spelled as these are.
-use Rattle.std.proofs.Common.{◌≡◌, ◌∙◌, ◌==◌, ◌||◌, Bool, ℕ, suc, ◌+◌, ◌<◌, ◌≤◌, arith, get_or, take, List, [], ◌∷◌, ◌++◌, length, refl, sym, ap}
-use Rattle.std.specs.Prelude.{map, option_copied, Option, None, Result, Ok, Err}
+use Rattle.std.proofs.Common.{◌≡◌, ◌∙◌, ◌==◌, ◌||◌, Bool, ℕ, suc, ◌+◌, ◌<◌, ◌≤◌, arith, get_or, take, List, [], ◌∷◌, ◌++◌, length, length-append, refl, sym, ap}
+use Rattle.std.specs.Prelude.{map, option_copied, Option, Some, None, IfSome, Result, Ok, Err}
 use Rattle.std.proofs.lemmas.List.{get_or_default}
 use Rattle.std.specs.Borrow.{Bor}
 use Rattle.std.specs.List.{flat_map, list_any}
+use Rattle.std.specs.Int.{w32, to_be_bytes}
 use Rattle.pg_codec.specs.Field.{value_bytes}
 use Rattle.pg_codec.specs.Value.{parameter}
 use Rattle.pg_codec.proofs.Loops.{part_of}
@@ -47,6 +48,15 @@ one_of_all vs i lt =
     let v = get_or vs i None in
     let part = part_of (λ v. value_bytes (option_copied v)) vs i v lt (get_or_default vs i None v lt) in
     omega (arith, part, ap length (lent_spelled (take i vs)), ap length (lent_spelled vs))
+
+-- a list of values, each of which has a spelling that isn't longer than all of them have
+module _ (vs : List (Option (Bor (List ℕ)))) (most : ℕ) (few : length (flat_map value_bytes (map option_copied vs)) ≤ most) where
+  pub each_fits : (i : ℕ) → i < length vs → IfSome (get_or vs i None) (λ bytes. length bytes.now ≤ most)
+  each_fits i lt = by (get_or vs i None) (omega (arith, one_of_all vs i lt, few))
+    where
+      by : (v : Option (Bor (List ℕ))) → length (value_bytes (option_copied v)) ≤ most → IfSome v (λ bytes. length bytes.now ≤ most)
+      by None le = tt
+      by (Some bytes) le = omega (arith, le, length-append (to_be_bytes w32 (length bytes.now)) bytes.now)
 
 -- ---- a call has one fault at most
 

@@ -1,14 +1,14 @@
 -- Reading in place gives what reading gives.
-use Rattle.std.proofs.Common.{◌≡◌, ℕ, zero, suc, ◌+◌, ◌<◌, ◌≤◌, Bool, true, false, cond, eqb, List, [], ◌∷◌, length, take, drop, Option, Some, None, refl, sym, ap, subst, ◌∙◌, arith}
+use Rattle.std.proofs.Common.{◌≡◌, ℕ, zero, suc, ◌+◌, ◌<◌, ◌≤◌, Bool, true, false, cond, eqb, ltb, List, [], ◌∷◌, length, take, drop, Option, Some, None, refl, sym, ap, subst, ◌∙◌, arith}
 use Rattle.std.specs.Prelude.{position, ◌==◌, is_some, IsSome}
 use Rattle.std.specs.Option.{option_map_or}
-use Rattle.std.specs.Int.{w16}
-use Rattle.std.proofs.lemmas.Bool.{eqb-true}
+use Rattle.std.specs.Int.{w16, w32, from_be_bytes}
+use Rattle.std.proofs.lemmas.Bool.{eqb-true, ltb-false, le-ltb, ne_eqb}
 use Rattle.std.proofs.lemmas.List.{length-drop, length-take}
 use Rattle.pg_codec.specs.declared.fault.BodyFault.{BodyFault}
 use Rattle.pg_codec.specs.declared.fault.BodyFault.TheVariants as faults
 use Rattle.pg_codec.specs.declared.value.ErrorField.{ErrorField}
-use Rattle.pg_codec.specs.Private.Reader.{◌>>=◌, Fails, number_at, times_at, up_to_zero_at, counted_at, terminated_at, value_at, error_field_at, nonzero_at, string_at, pair_at, whole}
+use Rattle.pg_codec.specs.Private.Reader.{◌>>=◌, Fails, number_at, times_at, up_to_zero_at, counted_at, terminated_at, value_at, value_of_length, null_length, error_field_at, nonzero_at, string_at, pair_at, whole}
 use Rattle.pg_values.specs.Private.View.{values_left, fields_within, fields_left, row_of, fields_of}
 use Rattle.pg_codec.proofs.Layouts.{bind_some, some_is}
 
@@ -86,21 +86,48 @@ same_fields (suc n) (suc m) bytes h k = by_field (λ rest. same_fields n m rest)
         let short = field_rest bytes x.0 x.1 e in
         ap (λ (others : List ErrorField). x.0 ∷ others) (same x.1 (omega arith) (omega arith))
 
+-- ---- a value that bytes begin with
+
+-- it is read by its length
+reads_on : (bytes : List ℕ) → 4 ≤ length bytes → value_at bytes ≡ value_of_length (from_be_bytes w32 (take 4 bytes)) (drop 4 bytes)
+unfolding value_at
+reads_on bytes long = rw (le-ltb _ _ long) refl
+
+nothing_there : (o : Option (Option (List ℕ) × List ℕ)) → o ≡ None → IsSome o → ⊥
+nothing_there None e is = cc
+nothing_there (Some x) e is = cc
+
+pub begun_long : (bytes : List ℕ) → IsSome (value_at bytes) → 4 ≤ length bytes
+unfolding value_at
+begun_long bytes is = by (ltb (length bytes) 4) refl
+  where
+    by : (t : Bool) → ltb (length bytes) 4 ≡ t → 4 ≤ length bytes
+    by false e = ltb-false _ _ e
+    by true e = absurd (nothing_there (value_at bytes) (rw e refl) is)
+
+module _ (bytes : List ℕ) (n : ℕ) (rest : List ℕ) (is : IsSome (value_at bytes)) (number : n ≡ from_be_bytes w32 (take 4 bytes)) (behind : rest ≡ drop 4 bytes) where
+  of_length : value_at bytes ≡ value_of_length n rest
+  of_length = reads_on bytes (begun_long bytes is) ∙ rw (number, behind) refl
+
+  pub begun_null : n ≡ null_length → value_at bytes ≡ Some (None, rest)
+  begun_null e = of_length ∙ rw e refl
+
+  pub begun_value : (n ≡ null_length → ⊥) → (n ≤ length rest) × (value_at bytes ≡ Some (Some (take n rest), drop n rest))
+  begun_value other = by (ltb 2147483647 n) (ltb (length rest) n) refl refl
+    where
+      not_null : eqb n null_length ≡ false
+      not_null = ne_eqb _ _ other
+
+      by : (s t : Bool) → ltb 2147483647 n ≡ s → ltb (length rest) n ≡ t → (n ≤ length rest) × (value_at bytes ≡ Some (Some (take n rest), drop n rest))
+      by true t e f = absurd (nothing_there (value_at bytes) (of_length ∙ rw (not_null, e) refl) is)
+      by false true e f = absurd (nothing_there (value_at bytes) (of_length ∙ rw (not_null, e, f) refl) is)
+      by false false e f = (ltb-false _ _ f, of_length ∙ rw (not_null, e, f) refl)
+
 -- ---- one step
 
 pub value_comes : (count others : ℕ) (bytes : List ℕ) (v : Option (List ℕ)) (rest : List ℕ) → count ≡ suc others → Some (v, rest) ≡ value_at bytes → values_left count bytes ≡ v ∷ values_left others rest
 unfolding values_left
 value_comes count others bytes v rest is e = rw (is, ← e) refl
-
-pub no_value_comes : (count : ℕ) (bytes : List ℕ) → None ≡ value_at bytes → values_left count bytes ≡ []
-unfolding values_left
-no_value_comes zero bytes e = refl
-no_value_comes (suc n) bytes e = rw (← e) refl
-
-pub no_count : (count : ℕ) (bytes : List ℕ) → count ≡ 0 → values_left count bytes ≡ []
-unfolding values_left
-no_count zero bytes e = refl
-no_count (suc n) bytes e = absurd (omega arith)
 
 pub field_comes : (bytes : List ℕ) (f : ErrorField) (rest : List ℕ) → Some (f, rest) ≡ error_field_at bytes → fields_left bytes ≡ f ∷ fields_left rest
 unfolding fields_within

@@ -1,6 +1,6 @@
 //! The values of a row or a Bind, in one block of memory.
 
-ghost use Rattle.std.specs.Prelude.{◌≡◌, ◌↔◌, ◌<◌, ◌+◌, ◌≤◌, [], ◌∷◌, ◌++◌, length, map};
+ghost use Rattle.std.specs.Prelude.{◌≡◌, ◌↔◌, ◌<◌, ◌+◌, ◌≤◌, [], ◌∷◌, ◌++◌, length, map, take};
 ghost use Rattle.std.specs.Prelude.{option_copied, option_map, slice_get, vec_len, OnOk, OnErr};
 ghost use Rattle.std.specs.Prelude.{IfOk, IfErr, IfSome, IsTrue, Err};
 ghost use Rattle.std.specs.Prelude.{nat_eq, ◌⊎◌};
@@ -10,17 +10,19 @@ ghost use Rattle.std.specs.Cmp.Lexicographic.{nat_list_eq_equiv};
 ghost use Rattle.std.specs.Cmp.{partial_equiv_from_equiv};
 ghost use Rattle.pg_codec.specs.Field.{value_bytes};
 ghost use Rattle.pg_codec.specs.declared.fault.EncodeFault.TheVariants.{TooLong, Memory};
-ghost use Rattle.pg_codec.specs.Private.Reader.{Gives, counted_at, times_at, value_at};
+ghost use Rattle.pg_codec.specs.Private.Reader.{Gives, counted_at, value_at};
 ghost use Rattle.pg_values.specs.Private.Block.{IsBlock, IsRow, spelled, longest_block};
 ghost use Rattle.pg_values.specs.Private.View.{values_left};
 ghost use Rattle.pg_values.specs.Text.{IsTextAt};
 
+use crate::block::{make_room, put_last, with_len};
+use crate::first::first_value;
 use crate::part::ValueList;
-use crate::places::places_at;
+use crate::places::{note_all, noted_in};
 use crate::text::Text;
 use crate::view::{LentValues, RowView};
-use pg_codec::{BodyFault, EncodeFault, LONGEST, lent_value_at, u16_at};
-use pg_seq::{AsText, ByElement, DebugElement, DebugForm};
+use pg_codec::{BodyFault, EncodeFault, LONGEST, after_times, u16_at};
+use pg_seq::{AsText, ByElement, DebugElement, DebugForm, Seq};
 use std::alloc::{AllocError, Global};
 use std::fmt;
 use std::marker::Model;
@@ -29,42 +31,42 @@ use std::marker::Model;
 /// block of memory. A clause sees the list of the values.
 #[derive(Drop)]
 pub struct Values {
-    // where each value begins in the block
-    places: Vec<u32>,
-    // the values one after the other, each as it stands in a message: its length and its bytes, or -1 for null
+    // the values one after the other, each as it stands in a message: its length and its bytes, or -1 for null. Then room for more, and at the end
+    // where each begins
     block: Vec<u8>,
+    // how many bytes the values take
+    size: u32,
+    // how many there are
+    count: u32,
 }
 
 impl Model for Values {
-    ghost use Rattle.std.specs.Prelude.{List, Option, ℕ, length};
+    ghost use Rattle.std.specs.Prelude.{List, Option, ℕ, take};
     ghost use Rattle.pg_values.specs.Private.View.{values_left};
     ghost use Rattle.pg_values.specs.Private.Block.{IsBlock};
 
     ghost Value = { List (Option (List ℕ)) };
 
-    ghost view = { λ v. values_left (length v.places.items) v.block.items };
+    ghost view = { λ v. values_left v.count (take v.size v.block.items) };
 
-    ghost invariant = { λ v. IsBlock v.places.items v.block.items };
+    ghost invariant = { λ v. IsBlock v.count v.size v.block.items };
 }
 
-// Puts a value at the end of a block, or leaves the block as it was where memory runs out.
-fn put(block: &mut Vec<u8>, value: Option<&[u8]>) -> Result<(), AllocError>
+// Appends a value as a message spells it.
+fn append(bytes: &mut Vec<u8>, value: Option<&[u8]>) -> Result<(), AllocError>
     requires { IfSome value (λ bytes. length bytes.now ≤ longest_block) }
-    ensures ok { OnOk result (block.new.items
-        ≡ block.old.items ++ value_bytes (option_copied value.entry)) }
-    ensures err { OnErr result (block.new.items ≡ block.old.items) }
+    ensures { OnOk result (bytes.new.items
+        ≡ bytes.old.items ++ value_bytes (option_copied value.entry)) }
 {
-    let Some(bytes) = value else {
-        return block.extend_from_slice(&[255; 4]);
+    let Some(value) = value else {
+        return bytes.extend_from_slice(&[255; 4]);
     };
-    // once there is room nothing fails
-    block.reserve(4 + bytes.len())?;
-    block.extend_from_slice(&(bytes.len() as u32).to_be_bytes())?;
-    block.extend_from_slice(bytes)
+    bytes.extend_from_slice(&(value.len() as u32).to_be_bytes())?;
+    bytes.extend_from_slice(value)
 }
 
 // How many bytes these values take in a block, or 0 where no block can hold them.
-fn room_for(list: &[Option<&[u8]>]) -> usize
+fn size_of(list: &[Option<&[u8]>]) -> usize
     ensures fits { length (spelled (map option_copied list.now)) ≤ longest_block
         → result ≡ length (spelled (map option_copied list.now)) }
     ensures too_long { longest_block < length (spelled (map option_copied list.now))
@@ -77,28 +79,52 @@ fn room_for(list: &[Option<&[u8]>]) -> usize
     }
 }
 
-// So many values and the bytes after them.
-fn block_at(alloc: Global, count: u16, bytes: &[u8]) -> Result<(Values, &[u8]), BodyFault>
-    requires short { length bytes.now ≤ longest_block }
-    ensures { Gives (λ x. (x.0, x.1.now)) result (times_at value_at count bytes.now) }
+// So many values, which are all of these bytes.
+// A part of each caller: as a call it moves the block once more.
+#[inline(always)]
+fn of_bytes(mut block: Vec<u8>, count: usize) -> Result<Values, AllocError>
+    requires row { IsRow count block.items }
+    requires short { length block.items ≤ longest_block }
+    ensures { IfOk result (λ values. values ≡ values_left count block.items) }
 {
-    let (places, rest) = places_at(alloc, count, bytes)?;
-    let (block, _) = bytes.split_at(bytes.len() - rest.len());
-    let block = Vec::from_slice(alloc, block)?;
-    Ok((Values { places, block }, rest))
+    let size = block.len();
+    block.resize(size + 4 * count, 0)?;
+    let (bytes, places) = block.as_mut_slice().split_at_mut(size);
+    note_all(places, count, bytes);
+    Ok(Values {
+        block,
+        size: size as u32,
+        count: count as u32,
+    })
 }
 
-/// The values at the beginning of the bytes, after their count, and the bytes after them. They are read once, and copied at once.
+// The values of a row, copied.
+fn copy_row(alloc: Global, count: u16, bytes: &[u8]) -> Result<Values, AllocError>
+    requires row { IsRow count bytes.now }
+    requires short { length bytes.now ≤ longest_block }
+    ensures { IfOk result (λ values. values ≡ values_left count bytes.now) }
+{
+    let count = usize::from(count);
+    let mut block = Vec::with_capacity(alloc, bytes.len() + 4 * count)?;
+    block.extend_from_slice(bytes)?;
+    of_bytes(block, count)
+}
+
+/// The values at the beginning of the bytes, after their count, and the bytes after them. They are judged before they are copied.
 #[tactic(auto, unfolding(pg_codec::specs::Private::Reader::counted_at))]
 pub fn values_at(alloc: Global, bytes: &[u8]) -> Result<(Values, &[u8]), BodyFault>
     ensures { Gives (λ x. (x.0, x.1.now)) result (counted_at value_at bytes.now) }
 {
-    let (count, rest) = u16_at(bytes)?;
+    let (count, bytes) = u16_at(bytes)?;
     // no message has a body as long as that
-    if rest.len() > LONGEST as usize {
+    if bytes.len() > LONGEST as usize {
         return Err(BodyFault::Memory);
     }
-    block_at(alloc, count, rest)
+    let Some(rest) = after_times::<Option<Seq<u8>>>(count, bytes) else {
+        return Err(BodyFault::Bad);
+    };
+    let (row, _) = bytes.split_at(bytes.len() - rest.len());
+    Ok((copy_row(alloc, count, row)?, rest))
 }
 
 impl Values {
@@ -107,22 +133,10 @@ impl Values {
         ensures { result ≡ [] }
     {
         Values {
-            places: Vec::new(alloc),
             block: Vec::new(alloc),
+            size: 0,
+            count: 0,
         }
-    }
-
-    // A list without values, with room for `count` of them, which take `room` bytes in all. It takes that memory now, and none where `room` is 0.
-    fn with_room(alloc: Global, count: usize, room: usize) -> Result<Values, AllocError>
-        ensures { IfOk result (λ values. values ≡ []) }
-    {
-        if room == 0 {
-            return Ok(Values::new(alloc));
-        }
-        Ok(Values {
-            places: Vec::with_capacity(alloc, count)?,
-            block: Vec::with_capacity(alloc, room)?,
-        })
     }
 
     /// Copies these values. TooLong: no message could hold them. Memory: memory ran out.
@@ -132,11 +146,18 @@ impl Values {
             → longest_block < length (spelled (map option_copied list.now)) }
         ensures faults { IfErr result (λ fault. (fault ≡ TooLong) ⊎ (fault ≡ Memory)) }
     {
-        let mut values = Values::with_room(alloc, list.len(), room_for(list))?;
-        for value in list {
-            values.push(*value)?;
+        if list.is_empty() {
+            return Ok(Values::new(alloc));
         }
-        Ok(values)
+        let size = size_of(list);
+        if size == 0 {
+            return Err(EncodeFault::TooLong);
+        }
+        let mut block = Vec::with_capacity(alloc, size + 4 * list.len())?;
+        for value in list {
+            append(&mut block, *value)?;
+        }
+        Ok(of_bytes(block, list.len())?)
     }
 
     /// Copies the values of a row that is lent. TooLong: no message could hold them. Memory: memory ran out.
@@ -149,24 +170,21 @@ impl Values {
         if bytes.len() > LONGEST as usize {
             return Err(EncodeFault::TooLong);
         }
-        match block_at(alloc, count, bytes) {
-            Ok((values, _)) => Ok(values),
-            Err(_) => Err(EncodeFault::Memory),
-        }
+        Ok(copy_row(alloc, count, bytes)?)
     }
 
     /// How many values there are.
     pub fn len(&self) -> usize
         ensures { result ≡ length self.now }
     {
-        self.places.len()
+        self.count as usize
     }
 
     /// Whether there is no value.
     pub fn is_empty(&self) -> bool
         ensures { IsTrue result ↔ (self.now ≡ []) }
     {
-        self.places.is_empty()
+        self.count == 0
     }
 
     /// The values as a message spells them, one after the other.
@@ -174,16 +192,20 @@ impl Values {
         ensures bytes { result.now ≡ spelled self.now }
         ensures short { length result.now ≤ longest_block }
     {
-        self.block.as_slice()
+        let (values, _) = self.block.as_slice().split_at(self.size as usize);
+        values
     }
 
     /// The value at `index`, or `None` past the end. A value that is None is null.
     pub fn get(&self, index: usize) -> Option<Option<&[u8]>>
         ensures { option_map option_copied result ≡ slice_get self.now index }
     {
-        let place = *self.places.get(index)? as usize;
+        if index >= self.len() {
+            return None;
+        }
+        let place = noted_in(self.block.as_slice(), index);
         let (_, rest) = self.block.as_slice().split_at(place);
-        let (value, _) = lent_value_at(rest)?;
+        let (value, _) = first_value(rest);
         Some(value)
     }
 
@@ -199,7 +221,7 @@ impl Values {
     pub fn iter(&self) -> LentValues<'_>
         ensures { result ≡ self.now }
     {
-        LentValues::new(self.places.len(), self.block.as_slice())
+        LentValues::new(self.len(), self.spelling())
     }
 
     /// Adds a value at the end. TooLong: no message could hold the values any more. Memory: memory ran out. After either the list is as it was.
@@ -210,18 +232,18 @@ impl Values {
             < length (spelled self.old) + length (value_bytes (option_copied value.entry))) }
         ensures faults { IfErr result (λ fault. (fault ≡ TooLong) ⊎ (fault ≡ Memory)) }
     {
-        let size = match value {
-            None => 0,
-            Some(bytes) => bytes.len(),
+        let more = match value {
+            None => 4,
+            Some(bytes) => 4 + bytes.len(),
         };
-        let room = LONGEST as usize - self.block.len();
-        if room < 4 || room - 4 < size {
+        let (count, size) = (self.len(), self.size as usize);
+        if LONGEST as usize - size < more {
             return Err(EncodeFault::TooLong);
         }
-        let place = self.block.len() as u32;
-        self.places.reserve(1)?;
-        put(&mut self.block, value)?;
-        self.places.push(place)?;
+        make_room(&mut self.block, count, size, more)?;
+        put_last(self.block.as_mut_slice(), count, size, value);
+        self.size += more as u32;
+        self.count += 1;
         Ok(())
     }
 }
@@ -232,9 +254,11 @@ impl Clone for Values {
 
     fn clone(&self) -> Result<Self, AllocError> {
         let alloc = *self.block.allocator();
+        let (count, size) = (self.len(), self.size as usize);
         Ok(Values {
-            places: Vec::from_slice(alloc, self.places.as_slice())?,
-            block: Vec::from_slice(alloc, self.block.as_slice())?,
+            block: with_len(alloc, self.block.as_slice(), count, size, size + 4 * count)?,
+            size: self.size,
+            count: self.count,
         })
     }
 }
@@ -246,7 +270,7 @@ impl PartialEq for Values {
     ghost laws = { lists_per (partial_equiv_from_equiv (options_equiv nat_list_eq_equiv)) };
 
     fn eq(&self, other: &Self) -> bool {
-        self.len() == other.len() && self.block == other.block
+        self.len() == other.len() && self.spelling() == other.spelling()
     }
 }
 

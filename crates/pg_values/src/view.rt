@@ -10,8 +10,9 @@ ghost use Rattle.pg_values.specs.Private.Block.{IsRow};
 ghost use Rattle.pg_values.specs.Private.Kept.{IsFields};
 ghost use Rattle.pg_values.specs.Text.{IsTextAt};
 
+use crate::first::first_value;
 use crate::text::Text;
-use pg_codec::{ErrorField, after_counted, after_terminated, lent_field_at, lent_value_at, u16_at};
+use pg_codec::{ErrorField, after_counted, after_terminated, lent_field_at, u16_at};
 use pg_seq::Seq;
 use std::marker::Model;
 
@@ -97,15 +98,19 @@ pub struct LentValues<'a> {
 impl<'a> Model for LentValues<'a> {
     ghost use Rattle.std.specs.Prelude.{List, Option, ℕ};
     ghost use Rattle.pg_values.specs.Private.View.{values_left};
+    ghost use Rattle.pg_values.specs.Private.Block.{IsRow};
 
     ghost Value = { List (Option (List ℕ)) };
 
     ghost view = { λ r. values_left r.count r.values.now };
+
+    ghost invariant = { λ r. IsRow r.count r.values.now };
 }
 
 impl<'a> LentValues<'a> {
-    /// At most `count` values, which these bytes spell one after the other. There are fewer where the bytes have no more.
+    /// So many values, which all of these bytes spell one after the other.
     pub(crate) fn new(count: usize, values: &'a [u8]) -> LentValues<'a>
+        requires { IsRow count values.now }
         ensures { result ≡ values_left count values.now }
     {
         LentValues { count, values }
@@ -123,7 +128,7 @@ impl<'a> Iterator for LentValues<'a> {
         if self.count == 0 {
             return None;
         }
-        let (value, values) = lent_value_at(self.values)?;
+        let (value, values) = first_value(self.values);
         self.count -= 1;
         self.values = values;
         Some(value)

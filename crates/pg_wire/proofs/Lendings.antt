@@ -2,12 +2,14 @@
 use Rattle.std.proofs.Common.{◌≡◌, ℕ, zero, suc, ◌+◌, ◌-◌, ◌<◌, ◌≤◌, false, true, List, [], ◌∷◌, length, take, drop, Option, Some, None, Result, Ok, Err, refl, sym, ap, subst, ◌∙◌, arith, inl, inr}
 use Rattle.std.specs.Prelude.{Bool, ◌||◌, ◌==◌, ◌⊎◌, ◌++◌, slice_index}
 use Rattle.std.proofs.lemmas.Bool.{eqb-true}
-use Rattle.std.specs.Option.{IsSome}
+use Rattle.std.specs.Option.{IsSome, option_map}
 use Rattle.std.proofs.lemmas.List.{drop-take}
 use Rattle.pg_wire.specs.declared.fault.WireFault.{WireFault}
 use Rattle.pg_wire.specs.declared.fault.WireFault.TheVariants as wire
 use Rattle.pg_codec.proofs.Layouts.{IsBytes, IsBytes-take}
 use Rattle.pg_message.specs.declared.lent.Lent.{Lent}
+use Rattle.pg_message.specs.declared.lent.Lent.TheVariants.{Row}
+use Rattle.pg_values.specs.Private.View.{row_of}
 use Rattle.pg_message.specs.declared.message.BackMessage.TheVariants.{DataRow, ErrorResponse, NoticeResponse}
 use Rattle.pg_message.specs.Direction.{Direction, spelling, longest}
 use Rattle.pg_message.specs.Lent.{message_of}
@@ -18,7 +20,7 @@ use Rattle.pg_message.proofs.Lendings.{lends}
 use Rattle.pg_wire.specs.Stream.{IsWhole}
 use Rattle.pg_wire.specs.Decoder.{DecoderState, Takes}
 use Rattle.pg_wire.specs.BackDecoder.{LetsGo}
-use Rattle.pg_wire.specs.Private.Found.{IsFirst, FindsLent}
+use Rattle.pg_wire.specs.Private.Found.{IsFirst, FindsLent, FindsRow}
 use Rattle.pg_wire.specs.declared.find.Found.TheVariants as found
 use Rattle.pg_wire.specs.Spellings.{LetsBytes}
 use Rattle.pg_wire.specs.Private.Held.{IsHeldFront}
@@ -69,6 +71,18 @@ module _ (limit : ℕ) (rest : List ℕ) (t len n : ℕ) where
 
   pub bad_lent : IsBytes rest → IsWhole backend limit rest t len → n ≡ len - 4 → has_lent t ≡ true → lent_body t (take n (drop 5 rest)) ≡ None → FindsLent limit rest (Err (wire.BadBody t))
   bad_lent fits whole size known is = bad_fault backend limit rest t len n whole size (subst (LendsBody t (take n (drop 5 rest))) is (body_lends fits known))
+
+-- a row that is whole
+pub row_found : (limit : ℕ) (rest : List ℕ) (len n : ℕ) → limit ≤ longest → IsBytes rest → IsWhole backend limit rest 68 len → n ≡ len - 4 → IsSome (row_of (take n (drop 5 rest))) → FindsRow limit rest (len + 1)
+row_found limit rest len n small fits whole size is = by (row_of (take n (drop 5 rest))) refl is
+  where
+    by : (o : Option (List (Option (List ℕ)))) → row_of (take n (drop 5 rest)) ≡ o → IsSome o → FindsRow limit rest (len + 1)
+    by None e is = absurd cc
+    by (Some values) e is =
+        let message : IsMessage backend 68 (take n (drop 5 rest)) (DataRow values) = subst (LendsBody 68 (take n (drop 5 rest))) (ap (option_map Row) e) (body_lends limit rest 68 len n fits refl) in
+        let first = message_found backend limit rest 68 len n (DataRow values) small fits whole size message in
+        let k : len + 1 - 5 ≡ n = omega (arith, whole.not_short, size) in
+        (values, omega (arith, whole.not_short), ap (λ (m : ℕ). row_of (take m (drop 5 rest))) k ∙ e, (whole.there, first.0, first.1))
 
 -- ---- the beginning of the buffer
 

@@ -96,6 +96,7 @@ impl BackDecoder {
 
     /// The next message, or None where more bytes are to come. A fault is returned once all messages before it were given, and by each call after
     /// that. Memory is returned only for a message that is whole and holds a text or another list, and leaves the decoder unchanged.
+    #[inline(always)]
     pub fn next(&mut self) -> Result<Option<BackMessage>, WireFault>
         ensures call { Takes backend self.old.stream result self.new.stream }
         ensures held { LetsGo self.old.held result self.new.held }
@@ -103,7 +104,7 @@ impl BackDecoder {
             → HasTaken backend self.old.stream pushed given
             → HasTaken backend self.new.stream pushed (given_after given result) }
     {
-        self.stream.next()
+        self.stream.next_owned()
     }
 
     /// The next message, as `next` gives it, but a row, an error or a notice is returned as Held. Such a message counts as given, and takes no

@@ -1,19 +1,24 @@
 //! What stands at the beginning of a rest.
 
-ghost use Rattle.std.specs.Prelude.{◌≡◌, ◌<◌, length, MatchOption};
+ghost use Rattle.std.specs.Prelude.{◌≡◌, ◌<◌, length, IfSome, MatchOption};
 ghost use Rattle.pg_message.specs.Direction.{IsLimit};
-ghost use Rattle.pg_wire.specs.Stream.{Head, IsTag};
-ghost use Rattle.pg_wire.specs.Private.Found.{Judges, Finds, FindsLent, FindsWhole};
+ghost use Rattle.pg_wire.specs.Stream.{Head, IsTag, IsWhole};
+ghost use Rattle.pg_wire.specs.Private.Found.{Judges, MakesFirst, FindsLent, FindsRow, FindsWhole};
 
 use crate::fault::WireFault;
 use pg_codec::BodyFault;
 use pg_message::{BackMessage, Lent, Message};
+use pg_values::RowView;
 use std::alloc::Global;
 
 /// So many bytes are no head of a message, which has a tag and a length field.
 pub const NO_HEAD: usize = 4;
 
+// The tag of a row.
+const ROW: u8 = b'D';
+
 /// What the head of a rest shows.
+#[derive(Drop)]
 pub enum Judged {
     /// No message is whole while no more than so many bytes are there.
     Open(usize),
@@ -32,7 +37,8 @@ fn head(rest: &[u8]) -> Option<(u8, i32)>
     }
 }
 
-fn judge<M: Message>(limit: u32, rest: &[u8]) -> Judged
+/// What the head of a rest shows of the message that it begins.
+pub fn judge<M: Message>(limit: u32, rest: &[u8]) -> Judged
     requires { IsLimit limit }
     ensures { Judges M.direction limit rest.now result }
 {
@@ -66,29 +72,24 @@ fn judge_length<M: Message>(limit: u32, rest: &[u8], tag: u8, len: i32) -> Judge
     }
 }
 
-/// The next message of a rest, made.
-pub enum Next<M> {
-    /// No message is whole while no more than so many bytes are there.
-    Open(usize),
-    /// A message, and how many bytes it takes.
-    Message(M, usize),
-}
-
-/// The message at the beginning of a rest, and how many bytes it takes.
+/// The message at the beginning of a rest, which has this tag and this length field and is all there.
 // a part of each caller, as `Stream::next` is
 #[inline(always)]
-pub fn find<M: Message>(alloc: Global, limit: u32, rest: &[u8]) -> Result<Next<M>, WireFault>
-    requires { IsLimit limit }
-    ensures { Finds M.direction limit rest.now result }
+pub fn first_message<M: Message>(
+    alloc: Global,
+    limit: u32,
+    rest: &[u8],
+    tag: u8,
+    len: usize,
+) -> Result<M, WireFault>
+    requires limit { IsLimit limit }
+    requires whole { IsWhole M.direction limit rest.now tag len }
+    ensures { MakesFirst M.direction limit rest.now len result }
 {
-    match judge::<M>(limit, rest) {
-        Judged::Open(size) => Ok(Next::Open(size)),
-        Judged::Faulty(fault) => Err(fault),
-        Judged::Whole(tag, len) => match M::of_body(alloc, tag, &rest[5..len + 1]) {
-            Ok(message) => Ok(Next::Message(message, len + 1)),
-            Err(BodyFault::Bad) => Err(WireFault::BadBody(tag)),
-            Err(BodyFault::Memory) => Err(WireFault::Memory),
-        },
+    match M::of_body(alloc, tag, &rest[5..len + 1]) {
+        Ok(message) => Ok(message),
+        Err(BodyFault::Bad) => Err(WireFault::BadBody(tag)),
+        Err(BodyFault::Memory) => Err(WireFault::Memory),
     }
 }
 
@@ -140,5 +141,22 @@ pub fn find_lent(limit: u32, rest: &[u8]) -> Result<Found, WireFault>
             Some(_) => Ok(Found::Lent(len + 1)),
             None => Err(WireFault::BadBody(tag)),
         },
+    }
+}
+
+/// How many bytes the row takes that a backend's rest begins with. None where it begins with none, where not all of it is there, and where it has a
+/// fault.
+#[inline(always)]
+pub fn find_row(limit: u32, rest: &[u8]) -> Option<usize>
+    requires { IsLimit limit }
+    ensures { IfSome result (FindsRow limit rest.now) }
+{
+    let (tag, len) = head(rest)?;
+    if tag != ROW {
+        return None;
+    }
+    match judge_length::<BackMessage>(limit, rest, tag, len) {
+        Judged::Whole(_, len) if RowView::is_row(&rest[5..len + 1]) => Some(len + 1),
+        _ => None,
     }
 }

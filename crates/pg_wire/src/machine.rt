@@ -1,6 +1,7 @@
 //! What the decoders of tagged messages have in common.
 
 ghost use Rattle.std.specs.Prelude.{◌≡◌, ◌≤◌, ◌<◌, ◌+◌, [], true, take, drop, length};
+ghost use Rattle.std.specs.Prelude.{None, Some};
 ghost use Rattle.pg_message.specs.Backend.{backend};
 ghost use Rattle.pg_message.specs.Direction.{IsLimit};
 ghost use Rattle.pg_wire.specs.Decoder.{Pushes, IsLasting, Takes};
@@ -8,15 +9,17 @@ ghost use Rattle.pg_wire.specs.Stream.{IsOpen};
 ghost use Rattle.pg_wire.specs.BackDecoder.{TakesLent};
 ghost use Rattle.pg_wire.specs.Spellings.{LetsBytes, TakesSpelling};
 ghost use Rattle.pg_wire.specs.Private.Found.{Awaits};
-ghost use Rattle.pg_wire.specs.Private.Held.{back_state, spellings_state, IsHeldFront, HoldsNext};
+ghost use Rattle.pg_wire.specs.Private.Held.{back_state, spellings_state, IsHeldFront};
+ghost use Rattle.pg_wire.specs.Private.Held.{HoldsNext, MayFind, TakesRow};
 
 use crate::back::Cut;
 use crate::buffer::drop_first;
 use crate::fault::WireFault;
-use crate::find::{Found, Judged, NO_HEAD, Next, find, find_lent, find_whole};
+use crate::find::{Found, Judged, NO_HEAD, find_lent, find_row, find_whole, first_message, judge};
 use bytes::BytesMut;
 use pg_message::{BackMessage, Message};
-use std::alloc::Global;
+use pg_values::{RowView, Values};
+use std::alloc::{AllocError, Global};
 use std::marker::{Model, PhantomData};
 
 /// The bytes of one direction that were pushed and not given as messages, and before them those of the message that is still
@@ -155,6 +158,18 @@ impl<M: Message> Stream<M> {
         self.awaited = NO_HEAD;
     }
 
+    // Ends the holding, and stores a fault, which it returns.
+    fn fail(&mut self, fault: WireFault) -> WireFault
+        requires { IsLasting (Some fault) }
+        ensures fault { result ≡ fault }
+        ensures front { self.new.front ≡ [] }
+        ensures rest { self.new.rest ≡ record self.old.rest { fault = Some fault } }
+    {
+        self.let_go();
+        self.fault = Some(fault);
+        fault
+    }
+
     /// The limit of a message's length field.
     pub fn limit(&self) -> u32
         ensures { result ≡ self.now.rest.limit }
@@ -189,12 +204,11 @@ impl<M: Message> Stream<M> {
         Ok(())
     }
 
-    /// The next message, taken off.
-    // a part of each caller: a call that finds nothing whole then pays for no other's way, nor for room for a message
+    // Whether a look at the bytes may find a message. A fault that is stored is returned. Where one is, or too few bytes are kept, the holding ends.
+    // A part of each caller, so that a small piece of a large message costs a comparison.
     #[inline(always)]
-    pub fn next(&mut self) -> Result<Option<M>, WireFault>
-        ensures call { Takes M.direction self.old.rest result self.new.rest }
-        ensures front { LetsBytes self.old.front result self.new.front }
+    fn may_find(&mut self) -> Result<bool, WireFault>
+        ensures { MayFind M.direction self.old result self.new }
     {
         if let Some(fault) = self.fault {
             self.let_go();
@@ -202,23 +216,38 @@ impl<M: Message> Stream<M> {
         }
         if self.is_short() {
             self.let_go();
-            return Ok(None);
+            return Ok(false);
         }
-        match find(self.alloc, self.limit, self.rest()) {
-            Ok(Next::Open(size)) => {
+        Ok(true)
+    }
+
+    /// The next message, taken off.
+    // a part of each caller: a call that finds nothing whole then pays for no other's way, nor for room for a message
+    #[inline(always)]
+    pub fn next(&mut self) -> Result<Option<M>, WireFault>
+        ensures call { Takes M.direction self.old.rest result self.new.rest }
+        ensures front { LetsBytes self.old.front result self.new.front }
+    {
+        match self.may_find() {
+            Ok(true) => {}
+            Ok(false) => return Ok(None),
+            Err(fault) => return Err(fault),
+        }
+        let rest = self.rest();
+        match judge::<M>(self.limit, rest) {
+            Judged::Open(size) => {
                 self.wait_for(size);
                 Ok(None)
             }
-            Ok(Next::Message(message, len)) => {
-                self.take_off(len);
-                Ok(Some(message))
-            }
-            Err(WireFault::Memory) => Err(WireFault::Memory),
-            Err(fault) => {
-                self.let_go();
-                self.fault = Some(fault);
-                Err(fault)
-            }
+            Judged::Faulty(fault) => Err(self.fail(fault)),
+            Judged::Whole(tag, len) => match first_message(self.alloc, self.limit, rest, tag, len) {
+                Ok(message) => {
+                    self.take_off(len + 1);
+                    Ok(Some(message))
+                }
+                Err(WireFault::Memory) => Err(WireFault::Memory),
+                Err(fault) => Err(self.fail(fault)),
+            },
         }
     }
 }
@@ -237,11 +266,7 @@ impl<M: Message> Stream<M> {
                 self.wait_for(size);
                 Ok(false)
             }
-            Judged::Faulty(reason) => {
-                self.let_go();
-                self.fault = Some(reason);
-                Err(reason)
-            }
+            Judged::Faulty(fault) => Err(self.fail(fault)),
             Judged::Whole(_, len) => {
                 self.hold(len + 1);
                 Ok(true)
@@ -276,6 +301,45 @@ impl Stream<BackMessage> {
                 self.fault = Some(found);
                 Found::Other
             }
+        }
+    }
+
+    // Takes the next message of a backend off where it is a row. Where it is none, or not all of it is there, or it has a fault, nothing changes.
+    // A call of its own, with room for no other message.
+    #[inline(never)]
+    fn take_row(&mut self) -> Result<Option<Values>, AllocError>
+        requires { self.old.rest.fault ≡ None }
+        ensures { TakesRow self.old result self.new }
+    {
+        let rest = self.rest();
+        let Some(size) = find_row(self.limit, rest) else {
+            return Ok(None);
+        };
+        match Values::of_row(self.alloc, &RowView::of_body(&rest[5..size])) {
+            Ok(values) => {
+                self.take_off(size);
+                Ok(Some(values))
+            }
+            Err(_) => Err(AllocError),
+        }
+    }
+
+    /// The next message of a backend, taken off.
+    // a part of its caller, as `next_lent` is
+    #[inline(always)]
+    pub fn next_owned(&mut self) -> Result<Option<BackMessage>, WireFault>
+        ensures call { Takes backend self.old.rest result self.new.rest }
+        ensures front { LetsBytes self.old.front result self.new.front }
+    {
+        match self.may_find() {
+            Ok(true) => {}
+            Ok(false) => return Ok(None),
+            Err(fault) => return Err(fault),
+        }
+        match self.take_row() {
+            Ok(Some(values)) => Ok(Some(BackMessage::DataRow(values))),
+            Ok(None) => self.next_apart(),
+            Err(_) => Err(WireFault::Memory),
         }
     }
 

@@ -1,8 +1,9 @@
 -- Values in one block of memory: as a row spells them, one after the other, and where each begins.
-use Rattle.std.specs.Prelude.{ℕ, ◌+◌, ◌≡◌, ◌≤◌, List, [], ◌∷◌, length, Option, Some}
+use Rattle.std.specs.Prelude.{ℕ, ◌+◌, ◌-◌, ◌*◌, ◌<◌, ◌≡◌, ◌≤◌, List, [], length, take, drop, Option, Some}
 use Rattle.std.specs.List.{flat_map}
+use Rattle.std.specs.Int.{w32, from_le_bytes}
 use Rattle.pg_codec.specs.Field.{value_bytes}
-use Rattle.pg_codec.specs.Private.Reader.{mapped_at, times_at, value_at}
+use Rattle.pg_codec.specs.Private.Reader.{times_at, value_at}
 use Rattle.pg_values.specs.Private.View.{values_left}
 
 -- the values as a row spells them, one after the other
@@ -15,22 +16,29 @@ pub record IsRow (count : ℕ) (bytes : List ℕ) : Type 0 where
   pub whole : spelled (values_left count bytes) ≡ bytes
   pub count_is : length (values_left count bytes) ≡ count
 
--- where each value begins, the first of them at this place
-unfoldable pub starts : ℕ → List (Option (List ℕ)) → List ℕ
-starts at [] = []
-starts at (v ∷ values) = at ∷ starts (at + length (value_bytes v)) values
+-- where the value of this index begins among these
+abbrev pub start_of : List (Option (List ℕ)) → ℕ → ℕ
+start_of values i = length (spelled (take i values))
 
--- where each of so many values begins, and the bytes after the last of them
-abbrev pub starts_at : ℕ → List ℕ → Option (List ℕ × List ℕ)
-starts_at count bytes = mapped_at (starts 0) (times_at value_at count) bytes
+-- where the value of this index begins, as the end of a block says: in four bytes for each value,
+-- those of the first last
+abbrev pub noted_in : List ℕ → ℕ → ℕ
+noted_in block i = from_le_bytes w32 (take 4 (drop (length block - (4 * i + 4)) block))
 
--- the most bytes that a block has
+-- the most bytes that the values of a block have
 abbrev pub longest_block : ℕ
 longest_block = 1073741823
 
--- The block is the spelling of just its values, the places are those where they begin, and the
--- block isn't longer than a message can be.
-pub record IsBlock (places block : List ℕ) : Type 0 where
-  pub whole : spelled (values_left (length places) block) ≡ block
-  pub starts_are : places ≡ starts 0 (values_left (length places) block)
-  pub short : length block ≤ longest_block
+-- The first bytes of the block are so many values, no more than a message can have, and its end says
+-- where each of them begins.
+pub record IsBlock (count size : ℕ) (block : List ℕ) : Type 0 where
+  pub row : IsRow count (take size block)
+  pub noted : (i : ℕ) → i < count
+      → noted_in block i ≡ start_of (values_left count (take size block)) i
+  pub fits : size + 4 * count ≤ length block
+  pub short : size ≤ longest_block
+
+-- Another block has the same values, and says the same of where they begin.
+pub record HasSame (count size : ℕ) (old new : List ℕ) : Type 0 where
+  pub values : take size new ≡ take size old
+  pub noted : drop (length new - 4 * count) new ≡ drop (length old - 4 * count) old

@@ -1,15 +1,15 @@
 -- What is found at the beginning of a rest.
-use Rattle.std.specs.Prelude.{ℕ, ◌≡◌, ◌<◌, ◌≤◌, ◌+◌, ◌++◌, false, List, length, take, drop, Option, Some, None, Result, Ok, Err}
+use Rattle.std.specs.Prelude.{ℕ, ◌≡◌, ◌<◌, ◌≤◌, ◌+◌, ◌-◌, ◌++◌, false, List, length, take, drop, Option, Some, Result, Ok, Err}
 use Rattle.pg_wire.specs.declared.fault.WireFault.{WireFault}
 use Rattle.pg_wire.specs.declared.fault.WireFault.TheVariants as wire
 use Rattle.pg_wire.specs.declared.find.Judged.{Judged}
 use Rattle.pg_wire.specs.declared.find.Judged.TheVariants as judged
-use Rattle.pg_wire.specs.declared.find.Next.{Next}
-use Rattle.pg_wire.specs.declared.find.Next.TheVariants as next
 use Rattle.pg_wire.specs.declared.find.Found.{Found}
 use Rattle.pg_wire.specs.declared.find.Found.TheVariants as found
 use Rattle.pg_message.specs.declared.lent.Lent.{Lent}
 use Rattle.pg_message.specs.declared.message.BackMessage.{BackMessage}
+use Rattle.pg_message.specs.declared.message.BackMessage.TheVariants.{DataRow}
+use Rattle.pg_values.specs.Private.View.{row_of}
 use Rattle.pg_message.specs.Backend.{backend}
 use Rattle.pg_message.specs.Direction.{Direction, spelling}
 use Rattle.pg_message.specs.Lent.{message_of, is_lent}
@@ -42,17 +42,17 @@ abbrev pub IsFirst : {M : Type 0} → Direction M → ℕ → List ℕ → M →
 IsFirst d limit rest m len = (len ≤ length rest) × IsWithin d limit m
     × (rest ≡ spelling d m ++ drop len rest)
 
+-- the first message of the rest, whose length field is this
+abbrev pub MakesFirst : {M : Type 0} → Direction M → ℕ → List ℕ → ℕ → Result M WireFault
+    → Type 0
+MakesFirst d limit rest len (Ok m) = IsFirst d limit rest m (len + 1)
+MakesFirst d limit rest len (Err f) = Refuses d limit rest f
+
 -- what stands at the beginning of the rest, where a whole message is judged in place
 abbrev pub FindsWhole : {M : Type 0} → Direction M → ℕ → List ℕ → Judged → Type 0
 FindsWhole d limit rest (judged.Open size) = StaysOpen d limit rest size
 FindsWhole d limit rest (judged.Faulty f) = IsFaulty d limit rest f
 FindsWhole {M} d limit rest (judged.Whole tag len) = (m : M) × IsFirst d limit rest m (len + 1)
-
--- the next message, and how many bytes it takes
-abbrev pub Finds : {M : Type 0} → Direction M → ℕ → List ℕ → Result (Next M) WireFault → Type 0
-Finds d limit rest (Ok (next.Open size)) = StaysOpen d limit rest size
-Finds d limit rest (Ok (next.Message m len)) = IsFirst d limit rest m len
-Finds d limit rest (Err f) = Refuses d limit rest f
 
 -- The rest begins with no message within the limit that is lent.
 abbrev pub BeginsNoLent : ℕ → List ℕ → Type 0
@@ -71,3 +71,9 @@ FindsLent limit rest (Ok (found.Lent len)) = (lent : Lent) × (5 ≤ len)
     × (lent_bytes (take len rest) ≡ Some lent) × IsFirst backend limit rest (message_of lent) len
 FindsLent limit rest (Ok found.Other) = BeginsNoLent limit rest × HasOtherTag limit rest
 FindsLent limit rest (Err f) = IsFaulty backend limit rest f
+
+-- The rest begins with a row within the limit, which takes so many bytes.
+abbrev pub FindsRow : ℕ → List ℕ → ℕ → Type 0
+FindsRow limit rest size = (values : List (Option (List ℕ))) × (5 ≤ size)
+    × (row_of (take (size - 5) (drop 5 rest)) ≡ Some values)
+    × IsFirst backend limit rest (DataRow values) size

@@ -1,10 +1,11 @@
 -- What is common to the decoders of tagged messages: a buffer whose beginning may be a message that
 -- was given and is still held.
-use Rattle.std.specs.Prelude.{◌≡◌, ◌≤◌, ◌⊎◌, [], ℕ, List, length, Some, None, Ok}
+use Rattle.std.specs.Prelude.{◌≡◌, ◌≤◌, ◌⊎◌, [], ℕ, Bool, true, false, List, length, Option, Some, None, Result, Ok, Err}
 use Rattle.std.specs.Option.{IsSome}
 use Rattle.pg_message.specs.Private.LentReader.{lent_bytes}
 use Rattle.pg_message.specs.declared.lent.Lent.{Lent}
 use Rattle.pg_message.specs.Backend.{backend}
+use Rattle.pg_message.specs.Direction.{Direction}
 use Rattle.pg_message.specs.Lent.{message_of}
 use Rattle.pg_wire.specs.Stream.{IsFaulty}
 use Rattle.pg_wire.specs.Private.Found.{Awaits, BeginsNoLent, HasOtherTag}
@@ -12,8 +13,11 @@ use Rattle.pg_wire.specs.declared.find.Found.{Found}
 use Rattle.pg_wire.specs.declared.find.Found.TheVariants as found
 use Rattle.pg_wire.specs.Decoder.{DecoderState, Takes}
 use Rattle.pg_wire.specs.BackDecoder.{BackState}
-use Rattle.pg_wire.specs.Spellings.{SpellingsState}
+use Rattle.pg_wire.specs.Spellings.{SpellingsState, LetsBytes}
+use Rattle.std.specs.declared.alloc.AllocError.{AllocError}
+use Rattle.pg_message.specs.declared.message.BackMessage.TheVariants.{DataRow}
 use Rattle.pg_wire.specs.declared.fault.WireFault.{WireFault}
+use Rattle.pg_wire.specs.declared.fault.WireFault.TheVariants as wire
 
 -- the bytes of the message that is still held, if one is, and the stream after it
 pub record StreamState : Type 0 where
@@ -48,3 +52,19 @@ HoldsNext old (found.Lent size) new = (lent : Lent) × (5 ≤ length new.front)
     × Takes backend old.rest (Ok (Some (message_of lent))) new.rest
 HoldsNext old found.Other new = StoresFault old new ⊎ ((new ≡ old) × (old.rest.fault ≡ None
     → BeginsNoLent old.rest.limit old.rest.kept × HasOtherTag old.rest.limit old.rest.kept))
+
+-- A look at the bytes may find a message, or they are open, or a fault is stored.
+abbrev pub MayFind : {M : Type 0} → Direction M → StreamState → Result Bool WireFault
+    → StreamState → Type 0
+MayFind d old (Ok true) new = (new ≡ old) × (old.rest.fault ≡ None)
+MayFind d old (Ok false) new = (new.front ≡ []) × Takes d old.rest (Ok None) new.rest
+MayFind {M} d old (Err f) new = LetsBytes {A = M} old.front (Err f) new.front
+    × Takes d old.rest (Err f) new.rest
+
+-- The next message is taken where it is a row, and memory may run out for one. Else nothing is changed.
+abbrev pub TakesRow : StreamState → Result (Option (List (Option (List ℕ)))) AllocError
+    → StreamState → Type 0
+TakesRow old (Ok (Some values)) new = (new.front ≡ [])
+    × Takes backend old.rest (Ok (Some (DataRow values))) new.rest
+TakesRow old (Ok None) new = new ≡ old
+TakesRow old (Err e) new = (new ≡ old) × Takes backend old.rest (Err wire.Memory) old.rest

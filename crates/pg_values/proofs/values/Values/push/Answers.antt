@@ -1,21 +1,25 @@
-use Rattle.std.proofs.Common.{rules, ◌≡◌, ◌≤◌, ◌+◌, [], ◌∷◌, ◌++◌, length, List, ℕ, Option, refl, ap, ◌∙◌}
-use Rattle.std.specs.Prelude.{option_copied}
-use Rattle.pg_codec.specs.Field.{value_bytes}
-use Rattle.pg_values.specs.Private.Block.{longest_block}
-use Rattle.pg_values.proofs.Blocks.{one_more}
+use Rattle.std.proofs.Common.{◌≡◌, length, take, ℕ, sym, ap, subst, ◌∙◌, arith}
+use Rattle.std.proofs.lemmas.List.{length-take-le}
+use Rattle.pg_values.specs.Private.Block.{IsBlock}
+use Rattle.pg_values.proofs.Blocks.{moved, few_values}
 use Rattle.pg_values.proofs.values.Values.push.Goals as goal
-use Rattle.pg_values.proofs.values.Values.push.Goals.{in-None, in-Some}
 
-pub invariant_of-self-2 : goal.invariant_of-self-2
-invariant_of-self-2 c =
-    let short : length c.self.inside.block.items + length (value_bytes (option_copied c.args.value)) ≤ longest_block = elim c.match-value.branch [ in-None w ↦ search rules | in-Some w ↦ search rules ] in
-    let at : c.len-place.result ≡ length c.self.inside.block.items = search rules in
-    let places : c.push.new.self.items ≡ c.self.inside.places.items ++ length c.self.inside.block.items ∷ [] = c.in_ok-push.ensures.items ∙ rw (at, c.reserve.ensures.items) refl in
-    rw (places, c.in_ok-put.ensures.ok) (one_more c.self.inside.places.items c.self.inside.block.items c.self.invariant (option_copied c.args.value) short).1
+pub make_room-requires-clause-few : goal.make_room-requires-clause-few
+make_room-requires-clause-few c =
+    let values = take c.self.inside.size c.self.inside.block.items in
+    let counted : c.len-count.result ≡ c.self.inside.count = c.len-count.ensures ∙ sym (ap length c.self.view_is) ∙ c.self.invariant.row.count_is in
+    omega (arith, counted, few_values c.self.inside.count values c.self.invariant.row, length-take-le c.self.inside.size c.self.inside.block.items (omega (arith, c.self.invariant.fits)))
 
-pub returns-clause-ok : goal.returns-clause-ok
-returns-clause-ok c =
-    let short : length c.self.inside.block.items + length (value_bytes (option_copied c.args.value)) ≤ longest_block = elim c.match-value.branch [ in-None w ↦ search rules | in-Some w ↦ search rules ] in
-    let at : c.len-place.result ≡ length c.self.inside.block.items = search rules in
-    let places : c.push.new.self.items ≡ c.self.inside.places.items ++ length c.self.inside.block.items ∷ [] = c.in_ok-push.ensures.items ∙ rw (at, c.reserve.ensures.items) refl in
-    rw (places, c.in_ok-put.ensures.ok) ((one_more c.self.inside.places.items c.self.inside.block.items c.self.invariant (option_copied c.args.value) short).0 ∙ ap (λ (vs : List (Option (List ℕ))). vs ++ option_copied c.args.value ∷ []) c.self.view_is)
+pub put_last-requires-clause-block : goal.put_last-requires-clause-block
+put_last-requires-clause-block c =
+    let size = c.self.inside.size in
+    let new = c.make_room.new.block.items in
+    let counted : c.len-count.result ≡ c.self.inside.count = c.len-count.ensures ∙ sym (ap length c.self.view_is) ∙ c.self.invariant.row.count_is in
+    let block : IsBlock c.len-count.result size c.self.inside.block.items = subst (λ (n : ℕ). IsBlock n size c.self.inside.block.items) (sym counted) c.self.invariant in
+    let same = c.in_ok-make_room.ensures.same in
+    subst (IsBlock c.len-count.result size) (sym c.as_mut_slice.ensures.value) (moved c.len-count.result size c.self.inside.block.items block new (omega (arith, c.in_ok-make_room.ensures.room)) same.values same.noted).0
+
+pub overflow_add-self-2 : goal.overflow_add-self-2
+overflow_add-self-2 c =
+    let values = take c.self.inside.size c.self.inside.block.items in
+    omega (arith, few_values c.self.inside.count values c.self.invariant.row, length-take-le c.self.inside.size c.self.inside.block.items (omega (arith, c.self.invariant.fits)), c.self.invariant.short)

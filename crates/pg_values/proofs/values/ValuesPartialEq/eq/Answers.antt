@@ -1,24 +1,19 @@
-use Rattle.std.proofs.Common.{◌≡◌, length, List, ℕ, Option, ap, ◌∙◌, arith}
+use Rattle.std.proofs.Common.{length, sym, ap, subst, ◌∙◌, ◌≤◌, List, ℕ}
+use Rattle.std.specs.Prelude.{nat_eq}
+use Rattle.std.specs.Cmp.Lexicographic.{pointwise}
 use Rattle.std.proofs.lemmas.Bool.{ne_eqb}
-use Rattle.pg_values.specs.Private.View.{values_left}
-use Rattle.pg_values.proofs.Blocks.{count_is}
-use Rattle.pg_values.proofs.Equal.{compared, apart, equal_values}
+use Rattle.pg_values.specs.Private.Block.{longest_block}
+use Rattle.pg_values.proofs.Equal.{compared, apart}
 use Rattle.pg_values.proofs.values.ValuesPartialEq.eq.Goals as goal
 
 pub returns-then-len : goal.returns-then-len
 returns-then-len c =
-    let places = c.self.inside.places.items in
-    let places' = c.other.inside.places.items in
-    let mine = count_is places c.self.inside.block.items c.self.invariant in
-    let theirs = count_is places' c.other.inside.block.items c.other.invariant in
-    let len : length places ≡ length places' = omega (arith, mine, theirs, ap length c.self.view_is, ap length c.other.view_is, c.len.ensures, c.len-2.ensures, c.if-len.true) in
-    c.eq.ensures ∙ compared places c.self.inside.block.items places' c.other.inside.block.items c.self.invariant c.other.invariant len ∙ ap (λ (xs : List (Option (List ℕ))). equal_values xs (values_left (length places') c.other.inside.block.items)) c.self.view_is ∙ ap (equal_values c.args.self.now) c.other.view_is
+    let mine = c.spelling.ensures in
+    let theirs = c.spelling-then-len.ensures in
+    let short = subst (λ (bytes : List ℕ). length bytes ≤ longest_block) mine.bytes mine.short in
+    let short' = subst (λ (bytes : List ℕ). length bytes ≤ longest_block) theirs.bytes theirs.short in
+    let bytes = ap (pointwise nat_eq c.spelling.result.now) theirs.bytes in
+    c.eq.ensures ∙ bytes ∙ rw mine.bytes (compared c.args.self.now c.args.other.now (sym c.len.ensures ∙ c.if-len.true ∙ c.len-2.ensures) short short')
 
 pub returns-else-len : goal.returns-else-len
-returns-else-len c =
-    let places = c.self.inside.places.items in
-    let places' = c.other.inside.places.items in
-    let mine = count_is places c.self.inside.block.items c.self.invariant in
-    let theirs = count_is places' c.other.inside.block.items c.other.invariant in
-    let other : length places ≡ length places' → ⊥ = λ e. c.if-len.false (omega (arith, mine, theirs, e, ap length c.self.view_is, ap length c.other.view_is, c.len.ensures, c.len-2.ensures)) in
-    ne_eqb c.len.result c.len-2.result c.if-len.false ∙ apart places c.self.inside.block.items places' c.other.inside.block.items c.self.invariant c.other.invariant other ∙ ap (λ (xs : List (Option (List ℕ))). equal_values xs (values_left (length places') c.other.inside.block.items)) c.self.view_is ∙ ap (equal_values c.args.self.now) c.other.view_is
+returns-else-len c = ne_eqb c.len.result c.len-2.result c.if-len.false ∙ apart c.args.self.now c.args.other.now (λ e. c.if-len.false (c.len.ensures ∙ e ∙ sym c.len-2.ensures))

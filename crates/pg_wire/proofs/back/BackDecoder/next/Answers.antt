@@ -7,4 +7,4 @@ use Rattle.pg_wire.proofs.back.BackDecoder.next.Goals as goal
 
 pub returns-clause-taken : goal.returns-clause-taken
 returns-clause-taken c = λ pushed given h.
-    taken_next backend c.self.inside.stream.rest c.next.result c.next.new.self.rest c.next.ensures.call pushed given (subst (λ (s : BackState). HasTaken backend s.stream pushed given) (sym c.self.view_is) h)
+    taken_next backend c.self.inside.stream.rest c.next_owned.result c.next_owned.new.self.rest c.next_owned.ensures.call pushed given (subst (λ (s : BackState). HasTaken backend s.stream pushed given) (sym c.self.view_is) h)

@@ -1,4 +1,4 @@
-use Rattle.std.proofs.Common.{rules, ◌≡◌, ◌<◌, ◌+◌, ℕ, List, None, length, drop, refl, sym, ap, ◌∙◌, inr, arith}
+use Rattle.std.proofs.Common.{rules, ◌≡◌, ◌<◌, ◌+◌, None, length, drop, refl, ap, inr, arith}
 use Rattle.pg_message.specs.Backend.{backend}
 use Rattle.pg_wire.specs.Stream.{IsOpen}
 use Rattle.pg_wire.specs.Private.Found.{Awaits}

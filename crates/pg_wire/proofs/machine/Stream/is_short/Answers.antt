@@ -1,4 +1,4 @@
-use Rattle.std.proofs.Common.{◌≡◌, ◌<◌, ◌+◌, ℕ, List, drop, ap, length, arith}
+use Rattle.std.proofs.Common.{◌≡◌, ◌<◌, ◌+◌, drop, ap, length, arith}
 use Rattle.std.proofs.lemmas.Bool.{leb-true}
 use Rattle.pg_wire.specs.Stream.{IsOpen}
 use Rattle.pg_wire.specs.Private.Held.{StreamState}

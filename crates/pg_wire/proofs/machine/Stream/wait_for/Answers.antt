@@ -1,4 +1,4 @@
-use Rattle.std.proofs.Common.{◌≡◌, ℕ, List, drop, ap, ◌∙◌}
+use Rattle.std.proofs.Common.{◌≡◌, drop, ap, ◌∙◌}
 use Rattle.pg_wire.specs.Private.Found.{Awaits}
 use Rattle.pg_wire.specs.Private.Held.{StreamState}
 use Rattle.pg_wire.specs.Decoder.{DecoderState}
