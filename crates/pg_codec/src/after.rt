@@ -51,7 +51,7 @@ pub fn after_status(bytes: &[u8]) -> Option<&[u8]>
     }
 }
 
-/// The bytes after so many fields.
+/// The bytes after so many fields. None where they aren't all there.
 pub fn after_times<T: ReadField>(count: u16, bytes: &[u8]) -> Option<&[u8]>
     ensures { option_copied result ≡ left_after (times_at T.reading count bytes.now) }
 {

@@ -34,7 +34,7 @@ pub use after::{
 pub use appender::Appender;
 pub use fault::{BodyFault, EncodeFault};
 pub use field::{Field, ReadField};
-pub use lent::{lent_field_at, lent_value_at};
+pub use lent::lent_field_at;
 pub use part::{BodyPart, Byte, Bytes, Counted, Int32, LONGEST, Pair, Salt, Terminated, Text};
 pub use reader::{
     after_zero, copy_head_at, copy_of, counted, ended, i32_at, status_at, terminated, text_at,

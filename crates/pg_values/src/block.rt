@@ -56,7 +56,7 @@ pub fn put_last(block: &mut [u8], count: usize, size: usize, value: Option<&[u8]
     note(block, count, size as u32);
 }
 
-/// A block of so many bytes, with the values of this one.
+/// A block of so many bytes, with the values of this one and where each begins.
 pub fn with_len(
     alloc: Global,
     block: &[u8],

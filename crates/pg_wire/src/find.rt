@@ -73,7 +73,7 @@ fn judge_length<M: Message>(limit: u32, rest: &[u8], tag: u8, len: i32) -> Judge
 }
 
 /// The message at the beginning of a rest, which has this tag and this length field and is all there.
-// a part of each caller, as `Stream::next` is
+// a part of `Stream::next`, as that is of its callers
 #[inline(always)]
 pub fn first_message<M: Message>(
     alloc: Global,

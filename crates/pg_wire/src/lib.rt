@@ -55,7 +55,8 @@
 //! stored: a relation (`HasTaken`) ties it to the decoder's state, `new` begins it, and each call carries it on.
 //!
 //! **A `BackDecoder`** may hold a message. `next_lent` looks first (`hold_next`): a row, an error or a notice that is whole is judged in
-//! place and stays in the buffer. A view is made only of a body that was judged, so its iterators have no error to return.
+//! place and stays in the buffer. A view is made only of a body that was judged, so its iterators have no error to return. `next` looks
+//! for a row first (`take_row`), judges it in place and copies it once.
 //!
 //! **`Spellings`** judges each whole message in place and makes none, so it needs no memory but for the pieces that it keeps.
 #![tactic(auto)]

@@ -228,10 +228,8 @@ impl<M: Message> Stream<M> {
         ensures call { Takes M.direction self.old.rest result self.new.rest }
         ensures front { LetsBytes self.old.front result self.new.front }
     {
-        match self.may_find() {
-            Ok(true) => {}
-            Ok(false) => return Ok(None),
-            Err(fault) => return Err(fault),
+        if !self.may_find()? {
+            return Ok(None);
         }
         let rest = self.rest();
         match judge::<M>(self.limit, rest) {
@@ -325,16 +323,14 @@ impl Stream<BackMessage> {
     }
 
     /// The next message of a backend, taken off.
-    // a part of its caller, as `next_lent` is
+    // a part of its caller: a call on too few bytes costs a comparison, though the caller has room for a message
     #[inline(always)]
     pub fn next_owned(&mut self) -> Result<Option<BackMessage>, WireFault>
         ensures call { Takes backend self.old.rest result self.new.rest }
         ensures front { LetsBytes self.old.front result self.new.front }
     {
-        match self.may_find() {
-            Ok(true) => {}
-            Ok(false) => return Ok(None),
-            Err(fault) => return Err(fault),
+        if !self.may_find()? {
+            return Ok(None);
         }
         match self.take_row() {
             Ok(Some(values)) => Ok(Some(BackMessage::DataRow(values))),
@@ -344,7 +340,7 @@ impl Stream<BackMessage> {
     }
 
     // The next message of a backend, as `next` gives it: it is taken off the buffer.
-    // A call of its own: the callers of `next_lent` then have no part of `next`, which only other messages and faults need.
+    // A call of its own: the callers of `next_lent` and `next_owned` then have no part of `next`, which only other messages and faults need.
     #[inline(never)]
     fn next_apart(&mut self) -> Result<Option<BackMessage>, WireFault>
         ensures call { Takes backend self.old.rest result self.new.rest }

@@ -29,8 +29,8 @@ noted_in block i = from_le_bytes w32 (take 4 (drop (length block - (4 * i + 4)) 
 abbrev pub longest_block : ℕ
 longest_block = 1073741823
 
--- The first bytes of the block are so many values, no more than a message can have, and its end says
--- where each of them begins.
+-- The first `size` bytes of the block are so many values, and a message can have as many bytes. The
+-- end of the block says where each value begins.
 pub record IsBlock (count size : ℕ) (block : List ℕ) : Type 0 where
   pub row : IsRow count (take size block)
   pub noted : (i : ℕ) → i < count
