@@ -9,7 +9,8 @@
 //!   server or a loader that reads what a stranger sends keeps no more than the limit and one piece.
 //! - **Writers.** [`write_text_row`] and [`write_text_row_with`] append the canonical line of a row; [`write_binary_row`], between
 //!   [`write_binary_head`] and [`write_binary_trailer`], a row of a binary file. Values that don't stand in a [`Row`] are written one by
-//!   one: [`TextRowWriter`], and [`write_binary_count`] with [`write_binary_field`].
+//!   one: [`TextRowWriter`], and [`write_binary_count`] with [`write_binary_field`]; or from an iterator that lends them,
+//!   [`write_binary_values`].
 //! - **Options.** [`TextOptions`]: the delimiter and the null mark of a text file.
 //!
 //! Types aren't known here: a value is its bytes, or null.
@@ -40,7 +41,7 @@ mod limit;
 pub use limit::{LimitedTextFault, LimitedTextReader};
 pub use pg_copy_binary::{
     BinaryReader, BinaryRow, LentValues, write_binary_count, write_binary_field, write_binary_head,
-    write_binary_row, write_binary_trailer,
+    write_binary_row, write_binary_trailer, write_binary_values,
 };
 pub use pg_copy_rows::{BinaryFault, OptionFault, Row, RowFault, TextFault};
 pub use pg_copy_text::{

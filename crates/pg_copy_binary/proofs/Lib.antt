@@ -14,3 +14,4 @@ pub mod BinaryPushes
 pub mod BinaryWalk
 pub mod BinaryLent
 pub mod BinaryRows
+pub mod BinaryGiven

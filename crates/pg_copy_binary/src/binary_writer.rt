@@ -1,14 +1,14 @@
 //! The parts of a binary file, written.
 
-ghost use Rattle.std.specs.Prelude.{◌≡◌, ◌++◌, ◌≤◌, ◌<◌, None, false, length, option_copied, take};
+ghost use Rattle.std.specs.Prelude.{◌≡◌, ◌++◌, None, false, length, option_copied, take};
 ghost use Rattle.std.specs.Prelude.{OnOk, OnErr};
 ghost use Rattle.std.specs.Int.{w16, to_be_bytes};
-ghost use Rattle.std.specs.List.{list_any};
 ghost use Rattle.pg_copy_rows.specs.Row.{is_long, width_fault, field_fault, binary_fault, Writes};
 ghost use Rattle.pg_copy_binary.specs.Binary.{value, binary_row, written_head, trailer};
 
-use crate::format::{LONGEST_VALUE, NULL, SIGNATURE, TRAILER};
-use pg_copy_rows::format::{MOST_FIELDS, settle};
+use crate::binary_values::{size_of, width_fault, write_binary_values};
+use crate::format::{NULL, SIGNATURE, TRAILER};
+use pg_copy_rows::format::settle;
 use pg_copy_rows::{Row, RowFault};
 use std::alloc::AllocError;
 
@@ -48,70 +48,19 @@ fn append(bytes: &[u8], buf: &mut Vec<u8>) -> Result<(), RowFault>
     }
 }
 
-// Why a row can't have so many fields.
-fn width_fault(count: usize) -> Option<RowFault>
-    ensures { result ≡ width_fault count }
-{
-    if count == 0 || count > MOST_FIELDS {
-        return Some(RowFault::Width(count));
-    }
-    None
-}
-
-fn is_long(field: Option<&[u8]>) -> bool
-    ensures { result ≡ is_long (option_copied field.entry) }
-{
-    match field {
-        None => false,
-        Some(bytes) => bytes.len() > LONGEST_VALUE as usize,
-    }
-}
-
 // Why a field can't be written.
 fn field_fault(field: Option<&[u8]>) -> Option<RowFault>
     ensures { result ≡ field_fault (option_copied field.entry) }
 {
-    if is_long(field) {
+    if size_of(field).is_none() {
         return Some(RowFault::FieldLong);
     }
     None
-}
-
-fn has_long(row: &Row) -> bool
-    ensures { result ≡ list_any is_long row.now }
-{
-    for value in row.iter() {
-        if is_long(value) {
-            return true;
-        }
-    }
-    false
-}
-
-// Why a row can't be written.
-fn row_fault(row: &Row) -> Option<RowFault>
-    ensures { result ≡ binary_fault row.now }
-{
-    if let Some(fault) = width_fault(row.len()) {
-        return Some(fault);
-    }
-    if has_long(row) {
-        return Some(RowFault::FieldLong);
-    }
-    None
-}
-
-fn put_count(count: usize, buf: &mut Vec<u8>) -> Result<(), AllocError>
-    requires { count ≤ 32767 }
-    ensures ok { OnOk result (buf.new.items ≡ buf.old.items ++ to_be_bytes w16 count) }
-    ensures err { OnErr result (buf.new.items ≡ buf.old.items) }
-{
-    buf.extend_from_slice(&(count as u16).to_be_bytes())
 }
 
 // as a part of a large function it pays for that one's locals, value by value
 #[inline(never)]
-fn put_value(field: Option<&[u8]>, buf: &mut Vec<u8>) -> Result<(), AllocError>
+fn append_value(field: Option<&[u8]>, buf: &mut Vec<u8>) -> Result<(), AllocError>
     requires { is_long (option_copied field) ≡ false }
     ensures ok { OnOk result (buf.new.items
         ≡ buf.old.items ++ value (option_copied field.entry)) }
@@ -126,19 +75,6 @@ fn put_value(field: Option<&[u8]>, buf: &mut Vec<u8>) -> Result<(), AllocError>
     }
 }
 
-fn put_row(row: &Row, buf: &mut Vec<u8>) -> Result<(), AllocError>
-    requires width { length row.now ≤ 32767 }
-    requires short { list_any is_long row.now ≡ false }
-    ensures ok { OnOk result (buf.new.items ≡ buf.old.items ++ binary_row row.now) }
-    ensures err { OnErr result (take (length buf.old.items) buf.new.items ≡ buf.old.items) }
-{
-    put_count(row.len(), buf)?;
-    for value in row.iter() {
-        put_value(value, buf)?;
-    }
-    Ok(())
-}
-
 /// Appends the number of a row's values, which stands in front of them. A caller whose values don't stand in a `Row` writes a row by this, and each
 /// value by [`write_binary_field`] (PostgreSQL documentation, page COPY, "Binary Format"). Width: there is no value, or there are more than 32,767.
 /// Else Memory: the buffer could not grow. A fault leaves `buf` as it was.
@@ -149,10 +85,7 @@ pub fn write_binary_count(count: usize, buf: &mut Vec<u8>) -> Result<(), RowFaul
     if let Some(fault) = width_fault(count) {
         return Err(fault);
     }
-    match put_count(count, buf) {
-        Ok(()) => Ok(()),
-        Err(_) => Err(RowFault::Memory),
-    }
+    append(&(count as u16).to_be_bytes(), buf)
 }
 
 /// Appends one value after its length, as a row has it after the number of its values; a null is the length -1 (PostgreSQL documentation, page COPY,
@@ -165,7 +98,7 @@ pub fn write_binary_field(field: Option<&[u8]>, buf: &mut Vec<u8>) -> Result<(),
         return Err(fault);
     }
     let before = buf.len();
-    let written = put_value(field, buf);
+    let written = append_value(field, buf);
     settle(buf, before, written)
 }
 
@@ -176,10 +109,5 @@ pub fn write_binary_row(row: &Row, buf: &mut Vec<u8>) -> Result<(), RowFault>
     ensures { Writes (binary_fault row.now)
         (binary_row row.now) buf.old.items result buf.new.items }
 {
-    if let Some(fault) = row_fault(row) {
-        return Err(fault);
-    }
-    let before = buf.len();
-    let written = put_row(row, buf);
-    settle(buf, before, written)
+    write_binary_values(row.len(), row.iter(), row.iter(), buf)
 }

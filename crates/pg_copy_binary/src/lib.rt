@@ -6,7 +6,7 @@
 //!
 //! | File | Definitions in `specs/` | What it has |
 //! |---|---|---|
-//! | `format.rt`, `binary_writer.rt` | `Binary` | the parts of a binary file; a file as head, rows and rest |
+//! | `format.rt`, `binary_writer.rt`, `binary_values.rt` | `Binary` | the parts of a binary file; a file as head, rows and rest |
 //! | `binary_part.rt` | `BinaryPart` | a binary file read from left to right |
 //! | `binary_reader.rt`, `binary_row.rt` | `BinaryReader` | what the calls of a reader do, and the row that it lends |
 //! | `laws.rt` | `BinaryLaws` | a binary file has one reading, and what was written is read as what was meant |
@@ -19,12 +19,14 @@
 mod binary_part;
 mod binary_reader;
 mod binary_row;
+mod binary_values;
 mod binary_writer;
 mod format;
 pub mod laws;
 
 pub use binary_reader::BinaryReader;
 pub use binary_row::{BinaryRow, LentValues};
+pub use binary_values::write_binary_values;
 pub use binary_writer::{
     write_binary_count, write_binary_field, write_binary_head, write_binary_row,
     write_binary_trailer,

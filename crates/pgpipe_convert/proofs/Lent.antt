@@ -1,9 +1,8 @@
 -- Values that are written one by one.
 use Rattle.std.proofs.Common.{◌≡◌, ℕ, suc, ◌+◌, ◌<◌, ◌≤◌, Bool, true, false, cond, ltb, eqb, List, [], ◌∷◌, ◌++◌, ◌||◌, map, length, Option, Some, None, Result, Ok, Err, refl, sym, ap, subst, ◌∙◌, append-nil, append_assoc, length-append, arith}
 use Rattle.std.specs.Cmp.Lexicographic.{unequal}
-use Rattle.std.specs.Int.{w16, to_be_bytes}
 use Rattle.std.specs.Iterator.{Drains, Yields, YieldsFirstBy}
-use Rattle.std.specs.List.{flat_map, list_any, position_from}
+use Rattle.std.specs.List.{flat_map, position_from}
 use Rattle.std.specs.Option.{option_copied}
 use Rattle.std.specs.Result.{OnOk, OnErr}
 use Rattle.std.proofs.lemmas.Bool.{cond-true, cond-false, ne_eqb, le-ltb, lt-ltb}
@@ -12,15 +11,13 @@ use Rattle.std.proofs.lemmas.Iterator.{YieldsList, items_from_drains}
 use Rattle.std.proofs.lemmas.Iterator.Consumers.{YieldsList-from_first}
 use Rattle.pg_copy.specs.fault.RowFault.{RowFault}
 use Rattle.pg_copy.specs.fault.RowFault.TheVariants as faults
-use Rattle.pg_copy.specs.Row.{Row, is_misfit, is_long, width_fault, field_fault, binary_fault, Writes}
-use Rattle.pg_copy.specs.Binary.{value, binary_row}
-use Rattle.pg_copy.specs.BinaryLaws.{WritesFields, FieldsAreRow}
+use Rattle.pg_copy.specs.Row.{Row, is_misfit, Writes}
 use Rattle.pg_copy.specs.Text.{Options, newline, letter_for, with_letter, written_byte, written_row, is_like_null, like_null, text_fault}
 use Rattle.pg_copy.specs.TextLaws.{WritesTextFields, FieldsAreLine}
 use Rattle.pg_copy.specs.TextWriter.{RowWriterState, next_fault, next_written, end_fault}
 use Rattle.pgpipe_convert.specs.declared.values.Progress.{Progress}
 use Rattle.pgpipe_convert.specs.declared.values.Progress.TheVariants as progress
-use Rattle.pgpipe_convert.specs.Private.Values.{AreGiven, WritesInPart, progress_of, judged_at, LineStands, LineGoesOn, RowStands, RowGoesOn}
+use Rattle.pgpipe_convert.specs.Private.Values.{AreGiven, WritesInPart, progress_of, judged_at, LineStands, LineGoesOn}
 use denote.Ref.{Bor}
 use mathlib.Core.List.{IsPrefix}
 
@@ -69,22 +66,6 @@ first_is test i (x ∷ row) v more none is =
         clash : Some i ≡ None → ⊥
         clash k = cc
     go false h rest = rest h
-
-none_passes : (test : Option (List ℕ) → Bool) (row : Row) (v : Option (List ℕ)) → list_any test row ≡ false → test v ≡ false → list_any test (row ++ v ∷ []) ≡ false
-none_passes test [] v none is = rw is refl
-none_passes test (x ∷ row) v none is = go (test x) none (λ h. none_passes test row v h is)
-  where
-    go : (t : Bool) → (t || list_any test row) ≡ false → (list_any test row ≡ false → list_any test (row ++ v ∷ []) ≡ false) → (t || list_any test (row ++ v ∷ [])) ≡ false
-    go true h rest = h
-    go false h rest = rest h
-
-one_passes : (test : Option (List ℕ) → Bool) (row : Row) (v : Option (List ℕ)) (more : Row) → test v ≡ true → list_any test (row ++ v ∷ more) ≡ true
-one_passes test [] v more is = rw is refl
-one_passes test (x ∷ row) v more is = go (test x) (one_passes test row v more is)
-  where
-    go : (t : Bool) → list_any test (row ++ v ∷ more) ≡ true → (t || list_any test (row ++ v ∷ more)) ≡ true
-    go true rest = refl
-    go false rest = rest
 
 -- ---- the values of a line
 
@@ -224,130 +205,6 @@ line_ended law o row start so_far w mid r new all s some few last = by r (subst 
     by (Err (faults.Width n)) h = absurd (none (length row) some (faults.Width n) h.0)
     by (Err faults.FieldLong) h = absurd (none (length row) some faults.FieldLong h.0)
     by (Err (faults.LikeNull n)) h = absurd (none (length row) some (faults.LikeNull n) h.0)
-
--- ---- the values of a binary row
-
-values_more : (row : Row) (v : Option (List ℕ)) (old mid new : List ℕ) → WritesFields row old mid → Writes (field_fault v) (value v) mid (Ok tt) new → WritesFields (row ++ v ∷ []) old new
-values_more [] v old mid new w one = (new, subst (λ (l : List ℕ). Writes (field_fault v) (value v) l (Ok tt) new) w one, refl)
-values_more (x ∷ row) v old mid new w one = (w.0, w.1, values_more row v w.0 mid new w.2 one)
-
-fine_value : (v : Option (List ℕ)) → field_fault v ≡ None → is_long v ≡ false
-fine_value v e = go (is_long v) e
-  where
-    go : (long : Bool) → ◌≡◌ {A = Option RowFault} (cond long (Some faults.FieldLong) None) None → long ≡ false
-    go true h = absurd cc
-    go false h = refl
-
-faulty_value : (v : Option (List ℕ)) (f : RowFault) → field_fault v ≡ Some f → (f ≡ faults.FieldLong) × (is_long v ≡ true)
-faulty_value v f e = go (is_long v) e
-  where
-    go : (long : Bool) → ◌≡◌ {A = Option RowFault} (cond long (Some faults.FieldLong) None) (Some f) → (f ≡ faults.FieldLong) × (long ≡ true)
-    go true h = (cc, refl)
-    go false h = absurd cc
-
-pub row_off : (columns : ℕ) (row : Row) (start : List ℕ) (so_far less : Progress) (out : List ℕ) → (less ≡ progress.Written → so_far ≡ progress.Written) → RowStands columns row start so_far out → RowStands columns row start less out
-row_off columns row start so_far less out off s = record { fits = s.fits; none_long = s.none_long; written = λ e. s.written (off e); begun = s.begun }
-
-module _ (columns : ℕ) (row : Row) (start : List ℕ) (v : Option (List ℕ)) (old : List ℕ) (so_far : Progress) (s : RowStands columns row start so_far old) where
-  pub value_refused : (f : RowFault) (new : List ℕ) → f ≡ faults.FieldLong → is_long v ≡ true → new ≡ old → RowGoesOn columns row start v (Err f) new
-  value_refused f new is long same = (is, long, subst (λ (l : List ℕ). IsPrefix start l) (sym same) s.begun)
-
-  pub value_judged : (next : Progress) (new : List ℕ) → (next ≡ progress.Written → ⊥) → is_long v ≡ false → new ≡ old → RowGoesOn columns row start v (Ok next) new
-  value_judged next new other fine same = record {
-    fits = s.fits;
-    none_long = none_passes is_long row v s.none_long fine;
-    written = λ e. absurd (other e);
-    begun = subst (λ (l : List ℕ). IsPrefix start l) (sym same) s.begun;
-  }
-
-  pub value_put : (r : Result Unit RowFault) (new : List ℕ) → so_far ≡ progress.Written → Writes (field_fault v) (value v) old r new → RowGoesOn columns row start v (progress_of r) new
-  value_put (Ok x) new all one = record {
-    fits = s.fits;
-    none_long = none_passes is_long row v s.none_long (fine_value v one.0);
-    written = λ e. let w = s.written all in (w.0, w.1, values_more row v w.0 old new w.2 one);
-    begun = prefix_then start old new s.begun (value v, sym one.1);
-  }
-  value_put (Err faults.Memory) new all one = value_judged progress.Refused new (λ e. cc) (fine_value v one.0) one.1
-  value_put (Err (faults.Width n)) new all one = let f = faulty_value v (faults.Width n) one.0 in value_refused (faults.Width n) new f.0 f.1 one.1
-  value_put (Err faults.FieldLong) new all one = value_refused faults.FieldLong new refl (faulty_value v faults.FieldLong one.0).1 one.1
-  value_put (Err (faults.LikeNull n)) new all one = let f = faulty_value v (faults.LikeNull n) one.0 in value_refused (faults.LikeNull n) new f.0 f.1 one.1
-
--- the fault of a row of so many values
-module _ (row : Row) where
-  width_then : (rest : Option RowFault) (f : RowFault) → width_fault (length row) ≡ Some f → ◌≡◌ {A = Option RowFault} (cond (is_misfit row) (Some (faults.Width (length row))) rest) (Some f)
-  width_then rest f e = go (is_misfit row) e
-    where
-      go : (misfit : Bool) → ◌≡◌ {A = Option RowFault} (cond misfit (Some (faults.Width (length row))) None) (Some f) → ◌≡◌ {A = Option RowFault} (cond misfit (Some (faults.Width (length row))) rest) (Some f)
-      go true h = h
-      go false h = absurd cc
-
-  width_fits : (rest : Option RowFault) → width_fault (length row) ≡ None → ◌≡◌ {A = Option RowFault} (cond (is_misfit row) (Some (faults.Width (length row))) rest) rest
-  width_fits rest e = go (is_misfit row) e
-    where
-      go : (misfit : Bool) → ◌≡◌ {A = Option RowFault} (cond misfit (Some (faults.Width (length row))) None) None → ◌≡◌ {A = Option RowFault} (cond misfit (Some (faults.Width (length row))) rest) rest
-      go true h = absurd cc
-      go false h = refl
-
-err_is : (f g : RowFault) → ◌≡◌ {A = Result Progress RowFault} (Err g) (Err f) → f ≡ g
-err_is f g e = cc
-
-ok_err : (f : RowFault) (p : Progress) → ◌≡◌ {A = Result Progress RowFault} (Ok p) (Err f) → ⊥
-ok_err f p e = cc
-
--- the number of values was refused, but for memory
-pub count_faulty : (columns : ℕ) (row : Row) (old : List ℕ) (r : Result Unit RowFault) (new : List ℕ) (f : RowFault) → length row ≡ columns → Writes (width_fault columns) (to_be_bytes w16 columns) old r new → progress_of r ≡ Err f → WritesInPart (binary_fault row) (binary_row row) old (Err f) new
-count_faulty columns row old r new f e w is = by r w is
-  where
-    one : (g : RowFault) → f ≡ g → (width_fault columns ≡ Some g) × (new ≡ old) → WritesInPart (binary_fault row) (binary_row row) old (Err g) new → WritesInPart (binary_fault row) (binary_row row) old (Err f) new
-    one g same h k = rw same k
-
-    fault : (g : RowFault) → width_fault columns ≡ Some g → binary_fault row ≡ Some g
-    fault g h = width_then row _ g (subst (λ (k : ℕ). width_fault k ≡ Some g) (sym e) h)
-
-    by : (q : Result Unit RowFault) → Writes (width_fault columns) (to_be_bytes w16 columns) old q new → progress_of q ≡ Err f → WritesInPart (binary_fault row) (binary_row row) old (Err f) new
-    by (Ok x) h k = absurd (ok_err f progress.Written k)
-    by (Err faults.Memory) h k = absurd (ok_err f progress.Refused k)
-    by (Err (faults.Width n)) h k = one (faults.Width n) (err_is f (faults.Width n) k) h (fault (faults.Width n) h.0, ([], append-nil old ∙ sym h.1))
-    by (Err faults.FieldLong) h k = one faults.FieldLong (err_is f faults.FieldLong k) h (fault faults.FieldLong h.0, ([], append-nil old ∙ sym h.1))
-    by (Err (faults.LikeNull n)) h k = one (faults.LikeNull n) (err_is f (faults.LikeNull n) k) h (fault (faults.LikeNull n) h.0, ([], append-nil old ∙ sym h.1))
-
--- no value has come
-pub row_begun : (columns : ℕ) (start : List ℕ) (r : Result Unit RowFault) (out : List ℕ) (so_far : Progress) → Writes (width_fault columns) (to_be_bytes w16 columns) start r out → progress_of r ≡ Ok so_far → RowStands columns [] start so_far out
-row_begun columns start (Ok x) out so_far w is = record { fits = w.0; none_long = refl; written = λ e. (out, w, refl); begun = (to_be_bytes w16 columns, sym w.1) }
-row_begun columns start (Err faults.Memory) out so_far w is =
-    let same : so_far ≡ progress.Refused = cc in
-    record { fits = w.0; none_long = refl; written = λ e. absurd (clash (sym same ∙ e)); begun = ([], append-nil start ∙ sym w.1) }
-  where
-    clash : progress.Refused ≡ progress.Written → ⊥
-    clash k = cc
-row_begun columns start (Err (faults.Width n)) out so_far w is = absurd cc
-row_begun columns start (Err faults.FieldLong) out so_far w is = absurd cc
-row_begun columns start (Err (faults.LikeNull n)) out so_far w is = absurd cc
-
-module _ (columns : ℕ) (row : Row) (start : List ℕ) (out : List ℕ) where
-  -- a value is too long
-  pub row_faulty : (so_far : Progress) (v : Option (List ℕ)) (more all : Row) (new : List ℕ) (f : RowFault) → RowStands columns row start so_far out → RowGoesOn columns row start v (Err f) new → all ≡ row ++ v ∷ more → length all ≡ columns → WritesInPart (binary_fault all) (binary_row all) start (Err f) new
-  row_faulty so_far v more all new f s g e width =
-      let fits : width_fault (length all) ≡ None = subst (λ (k : ℕ). width_fault k ≡ None) (sym width) s.fits in
-      let long : list_any is_long all ≡ true = ap (list_any is_long) e ∙ one_passes is_long row v more g.1 in
-      rw g.0 (width_fits all _ fits ∙ cond-true (list_any is_long all) _ _ long, g.2)
-
-  -- no value is too long
-  pub row_ended : FieldsAreRow → (so_far : Progress) → RowStands columns row start so_far out → length row ≡ columns → WritesInPart (binary_fault row) (binary_row row) start (Ok so_far) out
-  row_ended law so_far s width = by so_far (λ e. s.written e)
-    where
-      fits : width_fault (length row) ≡ None
-      fits = subst (λ (k : ℕ). width_fault k ≡ None) (sym width) s.fits
-
-      fine : binary_fault row ≡ None
-      fine = width_fits row _ fits ∙ cond-false (list_any is_long row) _ _ s.none_long
-
-      by : (p : Progress) → (p ≡ progress.Written → (mid : List ℕ) × Writes (width_fault columns) (to_be_bytes w16 columns) start (Ok tt) mid × WritesFields row mid out) → WritesInPart (binary_fault row) (binary_row row) start (Ok p) out
-      by progress.Written written =
-          let w = written refl in
-          law.row row start w.0 out (subst (λ (k : ℕ). Writes (width_fault k) (to_be_bytes w16 k) start (Ok tt) w.0) (sym width) w.1) w.2
-      by progress.PutOff written = (fine, s.begun)
-      by progress.Refused written = (fine, s.begun)
 
 -- ---- values that an iterator gives
 

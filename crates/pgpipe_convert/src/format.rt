@@ -3,18 +3,21 @@
 ghost use Rattle.std.specs.Prelude.{◌≡◌, ◌<◌, ◌≤◌, None, length, IfOk};
 ghost use Rattle.std.specs.Iterator.{IsFinite};
 ghost use Rattle.pg_copy.specs.Row.{Row, Writes};
+ghost use Rattle.pg_copy.specs.Text.{text_fault, written_row};
 ghost use Rattle.pgpipe_convert.specs.Convert.{writing_with};
-ghost use Rattle.pgpipe_convert.specs.Private.Values.{AreGiven, WritesInPart, WritesOrNot};
-ghost use Rattle.pgpipe_convert.specs.Private.Values.{writing_by};
+ghost use Rattle.pgpipe_convert.specs.Private.Values.{AreGiven, WritesOrNot, writing_by};
 
-use crate::values::{Progress, put_line, put_values};
-use pg_copy::{RowFault, TextOptions, TextRowWriter, write_binary_head, write_binary_trailer};
+use crate::values::{Progress, put_line};
+use pg_copy::{
+    RowFault, TextOptions, TextRowWriter, write_binary_head, write_binary_trailer,
+    write_binary_values,
+};
 use pgpipe_base::ToolFault;
 use std::alloc::Global;
 use std::marker::Model;
 
-// A row of more bytes is judged before it is written.
-const LARGE_ROW: usize = 1024 * 1024;
+// A line of more bytes is judged before it is written.
+const LARGE_LINE: usize = 1024 * 1024;
 
 /// A format of COPY files (PostgreSQL documentation, page COPY, "File Formats").
 #[derive(Clone, Copy, Debug, PartialEq, Eq)]
@@ -95,8 +98,8 @@ impl<'a> RowWriter<'a> {
         }
     }
 
-    // Puts a row of these values. Where it has more than `most` bytes, it may be put off. Where it isn't written, a part of it stays.
-    fn put_values<'v, I: Iterator<Item = Option<&'v [u8]>> + Drop>(
+    // Puts the line of these values. Where it has more than `most` bytes, it may be put off. Where it isn't written, nothing of it stays.
+    fn try_line<'v, I: Iterator<Item = Option<&'v [u8]>> + Drop>(
         &mut self,
         values: I,
         most: usize,
@@ -108,35 +111,12 @@ impl<'a> RowWriter<'a> {
             × (length row ≡ self.old.columns) }
         ensures puts { (row : Row) → AreGiven I.next_gives values row
             → length row ≡ self.old.columns
-            → WritesInPart ((writing_by self.old).row_fault row) ((writing_by self.old).row row)
-            buf.old.items result buf.new.items }
-        ensures same { self.new ≡ self.old }
-    {
-        match self.format {
-            Format::Text => put_line(values, most, self.options, &mut self.lines, buf),
-            Format::Binary => put_values(values, most, self.columns, buf),
-        }
-    }
-
-    // Puts a row of these values. Where it has more than `most` bytes, it may be put off. Where it isn't written, nothing of it stays.
-    fn try_values<'v, I: Iterator<Item = Option<&'v [u8]>> + Drop>(
-        &mut self,
-        values: I,
-        most: usize,
-        buf: &mut Vec<u8>,
-    ) -> Result<Progress, RowFault>
-        requires can { I.can_next values }
-        requires ends { IsFinite (I.remaining values) }
-        requires width { (row : Row) × AreGiven I.next_gives values row
-            × (length row ≡ self.old.columns) }
-        ensures puts { (row : Row) → AreGiven I.next_gives values row
-            → length row ≡ self.old.columns
-            → WritesOrNot ((writing_by self.old).row_fault row) ((writing_by self.old).row row)
+            → WritesOrNot (text_fault self.old.options row) (written_row self.old.options row)
             buf.old.items result buf.new.items }
         ensures same { self.new ≡ self.old }
     {
         let before = buf.len();
-        let put = self.put_values(values, most, buf);
+        let put = put_line(values, most, self.options, &mut self.lines, buf);
         match put {
             Ok(Progress::Written) => put,
             _ => {
@@ -146,7 +126,7 @@ impl<'a> RowWriter<'a> {
         }
     }
 
-    // Appends a row of these values, however large it is. After a fault `buf` is as it was.
+    // Appends the line of these values, however large it is. After a fault `buf` is as it was.
     fn write_large<'v, I: Iterator<Item = Option<&'v [u8]>> + Drop>(
         &mut self,
         values: I,
@@ -158,13 +138,38 @@ impl<'a> RowWriter<'a> {
             × (length row ≡ self.old.columns) }
         ensures writes { (row : Row) → AreGiven I.next_gives values row
             → length row ≡ self.old.columns
-            → Writes ((writing_by self.old).row_fault row) ((writing_by self.old).row row)
+            → Writes (text_fault self.old.options row) (written_row self.old.options row)
             buf.old.items result buf.new.items }
         ensures same { self.new ≡ self.old }
     {
-        match self.try_values(values, usize::MAX, buf) {
+        match self.try_line(values, usize::MAX, buf) {
             Ok(Progress::Written) => Ok(()),
             Ok(_) => Err(RowFault::Memory),
+            Err(fault) => Err(fault),
+        }
+    }
+
+    // Appends the line of these values; `again` gives the same. A large line is judged before it is written. After a fault `buf` is as it was.
+    fn write_line<'v, I: Iterator<Item = Option<&'v [u8]>> + Drop>(
+        &mut self,
+        values: I,
+        again: I,
+        buf: &mut Vec<u8>,
+    ) -> Result<(), RowFault>
+        requires can { I.can_next values × I.can_next again }
+        requires ends { IsFinite (I.remaining values) × IsFinite (I.remaining again) }
+        requires width { (row : Row) × AreGiven I.next_gives values row
+            × AreGiven I.next_gives again row × (length row ≡ self.old.columns) }
+        ensures writes { (row : Row) → AreGiven I.next_gives values row
+            → AreGiven I.next_gives again row → length row ≡ self.old.columns
+            → Writes (text_fault self.old.options row) (written_row self.old.options row)
+            buf.old.items result buf.new.items }
+        ensures same { self.new ≡ self.old }
+    {
+        match self.try_line(values, LARGE_LINE, buf) {
+            Ok(Progress::Written) => Ok(()),
+            Ok(Progress::PutOff) => self.write_large(again, buf),
+            Ok(Progress::Refused) => Err(RowFault::Memory),
             Err(fault) => Err(fault),
         }
     }
@@ -187,11 +192,9 @@ impl<'a> RowWriter<'a> {
             buf.old.items result buf.new.items }
         ensures same { self.new ≡ self.old }
     {
-        match self.try_values(values, LARGE_ROW, buf) {
-            Ok(Progress::Written) => Ok(()),
-            Ok(Progress::PutOff) => self.write_large(again, buf),
-            Ok(Progress::Refused) => Err(RowFault::Memory),
-            Err(fault) => Err(fault),
+        match self.format {
+            Format::Text => self.write_line(values, again, buf),
+            Format::Binary => write_binary_values(usize::from(self.columns), values, again, buf),
         }
     }
 

@@ -1,33 +1,28 @@
-//! The values of a row that is lent, written one by one from where they stand.
+//! A line of text, whose values are written one by one from where the row that is lent has them.
 
 ghost use Rattle.std.specs.Prelude.{◌≡◌, ◌<◌, ◌≤◌, ℕ, List, Ok, length, option_copied};
 ghost use Rattle.std.specs.Iterator.{IsFinite};
-ghost use Rattle.pg_copy.specs.Row.{Row, is_long, binary_fault};
-ghost use Rattle.pg_copy.specs.Binary.{binary_row};
+ghost use Rattle.pg_copy.specs.Row.{Row};
 ghost use Rattle.pg_copy.specs.Text.{Options, written_row, text_fault};
 ghost use Rattle.pgpipe_convert.specs.declared.values.Progress.TheVariants.{Written};
 ghost use Rattle.pgpipe_convert.specs.Private.Values.{AreGiven, WritesInPart, progress_of};
-ghost use Rattle.pgpipe_convert.specs.Private.Values.{judged_at, LineStands, LineGoesOn, RowStands};
-ghost use Rattle.pgpipe_convert.specs.Private.Values.{RowGoesOn};
+ghost use Rattle.pgpipe_convert.specs.Private.Values.{judged_at, LineStands, LineGoesOn};
 
-use pg_copy::laws::{fields_are_line, fields_are_row};
-use pg_copy::{RowFault, TextOptions, TextRowWriter, write_binary_count, write_binary_field};
+use pg_copy::laws::fields_are_line;
+use pg_copy::{RowFault, TextOptions, TextRowWriter};
 
-// The most bytes that a value of a binary file may have.
-const LONGEST_VALUE: usize = 2_147_483_647;
-
-/// What has become of the first values of a row, none of which has a fault.
+/// What has become of the first values of a line, none of which has a fault.
 #[derive(Clone, Copy, Drop)]
 pub enum Progress {
     /// They are written.
     Written,
-    /// They were judged alone from one on, since the row is large.
+    /// They were judged alone from one on, since the line is large.
     PutOff,
     /// They were judged alone from one on, since memory ran out.
     Refused,
 }
 
-// How a writer's result carries the row on.
+// How a writer's result carries the line on.
 fn progress_of(written: Result<(), RowFault>) -> Result<Progress, RowFault>
     ensures { result ≡ progress_of written }
 {
@@ -190,65 +185,4 @@ pub fn put_line<'v, I: Iterator<Item = Option<&'v [u8]>> + Drop>(
             put
         }
     }
-}
-
-fn is_long(value: Option<&[u8]>) -> bool
-    ensures { result ≡ is_long (option_copied value.entry) }
-{
-    match value {
-        None => false,
-        Some(bytes) => bytes.len() > LONGEST_VALUE,
-    }
-}
-
-// Judges a value of a binary row, one of whose values wasn't written.
-fn judge_value(value: Option<&[u8]>, so_far: Progress) -> Result<Progress, RowFault>
-    requires other { so_far ≡ Written → ⊥ }
-    ensures goes_on { (columns : ℕ) (row : Row) (start out : List ℕ)
-        → RowStands columns row start so_far out
-        → RowGoesOn columns row start (option_copied value.entry) result out }
-{
-    if is_long(value) {
-        return Err(RowFault::FieldLong);
-    }
-    Ok(so_far)
-}
-
-// Puts the next value of a binary row. It is written where all before it are, and else only judged.
-fn put_value(
-    value: Option<&[u8]>,
-    so_far: Progress,
-    out: &mut Vec<u8>,
-) -> Result<Progress, RowFault>
-    ensures goes_on { (columns : ℕ) (row : Row) (start : List ℕ)
-        → RowStands columns row start so_far out.old.items
-        → RowGoesOn columns row start (option_copied value.entry) result out.new.items }
-{
-    match so_far {
-        Progress::Written => progress_of(write_binary_field(value, out)),
-        _ => judge_value(value, so_far),
-    }
-}
-
-/// Puts a row of these values, of which there are so many, in binary. Where the row has more than `most` bytes, it may be put off.
-/// Where it isn't written, a part of it stays in `out`.
-pub fn put_values<'v, I: Iterator<Item = Option<&'v [u8]>> + Drop>(
-    values: I,
-    most: usize,
-    columns: u16,
-    out: &mut Vec<u8>,
-) -> Result<Progress, RowFault>
-    requires can { I.can_next values }
-    requires ends { IsFinite (I.remaining values) }
-    ensures puts { (row : Row) → AreGiven I.next_gives values row → length row ≡ columns
-        → WritesInPart (binary_fault row) (binary_row row) out.old.items result out.new.items }
-{
-    let end = out.len().saturating_add(most);
-    let mut so_far = progress_of(write_binary_count(usize::from(columns), out))?;
-    for value in values {
-        so_far = put_off(so_far, value, out.len(), end);
-        so_far = put_value(value, so_far, out)?;
-    }
-    fields_are_row();
-    Ok(so_far)
 }

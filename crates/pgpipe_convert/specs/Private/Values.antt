@@ -1,12 +1,10 @@
 -- A writer of rows, and the values of a row that is lent.
-use Rattle.std.specs.Prelude.{◌≡◌, ◌≤◌, ℕ, true, false, List, [], ◌∷◌, ◌++◌, length, Option, Some, None, Result, Ok, Err, option_copied}
+use Rattle.std.specs.Prelude.{◌≡◌, ◌≤◌, ℕ, true, List, [], ◌∷◌, ◌++◌, length, Option, Some, None, Result, Ok, Err, option_copied}
 use Rattle.std.specs.Iterator.{AlwaysYields}
-use Rattle.std.specs.Int.{w16, to_be_bytes}
-use Rattle.std.specs.List.{list_any, position_from}
+use Rattle.std.specs.List.{position_from}
 use Rattle.pg_copy.specs.fault.RowFault.{RowFault}
 use Rattle.pg_copy.specs.fault.RowFault.TheVariants as faults
-use Rattle.pg_copy.specs.BinaryLaws.{WritesFields}
-use Rattle.pg_copy.specs.Row.{Row, is_long, width_fault, Writes}
+use Rattle.pg_copy.specs.Row.{Row}
 use Rattle.pg_copy.specs.Text.{Options, is_like_null}
 use Rattle.pg_copy.specs.TextLaws.{WritesTextFields}
 use Rattle.pg_copy.specs.TextWriter.{RowWriterState}
@@ -32,8 +30,8 @@ abbrev pub AreGiven : {S : Type 0} → (S → Option (Option (Bor (List ℕ))) �
     → Type 0
 AreGiven gives s row = AlwaysYields gives option_copied s row
 
--- What is returned for a row with this fault, or none, and these bytes: the answers of `Writes`.
--- But a row without a fault may be put off or rejected, and where the bytes aren't written, a part
+-- What is returned for a line with this fault, or none, and these bytes: the answers of `Writes`.
+-- But a line without a fault may be put off or rejected, and where the bytes aren't written, a part
 -- of them may stand in the buffer.
 abbrev pub WritesInPart : Option RowFault → List ℕ → List ℕ → Result Progress RowFault → List ℕ
     → Type 0
@@ -42,7 +40,7 @@ WritesInPart fault spelled old (Ok progress.PutOff) new = (fault ≡ None) × Is
 WritesInPart fault spelled old (Ok progress.Refused) new = (fault ≡ None) × IsPrefix old new
 WritesInPart fault spelled old (Err f) new = (fault ≡ Some f) × IsPrefix old new
 
--- What is returned for a row with this fault, or none, and these bytes, where a buffer is left as
+-- What is returned for a line with this fault, or none, and these bytes, where a buffer is left as
 -- it was unless the bytes are written.
 abbrev pub WritesOrNot : Option RowFault → List ℕ → List ℕ → Result Progress RowFault → List ℕ
     → Type 0
@@ -63,8 +61,6 @@ abbrev pub judged_at : ℕ → Progress → Result Unit RowFault → Result Prog
 judged_at before so_far (Err (faults.LikeNull n)) = Err (faults.LikeNull before)
 judged_at before so_far _ = Ok so_far
 
--- ---- a line of text
-
 -- These are the first values of a line that began at `start`: none of them is like null, and where
 -- they have come so far, they are written.
 pub record LineStands (o : Options) (row : Row) (start : List ℕ) (so_far : Progress)
@@ -82,23 +78,3 @@ abbrev pub LineGoesOn : Options → Row → List ℕ → Option (List ℕ) → R
 LineGoesOn o row start v (Ok so_far) w out = LineStands o (row ++ v ∷ []) start so_far w out
 LineGoesOn o row start v (Err f) w out = (w.options ≡ o) × (f ≡ faults.LikeNull (length row))
     × (is_like_null o v ≡ true) × IsPrefix start out
-
--- ---- a row of a binary file
-
--- These are the first of so many values of a row that began at `start`: a row may have so many,
--- none of these is too long, and where they have come so far, the number and they are written.
-pub record RowStands (columns : ℕ) (row : Row) (start : List ℕ) (so_far : Progress)
-    (out : List ℕ) : Type 0 where
-  pub fits : width_fault columns ≡ None
-  pub none_long : list_any is_long row ≡ false
-  pub written : so_far ≡ progress.Written → (mid : List ℕ)
-      × Writes (width_fault columns) (to_be_bytes w16 columns) start (Ok tt) mid
-      × WritesFields row mid out
-  pub begun : IsPrefix start out
-
--- One more value comes: the row stands with it, or the value is too long.
-abbrev pub RowGoesOn : ℕ → Row → List ℕ → Option (List ℕ) → Result Progress RowFault → List ℕ
-    → Type 0
-RowGoesOn columns row start v (Ok so_far) out = RowStands columns (row ++ v ∷ []) start so_far out
-RowGoesOn columns row start v (Err f) out = (f ≡ faults.FieldLong) × (is_long v ≡ true)
-    × IsPrefix start out
