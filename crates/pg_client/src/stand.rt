@@ -15,7 +15,7 @@ use pg_response::{Mark, Open, Place};
 use pg_wire::{Aside, BackMessage, Request};
 
 /// What was called for the last copy from the client.
-#[derive(Clone, Copy, Debug, PartialEq, Eq)]
+#[derive(Clone, Copy)]
 pub enum CopyAnswer {
     Awaited,
     Done,
@@ -23,7 +23,7 @@ pub enum CopyAnswer {
 }
 
 /// Where a client stands, in the segment that isn't whole or between two.
-#[derive(Debug, Drop)]
+#[derive(Drop)]
 pub enum Stand {
     New,
     Starting(Welcome),

@@ -7,7 +7,7 @@ use crate::fault::FeedFault;
 use pg_response::Auth;
 
 /// How far the startup has come.
-#[derive(Clone, Copy, Debug, PartialEq, Eq)]
+#[derive(Clone, Copy)]
 pub enum Welcome {
     Fresh,
     /// The server asked for a password.

@@ -20,7 +20,7 @@ use std::marker::Model;
 use std::mem;
 
 /// What has come of the result or answer that isn't whole. Which of it counts depends on what is unfinished.
-#[derive(Debug, Drop)]
+#[derive(Drop)]
 pub struct Unfinished {
     columns: Seq<Column>,
     /// The types of a statement's parameters.
@@ -125,7 +125,7 @@ impl Unfinished {
 }
 
 /// What was collected of a segment.
-#[derive(Debug, Drop)]
+#[derive(Drop)]
 pub struct Collected {
     // The whole results or answers.
     parts: Vec<Part>,

@@ -5,7 +5,7 @@ ghost use Rattle.pg_response.specs.Kind.{IsKind};
 use pg_wire::{Aside, BackMessage, Seq, Status};
 
 /// What kind of message it is.
-#[derive(Debug, Drop)]
+#[derive(Drop)]
 pub enum Kind {
     /// A message that may come at any time and belongs to no answer, except a parameter's value.
     Aside(Aside),
@@ -22,7 +22,7 @@ pub enum Kind {
 }
 
 /// What the server asks for, or says, in a message of the authentication.
-#[derive(Debug, Drop)]
+#[derive(Drop)]
 pub enum Auth {
     /// The client is let in.
     Ok,

@@ -6,7 +6,7 @@ ghost use Rattle.pg_response.specs.Place.{mark_of};
 use pg_wire::BackMessage;
 
 /// What a message of a response is, without what it carries: all that decides where it may come.
-#[derive(Clone, Copy, Debug, PartialEq, Eq)]
+#[derive(Clone, Copy)]
 pub enum Mark {
     RowDescription,
     DataRow,

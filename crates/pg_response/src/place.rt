@@ -10,7 +10,7 @@ use crate::mark::Mark;
 use pg_wire::{Request, Step, Target};
 
 /// What is unfinished: the first messages of a result or of an answer came, and its last didn't.
-#[derive(Clone, Copy, Debug, PartialEq, Eq)]
+#[derive(Clone, Copy)]
 pub enum Open {
     Nothing,
     /// The columns of a result came, and perhaps rows.
@@ -28,7 +28,7 @@ pub enum Open {
 }
 
 /// Where one is in a segment.
-#[derive(Clone, Copy, Debug, PartialEq, Eq)]
+#[derive(Clone, Copy)]
 pub struct Place {
     /// How many steps of a group are answered. The results of a query aren't counted: any number may come.
     pub answers: usize,

@@ -12,7 +12,7 @@ use crate::phase::Cause;
 use pg_wire::{BackMessage, Cut, Fields, Lent, Values};
 
 /// What the next message is.
-#[derive(Clone, Copy, Debug, PartialEq, Eq)]
+#[derive(Clone, Copy)]
 pub enum Heard {
     /// No message is whole.
     Nothing,
