@@ -1,7 +1,10 @@
 -- What a client promises, to be read from top to bottom: what it went through (its history), which
--- histories it may have, and what its calls, feed and lost do to them. No client stores its history.
--- Contracts speak of it as a value, and say how each call carries it on. proofs/Rows works some of
--- these words out on short sessions.
+-- histories it may have, and what its calls, feed and lost do to them. No client stores its
+-- history. Contracts speak of it as a value, and say how each call carries it on. The words for
+-- events are in Session, what a contract sees of a client in View, the words for faults in Closed,
+-- and what push and next_lent do in Lent. What each history means for a user is the page Facts, by
+-- the law facts_of_a_run (src/laws.rt). proofs/Rows works some of these words out on short
+-- sessions.
 use Rattle.std.specs.Prelude.{ℕ, ◌+◌, List, [], ◌∷◌, ◌++◌, length, Bool, true, false, cond, nat_lt, map, ◌≡◌, ◌≢◌, ℤ, Option, Some, None, Result, Ok, Err, ◌<◌, is_some}
 use Rattle.std.specs.List.{list_any, slice_get}
 use Rattle.pg_wire.specs.message.BackMessage.{BackMessage}
@@ -64,8 +67,7 @@ made_since end [] = []
 made_since end (c ∷ cs) = cond (nat_lt c.1 end) (made_since end cs) (c ∷ cs)
 
 -- The events of these calls and messages, in order. Each message has its end, counted in bytes fed.
--- A call comes before a message if it was made before all bytes of the message had been fed, so also
--- where some of them had.
+-- A call comes before each message whose last byte was fed after the call was made.
 abbrev pub merged : List (Call × ℕ) → List (BackMessage × ℕ) → List Happening
 merged cs [] = map (λ c. Did c.0) cs
 merged cs (m ∷ ms) = made_before m.1 cs ++ Came m.0 ∷ merged (made_since m.1 cs) ms
@@ -127,11 +129,13 @@ with_heard more rest added h = record h {
 
 -- ---- which histories a client may have
 
--- What a kind of keeper has to do with what happened.
+-- What a kind of keeper has to do with what happened. It is the `way` of clauses, which a client's
+-- keeper has.
 pub record Keeps (K : Type 0) : Type 1 where
   -- what is taken from a client that has it
   pub Given : Type 0
-  -- it has kept what a client has to that stands there after these events, but for what was given
+  -- the keeper holds all that is to be kept of these events where the client stands, but for what
+  -- was given
   pub tells : K → Stand → List Given → List Happening → Type 0
   -- what holds between a client that has it and a history of that client
   pub agrees : History Given → View K → Type 0
@@ -141,16 +145,16 @@ pub record IsHistoryOf {K : Type 0} (way : Keeps K) (h : History way.Given)
     (client : View K) : Type 0 where
   -- the bytes fed are the messages and the bytes left, within the limit of a message's length
   pub stream : IsStream backend client.settings.limit h.fed h.heard h.rest
-  -- the server has kept to the protocol in all that was handled
+  -- each message that was handled is one that this client may get after the events before it
   pub expected : Expected client.settings.password (happenings h)
   -- what the client knows, keeps and has put out is what these events give, as facts_of_a_run says
   pub agrees : way.agrees h client
 
--- The client, as it is now, keeps these bytes last of all, and is still to hear them. But for them
--- it may have gone through this history.
+-- The client, as it is now, keeps these bytes last of all, and has handled none of them, since they
+-- were pushed. But for them it may have gone through this history.
 pub record IsHistoryBefore {K : Type 0} (way : Keeps K) (unread : List ℕ) (h : History way.Given)
     (client : View K) : Type 0 where
-  -- the bytes kept before them, in which no message is whole
+  -- the bytes kept before them; in those of an open client no message is whole
   pub first : List ℕ
   pub kept : client.kept ≡ first ++ unread
   pub history : IsHistoryOf way h (record client { kept = first })
@@ -279,8 +283,7 @@ Feeds way old piece result new before after =
 
 -- ---- lost
 
--- Why a client is closed that was closed for the first cause, or open (None), before it was closed
--- for the other: a first cause stays.
+-- Why a client is closed after one more closing, for this cause: a first cause stays.
 abbrev pub first_cause : Option Cause → Cause → Cause
 first_cause None c = c
 first_cause (Some first) c = first
@@ -291,8 +294,9 @@ has_error ms = list_any (λ m. is_some (error_of m)) ms
 
 -- What lost returns after these events. The request that isn't settled is the first one without a
 -- whole segment, if there is one: the server may have answered it, in bytes that weren't handled.
--- seen_error is whether an ErrorResponse was handled since the last ReadyForQuery. Where lost was
--- called before (true), nothing is handed back.
+-- seen_error is whether an ErrorResponse was handled since the last ReadyForQuery. One that closed
+-- the client (StartupError, ServerEnd) wasn't handled. Where lost was called before (true), nothing
+-- is handed back.
 abbrev pub Loses : Bool → List Happening → Loss → Type 0
 Loses false hs loss = (loss.unsettled ≡ slice_get (requests_in hs) (length (groups_in hs)))
     × (loss.seen_error ≡ has_error (rest_in hs))
@@ -304,7 +308,8 @@ HandsBack way old loss = (unread : List ℕ) (h : History way.Given)
     → IsHistoryBefore way unread h old → Loses h.handed_back (happenings h) loss
 
 -- `lost` was called and returned this: the client is closed, with the cause Lost unless it had one
--- before, and handed back the request that isn't settled. What it keeps of the messages stays.
+-- before, and handed back the request that isn't settled, if there is one. What it keeps of the
+-- messages stays.
 pub record IsLost {K : Type 0} (way : Keeps K) (old : View K) (loss : Loss)
     (new : View K) : Type 0 where
   pub settings : new.settings ≡ old.settings

@@ -19,8 +19,8 @@ use Rattle.pg_client.specs.Session.{Happening, Did, Came, rest_in, asks_password
 abbrev pub AwaitsAuthentication : List Happening → Type 0
 AwaitsAuthentication hs = IsStarting hs × (without_asides (rest_in hs) ≡ [])
 
--- The fault has a name of its own, and is that of this message, which may not come after these
--- events. The client has this password or none. StartupError: an ErrorResponse in the startup.
+-- The fault is that of this message, which may not come after these events, and it says more than
+-- Unexpected. The client has this password or none. StartupError: an ErrorResponse in the startup.
 -- ServerEnd: one later, while no request is outstanding. PasswordWanted and UnsupportedAuth: at the
 -- beginning of the startup, a question for a password that the client hasn't, or for an
 -- authentication of another kind.
@@ -35,8 +35,8 @@ IsNamedFault password hs m (feeding.UnsupportedAuth code) = AwaitsAuthentication
 IsNamedFault _ _ _ _ = ⊥
 
 -- The fault of this message, which may not come after these events: feed returns it, unless memory
--- runs out first. It is the one with a name of its own, and Unexpected, with the message's tag, where
--- there is none such.
+-- runs out first. It is the one that says more than Unexpected, and where none does, Unexpected
+-- with the message's tag.
 abbrev pub IsFaultFor : Option (List ℕ) → List Happening → BackMessage → FeedFault → Type 0
 IsFaultFor password hs m (feeding.Unexpected t) = (t ≡ tag m)
     × ((f : FeedFault) → IsNamedFault password hs m f → ⊥)
@@ -73,7 +73,7 @@ pub record IsKept (limit : ℕ) (rest kept : List ℕ) : Type 0 where
   -- no message is whole, and no fault is there yet
   pub is_open : IsOpen backend limit rest
 
--- Why a client has handled no message after these events. The arguments are its settings, the
+-- Why a client handles no further message after these events. The arguments are its settings, the
 -- events, the bytes that are left, those that it keeps, and why it is closed, or None. Open, Lost
 -- and Terminated: no message is whole; with Terminated, terminate was the last event. Wire: the
 -- bytes left are no message and can't become one. Memory: memory ran out, at whatever point.

@@ -25,9 +25,9 @@ FirstSettled (r ∷ rs) (s ∷ ss) (t ∷ ts) = (t.request ≡ r) × Fits r s t.
 FirstSettled _ _ _ = ⊥
 
 -- What each phase means, after these events. The client is closed for this reason, or open (None).
--- New: it wasn't started. Starting: it was, and the startup's ReadyForQuery hasn't come. Ready: it
--- has, and no request is outstanding. CopyingIn: the server waits for the data of a copy. Busy: none
--- of these. Closed: with the cause for which it is closed.
+-- New: it wasn't started. Starting: it was, and the startup's ReadyForQuery wasn't handled. Ready:
+-- that ReadyForQuery was handled, and no request is outstanding. CopyingIn: the server waits for
+-- the data of a copy. Busy: none of these. Closed: with the cause for which it is closed.
 abbrev pub IsPhase : List Happening → Option Cause → Phase → Type 0
 IsPhase hs (Some c) p = p ≡ phase.Closed c
 IsPhase hs None phase.New = IsStarted hs → ⊥
@@ -40,14 +40,15 @@ IsPhase hs None (phase.Closed c) = ⊥
 
 -- What a user of a client with this history may rely on.
 pub record Facts {K G : Type 0} (h : History G) (client : View K) : Type 0 where
-  -- the server has kept to the protocol, and each call was allowed when it was made
+  -- each message that was handled is one that this client may get after the events before it, and
+  -- each call was allowed when it was made
   pub expected : Expected client.settings.password (happenings h)
   pub allowed : AreAllowed (happenings h)
   -- the client is in that phase of which IsPhase holds
   pub phase : (p : Phase) → (phase_of client ≡ p) ↔ IsPhase (happenings h) client.closed p
   -- what it has put out is what its calls and the questions for a password send
   pub sent : h.sent ≡ sent_in client.settings (happenings h)
-  -- why no message was handled after these
+  -- why it handles no further message
   pub ends : Ends client.settings (happenings h) h.rest client.kept client.closed
   -- its status, its key and its values of parameters are the last that came
   pub knows : KnowsLast h.heard client.known.status client.known.parameters client.known.key

@@ -21,7 +21,7 @@ pub data Happening : Type 0 where
   Did : Call → Happening
   Came : BackMessage → Happening
 
--- The messages that came from the server, in order.
+-- The messages among these events, in order. Of a history they are those that were handled.
 abbrev pub messages_in : List Happening → List BackMessage
 messages_in [] = []
 messages_in (Came m ∷ hs) = m ∷ messages_in hs
@@ -160,7 +160,7 @@ IsTerminated (_ ∷ hs) = IsTerminated hs
 abbrev pub IsStarting : List Happening → Type 0
 IsStarting hs = IsStarted hs × (whole_in hs ≡ [])
 
--- The ReadyForQuery of the startup has come, and one for each request: none is outstanding.
+-- The ReadyForQuery of the startup was handled, and one for each request: none is outstanding.
 abbrev pub IsReady : List Happening → Type 0
 IsReady hs = length (whole_in hs) ≡ suc (length (requests_in hs))
 

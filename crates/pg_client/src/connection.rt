@@ -246,8 +246,9 @@ impl<K: Keeper> Connection<K> {
         Ok(frontend::cancel_request(process, secret, out)?)
     }
 
-    /// Says that the connection is gone. It hands back the request that isn't settled, and says whether an error came for it. An open client becomes
-    /// Closed(Lost), and a closed one keeps its cause. What was kept stays to be taken. A second call hands nothing back. It takes no memory.
+    /// Takes note that the connection is gone. It hands back the request that isn't settled, if there is one, and says whether an ErrorResponse was
+    /// handled for it. One that closed the client (F5, F6) was for no request. An open client becomes Closed(Lost), and a closed one keeps its cause.
+    /// What was kept stays to be taken. A second call hands nothing back. It takes no memory.
     pub fn lost(&mut self) -> Loss
         ensures { IsLost K.way self.old result self.new }
     {

@@ -26,11 +26,12 @@ impl<K: Keeper> Connection<K> {
     /// Takes the bytes that came from the server, all of the piece, in whatever pieces they come. What is kept of the messages then waits to be
     /// taken. Where a password is asked for, it is put out; nothing else is.
     ///
-    /// F1 Wire: the stream has a fault. F2 Unexpected: no fitting segment goes on with the message that came. F3 UnsupportedAuth and F4
-    /// PasswordWanted: the server asks for what the client can't give. F5 StartupError and F6 ServerEnd: an error came in phase Starting or Ready. F7
-    /// Memory: memory ran out. After any of these the client is closed with the cause of that name. The messages before the fault have had their
-    /// effect, also on `out`. What was kept stays to be taken, and a request that is outstanding stays to be handed back by
-    /// [`lost`](Connection::lost).
+    /// F1 Wire: the stream has a fault. F2 Unexpected: a message with this tag came that may not come after the calls and messages before it, and
+    /// that F3 to F6 don't name: any message before `start`, and a CommandComplete before the `copy_done` that it needs, are such. F3
+    /// UnsupportedAuth and F4 PasswordWanted: the server asks for what the client can't give. F5 StartupError: an error came in phase Starting. F6
+    /// ServerEnd: one came in phase Ready, which the messages before it may have led to. F7 Memory: memory ran out. After any of these the client is
+    /// closed with the cause of that name. The messages before the fault have had their effect, also on `out`. What was kept stays to be taken, and a
+    /// request that is outstanding stays to be handed back by [`lost`](Connection::lost).
     ///
     /// F8 Closed: the client was closed before, and nothing changes. A piece without bytes takes no memory and changes nothing, even where pushed
     /// bytes are still to be heard.
