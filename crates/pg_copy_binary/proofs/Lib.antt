@@ -14,4 +14,5 @@ pub mod BinaryPushes
 pub mod BinaryWalk
 pub mod BinaryLent
 pub mod BinaryRows
-pub mod BinaryGiven
+pub mod Given
+pub mod BinaryPuts

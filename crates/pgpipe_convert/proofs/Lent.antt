@@ -1,14 +1,9 @@
 -- Values that are written one by one.
-use Rattle.std.proofs.Common.{◌≡◌, ℕ, suc, ◌+◌, ◌<◌, ◌≤◌, Bool, true, false, cond, ltb, eqb, List, [], ◌∷◌, ◌++◌, ◌||◌, map, length, Option, Some, None, Result, Ok, Err, refl, sym, ap, subst, ◌∙◌, append-nil, append_assoc, length-append, arith}
+use Rattle.std.proofs.Common.{◌≡◌, ℕ, suc, ◌+◌, ◌<◌, ◌≤◌, Bool, true, false, cond, ltb, eqb, List, [], ◌∷◌, ◌++◌, ◌||◌, length, Option, Some, None, Result, Ok, Err, refl, sym, ap, subst, ◌∙◌, append-nil, append_assoc, length-append, arith}
 use Rattle.std.specs.Cmp.Lexicographic.{unequal}
-use Rattle.std.specs.Iterator.{Drains, Yields, YieldsFirstBy}
 use Rattle.std.specs.List.{flat_map, position_from}
-use Rattle.std.specs.Option.{option_copied}
 use Rattle.std.specs.Result.{OnOk, OnErr}
 use Rattle.std.proofs.lemmas.Bool.{cond-true, cond-false, ne_eqb, le-ltb, lt-ltb}
-use Rattle.std.proofs.lemmas.List.{map-append}
-use Rattle.std.proofs.lemmas.Iterator.{YieldsList, items_from_drains}
-use Rattle.std.proofs.lemmas.Iterator.Consumers.{YieldsList-from_first}
 use Rattle.pg_copy.specs.fault.RowFault.{RowFault}
 use Rattle.pg_copy.specs.fault.RowFault.TheVariants as faults
 use Rattle.pg_copy.specs.Row.{Row, is_misfit, Writes}
@@ -17,12 +12,8 @@ use Rattle.pg_copy.specs.TextLaws.{WritesTextFields, FieldsAreLine}
 use Rattle.pg_copy.specs.TextWriter.{RowWriterState, next_fault, next_written, end_fault}
 use Rattle.pgpipe_convert.specs.declared.values.Progress.{Progress}
 use Rattle.pgpipe_convert.specs.declared.values.Progress.TheVariants as progress
-use Rattle.pgpipe_convert.specs.Private.Values.{AreGiven, WritesInPart, progress_of, judged_at, LineStands, LineGoesOn}
-use denote.Ref.{Bor}
+use Rattle.pgpipe_convert.specs.Private.Values.{WritesInPart, progress_of, judged_at, LineStands, LineGoesOn}
 use mathlib.Core.List.{IsPrefix}
-
-abbrev pub LentValue : Type 0
-LentValue = Option (Bor (List ℕ))
 
 -- ---- prefixes
 
@@ -205,46 +196,3 @@ line_ended law o row start so_far w mid r new all s some few last = by r (subst 
     by (Err (faults.Width n)) h = absurd (none (length row) some (faults.Width n) h.0)
     by (Err faults.FieldLong) h = absurd (none (length row) some faults.FieldLong h.0)
     by (Err (faults.LikeNull n)) h = absurd (none (length row) some (faults.LikeNull n) h.0)
-
--- ---- values that an iterator gives
-
-abbrev pub row_of : List LentValue → Row
-row_of values = map option_copied values
-
-pub length-row_of : (values : List LentValue) → length (row_of values) ≡ length values
-length-row_of [] = refl
-length-row_of (v ∷ values) = ap suc (length-row_of values)
-
-pub row_of_more : (values : List LentValue) (v : LentValue) → row_of values ++ option_copied v ∷ [] ≡ row_of (values ++ v ∷ [])
-row_of_more values v = sym (map-append option_copied values (v ∷ []))
-
--- a row that is lent gives its values
-pub are_given : (row : Row) → AreGiven (YieldsFirstBy option_copied (λ (left : Row). left)) row row
-are_given row = (YieldsList-from_first option_copied (λ (left : Row). left) row refl).runs
-
--- the values of a row that an iterator has left are given
-pub values_given : {left : Row} (row : Row) → left ≡ row → AreGiven (YieldsFirstBy option_copied (λ (l : Row). l)) left row
-values_given row e = subst (λ (l : Row). AreGiven (YieldsFirstBy option_copied (λ (k : Row). k)) l row) (sym e) (are_given row)
-
-module _ {S : Type 0} (gives : S → Option LentValue → S → Type 0) where
-  -- what was given, one value more and what is left are the row
-  pub given_more : (seen : List LentValue) (row : Row) (s t : S) (v : LentValue) (u : S) → AreGiven gives s row → Yields gives s seen t → gives t (Some v) u → (more : Row) × (row ≡ row_of seen ++ option_copied v ∷ more)
-  given_more [] [] s t v u given y g = absurd (given v u (subst (λ (k : S). gives k (Some v) u) (sym y) g))
-  given_more [] (z ∷ row) s t v u given y g = (row, ap (λ (x : Option (List ℕ)). x ∷ row) (sym (given.1 v u (subst (λ (k : S). gives k (Some v) u) (sym y) g)).0))
-  given_more (x ∷ seen) [] s t v u given y g = absurd (given x y.0 y.1)
-  given_more (x ∷ seen) (z ∷ row) s t v u given y g =
-      let next = given.1 x y.0 y.1 in
-      let rest = given_more seen row y.0 t v u next.1 y.2 g in
-      (rest.0, ap (λ (w : Option (List ℕ)). w ∷ row) (sym next.0) ∙ ap (λ (l : Row). option_copied x ∷ l) rest.1)
-
-  -- so there is room for it in the row
-  pub given_fewer : (seen : List LentValue) (row : Row) (s t : S) (v : LentValue) (u : S) → AreGiven gives s row → Yields gives s seen t → gives t (Some v) u → length seen < length row
-  given_fewer seen row s t v u given y g =
-      let m = given_more seen row s t v u given y g in
-      omega (arith, ap (λ (l : Row). length l) m.1, length-append (row_of seen) (option_copied v ∷ m.0), length-row_of seen)
-
-  -- all that was given is the row
-  pub given_all : (seen : List LentValue) (row : Row) (s : S) → AreGiven gives s row → Drains gives s seen → row_of seen ≡ row
-  given_all seen row s given d =
-      let list : YieldsList gives option_copied s row = record { runs = given } in
-      items_from_drains seen (d.1.0, d.1.1, λ w. (d.0, d.1.2)) list

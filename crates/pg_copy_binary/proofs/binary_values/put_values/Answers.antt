@@ -3,7 +3,8 @@ use Rattle.std.specs.Iterator.{Drains, Yields}
 use Rattle.std.specs.List.{flat_map}
 use Rattle.pg_copy_rows.specs.Row.{Row}
 use Rattle.pg_copy_binary.specs.Binary.{value}
-use Rattle.pg_copy_binary.proofs.BinaryGiven.{row_of, given_more, given_all, next_fits, all_at}
+use Rattle.pg_copy_binary.proofs.Given.{row_of, given_more, given_all}
+use Rattle.pg_copy_binary.proofs.BinaryPuts.{next_fits, all_at}
 use Rattle.pg_copy_binary.proofs.binary_values.put_values.Goals as goal
 
 pub put_value-at-requires-clause-fits : goal.put_value-at-requires-clause-fits

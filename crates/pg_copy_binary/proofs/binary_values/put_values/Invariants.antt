@@ -1,4 +1,5 @@
-use Rattle.pg_copy_binary.proofs.BinaryGiven.{row_of, AreAt}
+use Rattle.pg_copy_binary.proofs.Given.{row_of}
+use Rattle.pg_copy_binary.proofs.BinaryPuts.{AreAt}
 use Rattle.pg_copy_binary.proofs.binary_values.put_values.Given as goal
 
 abbrev pub invariant-loop-field : goal.invariant-loop-field

@@ -1,7 +1,8 @@
 use Rattle.std.proofs.Common.{rules, ap, length, arith, option_copied}
 use Rattle.std.specs.Iterator.{Drains, Yields}
 use Rattle.pg_copy_rows.specs.Row.{Row}
-use Rattle.pg_copy_binary.proofs.BinaryGiven.{row_of, length-row_of, given_more, given_fewer, given_all, sized_long}
+use Rattle.pg_copy_binary.proofs.Given.{row_of, length-row_of, given_more, given_fewer, given_all}
+use Rattle.pg_copy_binary.proofs.BinaryPuts.{sized_long}
 use Rattle.pg_copy_binary.proofs.binary_values.size_of_all.Goals as goal
 
 pub returns-in_err-size-clause-sized : goal.returns-in_err-size-clause-sized

@@ -1,6 +1,6 @@
 use Rattle.std.proofs.Common.{Some, ◌*◌, ◌≤◌, length}
 use Rattle.pg_copy_binary.specs.Private.BinaryRow.{AreSized}
-use Rattle.pg_copy_binary.proofs.BinaryGiven.{row_of}
+use Rattle.pg_copy_binary.proofs.Given.{row_of}
 use Rattle.pg_copy_binary.proofs.binary_values.size_of_all.Given as goal
 
 abbrev pub invariant-loop-field : goal.invariant-loop-field

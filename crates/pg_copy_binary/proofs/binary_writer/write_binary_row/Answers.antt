@@ -1,5 +1,5 @@
 use Rattle.std.proofs.Common.{refl, sym}
-use Rattle.pg_copy_binary.proofs.BinaryGiven.{values_given}
+use Rattle.pg_copy_binary.proofs.Given.{values_given}
 use Rattle.pg_copy_binary.proofs.binary_writer.write_binary_row.Goals as goal
 
 pub write_binary_values-requires : goal.write_binary_values-requires

@@ -1,7 +1,7 @@
 use Rattle.std.proofs.Common.{◌≡◌, Some, refl, ap, ◌∙◌}
 use Rattle.pgpipe_convert.specs.Private.Converting.{held_of}
 use Rattle.pgpipe_convert.specs.Private.Values.{writing_by}
-use Rattle.pgpipe_convert.proofs.Lent.{values_given}
+use Rattle.pg_copy.proofs.Given.{values_given}
 use Rattle.pgpipe_convert.proofs.Puts.{held_written}
 use Rattle.pgpipe_convert.proofs.copy_rows.put_held.Goals as goal
 

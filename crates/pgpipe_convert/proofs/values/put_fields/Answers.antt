@@ -5,7 +5,8 @@ use Rattle.std.proofs.lemmas.Result.{err_from_is_err_and}
 use Rattle.pg_copy.specs.Row.{Row}
 use Rattle.pg_copy.specs.Text.{written_row, text_fault}
 use Rattle.pgpipe_convert.specs.Private.Values.{WritesInPart}
-use Rattle.pgpipe_convert.proofs.Lent.{row_of, length-row_of, given_more, given_fewer, given_all, line_off, line_faulty}
+use Rattle.pg_copy.proofs.Given.{row_of, length-row_of, given_more, given_fewer, given_all}
+use Rattle.pgpipe_convert.proofs.Lent.{line_off, line_faulty}
 use Rattle.pgpipe_convert.proofs.values.put_fields.Goals as goal
 
 pub put_field-requires-clause-few : goal.put_field-requires-clause-few

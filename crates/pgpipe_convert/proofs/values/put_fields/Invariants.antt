@@ -1,6 +1,6 @@
 use Rattle.std.proofs.Common.{◌≡◌, length}
 use Rattle.pgpipe_convert.specs.Private.Values.{LineStands}
-use Rattle.pgpipe_convert.proofs.Lent.{row_of}
+use Rattle.pg_copy.proofs.Given.{row_of}
 use Rattle.pgpipe_convert.proofs.values.put_fields.Given as goal
 
 abbrev pub invariant-loop-value : goal.invariant-loop-value
