@@ -1,7 +1,7 @@
 //! A row of a binary file, written from where its values stand.
 
-ghost use Rattle.std.specs.Prelude.{◌≡◌, ◌++◌, ◌+◌, ◌≤◌, ◌<◌, true, false, Some, None, length, option_copied};
-ghost use Rattle.std.specs.Prelude.{take, MatchOption, IfSome};
+ghost use Rattle.std.specs.Prelude.{◌≡◌, ◌++◌, ◌+◌, ◌≤◌, ◌<◌, true, false, Some, None};
+ghost use Rattle.std.specs.Prelude.{length, option_copied, take, MatchOption, IfSome};
 ghost use Rattle.std.specs.Int.{w16, to_be_bytes};
 ghost use Rattle.std.specs.Iterator.{IsFinite, AlwaysYields};
 ghost use Rattle.std.specs.List.{flat_map, list_any};
