@@ -8,7 +8,7 @@
 //! |---|---|---|
 //! | `format.rt`, `binary_writer.rt`, `binary_values.rt` | `Binary` | the parts of a binary file; a file as head, rows and rest |
 //! | `binary_part.rt` | `BinaryPart` | a binary file read from left to right |
-//! | `binary_reader.rt`, `binary_row.rt` | `BinaryReader` | what the calls of a reader do, and the row that it lends |
+//! | `binary_reader.rt`, `binary_reader/steps.rt`, `binary_row.rt` | `BinaryReader` | what the calls of a reader do, and the row that it lends |
 //! | `laws.rt` | `BinaryLaws` | a binary file has one reading, and what was written is read as what was meant |
 //!
 //! **A reader** looks over a row's lengths without copying, and goes on where it stopped. When the row is whole it copies its values,

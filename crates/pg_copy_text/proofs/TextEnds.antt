@@ -14,7 +14,7 @@ use Rattle.pg_copy_text.specs.Text.{end_len, Options, lines, decided_at_end, lin
 use Rattle.pg_copy_text.specs.Text as text
 use Rattle.pg_copy_text.specs.TextReader.{TextState, lines_end, HasReadText, text_left, text_last, text_stage_reading, text_stage_last, text_ending, last_text_ending}
 use Rattle.pg_copy_text.specs.Private.Breaks.{IsLastLine}
-use Rattle.pg_copy_text.specs.declared.text_reader.LineLeft.{LineLeft}
+use Rattle.pg_copy_text.specs.declared.text_reader.steps.LineLeft.{LineLeft}
 use Rattle.pg_copy_text.specs.Private.TextLine.{passed, let_go, PassesLine, TakesLine, TakesLast, EndsInput, IsLineLeft, IsLeft}
 use Rattle.pg_copy_rows.proofs.Numbers.{told-rows, told-add}
 use Rattle.pg_copy_text.proofs.TextPlaces.{lines_end-zero, lines_end-none, lines_end-last, lines_end-open}

@@ -8,7 +8,7 @@
 //! |---|---|---|
 //! | `format.rt`, `plain.rt`, `text_field.rt`, `text_line.rt`, `line_end.rt`, `text_writer.rt` | `Text`, `TextField`, `TextLine` | units, escapes, fields, line ends, lines and files; the canonical line, and rows that have none |
 //! | `text_options.rt` | `TextOptions` | the delimiter and the null mark, and which there are |
-//! | `text_reader.rt`, `text_stage.rt`, `scan.rt`, `cuts.rt`, `text_row.rt` | `TextReader` | what the calls of a reader do, what it was given and has given, and the row that it lends |
+//! | `text_reader.rt`, `text_reader/steps.rt`, `text_stage.rt`, `scan.rt`, `cuts.rt`, `text_row.rt` | `TextReader` | what the calls of a reader do, what it was given and has given, and the row that it lends |
 //! | `text_row_writer.rt` | `TextWriter` | a row written field by field |
 //! | `laws.rt` | `TextLaws` | bytes have one split into lines and fields, a field has one value, and what was written is read as what was meant |
 //!

@@ -13,7 +13,7 @@ use Rattle.pg_copy_text.specs.declared.scan.Scan.{Scan}
 use Rattle.pg_copy_text.specs.declared.text_stage.TextStage.{TextStage}
 use Rattle.pg_copy_text.specs.TextReader.{TextState, lines_end, text_last, last_text_ending}
 use Rattle.pg_copy_rows.specs.Lent.{as_next, Lends}
-use Rattle.pg_copy_text.specs.declared.text_reader.LineLeft.{LineLeft}
+use Rattle.pg_copy_text.specs.declared.text_reader.steps.LineLeft.{LineLeft}
 use Rattle.pg_copy_text.specs.Private.Units.{IsScanned, IsCounted}
 use Rattle.pg_copy_text.specs.Private.Breaks.{IsLastLine}
 use Rattle.pg_copy_rows.specs.Private.RowBuffer.{RowBytes}

@@ -5,7 +5,7 @@ use Rattle.pg_copy_rows.specs.Private.Cuts.{AreTexts}
 use Rattle.pg_copy_text.specs.Private.TextRow.{line_values}
 use Rattle.pg_copy_text.proofs.OptionFacts.{no-backslash}
 use Rattle.pg_copy_text.proofs.TextPuts.{first-plain, put-back}
-use Rattle.pg_copy_text.proofs.text_reader.put_first.Goals as goal
+use Rattle.pg_copy_text.proofs.text_reader.steps.put_first.Goals as goal
 
 pub returns-then-not-may_differ-clause-puts : goal.returns-then-not-may_differ-clause-puts
 returns-then-not-may_differ-clause-puts c =
