@@ -1,7 +1,7 @@
 //! What the help says beside the words: ranges, statuses, examples, and where more is told.
 
 /// The version of the program, and what it is proved with.
-pub const VERSION: &str = "0.1.0, proved with rattle-kit-13f logic dac8208d650f15bf";
+pub const VERSION: &str = "0.1.0, proved with rattle-kit-13b logic dac8208d650f15bf";
 
 /// What a conversion does with types.
 pub const CONVERT: &str = "Convert a COPY file between the text and the binary format
