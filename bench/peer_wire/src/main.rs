@@ -24,6 +24,11 @@ fn rows(stream: &[u8], size: usize) -> Result<u64, Error> {
     Ok(total)
 }
 
+/// Does that so many times, once at least: how many bytes the values have in all.
+fn rows_again(stream: &[u8], size: usize, times: usize) -> Result<u64, Error> {
+    (0..times.max(1)).map(|_| rows(stream, size)).sum()
+}
+
 /// Keeps each row, as whoever collects a result does: how many rows there are.
 fn kept(stream: &[u8], size: usize) -> Result<u64, Error> {
     let (mut buffer, mut rows) = (BytesMut::new(), Vec::new());
@@ -71,7 +76,7 @@ fn main() -> Result<(), Error> {
     std::io::stdin().read_to_end(&mut stream)?;
     let total = match words[1].as_str() {
         "read" => stream.len() as u64,
-        "rows" => rows(&stream, number(2))?,
+        "rows" => rows_again(&stream, number(2), number(3))?,
         "kept" => kept(&stream, number(2))?,
         "bind" => bind(number(2), number(3))?,
         word => return Err(Error::other(format!("no work: {word}"))),

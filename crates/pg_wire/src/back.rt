@@ -84,6 +84,7 @@ impl BackDecoder {
 
     /// Takes the next piece of the stream, all of it. Where `next` has found a fault, that fault is returned. After Memory nothing of the piece was
     /// taken, and the decoder is unchanged. A piece without bytes needs no memory.
+    #[inline(always)]
     pub fn push(&mut self, piece: &[u8]) -> Result<(), WireFault>
         ensures call { Pushes self.old.stream piece.now result self.new.stream }
         ensures held { LetsGo self.old.held result self.new.held }

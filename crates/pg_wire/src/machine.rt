@@ -13,7 +13,7 @@ ghost use Rattle.pg_wire.specs.Private.Held.{back_state, spellings_state, IsHeld
 ghost use Rattle.pg_wire.specs.Private.Held.{HoldsNext, MayFind, TakesRow};
 
 use crate::back::Cut;
-use crate::buffer::drop_first;
+use crate::buffer::{append, drop_first};
 use crate::fault::WireFault;
 use crate::find::{Found, Judged, NO_HEAD, find_lent, find_row, find_whole, first_message, judge};
 use bytes::BytesMut;
@@ -191,6 +191,8 @@ impl<M: Message> Stream<M> {
     }
 
     /// Takes a piece whole. Where memory runs out, it takes nothing of it.
+    // a part of each caller, as `next` is
+    #[inline(always)]
     pub fn push(&mut self, piece: &[u8]) -> Result<(), WireFault>
         ensures call { Pushes self.old.rest piece.now result self.new.rest }
         ensures front { LetsBytes self.old.front result self.new.front }
@@ -199,7 +201,7 @@ impl<M: Message> Stream<M> {
             self.let_go();
             return Err(fault);
         }
-        self.buffer.extend_from_slice(piece)?;
+        append(&mut self.buffer, piece)?;
         self.let_go();
         Ok(())
     }
