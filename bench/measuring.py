@@ -1,5 +1,6 @@
-"""What the benchmarks of `pgpipe show` have in common: rows as a server sends them, and runs that are timed by turns."""
+"""What the benchmarks have in common: rows as a server sends them, runs that are timed by turns, and instructions."""
 import os
+import re
 import statistics
 import struct
 import subprocess
@@ -55,6 +56,14 @@ def compare(name, path, works, runs):
         elapsed, processor, memory = (statistics.median(column) for column in zip(*found))
         least = least or elapsed
         print(f"{name}, {work:22}: {elapsed:6.2f} s, of the processor {processor:6.2f} s, {memory:7.0f} KiB; {elapsed / least:.1f} times the first", flush=True)
+
+
+def instructions(words, path):
+    """How many instructions a run over the file takes."""
+    command = ["valgrind", "--tool=callgrind", "--callgrind-out-file=/dev/null", *words]
+    with open(path, "rb") as source:
+        counted = subprocess.run(command, stdin=source, stdout=subprocess.DEVNULL, stderr=subprocess.PIPE, text=True, check=True)
+    return int(re.search(r"Collected : (\d+)", counted.stderr)[1])
 
 
 def build():
