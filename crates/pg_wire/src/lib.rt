@@ -51,8 +51,9 @@
 //!
 //! **A decoder** is one type for both directions (`machine`): a buffer, how many bytes at its front are a message that was given and
 //! is still held, the limit, and the fault that was found. `find` judges the five bytes of a head, and reads a body in place once it is
-//! whole. A call that leaves the buffer empty gives its room back where that is more than 64 KiB. What a decoder was given isn't
-//! stored: a relation (`HasTaken`) ties it to the decoder's state, `new` begins it, and each call carries it on.
+//! whole. A piece for which there is no room behind what is kept makes room for four of its size, up to 16 KiB. A call that leaves the
+//! buffer empty gives its room back where that is more than 64 KiB. What a decoder was given isn't stored: a relation (`HasTaken`) ties
+//! it to the decoder's state, `new` begins it, and each call carries it on.
 //!
 //! **A `BackDecoder`** may hold a message. `next_lent` looks first (`hold_next`): a row, an error or a notice that is whole is judged in
 //! place and stays in the buffer. A view is made only of a body that was judged, so its iterators have no error to return. `next` looks
