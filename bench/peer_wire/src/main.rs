@@ -24,7 +24,7 @@ fn rows(stream: &[u8], size: usize) -> Result<u64, Error> {
     Ok(total)
 }
 
-/// Does that so many times, once at least: how many bytes the values have in all.
+/// Walks the ranges of each row of the stream so many times, once at least: how many bytes the values have in all.
 fn rows_again(stream: &[u8], size: usize, times: usize) -> Result<u64, Error> {
     (0..times.max(1)).map(|_| rows(stream, size)).sum()
 }
