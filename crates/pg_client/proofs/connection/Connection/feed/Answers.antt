@@ -11,3 +11,6 @@ pub returns-clause-feeds : goal.returns-clause-feeds
 returns-clause-feeds g c =
     fed_all g.K.Keeper.way c.silent.ensures.agrees_as _ c.args.self.now c.self.view_is (none_by_test c.self.inside.closed (search rules)) c.args.piece.now (search rules) c.hear_all.result c.hear_all.new.self c.args.out.now.items c.hear_all.new.out.items c.push.new.self.stream.kept c.push.new.self.held
     (pushed c.self.inside.decoder.stream c.args.piece.now c.push.result c.push.new.self.stream (search rules) c.push.ensures.call) (search rules) c.hear_all.ensures.all
+
+pub returns-then-is_empty-clause-feeds : goal.returns-then-is_empty-clause-feeds
+returns-then-is_empty-clause-feeds g c = search rules

@@ -1,0 +1,5 @@
+use Rattle.std.proofs.Common.{rules}
+use Rattle.pg_client.proofs.known.Known.hear_aside.Goals as goal
+
+pub returns : goal.returns
+returns g c = search rules
