@@ -43,3 +43,6 @@ returns-in-Err-next-clause-call c =
     let sound : IsSound i.limit (stage.Open c.in-Open.decoder c.in-Open.awaits) = rw c.in-Open.is at c.self.invariant.2 in
     open_breaks c.args.self.now i.playing i.limit c.in-Open.decoder c.next-in-Open.new.self c.in-Open.awaits c.break_off-in-Err-next.new.stage c.in-Err-next.fault c.args.out.now.items c.break_off-in-Err-next.new.out.items c.break_off-in-Err-next.result
     (search rules) sound.0 c.in-Err-next.ensures.call c.break_off-in-Err-next.ensures.closed c.break_off-in-Err-next.ensures.refuses
+
+pub returns-in-Ok-None-clause-call : goal.returns-in-Ok-None-clause-call
+returns-in-Ok-None-clause-call c = search rules
