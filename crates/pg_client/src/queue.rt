@@ -78,11 +78,13 @@ impl Keeper for Queue {
         parameters: &mut Parameters,
     ) -> Result<(), AllocError> {
         self.items.reserve(1)?;
-        let message = BackMessage::ParameterStatus {
-            name: name.clone()?,
-            value: value.clone()?,
-        };
+        let kept_name = name.clone()?;
+        let kept_value = value.clone()?;
         parameters.set(name.into_vec(), value)?;
+        let message = BackMessage::ParameterStatus {
+            name: kept_name,
+            value: kept_value,
+        };
         self.items.push_back_reserved(Item::Early(message));
         Ok(())
     }
