@@ -172,7 +172,7 @@ impl<K: Keeper> Known<K> {
         };
         let Stand::Busy { request, place, .. } = &self.stand else {
             // nothing leads on elsewhere
-            return Ok(());
+            return Err(self.stand.refuse(message));
         };
         self.keeper.keep(alloc, request, place, message)?;
         self.stand.lead(next, mark);

@@ -41,8 +41,7 @@ impl Queue {
         ensures ok { OnOk result (self.new ≡ self.old ++ item ∷ []) }
         ensures err { OnErr result (self.new ≡ self.old) }
     {
-        self.items.reserve(1)?;
-        self.items.push_back_reserved(item);
+        self.items.push_back(item)?;
         Ok(())
     }
 

@@ -139,7 +139,11 @@ impl Stand {
                 Stand::Idle => FeedFault::ServerEnd(fields),
                 _ => FeedFault::Unexpected(b'E'),
             },
-            other => FeedFault::Unexpected(other.tag()),
+            other => {
+                let tag = other.tag();
+                drop(other);
+                FeedFault::Unexpected(tag)
+            }
         }
     }
 }

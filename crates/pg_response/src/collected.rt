@@ -3,6 +3,7 @@
 ghost use Rattle.std.specs.Prelude.{◌≡◌, OnErr, OnOk};
 ghost use Rattle.pg_wire.specs.Segment.{asked};
 ghost use Rattle.pg_wire.specs.declared.session.Aside.{Aside};
+ghost use Rattle.pg_wire.specs.declared.session.Part.TheVariants.{Executed};
 ghost use Rattle.pg_response.specs.Collected.{begins_rows, collected_with, CollectedView};
 ghost use Rattle.pg_response.specs.Collected.{closed_by};
 ghost use Rattle.pg_response.specs.Collected.{collect};
@@ -54,16 +55,32 @@ impl Unfinished {
         match last {
             BackMessage::CommandComplete(tag) => Some(self.completed(request, opened, tag)),
             BackMessage::EmptyQuery => Some(self.emptied(request, opened)),
-            BackMessage::PortalSuspended => Some(Part::Executed {
-                rows: self.rows,
-                end: ExecEnd::Suspended,
-            }),
+            BackMessage::PortalSuspended => Some(self.executed(ExecEnd::Suspended)),
             BackMessage::RowDescription(columns) => Some(self.described(opened, Some(columns))),
             BackMessage::NoData => Some(self.described(opened, None)),
-            BackMessage::ParseComplete => Some(Part::Parsed),
-            BackMessage::BindComplete => Some(Part::Bound),
-            BackMessage::CloseComplete => Some(Part::Shut),
-            _ => None,
+            // an answer of one message, or a message that ends nothing
+            other => {
+                drop(self);
+                match other {
+                    BackMessage::ParseComplete => Some(Part::Parsed),
+                    BackMessage::BindComplete => Some(Part::Bound),
+                    BackMessage::CloseComplete => Some(Part::Shut),
+                    none => {
+                        drop(none);
+                        None
+                    }
+                }
+            }
+        }
+    }
+
+    // The rows of a portal, with what ended them.
+    fn executed(self, end: ExecEnd) -> Part
+        ensures { result ≡ Executed self.rows end }
+    {
+        Part::Executed {
+            rows: self.rows,
+            end,
         }
     }
 
@@ -87,10 +104,7 @@ impl Unfinished {
                 tag,
             },
             Open::Nothing if is_query(request) => Part::Command(tag),
-            _ => Part::Executed {
-                rows: self.rows,
-                end: ExecEnd::Complete(tag),
-            },
+            _ => self.executed(ExecEnd::Complete(tag)),
         }
     }
 
@@ -100,10 +114,7 @@ impl Unfinished {
     {
         match opened {
             Open::Nothing if is_query(request) => Part::Empty,
-            _ => Part::Executed {
-                rows: self.rows,
-                end: ExecEnd::Empty,
-            },
+            _ => self.executed(ExecEnd::Empty),
         }
     }
 
@@ -241,7 +252,10 @@ impl Collected {
         ensures ok { OnOk result (self.new ≡ closed_by (asked request.now) opened self.old last) }
         ensures err { OnErr result (self.new ≡ self.old) }
     {
-        self.parts.reserve(1)?;
+        if self.parts.reserve(1).is_err() {
+            drop(last);
+            return Err(AllocError);
+        }
         let unfinished = mem::replace(&mut self.unfinished, Unfinished::new(alloc));
         if let Some(part) = unfinished.into_whole(request, opened, last) {
             self.parts.push_reserved(part);
