@@ -8,3 +8,6 @@ pub returns-clause-history : goal.returns-clause-history
 returns-clause-history g c =
     let e = encoded (CopyData c.args.bytes.now) c.args.out.now.items c.copy_data.new.buf.items c.in_ok-copy_data.ensures in
     chunk_accepted g.K.Keeper.way c.silent.ensures c.args.self.now c.args.self.now c.args.out.now.items c.copy_data.new.buf.items refl c.args.bytes.now (search rules) e.spelled e.put
+
+pub returns-in_err-copy_data-clause-refused : goal.returns-in_err-copy_data-clause-refused
+returns-in_err-copy_data-clause-refused g c = search rules
