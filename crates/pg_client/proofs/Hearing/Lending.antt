@@ -175,28 +175,28 @@ has_cause old f h = (_, refl)
 
 module _ (old now : EarlyView) (start out : List ℕ) (none : old.closed ≡ None) (g : GoesOn queueing old now start out) (is_open : now.closed ≡ None) (empty : items_waiting now ≡ []) where
   -- no message is whole
-  pub up_nothing : (new : EarlyView) (end : List ℕ) → HearsNext queueing now (Ok heard.Nothing) new out end → HearsUpTo old (Ok next.Nothing) new start end
+  pub up_nothing : (new : EarlyView) (end : List ℕ) → HearsNext queueing true now (Ok heard.Nothing) new out end → HearsUpTo old (Ok next.Nothing) new start end
   up_nothing new end h =
       subst (λ (bs : List ℕ). HearsUpTo old (Ok next.Nothing) new start bs) (sym h.2)
       (ap lent_row h.1 ∙ ap (λ (o : Option Cause). row_at o None) is_open, all_rest old (Ok tt) new start out none (ap items_waiting h.1 ∙ empty) (goes_end queueing queue_agrees old now new start out g h.0 (h.1 ∙ ap (λ x. record now { held = x }) (sym (ap (λ (v : EarlyView). v.held) h.1)))))
 
   -- a message that isn't a row has an item
-  pub up_item : (mid new : EarlyView) (t : Item) (end : List ℕ) → HearsNext queueing now (Ok heard.Message) mid out end → items_waiting mid ≡ t ∷ items_waiting new → new ≡ with_items mid (items_waiting new) → HearsUpTo old (Ok (next.Item t)) new start end
-  up_item mid new t end (m, no_row, cuts, same, lends, one, put) waits is =
+  pub up_item : (mid new : EarlyView) (t : Item) (end : List ℕ) → HearsNext queueing true now (Ok heard.Message) mid out end → items_waiting mid ≡ t ∷ items_waiting new → new ≡ with_items mid (items_waiting new) → HearsUpTo old (Ok (next.Item t)) new start end
+  up_item mid new t end (m, no_row, cuts, same, none_held, one, put) waits is =
       let closed : mid.closed ≡ now.closed = ap (λ (v : EarlyView). v.closed) same in
       let past = goes_past m old now mid start out end g empty cuts (ap (λ (v : EarlyView). v.settings) same) closed one put in
-      (ap lent_row is ∙ (ap (λ (o : Option Cause). row_at o mid.held) (closed ∙ is_open) ∙ lends), λ unread h r. let given = gives m old mid new t start end none past waits is unread h r in (λ row e. no_row row (given.1 row e), given.2))
+      (ap lent_row is ∙ (ap (λ (o : Option Cause). row_at o mid.held) (closed ∙ is_open) ∙ none_held refl), λ unread h r. let given = gives m old mid new t start end none past waits is unread h r in (λ row e. no_row refl row (given.1 row e), given.2))
 
   -- a message was refused
-  pub up_fault : (new : EarlyView) (f : FeedFault) (end : List ℕ) → HearsNext queueing now (Err f) new out end → HearsUpTo old (Err f) new start end
+  pub up_fault : (new : EarlyView) (f : FeedFault) (end : List ℕ) → HearsNext queueing true now (Err f) new out end → HearsUpTo old (Err f) new start end
   up_fault new f end h =
       let c = has_cause now f h.0.refused in
       subst (λ (bs : List ℕ). HearsUpTo old (Err f) new start bs) (sym h.1)
       (lends_none new c.0 (h.0.closed ∙ c.1), all_rest old (Err f) new start out none (ap (λ (k : Known (List Item)). k.keeper) h.0.known ∙ empty) (goes_fault queueing queue_agrees old now new f start out g h.0))
 
   -- a row is lent, and isn't kept
-  pub up_row : (v mid : EarlyView) (passed : Known (List Item)) (end : List ℕ) → HearsNext queueing now (Ok heard.Row) mid out end → v ≡ mid → PassesRow v.known (Ok tt) passed → HearsUpTo old (Ok next.Held) (record v { known = passed }) start end
-  up_row v mid passed end (row, same, cuts, put) view passed_it =
+  pub up_row : (v mid : EarlyView) (passed : Known (List Item)) (end : List ℕ) → HearsNext queueing true now (Ok heard.Row) mid out end → v ≡ mid → PassesRow v.known (Ok tt) passed → HearsUpTo old (Ok next.Held) (record v { known = passed }) start end
+  up_row v mid passed end (row, same, cuts, put, lends) view passed_it =
       let new : EarlyView = record v { known = passed } in
       let at : v ≡ record now { kept = mid.kept; held = Some (lents.Row row) } = view ∙ same in
       let closed : new.closed ≡ now.closed = ap (λ (x : EarlyView). x.closed) at in
@@ -213,8 +213,8 @@ module _ (old now : EarlyView) (start out : List ℕ) (none : old.closed ≡ Non
       )
 
   -- a row may not come, by the fields of a value that was opened
-  pub up_row_fault : (v mid : EarlyView) (passed : Known (List Item)) (new : EarlyView) (f g : FeedFault) (end : List ℕ) → HearsNext queueing now (Ok heard.Row) mid out end → v ≡ mid → PassesRow v.known (Err f) passed → g ≡ f → new ≡ record v { known = passed; closed = cause_of f } → HearsUpTo old (Err g) new start end
-  up_row_fault v mid passed new f g end (row, same, cuts, put) view passes fault is =
+  pub up_row_fault : (v mid : EarlyView) (passed : Known (List Item)) (new : EarlyView) (f g : FeedFault) (end : List ℕ) → HearsNext queueing true now (Ok heard.Row) mid out end → v ≡ mid → PassesRow v.known (Err f) passed → g ≡ f → new ≡ record v { known = passed; closed = cause_of f } → HearsUpTo old (Err g) new start end
+  up_row_fault v mid passed new f g end (row, same, cuts, put, lends) view passes fault is =
       let at : v ≡ record now { kept = mid.kept; held = Some (lents.Row row) } = view ∙ same in
       let nowhere : hear now.known.stand (back.DataRow row) ≡ None = subst (λ (x : EarlyView). hear x.known.stand (back.DataRow row) ≡ None) at (passes.0 row) in
       rw fault (up_fault new f end (

@@ -1,5 +1,5 @@
 -- What a client finds first among the bytes that it keeps, and what taking that message in does to it.
-use Rattle.std.proofs.Common.{◌≡◌, ℕ, ℤ, List, [], ◌++◌, Bool, false, cond, Option, Some, None, Result, Ok, Err, refl, sym, ap, subst, ◌∙◌, arith, not, ◌<◌, length, inl, inr}
+use Rattle.std.proofs.Common.{◌≡◌, ℕ, ℤ, List, [], ◌++◌, Bool, false, true, cond, Option, Some, None, Result, Ok, Err, refl, sym, ap, subst, ◌∙◌, arith, not, ◌<◌, length, inl, inr}
 use Rattle.std.specs.List.{flat_map, AllByRecursion}
 use Rattle.std.specs.Option.{option_map}
 use Rattle.std.proofs.lemmas.List.{append-nil}
@@ -25,22 +25,23 @@ use Rattle.pg_client.specs.declared.stand.CopyAnswer.{CopyAnswer}
 use Rattle.pg_client.specs.declared.stand.Stand.{Stand}
 use Rattle.pg_client.specs.declared.stand.Stand.TheVariants.{Starting, Busy}
 use Rattle.pg_client.specs.declared.startup.Welcome.{Welcome}
-use Rattle.pg_client.specs.View.{key_said, option_or, value_of, value_said, View}
+use Rattle.pg_client.specs.View.{key_said, option_or, value_of, value_said, View, row_at}
 use Rattle.pg_client.specs.Client.{Keeps}
 use Rattle.pg_client.specs.Keeping.{AgreesAs}
 use Rattle.pg_client.specs.Sent.{answer_to}
 use Rattle.pg_client.specs.Session.{asks_password}
 use Rattle.pg_client.specs.Stand.{answer_after, fault_at, hear, hear_by, hear_other, hear_with, is_too_early, leads, leads_in, starting_at}
 use Rattle.pg_client.specs.Startup.{greet}
-use Rattle.pg_client.specs.Private.Hearing.{aside_message, HearsMessage, HearsAlone, HearsOne, KeepsOne, KeepsPart, led_to, PassesRow, Closes, Cuts, GoesOn, HearsAll, HearsNext, HearsRow, IsRefused, of_wire, Owns}
+use Rattle.pg_client.specs.Private.Hearing.{aside_message, HearsMessage, HearsAlone, HearsOne, KeepsOne, KeepsPart, led_to, PassesRow, Closes, Cuts, GoesOn, HearsAll, HearsNext, IsRefused, of_wire, Owns}
 use Rattle.pg_client.specs.Private.Sending.{PutsAnswer}
 use Rattle.pg_client.proofs.Hearing.Faults.{fault_named, IsNamed}
-use Rattle.std.specs.Prelude.{◌⊎◌}
+use Rattle.std.specs.Prelude.{◌⊎◌, ◌≢◌}
 use Rattle.pg_wire.specs.declared.back.Cut.TheVariants as cut
 use Rattle.pg_wire.specs.declared.fault.WireFault.{WireFault}
 use Rattle.pg_wire.specs.declared.fault.WireFault.TheVariants as wire
 use Rattle.pg_wire.specs.lent.Lent.{Lent}
 use Rattle.pg_wire.specs.lent.Lent.TheVariants as lents
+use Rattle.pg_wire.specs.Lent.{is_lent}
 use Rattle.pg_wire.specs.Backend.{backend}
 use Rattle.pg_wire.specs.BackDecoder.{as_next, BackState, TakesLent}
 use Rattle.pg_wire.specs.Decoder.{Takes}
@@ -165,6 +166,20 @@ module _ {K : Type 0} (way : Keeps K) where
 
 -- ---- what is found first
 
+-- where rows stay lent, the message is no row, and none is lent
+abbrev pub IsNoRow : Bool → BackMessage → Option Lent → Type 0
+IsNoRow lends m held = lends ≡ true → ((row : RowValues) → m ≢ back.DataRow row) × (row_at None held ≡ None)
+
+pub other_is_no_row : (lends : Bool) (m : BackMessage) (d new : BackState) → TakesLent d (Ok (cut.Other m)) new → IsNoRow lends m new.held
+other_is_no_row lends m d new t is = (λ row e. let k : false ≡ true = sym t.holds.1 ∙ ap is_lent e in cc, ap (row_at None) t.holds.0)
+
+pub owned_is_no_row : (lends : Bool) (m : BackMessage) (held : Option Lent) → Owns lends held (Ok (Some m)) → IsNoRow lends m held
+owned_is_no_row lends m (Some (lents.Error fields)) e is = (λ row q. let k : Some (back.DataRow row) ≡ Some (back.ErrorResponse fields) = ap Some (sym q) ∙ e in cc, refl)
+owned_is_no_row lends m (Some (lents.Notice fields)) e is = (λ row q. let k : Some (back.DataRow row) ≡ Some (back.NoticeResponse fields) = ap Some (sym q) ∙ e in cc, refl)
+owned_is_no_row true m (Some (lents.Row row)) e is = absurd (let k : Some m ≡ None = e in cc)
+owned_is_no_row false m (Some (lents.Row row)) e is = absurd cc
+owned_is_no_row lends m None e is = absurd (let k : Some m ≡ None = e in cc)
+
 module _ {K : Type 0} (way : Keeps K) where
   -- ---- why a message isn't heard
 
@@ -184,11 +199,11 @@ module _ {K : Type 0} (way : Keeps K) where
     pub other_cuts : (m : BackMessage) → TakesLent d (Ok (cut.Other m)) new → Cuts v m new.stream.kept
     other_cuts m t = cuts_off m t.takes
 
-    owned_as : (lent : Option Lent) (m : BackMessage) → Owns lent (Ok (Some m)) → as_next (Ok cut.Held) lent ≡ Ok (Some m)
-    owned_as lent m e = grind arith
+    owned_as : (lends : Bool) (lent : Option Lent) (m : BackMessage) → Owns lends lent (Ok (Some m)) → as_next (Ok cut.Held) lent ≡ Ok (Some m)
+    owned_as lends lent m e = grind arith
 
-    pub held_cuts : (m : BackMessage) → TakesLent d (Ok cut.Held) new → Owns new.held (Ok (Some m)) → Cuts v m new.stream.kept
-    held_cuts m t owns = cuts_off m (subst (λ (r : Result (Option BackMessage) WireFault). Takes backend d.stream r new.stream) (owned_as new.held m owns) t.takes)
+    pub held_cuts : (lends : Bool) (m : BackMessage) → TakesLent d (Ok cut.Held) new → Owns lends new.held (Ok (Some m)) → Cuts v m new.stream.kept
+    held_cuts lends m t owns = cuts_off m (subst (λ (r : Result (Option BackMessage) WireFault). Takes backend d.stream r new.stream) (owned_as lends new.held m owns) t.takes)
 
     faulty : (none : d.stream.fault ≡ None) (w : WireFault) → (d.stream.fault ≡ Some w) × (new.stream ≡ d.stream) ⊎ (d.stream.fault ≡ None) × (new.stream ≡ record d.stream { fault = Some w }) × IsFaulty backend d.stream.limit d.stream.kept w → IsFaulty backend v.settings.limit v.kept w
     faulty none w (inl t) = absurd (let k : None ≡ Some w = sym none ∙ t.0 in cc)
@@ -204,6 +219,13 @@ module _ {K : Type 0} (way : Keeps K) where
         subst (λ (x : View K). Closes x f (record v { kept = new.stream.kept; held = new.held; closed = closed })) same
         (record { refused = subst (IsRefused v) (sym is) (refused_wire w none t.takes); settings = refl; known = refl; closed = cause })
 
+  -- the message is heard
+  pub message_found : (lends : Bool) (v old : View K) → v ≡ old → (m : BackMessage) (rest : List ℕ) (held : Option Lent) (known : Known K) (before after : List ℕ) → Cuts v m rest → IsNoRow lends m held → HearsMessage way v.settings m v.known (Ok tt) known before after
+      → HearsNext way lends old (Ok heard.Message) (record v { kept = rest; held = held; known = known }) before after
+  message_found lends v old same m rest held known before after cuts no_row h =
+      subst (λ (x : View K). HearsNext way lends x (Ok heard.Message) (record v { kept = rest; held = held; known = known }) before after) same
+      (m, (λ is. (no_row is).0), cuts, refl, (λ is. (no_row is).1), h.0, h.1)
+
   -- the message isn't heard
   pub message_closes : (v old : View K) → v ≡ old → (m : BackMessage) (rest : List ℕ) (f g : FeedFault) (mid new : View K) (before after : List ℕ) → Cuts v m rest → mid.settings ≡ v.settings → HearsMessage way v.settings m v.known (Err f) mid.known before after → g ≡ f → new ≡ record mid { closed = cause_of f }
       → Closes old g new × (after ≡ before)
@@ -214,72 +236,33 @@ module _ {K : Type 0} (way : Keeps K) where
         r.2,
       )
 
-  -- ---- the row that is lent, by the fields of a value that was opened
-
-  pub hears_row : (v old : View K) → v ≡ old → (lent values : RowValues) (known : Known K) → v.held ≡ Some (lents.Row lent) → values ≡ lent → ((password : Option (List ℕ)) → HearsOne way password (back.DataRow values) v.known known) → HearsRow way old (Ok tt) (record v { known = known })
-  hears_row v old same lent values known held is one =
-      subst (λ (x : View K). HearsRow way x (Ok tt) (record v { known = known })) same
-      (λ row e. (refl, subst (λ (r : RowValues). HearsOne way v.settings.password (back.DataRow r) v.known known) (is ∙ lent_is row (sym held ∙ e)) (one v.settings.password)))
-    where
-      lent_is : (row : RowValues) → Some (lents.Row lent) ≡ Some (lents.Row row) → lent ≡ row
-      lent_is row e = let k : lents.Row lent ≡ lents.Row row = cc in cc
-
   -- what was found, by a test of it
-  pub as_found : (found x : Heard) → found ≡ x → (now mid : View K) (out end : List ℕ) → HearsNext way now (Ok found) mid out end → HearsNext way now (Ok x) mid out end
-  as_found found x is now mid out end h = subst (λ (f : Heard). HearsNext way now (Ok f) mid out end) is h
+  pub as_found : (lends : Bool) (found x : Heard) → found ≡ x → (now mid : View K) (out end : List ℕ) → HearsNext way lends now (Ok found) mid out end → HearsNext way lends now (Ok x) mid out end
+  as_found lends found x is now mid out end h = subst (λ (f : Heard). HearsNext way lends now (Ok f) mid out end) is h
 
 module _ {K : Type 0} (way : Keeps K) (law : AgreesAs way) where
   -- ---- from message to message
 
-  module _ (old now : View K) (start out : List ℕ) (g : GoesOn way old now start out) (found : Heard) (mid : View K) (end : List ℕ) (h : HearsNext way now (Ok found) mid out end) where
+  module _ (old now : View K) (start out : List ℕ) (g : GoesOn way old now start out) (lends : Bool) (found : Heard) (mid : View K) (end : List ℕ) (h : HearsNext way lends now (Ok found) mid out end) where
     -- no message is whole any more
     pub all_heard : found ≡ heard.Nothing → HearsAll way old (Ok tt) mid start end
     all_heard is =
-        let x = as_found way found heard.Nothing is now mid out end h in
+        let x = as_found way lends found heard.Nothing is now mid out end h in
         subst (HearsAll way old (Ok tt) mid start) (sym x.2) (goes_end way law old now mid start out g x.0 (x.1 ∙ ap (λ (o : Option Lent). record now { held = o }) (sym (ap (λ (v : View K). v.held) x.1))))
 
     pub message_heard : found ≡ heard.Message → GoesOn way old mid start end × (length mid.kept < length now.kept) × (mid.closed ≡ now.closed)
     message_heard is =
-        let x = as_found way found heard.Message is now mid out end h in (
+        let x = as_found way lends found heard.Message is now mid out end h in (
           goes_next way law old now mid start out end g x.0 x.2 (ap (λ (v : View K). v.settings) x.3) (ap (λ (v : View K). v.closed) x.3) x.5 x.6,
           shorter x.0 now.kept mid.kept x.2.begins,
           ap (λ (v : View K). v.closed) x.3,
         )
 
-    module _ (is : found ≡ heard.Row) where
-      row_cut : HearsNext way now (Ok heard.Row) mid out end
-      row_cut = as_found way found heard.Row is now mid out end h
-
-      same_settings : mid.settings ≡ now.settings
-      same_settings = ap (λ (v : View K). v.settings) row_cut.1
-
-      same_known : mid.known ≡ now.known
-      same_known = ap (λ (v : View K). v.known) row_cut.1
-
-      lent : mid.held ≡ Some (lents.Row row_cut.0)
-      lent = ap (λ (v : View K). v.held) row_cut.1
-
-      pub row_heard : (new : View K) → HearsRow way mid (Ok tt) new → GoesOn way old new start end × (length new.kept < length now.kept) × (new.closed ≡ now.closed)
-      row_heard new hears =
-          let x = row_cut in
-          let r = hears x.0 lent in
-          let rest : new.kept ≡ mid.kept = ap (λ (v : View K). v.kept) r.0 in
-          let closed : new.closed ≡ now.closed = ap (λ (v : View K). v.closed) r.0 ∙ ap (λ (v : View K). v.closed) x.1 in (
-            goes_next way law old now new start out end g (back.DataRow x.0) (subst (Cuts now (back.DataRow x.0)) (sym rest) x.2) (ap (λ (v : View K). v.settings) r.0 ∙ same_settings) closed
-                (subst (λ (k : Known K). HearsOne way now.settings.password (back.DataRow x.0) k new.known) same_known (subst (λ (s : Settings). HearsOne way s.password (back.DataRow x.0) mid.known new.known) same_settings r.1))
-                (subst (PutsAnswer now.settings (back.DataRow x.0) out) (sym x.3) (nothing_put now.settings (back.DataRow x.0) out refl)),
-            subst (λ (bs : List ℕ). length bs < length now.kept) (sym rest) (shorter (back.DataRow x.0) now.kept mid.kept x.2.begins),
-            closed,
-          )
-
-      pub row_stops : (f : FeedFault) (new : View K) → HearsRow way mid (Err f) new → HearsAll way old (Err f) new start end × (new.settings ≡ old.settings)
-      row_stops f new hears =
-          let x = row_cut in
-          let r = hears x.0 lent in
-          let alone : HearsAlone way (back.DataRow x.0) now.known (Err f) now.known = subst (λ (k : Known K). HearsAlone way (back.DataRow x.0) k (Err f) k) same_known r.1 in
-          let c = message_closes way now now refl (back.DataRow x.0) mid.kept f f mid new out out x.2 same_settings (subst (λ (k : Known K). HearsMessage way now.settings (back.DataRow x.0) now.known (Err f) k out out) (sym same_known) (heard_alone way now.settings (back.DataRow x.0) now.known now.known (Err f) out refl alone)) refl r.0 in
-          (subst (HearsAll way old (Err f) new start) (sym x.3) (goes_fault way law old now new f start out g c.0), c.0.settings ∙ g.settings)
+    -- no row stays lent
+    pub any_heard : lends ≡ false → (found ≡ heard.Row) ⊎ (found ≡ heard.Message) → GoesOn way old mid start end × (length mid.kept < length now.kept) × (mid.closed ≡ now.closed)
+    any_heard none (inl is) = absurd (let k : true ≡ false = sym (as_found way lends found heard.Row is now mid out end h).4 ∙ none in cc)
+    any_heard none (inr is) = message_heard is
 
   -- the bytes are no message, or one that isn't heard
-  pub all_stops : (old now new : View K) (f : FeedFault) (start out end : List ℕ) → GoesOn way old now start out → HearsNext way now (Err f) new out end → HearsAll way old (Err f) new start end
-  all_stops old now new f start out end g h = subst (HearsAll way old (Err f) new start) (sym h.1) (goes_fault way law old now new f start out g h.0)
+  pub all_stops : (lends : Bool) (old now new : View K) (f : FeedFault) (start out end : List ℕ) → GoesOn way old now start out → HearsNext way lends now (Err f) new out end → HearsAll way old (Err f) new start end
+  all_stops lends old now new f start out end g h = subst (HearsAll way old (Err f) new start) (sym h.1) (goes_fault way law old now new f start out g h.0)

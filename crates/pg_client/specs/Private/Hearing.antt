@@ -1,5 +1,5 @@
 -- What one message does to a client, and what holds between two messages.
-use Rattle.std.specs.Prelude.{◌≡◌, ◌≢◌, ℕ, ◌+◌, ◌≤◌, ◌<◌, List, [], ◌∷◌, ◌++◌, length, true, false, bytes_eq, cond, Option, Some, None, Result, Ok, Err}
+use Rattle.std.specs.Prelude.{◌≡◌, ◌≢◌, ℕ, ◌+◌, ◌≤◌, ◌<◌, List, [], ◌∷◌, ◌++◌, length, Bool, true, false, bytes_eq, cond, Option, Some, None, Result, Ok, Err}
 use Rattle.std.specs.List.{flat_map, AllByRecursion}
 use Rattle.std.specs.declared.alloc.AllocError.{AllocError}
 use Rattle.pg_wire.specs.declared.fault.WireFault.{WireFault}
@@ -156,13 +156,14 @@ abbrev pub of_wire : WireFault → FeedFault
 of_wire wire.Memory = feeding.Memory
 of_wire f = feeding.Wire f
 
--- The message that is lent, as a message of its own; None of a row, or where none is lent; or memory
--- ran out.
-abbrev pub Owns : Option Lent → Result (Option BackMessage) FeedFault → Type 0
-Owns (Some (lents.Error fields)) (Ok owned) = owned ≡ Some (back.ErrorResponse fields)
-Owns (Some (lents.Notice fields)) (Ok owned) = owned ≡ Some (back.NoticeResponse fields)
-Owns _ (Ok owned) = owned ≡ None
-Owns held (Err f) = f ≡ feeding.Memory
+-- The message that is lent, as a message of its own; None of a row, where rows stay lent, or where
+-- none is lent; or memory ran out.
+abbrev pub Owns : Bool → Option Lent → Result (Option BackMessage) FeedFault → Type 0
+Owns lends (Some (lents.Error fields)) (Ok owned) = owned ≡ Some (back.ErrorResponse fields)
+Owns lends (Some (lents.Notice fields)) (Ok owned) = owned ≡ Some (back.NoticeResponse fields)
+Owns false (Some (lents.Row row)) (Ok owned) = owned ≡ Some (back.DataRow row)
+Owns lends _ (Ok owned) = owned ≡ None
+Owns lends held (Err f) = f ≡ feeding.Memory
 
 -- The bytes that a client keeps begin with this message, which isn't longer than the limit allows.
 pub record Cuts {K : Type 0} (old : View K) (m : BackMessage) (rest : List ℕ) : Type 0 where
@@ -186,32 +187,25 @@ pub record Closes {K : Type 0} (old : View K) (f : FeedFault) (new : View K) : T
   pub known : new.known ≡ old.known
   pub closed : new.closed ≡ cause_of f
 
--- What a client that is open does with the bytes that it keeps. Nothing: no message is whole there.
--- Message: it cuts the first one off and hears it. Row: it cuts a row off, which it lends and is
--- still to hear. The last two arguments are the output before and after.
-abbrev pub HearsNext : {K : Type 0} → Keeps K → View K → Result Heard FeedFault → View K → List ℕ
-    → List ℕ → Type 0
-HearsNext way old (Ok heard.Nothing) new before after =
+-- What a client that is open does with the bytes that it keeps, where rows stay lent (true) or not.
+-- Nothing: no message is whole there. Message: it cuts the first one off and hears it. Row: it cuts a
+-- row off, which stays lent and is still to be heard. The last two arguments are the output before
+-- and after.
+abbrev pub HearsNext : {K : Type 0} → Keeps K → Bool → View K → Result Heard FeedFault → View K
+    → List ℕ → List ℕ → Type 0
+HearsNext way lends old (Ok heard.Nothing) new before after =
     IsOpen backend old.settings.limit old.kept × (new ≡ record old { held = None })
     × (after ≡ before)
-HearsNext way old (Ok heard.Row) new before after = (row : RowValues)
+HearsNext way lends old (Ok heard.Row) new before after = (row : RowValues)
     × (new ≡ record old { kept = new.kept; held = Some (lents.Row row) })
-    × Cuts old (back.DataRow row) new.kept × (after ≡ before)
-HearsNext way old (Ok heard.Message) new before after = (m : BackMessage)
-    × ((row : RowValues) → m ≢ back.DataRow row) × Cuts old m new.kept
+    × Cuts old (back.DataRow row) new.kept × (after ≡ before) × (lends ≡ true)
+HearsNext way lends old (Ok heard.Message) new before after = (m : BackMessage)
+    × (lends ≡ true → (row : RowValues) → m ≢ back.DataRow row) × Cuts old m new.kept
     × (new ≡ record old { kept = new.kept; held = new.held; known = new.known })
-    × (row_at None new.held ≡ None) × HearsOne way old.settings.password m old.known new.known
+    × (lends ≡ true → row_at None new.held ≡ None)
+    × HearsOne way old.settings.password m old.known new.known
     × PutsAnswer old.settings m before after
-HearsNext way old (Err f) new before after = Closes old f new × (after ≡ before)
-
--- The row that is lent is heard, or it may not come, or memory ran out.
-abbrev pub HearsRow : {K : Type 0} → Keeps K → View K → Result Unit FeedFault → View K → Type 0
-HearsRow way old (Ok x) new = (row : RowValues) → old.held ≡ Some (lents.Row row)
-    → (new ≡ record old { known = new.known })
-    × HearsOne way old.settings.password (back.DataRow row) old.known new.known
-HearsRow way old (Err f) new = (row : RowValues) → old.held ≡ Some (lents.Row row)
-    → (new ≡ record old { closed = cause_of f })
-    × HearsAlone way (back.DataRow row) old.known (Err f) old.known
+HearsNext way lends old (Err f) new before after = Closes old f new × (after ≡ before)
 
 -- ---- all messages
 

@@ -3,7 +3,7 @@
 ghost use Rattle.std.specs.Prelude.{◌≡◌, ◌<◌, IfOk, length, None, OnOk};
 ghost use Rattle.pg_client.specs.Client.{Feeds};
 ghost use Rattle.pg_client.specs.Closed.{cause_of};
-ghost use Rattle.pg_client.specs.Private.Hearing.{HearsAll, HearsNext, HearsRow, Owns};
+ghost use Rattle.pg_client.specs.Private.Hearing.{HearsAll, HearsNext, Owns};
 
 use crate::connection::Connection;
 use crate::fault::FeedFault;
@@ -16,9 +16,9 @@ use pg_wire::{BackMessage, Cut, Fields, Lent, Values};
 pub enum Heard {
     /// No message is whole.
     Nothing,
-    /// A row, which is lent and still to be heard.
+    /// A row that stays lent, and is still to be heard.
     Row,
-    /// Any other, which was heard.
+    /// A message that was heard.
     Message,
 }
 
@@ -64,18 +64,18 @@ impl<K: Keeper> Connection<K> {
     {
         K::silent();
         loop {
-            match self.hear_next(out)? {
+            match self.hear_next(false, out)? {
                 Heard::Nothing => return Ok(()),
-                Heard::Row => self.hear_row()?,
-                Heard::Message => {}
+                // no row stays lent
+                Heard::Row | Heard::Message => {}
             }
         }
     }
 
-    // Cuts the next message off, if it is whole, and takes it in, unless it is a row.
-    pub(crate) fn hear_next(&mut self, out: &mut Vec<u8>) -> Result<Heard, FeedFault>
+    // Cuts the next message off, if it is whole, and takes it in, unless it is a row that stays lent.
+    pub(crate) fn hear_next(&mut self, lends: bool, out: &mut Vec<u8>) -> Result<Heard, FeedFault>
         requires { self.old.closed ≡ None }
-        ensures { HearsNext K.way self.old result self.new out.old.items out.new.items }
+        ensures { HearsNext K.way lends self.old result self.new out.old.items out.new.items }
     {
         let cut = match self.decoder.next_lent() {
             Ok(cut) => cut,
@@ -88,7 +88,7 @@ impl<K: Keeper> Connection<K> {
         let message = match cut {
             Cut::Nothing => return Ok(Heard::Nothing),
             Cut::Other(message) => message,
-            Cut::Held => match self.owned() {
+            Cut::Held => match self.owned(lends) {
                 Ok(Some(message)) => message,
                 Ok(None) => return Ok(Heard::Row),
                 Err(fault) => return Err(self.close(fault)),
@@ -100,41 +100,28 @@ impl<K: Keeper> Connection<K> {
         }
     }
 
-    // The error or notice that the decoder lends, as a message of its own; None of a row.
-    fn owned(&self) -> Result<Option<BackMessage>, FeedFault>
-        ensures { Owns self.now.held result }
+    // The message that the decoder lends, as one of its own, copied once; None of a row that stays lent. No message is so long that what it holds
+    // couldn't be copied: only memory may run out.
+    fn owned(&self, lends: bool) -> Result<Option<BackMessage>, FeedFault>
+        ensures { Owns lends self.now.held result }
     {
         match self.decoder.held() {
+            Some(Lent::Row(_)) if lends => Ok(None),
+            Some(Lent::Row(row)) => {
+                let Ok(values) = Values::of_row(self.alloc, &row) else {
+                    return Err(FeedFault::Memory);
+                };
+                Ok(Some(BackMessage::DataRow(values)))
+            }
             Some(Lent::Error(fields)) => match Fields::of_view(self.alloc, &fields) {
                 Ok(fields) => Ok(Some(BackMessage::ErrorResponse(fields))),
-                // fields that a decoder lends are never too long
                 Err(_) => Err(FeedFault::Memory),
             },
             Some(Lent::Notice(fields)) => match Fields::of_view(self.alloc, &fields) {
                 Ok(fields) => Ok(Some(BackMessage::NoticeResponse(fields))),
                 Err(_) => Err(FeedFault::Memory),
             },
-            Some(Lent::Row(_)) => Ok(None),
             None => Ok(None),
-        }
-    }
-
-    // Takes in the row that is lent. It is copied once, to where it is kept.
-    fn hear_row(&mut self) -> Result<(), FeedFault>
-        requires { self.old.closed ≡ None }
-        ensures { HearsRow K.way self.old result self.new }
-    {
-        let Some(Lent::Row(row)) = self.decoder.held() else {
-            return Ok(());
-        };
-        let Ok(values) = Values::of_row(self.alloc, &row) else {
-            // no message is so long that its values couldn't stand in a row
-            return Err(self.close(FeedFault::Memory));
-        };
-        let message = BackMessage::DataRow(values);
-        match self.known.hear_part(self.alloc, message) {
-            Ok(()) => Ok(()),
-            Err(fault) => Err(self.close(fault)),
         }
     }
 

@@ -57,7 +57,7 @@ impl Connection<Queue> {
         ensures up_to { HearsUpTo self.old result self.new out.old.items out.new.items }
     {
         loop {
-            match self.hear_next(out)? {
+            match self.hear_next(true, out)? {
                 Heard::Nothing => return Ok(Next::Nothing),
                 Heard::Row => {
                     return match self.known.pass_row() {
